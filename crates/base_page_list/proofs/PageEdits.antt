@@ -37,8 +37,8 @@ place_within zero at (page ∷ pages) lt le = let whole : length (flat (page ∷
 place_within (suc n) at (page ∷ pages) lt le =
     let before : length (flat (take (suc n) (page ∷ pages))) ≡ length page + length (flat (take n pages)) = length-append page (flat (take n pages)) in
     let whole : length (flat (page ∷ pages)) ≡ length page + length (flat pages) = length-append page (flat pages) in
-    let behind = place_within n at pages (omega arith) le in
-    omega (arith, whole, before, behind)
+    let following = place_within n at pages (omega arith) le in
+    omega (arith, whole, before, following)
 
 -- A put.
 abbrev pub with_entry : Pages → ℕ → ℕ → ℕ → Pages
@@ -118,7 +118,7 @@ pub joined_keeps : (n : ℕ) (pages : Pages) → n < length pages → n < length
 joined_keeps n [] lt = absurd (omega arith)
 joined_keeps zero (page ∷ []) lt = omega arith
 joined_keeps zero (page ∷ next ∷ pages) lt = let long = joined_long (leb (length page + length next) 32) page next pages in omega (arith, long)
-joined_keeps (suc n) (page ∷ pages) lt = let behind = joined_keeps n pages (omega arith) in omega (arith, behind)
+joined_keeps (suc n) (page ∷ pages) lt = let following = joined_keeps n pages (omega arith) in omega (arith, following)
 
 pub first_left : (n at : ℕ) (pages : Pages) → n ≡ 0 → ArePages pages → n < length pages → at < length (get_or pages n []) → 0 < length (remove (get_or pages n []) at) → ArePages (joined n (without_entry pages n at))
 first_left zero at pages is are lt within some = taken_are_first at pages are lt within some

@@ -9,10 +9,10 @@ use Rattle.base_page_list.specs.Pages.{flat, Dense, ArePages, joined, parted, pl
 room_first : (page : List ℕ) (pages : List (List ℕ)) → ArePages (page ∷ pages) → 33 * length pages + length page ≤ 2 * length (flat (page ∷ pages))
 room_first page [] are = simp length-append (omega arith)
 room_first page (next ∷ pages) are =
-    let behind = room_first next pages are.3 in
+    let following = room_first next pages are.3 in
     let here : length (flat (page ∷ next ∷ pages)) ≡ length page + length (flat (next ∷ pages)) = length-append page (flat (next ∷ pages)) in
     let dense : 32 < length page + length next = are.2 in
-    omega (arith, behind, here, dense)
+    omega (arith, following, here, dense)
 
 pub room : (pages : List (List ℕ)) → ArePages pages → 33 * length pages ≤ 2 * length (flat pages) + 32
 room [] are = omega arith
@@ -28,11 +28,11 @@ flat-inserted zero at entry (page ∷ pages) lt le =
     let place : at ≡ 0 + at = omega arith in
     sym (insert-append_left page (flat pages) at entry le) ∙ ap (λ (k : ℕ). insert (page ++ flat pages) k entry) place
 flat-inserted (suc n) at entry (page ∷ pages) lt le =
-    let behind = flat-inserted n at entry pages (omega arith) le in
+    let following = flat-inserted n at entry pages (omega arith) le in
     let before : length (flat (take (suc n) (page ∷ pages))) ≡ length page + length (flat (take n pages)) = length-append page (flat (take n pages)) in
     let right = insert-append_right page (flat pages) (length page) (place_in (page ∷ pages) (suc n) at) entry refl (omega (arith, before)) in
     let place : place_in (page ∷ pages) (suc n) at - length page ≡ place_in pages n at = omega (arith, before) in
-    ap (λ (rest : List ℕ). page ++ rest) (behind ∙ ap (λ (k : ℕ). insert (flat pages) k entry) (sym place)) ∙ sym right
+    ap (λ (rest : List ℕ). page ++ rest) (following ∙ ap (λ (k : ℕ). insert (flat pages) k entry) (sym place)) ∙ sym right
 
 -- taking an entry out of a page takes it out of the list
 pub flat-removed : (n at : ℕ) (pages : List (List ℕ)) → n < length pages → at < length (get_or pages n []) → flat (set pages n (remove (get_or pages n []) at)) ≡ remove (flat pages) (place_in pages n at)
@@ -41,11 +41,11 @@ flat-removed zero at (page ∷ pages) lt le =
     let place : at ≡ 0 + at = omega arith in
     sym (remove-append_left page (flat pages) at le) ∙ ap (λ (k : ℕ). remove (page ++ flat pages) k) place
 flat-removed (suc n) at (page ∷ pages) lt le =
-    let behind = flat-removed n at pages (omega arith) le in
+    let following = flat-removed n at pages (omega arith) le in
     let before : length (flat (take (suc n) (page ∷ pages))) ≡ length page + length (flat (take n pages)) = length-append page (flat (take n pages)) in
     let right = remove-append_right page (flat pages) (length page) (place_in (page ∷ pages) (suc n) at) refl (omega (arith, before)) in
     let place : place_in (page ∷ pages) (suc n) at - length page ≡ place_in pages n at = omega (arith, before) in
-    ap (λ (rest : List ℕ). page ++ rest) (behind ∙ ap (λ (k : ℕ). remove (flat pages) k) (sym place)) ∙ sym right
+    ap (λ (rest : List ℕ). page ++ rest) (following ∙ ap (λ (k : ℕ). remove (flat pages) k) (sym place)) ∙ sym right
 
 -- a page in two is the same list
 parted_flat : (b : Bool) (page : List ℕ) (pages : List (List ℕ)) → flat (cond b (page ∷ pages) (take 33 page ∷ drop 33 page ∷ pages)) ≡ page ++ flat pages
@@ -177,8 +177,8 @@ shrunk_after (suc n) page (first ∷ second ∷ pages) lt len some are =
 
 -- A page that had one entry is gone.
 dense_dropped : (first old : List ℕ) (pages : List (List ℕ)) → length old ≡ 1 → 32 < length first + length old → Dense old pages → Dense first pages
-dense_dropped first old [] one dense behind = tt
-dense_dropped first old (next ∷ pages) one dense behind = omega (arith, one, dense, behind)
+dense_dropped first old [] one dense following = tt
+dense_dropped first old (next ∷ pages) one dense following = omega (arith, one, dense, following)
 
 pub dropped : (n : ℕ) (pages : List (List ℕ)) → n < length pages → length (get_or pages n []) ≡ 1 → ArePages pages → ArePages (remove pages n)
 dropped n [] lt one are = absurd (omega arith)
@@ -195,7 +195,7 @@ parted_count false page pages = omega arith
 pub count_parted : (n : ℕ) (page : List ℕ) (pages : List (List ℕ)) → n < length pages → length (parted n (set pages n page)) ≡ length pages + cond (leb (length page) 64) 0 1
 count_parted n page [] lt = absurd (omega arith)
 count_parted zero page (old ∷ pages) lt = parted_count (leb (length page) 64) page pages
-count_parted (suc n) page (old ∷ pages) lt = let behind = count_parted n page pages (omega arith) in omega (arith, behind)
+count_parted (suc n) page (old ∷ pages) lt = let following = count_parted n page pages (omega arith) in omega (arith, following)
 
 -- The edits of the code.
 pub parted_not : (n : ℕ) (pages : List (List ℕ)) → length (get_or pages n []) ≤ 64 → parted n pages ≡ pages
@@ -261,8 +261,8 @@ join_kept n pages first next lt at_first at_next many =
     let next_is : next ≡ get_or pages (suc n) [] = read_is (n + 1) pages next lt at_next ∙ ap (λ (k : ℕ). get_or pages k []) (add-one n) in
     sym (joined_not n pages (omega arith) (rw (← first_is, ← next_is) many))
 
-pub part_made : (n : ℕ) (pages after : List (List ℕ)) (page kept behind : List ℕ) → n < length pages → page ≡ get_or pages n page → 64 < length page → kept ≡ take 33 page → behind ≡ drop 33 page → after ≡ insert (set pages n kept) (n + 1) behind → after ≡ parted n pages
-part_made n pages after page kept behind lt read many kept_is behind_is after_is =
+pub part_made : (n : ℕ) (pages after : List (List ℕ)) (page kept following : List ℕ) → n < length pages → page ≡ get_or pages n page → 64 < length page → kept ≡ take 33 page → following ≡ drop 33 page → after ≡ insert (set pages n kept) (n + 1) following → after ≡ parted n pages
+part_made n pages after page kept following lt read many kept_is behind_is after_is =
     let page_is = read_is n pages page lt read in
     let whole = parted_is n pages lt (rw (← page_is) many) in
     let one : n + 1 ≡ suc n = add-one n in

@@ -53,8 +53,8 @@ ends_later test n page ([] ∷ pages) are fails more ends = let some : 0 < 0 = a
 ends_later test n page ((entry ∷ entries) ∷ pages) are fails more ends =
     let passes = first_of (test entry) (prefix_len (first_passes test) pages) n more in
     let whole = before_all test entry page (entries ++ flat pages) fails passes in
-    let behind = (entry ∷ entries) ∷ pages in
-    let before : length (flat (take (suc n) (page ∷ behind))) ≡ length page + length (flat (take n behind)) = length-append page (flat (take n behind)) in
+    let following = (entry ∷ entries) ∷ pages in
+    let before : length (flat (take (suc n) (page ∷ following))) ≡ length page + length (flat (take n following)) = length-append page (flat (take n following)) in
     omega (arith, whole, before, ends)
 
 ends_by : (test : ℕ → Bool) (b : Bool) (m : ℕ) (page : List ℕ) (pages : Pages) → first_passes test page ≡ b → prefix_len (first_passes test) pages ≡ m → ArePages (page ∷ pages) → FailsOn test (page ++ flat pages) → EndsIn test pages (m - 1)
@@ -93,21 +93,21 @@ page_end zero (page ∷ pages) lt = let whole : length (page ++ []) ≡ length p
 page_end (suc n) (page ∷ pages) lt =
     let before : length (flat (take (suc n) (page ∷ pages))) ≡ length page + length (flat (take n pages)) = length-append page (flat (take n pages)) in
     let after : length (flat (take (suc (suc n)) (page ∷ pages))) ≡ length page + length (flat (take (suc n) pages)) = length-append page (flat (take (suc n) pages)) in
-    let behind = page_end n pages (omega arith) in
-    omega (arith, before, after, behind)
+    let following = page_end n pages (omega arith) in
+    omega (arith, before, after, following)
 
 past : (page : List ℕ) (at : ℕ) → slice_get page at ≡ None → length page ≤ at
 past [] at none = omega arith
 past (entry ∷ page) zero none = absurd (cc)
-past (entry ∷ page) (suc at) none = let behind = past page at none in omega (arith, behind)
+past (entry ∷ page) (suc at) none = let following = past page at none in omega (arith, following)
 
 pub no_page : (pages : Pages) (n : ℕ) → slice_get pages n ≡ None → length pages ≤ n
 no_page [] n none = omega arith
 no_page (page ∷ pages) zero none = absurd (cc)
-no_page (page ∷ pages) (suc n) none = let behind = no_page pages n none in omega (arith, behind)
+no_page (page ∷ pages) (suc n) none = let following = no_page pages n none in omega (arith, following)
 
 pub stands_next : (n at entry : ℕ) (pages : Pages) (page next : List ℕ) → IsGap pages n at → slice_get pages n ≡ Some page → slice_get page at ≡ None → slice_get pages (n + 1) ≡ Some next → slice_get next 0 ≡ Some entry → StandsAt pages (place_in pages n at) (n + 1) 0 entry
-stands_next n at entry pages page next gap here none behind there =
+stands_next n at entry pages page next gap here none following there =
     let page_is : get_or pages n [] ≡ page = get_or_from_slice_get pages n page [] here in
     let size : length (get_or pages n []) ≡ length page = ap (λ (p : List ℕ). length p) page_is in
     let over = past page at none in
@@ -117,7 +117,7 @@ stands_next n at entry pages page next gap here none behind there =
     let one : n + 1 ≡ suc n = add-one n in
     let start : length (flat (take (n + 1) pages)) ≡ length (flat (take (suc n) pages)) = ap (λ (k : ℕ). length (flat (take k pages))) one in
     let same : place_in pages (n + 1) 0 ≡ place_in pages n at = omega (arith, stop, at_is, start) in
-    let stands = stands_here (n + 1) 0 entry pages next behind there in
+    let stands = stands_here (n + 1) 0 entry pages next following there in
     record {
       page_is = stands.page_is;
       within = stands.within;
@@ -126,12 +126,12 @@ stands_next n at entry pages page next gap here none behind there =
     }
 
 pub none_next : (n at : ℕ) (pages : Pages) (page : List ℕ) → IsGap pages n at → slice_get pages n ≡ Some page → slice_get page at ≡ None → slice_get pages (n + 1) ≡ None → length (flat pages) ≤ place_in pages n at
-none_next n at pages page gap here none behind =
+none_next n at pages page gap here none following =
     let page_is : get_or pages n [] ≡ page = get_or_from_slice_get pages n page [] here in
     let size : length (get_or pages n []) ≡ length page = ap (λ (p : List ℕ). length p) page_is in
     let over = past page at none in
     let stop = page_end n pages (slice_get_within pages n page here) in
-    let last = no_page pages (n + 1) behind in
+    let last = no_page pages (n + 1) following in
     let whole : length (flat (take (suc n) pages)) ≡ length (flat pages) = ap (λ (ps : Pages). length (flat ps)) (take_all (suc n) pages (omega (arith, last))) in
     omega (arith, size, over, stop, whole)
 

@@ -27,10 +27,10 @@ far (suc j) k zero pages is = absurd (omega (arith, is))
 far (suc j) zero (suc m) [] is = refl
 far (suc j) (suc k) (suc m) [] is = refl
 far (suc j) k (suc m) (page ∷ pages) is =
-    let behind = far j k m pages (omega (arith, is)) in
+    let following = far j k m pages (omega (arith, is)) in
     let here = length-append page (flat (take j pages)) in
     let all = length-append page (flat (take m pages)) in
-    omega (arith, behind, here, all)
+    omega (arith, following, here, all)
 
 -- within one page
 pub between_one : (n from to : ℕ) (pages : Pages) → n < length pages → from ≤ length (get_or pages n []) → to ≤ length (get_or pages n []) → take (to - from) (drop from (get_or pages n [])) ≡ between (place_in pages n from) (place_in pages n to) (flat pages)

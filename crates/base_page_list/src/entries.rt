@@ -4,7 +4,7 @@ ghost use Rattle.std.specs.Prelude.{◌≡◌, ◌≤◌, ◌-◌, length, drop,
 ghost use Rattle.std.specs.Iterator.{YieldsFirstRef, item_count};
 ghost use Rattle.base_page_list.specs.Pages.{flat, place_in, between, IsGap};
 
-use crate::list::Place;
+use crate::list::PagePlace;
 use crate::page::Page;
 use std::iter::FusedIterator;
 use std::marker::Model;
@@ -59,7 +59,7 @@ impl<'a> Entries<'a> {
     }
 
     /// The entries between two places.
-    pub(crate) fn between(pages: &'a [Page], from: Place, to: Place) -> Entries<'a>
+    pub(crate) fn between(pages: &'a [Page], from: PagePlace, to: PagePlace) -> Entries<'a>
         requires from { IsGap pages.now from.page from.at }
         requires to { IsGap pages.now to.page to.at }
         ensures { result ≡ between (place_in pages.now from.page from.at) (place_in pages.now to.page to.at) (flat pages.now) }

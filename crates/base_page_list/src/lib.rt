@@ -7,4 +7,4 @@ mod page;
 mod page_edits;
 
 pub use entries::Entries;
-pub use list::{PagedList, Place, Test};
+pub use list::{PagePlace, PagedList, Test};

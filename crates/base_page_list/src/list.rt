@@ -12,7 +12,7 @@ use std::marker::Model;
 
 /// A page, and a place among its entries. A put or a removal may move what follows it to another place.
 #[derive(Clone, Copy)]
-pub struct Place {
+pub struct PagePlace {
     /// The page's number, from 0.
     pub page: usize,
     /// How many of the page's entries come before the place.
@@ -74,7 +74,7 @@ fn entries_before<T: Test>(entries: &[usize], test: &T) -> usize
 }
 
 /// The place after the entries that pass the test.
-fn place_among<T: Test>(pages: &[Page], test: &T) -> Place
+fn place_among<T: Test>(pages: &[Page], test: &T) -> PagePlace
     requires are { ArePages pages.now }
     requires fails { FailsOn (T.on test.now) (flat pages.now) }
     ensures gap { IsGap pages.now result.page result.at }
@@ -83,16 +83,16 @@ fn place_among<T: Test>(pages: &[Page], test: &T) -> Place
 {
     let page = pages_before(pages, test).saturating_sub(1);
     match page_at(pages, page) {
-        Some(entries) => Place {
+        Some(entries) => PagePlace {
             page,
             at: entries_before(entries.as_slice(), test),
         },
-        None => Place { page, at: 0 },
+        None => PagePlace { page, at: 0 },
     }
 }
 
 /// The entry after a place, and where it is.
-fn entry_in(pages: &[Page], place: Place) -> Option<(Place, usize)>
+fn entry_in(pages: &[Page], place: PagePlace) -> Option<(PagePlace, usize)>
     requires are { ArePages pages.now }
     requires gap { IsGap pages.now place.page place.at }
     ensures { MatchOption result (length (flat pages.now) ≤ place_in pages.now place.page place.at)
@@ -109,7 +109,7 @@ fn entry_in(pages: &[Page], place: Place) -> Option<(Place, usize)>
     };
     match next.get(0) {
         Some(entry) => Some((
-            Place {
+            PagePlace {
                 page: place.page + 1,
                 at: 0,
             },
@@ -120,7 +120,7 @@ fn entry_in(pages: &[Page], place: Place) -> Option<(Place, usize)>
 }
 
 /// The entry after the one at a place, and where it is.
-fn entry_behind(pages: &[Page], place: Place) -> Option<(Place, usize)>
+fn entry_behind(pages: &[Page], place: PagePlace) -> Option<(PagePlace, usize)>
     requires are { ArePages pages.now }
     requires page { place.page < length pages.now }
     requires at { place.at < length (get_or pages.now place.page []) }
@@ -130,7 +130,7 @@ fn entry_behind(pages: &[Page], place: Place) -> Option<(Place, usize)>
     let at = place.at + 1;
     entry_in(
         pages,
-        Place {
+        PagePlace {
             page: place.page,
             at,
         },
@@ -199,7 +199,7 @@ impl PagedList {
     }
 
     /// The entries from one place to another: none, where the other doesn't come after the first.
-    pub fn entries_between(&self, from: Place, to: Place) -> Entries<'_>
+    pub fn entries_between(&self, from: PagePlace, to: PagePlace) -> Entries<'_>
         requires from { IsGap self.now.pages from.page from.at }
         requires to { IsGap self.now.pages to.page to.at }
         ensures { result ≡ between (place_in self.now.pages from.page from.at) (place_in self.now.pages to.page to.at) (flat self.now.pages) }
@@ -209,7 +209,7 @@ impl PagedList {
 
     /// The place after the entries that pass the test, in the page where they end. The entries must stand so that those that
     /// pass come first; few of them are tested, by halves.
-    pub fn place<T: Test>(&self, test: &T) -> Place
+    pub fn place<T: Test>(&self, test: &T) -> PagePlace
         requires { FailsOn (T.on test.now) (flat self.now.pages) }
         ensures gap { IsGap self.now.pages result.page result.at }
         ensures page { result.page ≡ last_page (T.on test.now) self.now.pages }
@@ -219,7 +219,7 @@ impl PagedList {
     }
 
     /// The entry after a place, and where it is.
-    pub fn entry_at(&self, place: Place) -> Option<(Place, usize)>
+    pub fn entry_at(&self, place: PagePlace) -> Option<(PagePlace, usize)>
         requires { IsGap self.now.pages place.page place.at }
         ensures { MatchOption result (length (flat self.now.pages) ≤ place_in self.now.pages place.page place.at)
             (λ found. StandsAt self.now.pages (place_in self.now.pages place.page place.at) found.0.page found.0.at found.1) }
@@ -228,7 +228,7 @@ impl PagedList {
     }
 
     /// The entry after the one at a place, and where it is.
-    pub fn entry_after(&self, place: Place) -> Option<(Place, usize)>
+    pub fn entry_after(&self, place: PagePlace) -> Option<(PagePlace, usize)>
         requires page { place.page < length self.now.pages }
         requires at { place.at < length (get_or self.now.pages place.page []) }
         ensures { MatchOption result (length (flat self.now.pages) ≤ place_in self.now.pages place.page place.at + 1)
@@ -248,7 +248,7 @@ impl PagedList {
     }
 
     /// Puts an entry at a place, in a page that becomes two where it has 64 entries.
-    pub fn insert(&mut self, place: Place, entry: usize)
+    pub fn insert(&mut self, place: PagePlace, entry: usize)
         requires room { 0 < self.old.spare }
         requires place { IsGap self.old.pages place.page place.at }
         ensures entries { flat self.new.pages ≡ insert (flat self.old.pages) (place_in self.old.pages place.page place.at) entry }
@@ -263,7 +263,7 @@ impl PagedList {
     }
 
     /// Takes the entry at a place out; a page that is left thin becomes one with its neighbour.
-    pub fn remove(&mut self, place: Place) -> usize
+    pub fn remove(&mut self, place: PagePlace) -> usize
         requires page { place.page < length self.old.pages }
         requires at { place.at < length (get_or self.old.pages place.page []) }
         ensures entry { result ≡ slice_index_or (flat self.old.pages) (place_in self.old.pages place.page place.at) result }

@@ -3,7 +3,7 @@
 ghost use Rattle.std.specs.Prelude.{◌≡◌, ◌<◌, ◌≤◌, ◌+◌, [], length, get_or, set, insert, remove, slice_index_or, vec_len, vec_capacity};
 ghost use Rattle.base_page_list.specs.Pages.{flat, joined, parted, place_in, pages_made, ArePages};
 
-use crate::list::Place;
+use crate::list::PagePlace;
 use crate::page::Page;
 
 /// Makes a page two, if it has more than 64 entries.
@@ -15,8 +15,8 @@ fn part(pages: &mut Vec<Page>, n: usize)
 {
     let page = &mut pages[n];
     if page.len() > 64 {
-        let behind = page.split();
-        match pages.insert(n + 1, behind) {
+        let following = page.split();
+        match pages.insert(n + 1, following) {
             Ok(()) => {}
             Err(_) => unreachable!(),
         }
@@ -41,7 +41,7 @@ fn join(pages: &mut Vec<Page>, n: usize)
 }
 
 /// Puts an entry into a page.
-fn put(pages: &mut Vec<Page>, place: Place, entry: usize)
+fn put(pages: &mut Vec<Page>, place: PagePlace, entry: usize)
     requires within { place.page < length pages.old.items }
     requires at { place.at ≤ length (get_or pages.old.items place.page []) }
     requires room { length (get_or pages.old.items place.page []) ≤ 64 }
@@ -53,7 +53,7 @@ fn put(pages: &mut Vec<Page>, place: Place, entry: usize)
 }
 
 /// Takes an entry out of a page.
-fn take(pages: &mut Vec<Page>, place: Place) -> usize
+fn take(pages: &mut Vec<Page>, place: PagePlace) -> usize
     requires within { place.page < length pages.old.items }
     requires at { place.at < length (get_or pages.old.items place.page []) }
     ensures entry { result ≡ slice_index_or (get_or pages.old.items place.page []) place.at result }
@@ -65,7 +65,7 @@ fn take(pages: &mut Vec<Page>, place: Place) -> usize
 }
 
 /// Puts an entry into a page, which becomes two if it is full.
-pub fn insert_in(pages: &mut Vec<Page>, place: Place, entry: usize)
+pub fn insert_in(pages: &mut Vec<Page>, place: PagePlace, entry: usize)
     requires are { ArePages pages.old.items }
     requires within { place.page < length pages.old.items }
     requires at { place.at ≤ length (get_or pages.old.items place.page []) }
@@ -80,7 +80,7 @@ pub fn insert_in(pages: &mut Vec<Page>, place: Place, entry: usize)
 }
 
 /// Takes an entry out of a page, which joins a neighbour if they become small.
-pub fn remove_in(pages: &mut Vec<Page>, place: Place) -> usize
+pub fn remove_in(pages: &mut Vec<Page>, place: PagePlace) -> usize
     requires are { ArePages pages.old.items }
     requires within { place.page < length pages.old.items }
     requires at { place.at < length (get_or pages.old.items place.page []) }

@@ -8,7 +8,7 @@ use Rattle.std.proofs.lemmas.Bool.Decides.{nat_tests}
 use Rattle.std.proofs.lemmas.List.{append-nil}
 use Rattle.std.proofs.lemmas.List.Concat.{flat_map-append}
 use Rattle.std.proofs.lemmas.Str.{encodes-append, encode_ascii}
-use Rattle.base_values.specs.Printing.{escaped}
+use Rattle.base_values.specs.Literals.{escaped}
 
 -- one more character's bytes
 pub flat_map-one_more : (f : ℕ → List ℕ) (cs : List ℕ) (c : ℕ) → flat_map f (encode_utf8_all (cs ++ c ∷ [])) ≡ flat_map f (encode_utf8_all cs) ++ flat_map f (encode_utf8 c)

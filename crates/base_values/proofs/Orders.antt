@@ -8,7 +8,7 @@ use Rattle.std.proofs.lemmas.Cmp.{lists_total}
 use Rattle.std.proofs.lemmas.Map.Lookups.{exact_signed, exact_bytes}
 use Rattle.base_values.specs.declared.value.Value.{Value}
 use Rattle.base_values.specs.declared.value.Value.TheVariants.{Null, Num, Text, Blob}
-use Rattle.base_values.specs.Comparing.{compare_values, compare_keys}
+use Rattle.base_values.specs.KeyOrder.{compare_values, compare_keys}
 use Rattle.base_values.specs.ValueOrder.{values_total}
 
 pub tied_values : (a b : Value) → compare_values a b ≡ Equal → a ≡ b

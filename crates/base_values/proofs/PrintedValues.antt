@@ -16,7 +16,7 @@ use Rattle.std.proofs.lemmas.Str.Parse.{digit_from_value}
 use Rattle.base_values.specs.declared.value.Value.{Value}
 use Rattle.base_values.specs.declared.value.Value.TheVariants.{Null, Num, Text, Blob}
 use Rattle.base_values.specs.Laws.{IsHeld}
-use Rattle.base_values.specs.Printing.{escaped, hexadecimal, printed}
+use Rattle.base_values.specs.Literals.{escaped, hexadecimal, printed}
 
 -- ---- texts: what a text's escapes mean; `escape` says whether one has begun
 

@@ -10,7 +10,7 @@ use Rattle.base_values.specs.declared.span.Bound.{Bound}
 use Rattle.base_values.specs.declared.span.Bound.TheVariants.{Open, Closed, Free}
 use Rattle.base_values.specs.declared.span.Span.{Span}
 use Rattle.base_values.specs.declared.value.Value.{Value}
-use Rattle.base_values.specs.Comparing.{compare_keys}
+use Rattle.base_values.specs.KeyOrder.{compare_keys}
 use Rattle.base_values.specs.Spans.{above, below, has, leave_room, meets, point}
 use Rattle.base_values.proofs.Orders.{keys_total, tied_keys}
 

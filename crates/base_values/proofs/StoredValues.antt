@@ -8,7 +8,7 @@ use Rattle.base_values.specs.declared.value.Value.{Value}
 use Rattle.base_values.specs.declared.value.Value.TheVariants.{Null, Num, Text, Blob}
 use Rattle.base_values.specs.declared.unfit.Unfit.{Unfit}
 use Rattle.base_values.specs.declared.unfit.Unfit.TheVariants as unfit
-use Rattle.base_values.specs.Storing.{text_number, in_range, text_within, bytes_within, as_number, stores, seeks, fits, IsOfKind}
+use Rattle.base_values.specs.StoredValues.{text_number, in_range, text_within, bytes_within, as_number, stores, seeks, fits, IsOfKind}
 
 -- a value that is stored, and what it is stored as
 pub record Keeps (value : Value) (kind : Kind) (nullable : Bool) (stored : Value) : Type 0 where

@@ -10,7 +10,7 @@ use Rattle.std.specs.Str.Parse.{digits_value, ParsesSigned}
 use Rattle.std.proofs.lemmas.Bool.{eqb-true, eqb-false, and_parts}
 use Rattle.std.proofs.lemmas.Result.{Ok-from_Ok_iff}
 use Rattle.std.proofs.lemmas.Str.Parse.{IsNumeralModel, numerals_by_value, digits_value_short, parse_signed_minus, parse_signed_plain, parse_signed_plus}
-use Rattle.base_values.specs.Storing.{digits_number, text_number}
+use Rattle.base_values.specs.StoredValues.{digits_number, text_number}
 
 abbrev AreDigits : List ℕ → Type 0
 AreDigits ds = list_all is_ascii_digit ds ≡ true

@@ -1,5 +1,5 @@
 -- Schemas of tables, and the order in which a table keeps its rows.
-pub mod Clustering
+pub mod ClusteredKey
 pub mod KeyedRows
 pub mod Laws
 pub mod Names

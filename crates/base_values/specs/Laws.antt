@@ -9,10 +9,10 @@ use Rattle.base_values.specs.declared.kind.Kind.{Kind}
 use Rattle.base_values.specs.declared.span.Span.{Span}
 use Rattle.base_values.specs.declared.value.Value.{Value}
 use Rattle.base_values.specs.declared.value.Value.TheVariants.{Null, Num, Text, Blob}
-use Rattle.base_values.specs.Comparing.{compare_values, compare_keys}
-use Rattle.base_values.specs.Printing.{printed}
+use Rattle.base_values.specs.KeyOrder.{compare_values, compare_keys}
+use Rattle.base_values.specs.Literals.{printed}
 use Rattle.base_values.specs.Spans.{has, meets, point}
-use Rattle.base_values.specs.Storing.{stores, seeks, fits, IsOfKind}
+use Rattle.base_values.specs.StoredValues.{stores, seeks, fits, IsOfKind}
 
 -- The order of values is total, and two values that it ties are one.
 abbrev pub ValuesAreOrdered : Type 0

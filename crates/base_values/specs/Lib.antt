@@ -1,9 +1,9 @@
-pub mod Comparing
+pub mod KeyOrder
 pub mod Faults
 pub mod Laws
-pub mod Printing
+pub mod Literals
 pub mod Spans
-pub mod Storing
+pub mod StoredValues
 pub mod ValueOrder
 pub mod GhoSchema
 pub mod RowConversion

@@ -6,8 +6,8 @@ use Rattle.base_values.specs.declared.value.Value.{Value}
 use Rattle.base_values.specs.declared.span.Bound.{Bound}
 use Rattle.base_values.specs.declared.span.Bound.TheVariants.{Open, Closed, Free}
 use Rattle.base_values.specs.declared.span.Span.{Span}
-use Rattle.base_values.specs.Comparing.{compare_keys}
-use Rattle.base_values.specs.Storing.{AreOfKinds}
+use Rattle.base_values.specs.KeyOrder.{compare_keys}
+use Rattle.base_values.specs.StoredValues.{AreOfKinds}
 
 -- The key is on the inner side of a lower end.
 abbrev pub above : Bound → List Value → Bool

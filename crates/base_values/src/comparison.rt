@@ -5,7 +5,7 @@ ghost use Rattle.std.specs.Cmp.{partial_equiv_from_equiv};
 ghost use Rattle.std.specs.Cmp.Lexicographic.{pointwise, slice_cmp, slice_partial_cmp};
 ghost use Rattle.std.specs.Ordering.{eq_by_cmp, as_partial_cmp};
 ghost use Rattle.std.proofs.lemmas.Cmp.{eq_by_cmp_equiv, lists_equiv, lists_total};
-ghost use Rattle.base_values.specs.Comparing.{rank, compare_values, compare_keys};
+ghost use Rattle.base_values.specs.KeyOrder.{rank, compare_values, compare_keys};
 ghost use Rattle.base_values.specs.ValueOrder.{values_total, values_partial};
 
 use crate::sequence::Sequence;
@@ -45,7 +45,7 @@ impl Ord for Value {
 
     ghost matches_eq = { λ _ _. refl };
 
-    #[tactic(auto, unfolding(crate::specs::Comparing::compare_values))]
+    #[tactic(auto, unfolding(crate::specs::KeyOrder::compare_values))]
     fn cmp(&self, other: &Value) -> Ordering {
         match (self, other) {
             (Value::Num(a), Value::Num(b)) => a.cmp(b),

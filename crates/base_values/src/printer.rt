@@ -3,14 +3,14 @@
 ghost use Rattle.std.specs.Prelude.{◌≡◌, ◌++◌, ◌<◌, false, codes, encode_utf8, IfOk, OnOk, OnErr};
 ghost use Rattle.std.specs.Fmt.{digit_glyph};
 ghost use Rattle.std.specs.List.{flat_map};
-ghost use Rattle.base_values.specs.Printing.{escaped, hexadecimal, printed, listed, printed_row};
+ghost use Rattle.base_values.specs.Literals.{escaped, hexadecimal, printed, listed, printed_row};
 
 use crate::text::Text;
 use crate::value::Value;
 use std::alloc::{AllocError, Global};
 
 /// Adds the value's literal at the end of the text.
-#[tactic(auto, unfolding(crate::specs::Printing::printed))]
+#[tactic(auto, unfolding(crate::specs::Literals::printed))]
 pub fn print_value(value: &Value, into: &mut Text) -> Result<(), AllocError>
     ensures ok { OnOk result (into.new ≡ into.old ++ printed value.now) }
     ensures err { OnErr result (into.new ≡ into.old) }
@@ -83,7 +83,7 @@ fn digit(number: u8) -> char
 }
 
 /// Adds the row's values at the end of the text, in parentheses and with commas between them.
-#[tactic(auto, unfolding(crate::specs::Printing::printed_row))]
+#[tactic(auto, unfolding(crate::specs::Literals::printed_row))]
 pub fn print_row(row: &[Value], into: &mut Text) -> Result<(), AllocError>
     ensures ok { OnOk result (into.new ≡ into.old ++ printed_row row.now) }
     ensures err { OnErr result (into.new ≡ into.old) }
@@ -95,7 +95,7 @@ pub fn print_row(row: &[Value], into: &mut Text) -> Result<(), AllocError>
     into.push_str(printed.as_str())
 }
 
-#[tactic(auto, unfolding(crate::specs::Printing::listed))]
+#[tactic(auto, unfolding(crate::specs::Literals::listed))]
 fn push_listed(values: &[Value], into: &mut Text) -> Result<(), AllocError>
     ensures { OnOk result (into.new ≡ into.old ++ listed values.now) }
 {

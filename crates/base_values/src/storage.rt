@@ -3,7 +3,7 @@
 ghost use Rattle.std.specs.Prelude.{◌≡◌, ◌<◌, ◌≤◌, ◌^◌, is_some, IfOk};
 ghost use Rattle.std.specs.Char.{is_ascii_digit};
 ghost use Rattle.std.specs.List.{list_all};
-ghost use Rattle.base_values.specs.Storing.{half, lowest, highest, character_count, digits_number, text_number, in_range, text_within, bytes_within, stores, seeks};
+ghost use Rattle.base_values.specs.StoredValues.{half, lowest, highest, character_count, digits_number, text_number, in_range, text_within, bytes_within, stores, seeks};
 ghost use Rattle.base_values.specs.Faults.{Answers};
 
 use crate::kind::Kind;
@@ -16,7 +16,7 @@ use std::alloc::{AllocError, Global};
 
 /// The value that a column of the kind stores for this one, or why it refuses it. `nullable` says whether the column
 /// may be null. A text becomes a number in an integer column, and a number a text or bytes in the others.
-#[tactic(auto, unfolding(crate::specs::Storing::stores))]
+#[tactic(auto, unfolding(crate::specs::StoredValues::stores))]
 pub fn store(alloc: Global, value: &Value, kind: Kind, nullable: bool) -> Result<Value, StoreFault>
     ensures { Answers (λ value. value) result (stores value.now kind nullable) }
 {
@@ -48,7 +48,7 @@ pub fn store(alloc: Global, value: &Value, kind: Kind, nullable: bool) -> Result
 
 /// The value that a condition compares with a column of the kind, for a literal, or why there is none: what `store`
 /// would store if the column had room for it. A null is refused, as nothing equals it.
-#[tactic(auto, unfolding(crate::specs::Storing::seeks))]
+#[tactic(auto, unfolding(crate::specs::StoredValues::seeks))]
 pub fn seek(alloc: Global, value: &Value, kind: Kind) -> Result<Value, StoreFault>
     ensures { Answers (λ value. value) result (seeks value.now kind) }
 {
@@ -76,7 +76,7 @@ pub fn seek(alloc: Global, value: &Value, kind: Kind) -> Result<Value, StoreFaul
     }
 }
 
-#[tactic(auto, unfolding(crate::specs::Storing::in_range))]
+#[tactic(auto, unfolding(crate::specs::StoredValues::in_range))]
 fn number_in_range(number: i128, bytes: u8, unsigned: bool) -> Result<Value, StoreFault>
     ensures { Answers (λ value. value) result (in_range bytes unsigned number) }
 {
@@ -87,7 +87,7 @@ fn number_in_range(number: i128, bytes: u8, unsigned: bool) -> Result<Value, Sto
     }
 }
 
-#[tactic(auto, unfolding(crate::specs::Storing::text_within))]
+#[tactic(auto, unfolding(crate::specs::StoredValues::text_within))]
 fn short_text(alloc: Global, text: &str, limit: u16) -> Result<Value, StoreFault>
     ensures { Answers (λ value. value) result (text_within limit text.now) }
 {
@@ -103,7 +103,7 @@ fn text_value(alloc: Global, text: &str) -> Result<Value, AllocError>
     Ok(Value::Text(Chars::new(alloc, text)?))
 }
 
-#[tactic(auto, unfolding(crate::specs::Storing::bytes_within))]
+#[tactic(auto, unfolding(crate::specs::StoredValues::bytes_within))]
 fn short_bytes(alloc: Global, bytes: &[u8], limit: u16) -> Result<Value, StoreFault>
     ensures { Answers (λ value. value) result (bytes_within limit bytes.now) }
 {
@@ -137,7 +137,7 @@ fn highest(bytes: u8, unsigned: bool) -> i128
 }
 
 /// How many numbers a signed kind of `bytes` bytes has below 0.
-#[tactic(auto, unfolding(crate::specs::Storing::half))]
+#[tactic(auto, unfolding(crate::specs::StoredValues::half))]
 fn half(bytes: u8) -> u64
     ensures value { result ≡ half bytes }
     ensures some { 0 < result }
@@ -154,7 +154,7 @@ fn half(bytes: u8) -> u64
 }
 
 /// How many characters a text has.
-#[tactic(auto, unfolding(crate::specs::Storing::character_count))]
+#[tactic(auto, unfolding(crate::specs::StoredValues::character_count))]
 pub fn character_count(text: &str) -> usize
     ensures { result ≡ character_count text.now }
 {
@@ -175,7 +175,7 @@ pub fn number_of(text: &str) -> Option<i128>
     text.parse::<i128>().ok()
 }
 
-#[tactic(auto, unfolding(crate::specs::Storing::text_number))]
+#[tactic(auto, unfolding(crate::specs::StoredValues::text_number))]
 fn is_number(text: &[u8]) -> bool
     ensures { result ≡ is_some (text_number text.now) }
 {

@@ -22,7 +22,7 @@ pub enum Unfit {
 }
 
 impl Unfit {
-    ghost use Rattle.base_values.specs.Storing.{error_number};
+    ghost use Rattle.base_values.specs.StoredValues.{error_number};
 
     /// The number of its error.
     pub fn number(self) -> u16

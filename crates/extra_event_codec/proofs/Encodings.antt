@@ -2,7 +2,7 @@
 use Rattle.std.proofs.Common.{◌≡◌, ℕ, ◌+◌, ◌<◌, ◌≤◌, List, ◌∷◌, ◌++◌, length, drop, get_or, ap, sym, ◌∙◌, arith, length-append, append_assoc}
 use Rattle.std.proofs.lemmas.List.{drop_more}
 use Rattle.base_values.specs.declared.value.Value.{Value}
-use Rattle.extra_event_codec.specs.Encoding.{value_bytes, values_bytes}
+use Rattle.extra_event_codec.specs.Encodings.{value_bytes, values_bytes}
 use Rattle.extra_event_codec.proofs.Sizes.{length-both, values_bytes-append, values_bytes-cons}
 
 pub ruleset of_changes = (length-both, values_bytes-append, append_assoc)

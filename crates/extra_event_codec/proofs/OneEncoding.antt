@@ -13,14 +13,14 @@ use Rattle.std.proofs.lemmas.Str.{IsUtf8-from_is_utf8}
 use Rattle.std.proofs.Math.Facts.{Fits-lt-pow}
 use Rattle.base_values.specs.declared.value.Value.{Value}
 use Rattle.base_values.specs.declared.value.Value.TheVariants.{Null, Num, Text, Blob}
-use Rattle.base_values.specs.Storing.{character_count}
+use Rattle.base_values.specs.StoredValues.{character_count}
 use Rattle.base_values.specs.declared.event.RowEvent.{RowEvent}
 use Rattle.base_values.specs.declared.event.Change.{Change}
 use Rattle.base_values.specs.declared.event.Change.TheVariants.{Write, Update, Delete}
 use Rattle.extra_event_codec.specs.declared.fault.DecodeFault.{DecodeFault}
 use Rattle.extra_event_codec.specs.declared.fault.DecodeFault.TheVariants.{Cut, BadTag, BadLength, BadValue}
-use Rattle.extra_event_codec.specs.Encoding.{length_bytes, half_bytes, number_bytes, sized, value_bytes, values_bytes, tag_of, columns_of, values_of, body_of, encoded, is_number, IsEncodableValue, RowsAlike, IsEncodable}
-use Rattle.extra_event_codec.specs.Reading.{◌>>=◌, taken, sized_at, number_of, number_at, text_of, text_at, blob_at, value_at, with_value, values_at, name_of, name_at, count_at, one_row, two_rows, change_at, event_of, event_at, decoded}
+use Rattle.extra_event_codec.specs.Encodings.{length_bytes, half_bytes, number_bytes, sized, value_bytes, values_bytes, tag_of, columns_of, values_of, body_of, encoded, is_number, IsEncodableValue, RowsAlike, IsEncodable}
+use Rattle.extra_event_codec.specs.Decodings.{◌>>=◌, taken, sized_at, number_of, number_at, text_of, text_at, blob_at, value_at, with_value, values_at, name_of, name_at, count_at, one_row, two_rows, change_at, event_of, event_at, decoded}
 use Rattle.extra_event_codec.specs.Laws.{IsHeld, IsWritten, ReadsWhatIsEncodable}
 use Rattle.extra_event_codec.proofs.Sizes.{length-sized, values_bytes-none, values_bytes-cons, values_bytes-append}
 
@@ -98,7 +98,7 @@ half_fits half all = omega (arith, small half all 0, small half all 1, small hal
 record IsSizedAt (bytes prefix rest : List ℕ) : Type 0 where
   split : bytes ≡ sized prefix ++ rest
   fits : length prefix < 2 ^ 32
-  behind : Bytes rest
+  following : Bytes rest
 
 sized_parts : (fault : DecodeFault) (bytes prefix rest : List ℕ) → Bytes bytes → sized_at fault bytes ≡ Ok (prefix, rest) → IsSizedAt bytes prefix rest
 unfolding sized_at sized
@@ -114,7 +114,7 @@ sized_parts fault bytes prefix rest all e =
     record {
       split = p.0 ∙ ap (λ m. size ++ m) q.0 ∙ sym (append_assoc size prefix rest) ∙ ap (λ s. (s ++ prefix) ++ rest) (sym encoding);
       fits = omega (arith, q.1, length_fits size these.0);
-      behind = those.1;
+      following = those.1;
     }
 
 -- a value that stands first
@@ -122,7 +122,7 @@ record IsValueAt (bytes : List ℕ) (value : Value) (rest : List ℕ) : Type 0 w
   split : bytes ≡ value_bytes value ++ rest
   encoded : IsEncodableValue value
   held : IsHeld value
-  behind : Bytes rest
+  following : Bytes rest
 
 high_of : (high low : ℕ) → low < 2 ^ 64 → (high * 2 ^ 64 + low) / 2 ^ 64 ≡ high
 high_of high low fits = omega arith
@@ -161,7 +161,7 @@ number_parts bytes value rest all e =
     let r : (number_of (from_be_bytes w64 high) (from_be_bytes w64 low) ≡ Some value) × (last ≡ rest) = both_ok (number_of (from_be_bytes w64 high) (from_be_bytes w64 low)) (Some value) last rest v.2 in
     let n : (is_number z ≡ true) × (Num z ≡ value) = cond_some (is_number z) (Num z) value r.0 in
     let split : bytes ≡ number_bytes z ++ last = p.0 ∙ ap (λ m. high ++ m) q.0 ∙ sym (append_assoc high low last) ∙ ap (λ b. b ++ last) (sym (number_encoded high low these.0 those.0 p.1 q.1)) in
-    let there : IsValueAt (1 ∷ bytes) (Num z) last = record { split = ap (λ b. 1 ∷ b) split; encoded = n.0; held = tt; behind = those.1 } in
+    let there : IsValueAt (1 ∷ bytes) (Num z) last = record { split = ap (λ b. 1 ∷ b) split; encoded = n.0; held = tt; following = those.1 } in
     subst (λ v. IsValueAt (1 ∷ bytes) v rest) n.1 (subst (λ l. IsValueAt (1 ∷ bytes) (Num z) l) r.1 there)
 
 text_parts : (bytes : List ℕ) (value : Value) (rest : List ℕ) → Bytes bytes → text_at bytes ≡ Ok (Some value, rest) → IsValueAt (2 ∷ bytes) value rest
@@ -173,7 +173,7 @@ text_parts bytes value rest all e =
     let p : IsSizedAt bytes text last = sized_parts BadLength bytes text last all w.1 in
     let r : (text_of text ≡ Some value) × (last ≡ rest) = both_ok (text_of text) (Some value) last rest w.2 in
     let n : (is_utf8 text ≡ true) × (Text text ≡ value) = cond_some (is_utf8 text) (Text text) value r.0 in
-    let there : IsValueAt (2 ∷ bytes) (Text text) last = record { split = ap (λ b. 2 ∷ b) p.split; encoded = tt; held = IsUtf8-from_is_utf8 text n.0; behind = p.behind } in
+    let there : IsValueAt (2 ∷ bytes) (Text text) last = record { split = ap (λ b. 2 ∷ b) p.split; encoded = tt; held = IsUtf8-from_is_utf8 text n.0; following = p.following } in
     subst (λ v. IsValueAt (2 ∷ bytes) v rest) n.1 (subst (λ l. IsValueAt (2 ∷ bytes) (Text text) l) r.1 there)
 
 blob_parts : (bytes : List ℕ) (value : Value) (rest : List ℕ) → Bytes bytes → blob_at bytes ≡ Ok (Some value, rest) → IsValueAt (3 ∷ bytes) value rest
@@ -185,7 +185,7 @@ blob_parts bytes value rest all e =
     let p : IsSizedAt bytes blob last = sized_parts BadLength bytes blob last all w.1 in
     let r : (Some (Blob blob) ≡ Some value) × (last ≡ rest) = both_ok (Some (Blob blob)) (Some value) last rest w.2 in
     let n : Blob blob ≡ value = cc in
-    let there : IsValueAt (3 ∷ bytes) (Blob blob) last = record { split = ap (λ b. 3 ∷ b) p.split; encoded = tt; held = tt; behind = p.behind } in
+    let there : IsValueAt (3 ∷ bytes) (Blob blob) last = record { split = ap (λ b. 3 ∷ b) p.split; encoded = tt; held = tt; following = p.following } in
     subst (λ v. IsValueAt (3 ∷ bytes) v rest) n (subst (λ l. IsValueAt (3 ∷ bytes) (Blob blob) l) r.1 there)
 
 null_parts : (bytes : List ℕ) (value : Value) (rest : List ℕ) → Bytes bytes → pair (Some Null) bytes ≡ Ok (Some value, rest) → IsValueAt (0 ∷ bytes) value rest
@@ -193,7 +193,7 @@ unfolding value_bytes
 null_parts bytes value rest all e =
     let r : (Some Null ≡ Some value) × (bytes ≡ rest) = both_ok (Some Null) (Some value) bytes rest e in
     let n : Null ≡ value = cc in
-    let there : IsValueAt (0 ∷ bytes) Null bytes = record { split = refl; encoded = tt; held = tt; behind = all } in
+    let there : IsValueAt (0 ∷ bytes) Null bytes = record { split = refl; encoded = tt; held = tt; following = all } in
     subst (λ v. IsValueAt (0 ∷ bytes) v rest) n (subst (λ l. IsValueAt (0 ∷ bytes) Null l) r.1 there)
 
 by_kind : (t0 t1 t2 t3 : Bool) (kind : ℕ) (bytes : List ℕ) (value : Value) (rest : List ℕ) → nat_eq kind 0 ≡ t0 → nat_eq kind 1 ≡ t1 → nat_eq kind 2 ≡ t2 → nat_eq kind 3 ≡ t3 → Bytes bytes → cond t0 (Ok (Some Null, bytes)) (cond t1 (number_at bytes) (cond t2 (text_at bytes) (cond t3 (blob_at bytes) (Err BadValue)))) ≡ Ok (Some value, rest) → IsValueAt (kind ∷ bytes) value rest
@@ -218,7 +218,7 @@ record AreValuesAt (so_far : Option (List Value)) (n : ℕ) (bytes : List ℕ) (
   split : bytes ≡ values_bytes new ++ rest
   encoded : AllByRecursion IsEncodableValue new
   held : AllByRecursion IsHeld new
-  behind : Bytes rest
+  following : Bytes rest
 
 no_values : (so_far : Option (List Value)) (bytes : List ℕ) (values : List Value) (rest : List ℕ) → Bytes bytes → pair so_far bytes ≡ Ok (Some values, rest) → AreValuesAt so_far 0 bytes values rest
 no_values so_far bytes values rest all e =
@@ -232,7 +232,7 @@ no_values so_far bytes values rest all e =
       split = r.1 ∙ ap (λ none. none ++ rest) (sym values_bytes-none);
       encoded = tt;
       held = tt;
-      behind = subst Bytes r.1 all;
+      following = subst Bytes r.1 all;
     }
 
 never : (n : ℕ) (bytes : List ℕ) (values : List Value) (rest : List ℕ) → values_at None n bytes ≡ Ok (Some values, rest) → ⊥
@@ -248,7 +248,7 @@ goes_on : (old : List Value) (value : Option Value) (n : ℕ) (bytes between : L
 goes_on old None n bytes between values rest all e f next = absurd (never n between values rest f)
 goes_on old (Some value) n bytes between values rest all e f next =
     let here : IsValueAt bytes value between = value_parts bytes value between all e in
-    let there : AreValuesAt (Some (old ++ value ∷ [])) n between values rest = next value here.behind f in
+    let there : AreValuesAt (Some (old ++ value ∷ [])) n between values rest = next value here.following f in
     let so_far : Some (old ++ value ∷ []) ≡ Some there.old = there.so_far_is in
     let old_is : old ++ value ∷ [] ≡ there.old = cc in
     record {
@@ -260,7 +260,7 @@ goes_on old (Some value) n bytes between values rest all e f next =
       split = here.split ∙ ap (λ b. value_bytes value ++ b) there.split ∙ sym (append_assoc (value_bytes value) (values_bytes there.new) rest) ∙ ap (λ b. b ++ rest) (sym (values_bytes-cons value there.new));
       encoded = (here.encoded, there.encoded);
       held = (here.held, there.held);
-      behind = there.behind;
+      following = there.following;
     }
 
 values_parts : (n : ℕ) (so_far : Option (List Value)) (bytes : List ℕ) (values : List Value) (rest : List ℕ) → Bytes bytes → values_at so_far n bytes ≡ Ok (Some values, rest) → AreValuesAt so_far n bytes values rest
@@ -277,7 +277,7 @@ record IsRowAt (n : ℕ) (bytes : List ℕ) (row : List Value) (rest : List ℕ)
   split : bytes ≡ values_bytes row ++ rest
   encoded : AllByRecursion IsEncodableValue row
   held : AllByRecursion IsHeld row
-  behind : Bytes rest
+  following : Bytes rest
 
 row_parts : (n : ℕ) (bytes : List ℕ) (row : List Value) (rest : List ℕ) → Bytes bytes → values_at (Some []) n bytes ≡ Ok (Some row, rest) → IsRowAt n bytes row rest
 row_parts n bytes row rest all e =
@@ -290,7 +290,7 @@ row_parts n bytes row rest all e =
       split = p.split ∙ ap (λ new. values_bytes new ++ rest) new_is;
       encoded = subst (AllByRecursion IsEncodableValue) new_is p.encoded;
       held = subst (AllByRecursion IsHeld) new_is p.held;
-      behind = p.behind;
+      following = p.following;
     }
 
 -- a name that stands first
@@ -300,7 +300,7 @@ record IsNameAt (bytes name rest : List ℕ) : Type 0 where
   short : length name ≤ 255
   characters : character_count name ≤ 64
   utf8 : IsUtf8 name
-  behind : Bytes rest
+  following : Bytes rest
 
 positive : (n : ℕ) → nat_eq n 0 ≡ false → 1 ≤ n
 positive n e = grind (arith, nat_tests)
@@ -324,7 +324,7 @@ name_parts (size ∷ bytes) name rest all e =
       short = omega (arith, p.1, all.0);
       characters = leb-true (character_count text) 64 t.1;
       utf8 = IsUtf8-from_is_utf8 text t.0;
-      behind = these.1;
+      following = these.1;
     } in
     subst (λ m. IsNameAt (size ∷ bytes) m rest) n.1 (subst (λ l. IsNameAt (size ∷ bytes) text l) r.1 there)
 
@@ -333,7 +333,7 @@ record IsCountAt (bytes : List ℕ) (count : ℕ) (rest : List ℕ) : Type 0 whe
   split : bytes ≡ count ∷ rest
   some : 1 ≤ count
   few : count ≤ 64
-  behind : Bytes rest
+  following : Bytes rest
 
 count_parts : (bytes : List ℕ) (count : ℕ) (rest : List ℕ) → Bytes bytes → count_at bytes ≡ Ok (count, rest) → IsCountAt bytes count rest
 unfolding count_at
@@ -342,7 +342,7 @@ count_parts (byte ∷ bytes) count rest all e =
     let c : ((nat_le 1 byte && nat_le byte 64) ≡ true) × (pair byte bytes ≡ Ok (count, rest)) = chosen (nat_le 1 byte && nat_le byte 64) (Ok (byte, bytes)) BadLength (count, rest) e in
     let r : (byte ≡ count) × (bytes ≡ rest) = both_ok byte count bytes rest c.1 in
     let t : (nat_le 1 byte ≡ true) × (nat_le byte 64 ≡ true) = and_parts (nat_le 1 byte) (nat_le byte 64) c.0 in
-    let there : IsCountAt (byte ∷ bytes) byte bytes = record { split = refl; some = leb-true 1 byte t.0; few = leb-true byte 64 t.1; behind = all.1 } in
+    let there : IsCountAt (byte ∷ bytes) byte bytes = record { split = refl; some = leb-true 1 byte t.0; few = leb-true byte 64 t.1; following = all.1 } in
     subst (λ n. IsCountAt (byte ∷ bytes) n rest) r.0 (subst (λ l. IsCountAt (byte ∷ bytes) byte l) r.1 there)
 
 -- a change whose values stand first
@@ -381,7 +381,7 @@ from_rows tag count bytes None after between last change rest is all e f g h = a
 from_rows tag count bytes (Some before) None between last change rest is all e f g h = absurd cc
 from_rows tag count bytes (Some before) (Some after) between last change rest is all e f g h =
     let p : IsRowAt count bytes before between = row_parts count bytes before between all e in
-    let q : IsRowAt count between after last = row_parts count between after last p.behind f in
+    let q : IsRowAt count between after last = row_parts count between after last p.following f in
     let n : Update before after ≡ change = cc in
     subst (λ c. IsChangeAt tag count bytes c rest) n (subst (λ l. IsChangeAt tag count bytes (Update before after) l) h (record {
       tag_is = sym is;
@@ -446,8 +446,8 @@ finished tag body None between count last change [] event some few all e f g h =
 finished tag body (Some name) between count last None [] event some few all e f g h = absurd cc
 finished tag body (Some name) between count last (Some change) [] event some few all e f g h =
     let p : IsNameAt body name between = name_parts body name between all e in
-    let q : IsCountAt between count last = count_parts between count last p.behind f in
-    let r : IsChangeAt tag count last change [] = change_parts tag count last change [] some few q.behind g in
+    let q : IsCountAt between count last = count_parts between count last p.following f in
+    let r : IsChangeAt tag count last change [] = change_parts tag count last change [] some few q.following g in
     let is : record { table = name; change = change } ≡ event = ap (ok_or event) h in
     subst (IsEventOf tag body) is (made tag body name between count last change p q r)
 

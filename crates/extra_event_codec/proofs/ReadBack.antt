@@ -12,25 +12,25 @@ use Rattle.std.proofs.lemmas.Nat.{from_be_bytes-to_be_bytes_4, from_be_bytes-to_
 use Rattle.std.proofs.lemmas.Str.{is_utf8-from_IsUtf8}
 use Rattle.base_values.specs.declared.value.Value.{Value}
 use Rattle.base_values.specs.declared.value.Value.TheVariants.{Null, Num, Text, Blob}
-use Rattle.base_values.specs.Storing.{character_count}
+use Rattle.base_values.specs.StoredValues.{character_count}
 use Rattle.base_values.specs.declared.event.RowEvent.{RowEvent}
 use Rattle.base_values.specs.declared.event.Change.{Change}
 use Rattle.base_values.specs.declared.event.Change.TheVariants.{Write, Update, Delete}
 use Rattle.extra_event_codec.specs.declared.fault.DecodeFault.{DecodeFault}
 use Rattle.extra_event_codec.specs.declared.fault.DecodeFault.TheVariants.{Cut, BadTag, BadLength}
-use Rattle.extra_event_codec.specs.Encoding.{length_bytes, half_bytes, number_bytes, sized, value_bytes, values_bytes, tag_of, columns_of, values_of, body_of, encoded, is_number, IsEncodableValue, RowsAlike}
-use Rattle.extra_event_codec.specs.Reading.{◌>>=◌, taken, sized_at, number_of, number_at, text_of, text_at, blob_at, value_at, with_value, values_at, name_of, name_at, count_at, one_row, two_rows, change_at, event_of, event_at, decoded}
+use Rattle.extra_event_codec.specs.Encodings.{length_bytes, half_bytes, number_bytes, sized, value_bytes, values_bytes, tag_of, columns_of, values_of, body_of, encoded, is_number, IsEncodableValue, RowsAlike}
+use Rattle.extra_event_codec.specs.Decodings.{◌>>=◌, taken, sized_at, number_of, number_at, text_of, text_at, blob_at, value_at, with_value, values_at, name_of, name_at, count_at, one_row, two_rows, change_at, event_of, event_at, decoded}
 use Rattle.extra_event_codec.specs.Laws.{IsHeld, IsWritten, ReadsWhatIsWritten, NoEncodingIsAPrefix}
 use Rattle.extra_event_codec.proofs.Sizes.{length-length_bytes, length-half_bytes, length-sized, values_bytes-none, values_bytes-cons, values_bytes-append, length-encoded, length-body}
 
 -- the prefix is taken where its length says so
-prefix_taken : (fault : DecodeFault) (prefix behind : List ℕ) (n : ℕ) → length prefix ≡ n → taken fault n (prefix ++ behind) ≡ Ok (prefix, behind)
+prefix_taken : (fault : DecodeFault) (prefix following : List ℕ) (n : ℕ) → length prefix ≡ n → taken fault n (prefix ++ following) ≡ Ok (prefix, following)
 unfolding taken
-prefix_taken fault prefix behind n is =
-    let long : n ≤ length (prefix ++ behind) = omega (arith, length-append prefix behind) in
-    ap (λ b. cond b (Ok (take n (prefix ++ behind), drop n (prefix ++ behind))) (Err fault)) (le-leb n (length (prefix ++ behind)) long)
-    ∙ ap (λ t. Ok (t, drop n (prefix ++ behind))) (take_at prefix behind n is)
-    ∙ ap (λ d. Ok (prefix, d)) (drop_at prefix behind n is)
+prefix_taken fault prefix following n is =
+    let long : n ≤ length (prefix ++ following) = omega (arith, length-append prefix following) in
+    ap (λ b. cond b (Ok (take n (prefix ++ following), drop n (prefix ++ following))) (Err fault)) (le-leb n (length (prefix ++ following)) long)
+    ∙ ap (λ t. Ok (t, drop n (prefix ++ following))) (take_at prefix following n is)
+    ∙ ap (λ d. Ok (prefix, d)) (drop_at prefix following n is)
 
 length_back : (n : ℕ) → n < 2 ^ 32 → from_be_bytes w32 (length_bytes n) ≡ n
 unfolding length_bytes
@@ -40,13 +40,13 @@ half_back : (n : ℕ) → n < 2 ^ 64 → from_be_bytes w64 (half_bytes n) ≡ n
 unfolding half_bytes
 half_back n fits = from_be_bytes-to_be_bytes_8 n fits
 
-sized_back : (fault : DecodeFault) (bytes behind : List ℕ) → length bytes < 2 ^ 32 → sized_at fault (sized bytes ++ behind) ≡ Ok (bytes, behind)
+sized_back : (fault : DecodeFault) (bytes following : List ℕ) → length bytes < 2 ^ 32 → sized_at fault (sized bytes ++ following) ≡ Ok (bytes, following)
 unfolding sized_at sized
-sized_back fault bytes behind fits =
-    ap (λ all. taken fault 4 all >>= (λ size. taken fault (from_be_bytes w32 size.0) size.1)) (append_assoc (length_bytes (length bytes)) bytes behind)
-    ∙ ap (λ read. read >>= (λ size. taken fault (from_be_bytes w32 size.0) size.1)) (prefix_taken fault (length_bytes (length bytes)) (bytes ++ behind) 4 (length-length_bytes (length bytes)))
-    ∙ ap (λ n. taken fault n (bytes ++ behind)) (length_back (length bytes) fits)
-    ∙ prefix_taken fault bytes behind (length bytes) refl
+sized_back fault bytes following fits =
+    ap (λ all. taken fault 4 all >>= (λ size. taken fault (from_be_bytes w32 size.0) size.1)) (append_assoc (length_bytes (length bytes)) bytes following)
+    ∙ ap (λ read. read >>= (λ size. taken fault (from_be_bytes w32 size.0) size.1)) (prefix_taken fault (length_bytes (length bytes)) (bytes ++ following) 4 (length-length_bytes (length bytes)))
+    ∙ ap (λ n. taken fault n (bytes ++ following)) (length_back (length bytes) fits)
+    ∙ prefix_taken fault bytes following (length bytes) refl
 
 number_fits : (n : ℤ) → is_number n ≡ true → FitsSigned w128 n
 number_fits (pos m) e = grind (arith, ints, nat_tests, and_parts)
@@ -71,61 +71,61 @@ number_back n e =
 below : (n : ℤ) → FitsSigned w128 n → cast_unsigned w128 n < 2 ^ 128
 below n fits = omega (arith, ints)
 
-number_read : (n : ℤ) (behind : List ℕ) → is_number n ≡ true → number_at (number_bytes n ++ behind) ≡ Ok (Some (Num n), behind)
+number_read : (n : ℤ) (following : List ℕ) → is_number n ≡ true → number_at (number_bytes n ++ following) ≡ Ok (Some (Num n), following)
 unfolding number_at number_bytes
-number_read n behind e =
+number_read n following e =
     let u : ℕ = cast_unsigned w128 n in
     let fits : u < 2 ^ 128 = below n (number_fits n e) in
-    ap (λ all. taken BadLength 8 all >>= (λ high. taken BadLength 8 high.1 >>= (λ low. Ok (number_of (from_be_bytes w64 high.0) (from_be_bytes w64 low.0), low.1)))) (append_assoc (half_bytes (u / 2 ^ 64)) (half_bytes (u % 2 ^ 64)) behind)
-    ∙ ap (λ read. read >>= (λ high. taken BadLength 8 high.1 >>= (λ low. Ok (number_of (from_be_bytes w64 high.0) (from_be_bytes w64 low.0), low.1)))) (prefix_taken BadLength (half_bytes (u / 2 ^ 64)) (half_bytes (u % 2 ^ 64) ++ behind) 8 (length-half_bytes (u / 2 ^ 64)))
-    ∙ ap (λ read. read >>= (λ low. Ok (number_of (from_be_bytes w64 (half_bytes (u / 2 ^ 64))) (from_be_bytes w64 low.0), low.1))) (prefix_taken BadLength (half_bytes (u % 2 ^ 64)) behind 8 (length-half_bytes (u % 2 ^ 64)))
-    ∙ ap (λ high. Ok (number_of high (from_be_bytes w64 (half_bytes (u % 2 ^ 64))), behind)) (half_back (u / 2 ^ 64) (high_fits u fits))
-    ∙ ap (λ low. Ok (number_of (u / 2 ^ 64) low, behind)) (half_back (u % 2 ^ 64) (low_fits u))
-    ∙ ap (λ value. Ok (value, behind)) (number_back n e)
+    ap (λ all. taken BadLength 8 all >>= (λ high. taken BadLength 8 high.1 >>= (λ low. Ok (number_of (from_be_bytes w64 high.0) (from_be_bytes w64 low.0), low.1)))) (append_assoc (half_bytes (u / 2 ^ 64)) (half_bytes (u % 2 ^ 64)) following)
+    ∙ ap (λ read. read >>= (λ high. taken BadLength 8 high.1 >>= (λ low. Ok (number_of (from_be_bytes w64 high.0) (from_be_bytes w64 low.0), low.1)))) (prefix_taken BadLength (half_bytes (u / 2 ^ 64)) (half_bytes (u % 2 ^ 64) ++ following) 8 (length-half_bytes (u / 2 ^ 64)))
+    ∙ ap (λ read. read >>= (λ low. Ok (number_of (from_be_bytes w64 (half_bytes (u / 2 ^ 64))) (from_be_bytes w64 low.0), low.1))) (prefix_taken BadLength (half_bytes (u % 2 ^ 64)) following 8 (length-half_bytes (u % 2 ^ 64)))
+    ∙ ap (λ high. Ok (number_of high (from_be_bytes w64 (half_bytes (u % 2 ^ 64))), following)) (half_back (u / 2 ^ 64) (high_fits u fits))
+    ∙ ap (λ low. Ok (number_of (u / 2 ^ 64) low, following)) (half_back (u % 2 ^ 64) (low_fits u))
+    ∙ ap (λ value. Ok (value, following)) (number_back n e)
 
-text_read : (text behind : List ℕ) → length text < 2 ^ 32 → IsUtf8 text → text_at (sized text ++ behind) ≡ Ok (Some (Text text), behind)
+text_read : (text following : List ℕ) → length text < 2 ^ 32 → IsUtf8 text → text_at (sized text ++ following) ≡ Ok (Some (Text text), following)
 unfolding text_at
-text_read text behind fits utf8 =
-    ap (λ read. read >>= (λ text. Ok (text_of text.0, text.1))) (sized_back BadLength text behind fits)
-    ∙ ap (λ b. Ok (cond b (Some (Text text)) None, behind)) (is_utf8-from_IsUtf8 text utf8)
+text_read text following fits utf8 =
+    ap (λ read. read >>= (λ text. Ok (text_of text.0, text.1))) (sized_back BadLength text following fits)
+    ∙ ap (λ b. Ok (cond b (Some (Text text)) None, following)) (is_utf8-from_IsUtf8 text utf8)
 
-blob_read : (blob behind : List ℕ) → length blob < 2 ^ 32 → blob_at (sized blob ++ behind) ≡ Ok (Some (Blob blob), behind)
+blob_read : (blob following : List ℕ) → length blob < 2 ^ 32 → blob_at (sized blob ++ following) ≡ Ok (Some (Blob blob), following)
 unfolding blob_at
-blob_read blob behind fits = ap (λ read. read >>= (λ blob. Ok (Some (Blob blob.0), blob.1))) (sized_back BadLength blob behind fits)
+blob_read blob following fits = ap (λ read. read >>= (λ blob. Ok (Some (Blob blob.0), blob.1))) (sized_back BadLength blob following fits)
 
-value_read : (value : Value) (behind : List ℕ) → IsEncodableValue value → IsHeld value → length (value_bytes value) < 2 ^ 32 → value_at (value_bytes value ++ behind) ≡ Ok (Some value, behind)
+value_read : (value : Value) (following : List ℕ) → IsEncodableValue value → IsHeld value → length (value_bytes value) < 2 ^ 32 → value_at (value_bytes value ++ following) ≡ Ok (Some value, following)
 unfolding value_at value_bytes
-value_read Null behind encoded held fits = refl
-value_read (Num n) behind encoded held fits = number_read n behind encoded
-value_read (Text text) behind encoded held fits = text_read text behind (omega (arith, length-sized text)) held
-value_read (Blob blob) behind encoded held fits = blob_read blob behind (omega (arith, length-sized blob))
+value_read Null following encoded held fits = refl
+value_read (Num n) following encoded held fits = number_read n following encoded
+value_read (Text text) following encoded held fits = text_read text following (omega (arith, length-sized text)) held
+value_read (Blob blob) following encoded held fits = blob_read blob following (omega (arith, length-sized blob))
 
-values_read : (so_far values : List Value) (behind : List ℕ) → AllByRecursion IsEncodableValue values → AllByRecursion IsHeld values → length (values_bytes values) < 2 ^ 32 → values_at (Some so_far) (length values) (values_bytes values ++ behind) ≡ Ok (Some (so_far ++ values), behind)
+values_read : (so_far values : List Value) (following : List ℕ) → AllByRecursion IsEncodableValue values → AllByRecursion IsHeld values → length (values_bytes values) < 2 ^ 32 → values_at (Some so_far) (length values) (values_bytes values ++ following) ≡ Ok (Some (so_far ++ values), following)
 unfolding values_at
-values_read so_far [] behind encoded held fits =
-    ap (λ none. Ok (Some so_far, none ++ behind)) values_bytes-none
-    ∙ ap (λ all. Ok (Some all, behind)) (sym (append-nil so_far))
-values_read so_far (value ∷ values) behind encoded held fits =
+values_read so_far [] following encoded held fits =
+    ap (λ none. Ok (Some so_far, none ++ following)) values_bytes-none
+    ∙ ap (λ all. Ok (Some all, following)) (sym (append-nil so_far))
+values_read so_far (value ∷ values) following encoded held fits =
     let split : length (value_bytes value) + length (values_bytes values) ≡ length (values_bytes (value ∷ values)) = sym (ap length (values_bytes-cons value values) ∙ length-append (value_bytes value) (values_bytes values)) in
-    ap (λ all. value_at (all ++ behind) >>= (λ v. values_at (with_value (Some so_far) v.0) (length values) v.1)) (values_bytes-cons value values)
-    ∙ ap (λ all. value_at all >>= (λ v. values_at (with_value (Some so_far) v.0) (length values) v.1)) (append_assoc (value_bytes value) (values_bytes values) behind)
-    ∙ ap (λ read. read >>= (λ v. values_at (with_value (Some so_far) v.0) (length values) v.1)) (value_read value (values_bytes values ++ behind) encoded.0 held.0 (omega arith))
-    ∙ values_read (so_far ++ value ∷ []) values behind encoded.1 held.1 (omega arith)
-    ∙ ap (λ all. Ok (Some all, behind)) (append_assoc so_far (value ∷ []) values)
+    ap (λ all. value_at (all ++ following) >>= (λ v. values_at (with_value (Some so_far) v.0) (length values) v.1)) (values_bytes-cons value values)
+    ∙ ap (λ all. value_at all >>= (λ v. values_at (with_value (Some so_far) v.0) (length values) v.1)) (append_assoc (value_bytes value) (values_bytes values) following)
+    ∙ ap (λ read. read >>= (λ v. values_at (with_value (Some so_far) v.0) (length values) v.1)) (value_read value (values_bytes values ++ following) encoded.0 held.0 (omega arith))
+    ∙ values_read (so_far ++ value ∷ []) values following encoded.1 held.1 (omega arith)
+    ∙ ap (λ all. Ok (Some all, following)) (append_assoc so_far (value ∷ []) values)
 
-name_read : (name behind : List ℕ) → 1 ≤ length name → character_count name ≤ 64 → IsUtf8 name → name_at (length name ∷ (name ++ behind)) ≡ Ok (Some name, behind)
+name_read : (name following : List ℕ) → 1 ≤ length name → character_count name ≤ 64 → IsUtf8 name → name_at (length name ∷ (name ++ following)) ≡ Ok (Some name, following)
 unfolding name_at
-name_read name behind some short utf8 =
-    ap (λ b. cond b (Err BadLength) (taken BadLength (length name) (name ++ behind) >>= (λ name. Ok (name_of name.0, name.1)))) (not_empty (length name) some)
-    ∙ ap (λ read. read >>= (λ name. Ok (name_of name.0, name.1))) (prefix_taken BadLength name behind (length name) refl)
-    ∙ ap (λ b. Ok (cond b (Some name) None, behind)) (and_from (is_utf8 name) (nat_le (character_count name) 64) (is_utf8-from_IsUtf8 name utf8) (le-leb (character_count name) 64 short))
+name_read name following some short utf8 =
+    ap (λ b. cond b (Err BadLength) (taken BadLength (length name) (name ++ following) >>= (λ name. Ok (name_of name.0, name.1)))) (not_empty (length name) some)
+    ∙ ap (λ read. read >>= (λ name. Ok (name_of name.0, name.1))) (prefix_taken BadLength name following (length name) refl)
+    ∙ ap (λ b. Ok (cond b (Some name) None, following)) (and_from (is_utf8 name) (nat_le (character_count name) 64) (is_utf8-from_IsUtf8 name utf8) (le-leb (character_count name) 64 short))
   where
     not_empty : (n : ℕ) → 1 ≤ n → nat_eq n 0 ≡ false
     not_empty n some = grind (arith, nat_tests)
 
-count_read : (count : ℕ) (behind : List ℕ) → 1 ≤ count → count ≤ 64 → count_at (count ∷ behind) ≡ Ok (count, behind)
+count_read : (count : ℕ) (following : List ℕ) → 1 ≤ count → count ≤ 64 → count_at (count ∷ following) ≡ Ok (count, following)
 unfolding count_at
-count_read count behind some few = ap (λ b. cond b (Ok (count, behind)) (Err BadLength)) (and_from (nat_le 1 count) (nat_le count 64) (le-leb 1 count some) (le-leb count 64 few))
+count_read count following some few = ap (λ b. cond b (Ok (count, following)) (Err BadLength)) (and_from (nat_le 1 count) (nat_le count 64) (le-leb 1 count some) (le-leb count 64 few))
 
 row_read : (row : List Value) → AllByRecursion IsEncodableValue row → AllByRecursion IsHeld row → length (values_bytes row) < 2 ^ 32 → values_at (Some []) (length row) (values_bytes row) ≡ Ok (Some row, [])
 row_read row encoded held fits = ap (λ all. values_at (Some []) (length row) all) (sym (append-nil (values_bytes row))) ∙ values_read [] row [] encoded held fits
@@ -164,8 +164,8 @@ length_of event = omega (arith, length-body event, length-encoded event)
 
 pub reads_back : ReadsWhatIsWritten
 unfolding decoded encoded
-reads_back event behind is =
-    ap (λ read. read >>= (λ body. cond (nat_le 1 (tag_of event.change) && nat_le (tag_of event.change) 3) (event_at (tag_of event.change) body.0 >>= (λ e. Ok (e, length body.0 + 5))) (Err BadTag))) (sized_back Cut (body_of event) behind is.encoded.size)
+reads_back event following is =
+    ap (λ read. read >>= (λ body. cond (nat_le 1 (tag_of event.change) && nat_le (tag_of event.change) 3) (event_at (tag_of event.change) body.0 >>= (λ e. Ok (e, length body.0 + 5))) (Err BadTag))) (sized_back Cut (body_of event) following is.encoded.size)
     ∙ ap (λ b. cond b (event_at (tag_of event.change) (body_of event) >>= (λ e. Ok (e, length (body_of event) + 5))) (Err BadTag)) (is_tag event.change)
     ∙ ap (λ read. read >>= (λ e. Ok (e, length (body_of event) + 5))) (event_read event is)
     ∙ ap (λ n. Ok (event, n)) (length_of event)
@@ -175,5 +175,5 @@ event_or default (Ok read) = read.0
 event_or default (Err fault) = default
 
 pub no_prefix : NoEncodingIsAPrefix
-no_prefix event other behind after_other is is_other same =
-    ap (event_or event) (sym (reads_back event behind is) ∙ ap decoded same ∙ reads_back other after_other is_other)
+no_prefix event other following after_other is is_other same =
+    ap (event_or event) (sym (reads_back event following is) ∙ ap decoded same ∙ reads_back other after_other is_other)

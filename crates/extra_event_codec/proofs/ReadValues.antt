@@ -3,7 +3,7 @@ use Rattle.std.proofs.Common.{◌≡◌, ℕ, zero, suc, ◌-◌, ◌<◌, List,
 use Rattle.base_values.specs.declared.value.Value.{Value}
 use Rattle.extra_event_codec.specs.declared.fault.DecodeFault.{DecodeFault}
 use Rattle.extra_event_codec.specs.declared.fault.DecodeFault.TheVariants.{Cut, BadTag, BadLength, BadValue, Memory}
-use Rattle.extra_event_codec.specs.Reading.{◌>>=◌, Fails, value_at, with_value, values_at}
+use Rattle.extra_event_codec.specs.Decodings.{◌>>=◌, Fails, value_at, with_value, values_at}
 
 one_more : (values : Option (List Value)) (n : ℕ) (bytes : List ℕ) → 0 < n → values_at values n bytes ≡ (value_at bytes >>= (λ value. values_at (with_value values value.0) (n - 1) value.1))
 unfolding values_at

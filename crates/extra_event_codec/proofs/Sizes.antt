@@ -6,7 +6,7 @@ use Rattle.std.proofs.lemmas.List.{append-nil, drop_more, drop_all}
 use Rattle.base_values.specs.declared.value.Value.{Value}
 use Rattle.base_values.specs.declared.value.Value.TheVariants.{Null, Num, Text, Blob}
 use Rattle.base_values.specs.declared.event.RowEvent.{RowEvent}
-use Rattle.extra_event_codec.specs.Encoding.{length_bytes, half_bytes, number_bytes, sized, value_bytes, values_bytes, columns_of, values_of, body_of, encoded}
+use Rattle.extra_event_codec.specs.Encodings.{length_bytes, half_bytes, number_bytes, sized, value_bytes, values_bytes, columns_of, values_of, body_of, encoded}
 
 pub length-length_bytes : (n : ℕ) → length (length_bytes n) ≡ 4
 unfolding length_bytes

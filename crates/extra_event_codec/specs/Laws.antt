@@ -5,8 +5,8 @@ use Rattle.std.specs.Str.{IsUtf8}
 use Rattle.base_values.specs.declared.value.Value.{Value}
 use Rattle.base_values.specs.declared.value.Value.TheVariants.{Text}
 use Rattle.base_values.specs.declared.event.RowEvent.{RowEvent}
-use Rattle.extra_event_codec.specs.Encoding.{encoded, values_of, IsEncodable}
-use Rattle.extra_event_codec.specs.Reading.{decoded}
+use Rattle.extra_event_codec.specs.Encodings.{encoded, values_of, IsEncodable}
+use Rattle.extra_event_codec.specs.Decodings.{decoded}
 
 -- A value that the program can hold: texts are UTF-8.
 abbrev pub IsHeld : Value → Type 0
@@ -21,11 +21,11 @@ pub record IsWritten (event : RowEvent) : Type 0 where
 
 -- What is written is read, whatever comes after it.
 abbrev pub ReadsWhatIsWritten : Type 0
-ReadsWhatIsWritten = (event : RowEvent) (behind : List ℕ) → IsWritten event → decoded (encoded event ++ behind) ≡ Ok (event, length (encoded event))
+ReadsWhatIsWritten = (event : RowEvent) (following : List ℕ) → IsWritten event → decoded (encoded event ++ following) ≡ Ok (event, length (encoded event))
 
 -- No encoding is a prefix of another: where two begin the same bytes, they are of one event.
 abbrev pub NoEncodingIsAPrefix : Type 0
-NoEncodingIsAPrefix = (event other : RowEvent) (behind after_other : List ℕ) → IsWritten event → IsWritten other → encoded event ++ behind ≡ encoded other ++ after_other → event ≡ other
+NoEncodingIsAPrefix = (event other : RowEvent) (following after_other : List ℕ) → IsWritten event → IsWritten other → encoded event ++ following ≡ encoded other ++ after_other → event ≡ other
 
 -- What is read is encoded so, in just the bytes that were read.
 abbrev pub ReadsWhatIsEncodable : Type 0

@@ -1,4 +1,4 @@
 pub mod Laws
-pub mod Reading
-pub mod Encoding
+pub mod Decodings
+pub mod Encodings
 pub mod TxnCosts

@@ -1,3 +1,3 @@
 pub mod Costs
-pub mod Fitting
+pub mod Encodable
 pub mod Logged

@@ -1,7 +1,7 @@
 //! Encodes events.
 
 ghost use Rattle.std.specs.Prelude.{◌≡◌, ◌<◌, ◌+◌, ◌^◌, ◌++◌, length, OnOk, OnErr, IfOk};
-ghost use Rattle.extra_event_codec.specs.Encoding.{length_bytes, half_bytes, number_bytes, sized, value_bytes, values_bytes, tag_of, columns_of, values_of, body_of, encoded, IsEncodable};
+ghost use Rattle.extra_event_codec.specs.Encodings.{length_bytes, half_bytes, number_bytes, sized, value_bytes, values_bytes, tag_of, columns_of, values_of, body_of, encoded, IsEncodable};
 
 use base_values::{Bytes, Change, RowEvent, Sequence, Value};
 use std::alloc::{AllocError, Global};
@@ -58,7 +58,7 @@ pub fn cost(event: &RowEvent) -> u64
 }
 
 /// Adds bytes after their length.
-#[tactic(auto, unfolding(crate::specs::Encoding::sized, crate::specs::Encoding::length_bytes))]
+#[tactic(auto, unfolding(crate::specs::Encodings::sized, crate::specs::Encodings::length_bytes))]
 fn push_sized(into: &mut Vec<u8>, bytes: &[u8]) -> Result<(), AllocError>
     requires { length bytes.now < 2 ^ 32 }
     ensures { OnOk result (into.new.items ≡ into.old.items ++ sized bytes.now) }
@@ -71,7 +71,7 @@ fn push_sized(into: &mut Vec<u8>, bytes: &[u8]) -> Result<(), AllocError>
 const HALF: u128 = 0x1_0000_0000_0000_0000;
 
 /// Adds half of a number.
-#[tactic(auto, unfolding(crate::specs::Encoding::half_bytes))]
+#[tactic(auto, unfolding(crate::specs::Encodings::half_bytes))]
 fn push_half(into: &mut Vec<u8>, half: u64) -> Result<(), AllocError>
     ensures { OnOk result (into.new.items ≡ into.old.items ++ half_bytes half) }
 {
@@ -79,7 +79,7 @@ fn push_half(into: &mut Vec<u8>, half: u64) -> Result<(), AllocError>
 }
 
 /// Adds a number.
-#[tactic(auto, using(crate::proofs::Encodings::of_changes), unfolding(crate::specs::Encoding::number_bytes))]
+#[tactic(auto, using(crate::proofs::Encodings::of_changes), unfolding(crate::specs::Encodings::number_bytes))]
 fn push_number(into: &mut Vec<u8>, number: i128) -> Result<(), AllocError>
     ensures { OnOk result (into.new.items ≡ into.old.items ++ number_bytes number) }
 {
@@ -89,7 +89,7 @@ fn push_number(into: &mut Vec<u8>, number: i128) -> Result<(), AllocError>
 }
 
 /// Adds a value.
-#[tactic(auto, using(crate::proofs::Sizes::of_value), unfolding(crate::specs::Encoding::value_bytes))]
+#[tactic(auto, using(crate::proofs::Sizes::of_value), unfolding(crate::specs::Encodings::value_bytes))]
 fn push_value(into: &mut Vec<u8>, value: &Value) -> Result<(), AllocError>
     requires { length (value_bytes value.now) < 2 ^ 32 }
     ensures { OnOk result (into.new.items ≡ into.old.items ++ value_bytes value.now) }
@@ -162,7 +162,7 @@ fn columns_of(change: &Change) -> usize
 }
 
 /// The event's body.
-#[tactic(auto, unfolding(crate::specs::Encoding::body_of))]
+#[tactic(auto, unfolding(crate::specs::Encodings::body_of))]
 fn body_of(alloc: Global, event: &RowEvent) -> Result<Vec<u8>, AllocError>
     requires { IsEncodable event.now }
     ensures { IfOk result (λ body. body.items ≡ body_of event.now) }
@@ -177,7 +177,7 @@ fn body_of(alloc: Global, event: &RowEvent) -> Result<Vec<u8>, AllocError>
 }
 
 /// The event's bytes.
-#[tactic(auto, unfolding(crate::specs::Encoding::encoded))]
+#[tactic(auto, unfolding(crate::specs::Encodings::encoded))]
 fn encoded(alloc: Global, event: &RowEvent) -> Result<Vec<u8>, AllocError>
     requires { IsEncodable event.now }
     ensures { IfOk result (λ bytes. bytes.items ≡ encoded event.now) }

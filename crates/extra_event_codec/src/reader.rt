@@ -2,14 +2,14 @@
 
 ghost use Rattle.std.specs.Prelude.{◌≡◌, true, false, [], Some, IfOk, MatchOption};
 ghost use Rattle.std.specs.Str.{is_utf8};
-ghost use Rattle.extra_event_codec.specs.Reading.{Reads, taken, sized_at, number_of, number_at, text_of, text_at, blob_at, value_at, with_value, values_at, name_of, name_at, count_at, one_row, two_rows, change_at, event_of, event_at, decoded};
+ghost use Rattle.extra_event_codec.specs.Decodings.{Reads, taken, sized_at, number_of, number_at, text_of, text_at, blob_at, value_at, with_value, values_at, name_of, name_at, count_at, one_row, two_rows, change_at, event_of, event_at, decoded};
 
 use crate::fault::DecodeFault;
 use base_values::{Change, Chars, Name, Row, RowEvent, Sequence, Value, character_count};
 use std::alloc::{AllocError, Global};
 
 /// The first `n` bytes and those after them, or the fault where there are fewer.
-#[tactic(auto, unfolding(crate::specs::Reading::taken))]
+#[tactic(auto, unfolding(crate::specs::Decodings::taken))]
 fn taken(fault: DecodeFault, n: usize, bytes: &[u8]) -> Result<(&[u8], &[u8]), DecodeFault>
     ensures { Reads (λ parts. (parts.0.now, parts.1.now)) result (taken fault n bytes.now) }
 {
@@ -20,7 +20,7 @@ fn taken(fault: DecodeFault, n: usize, bytes: &[u8]) -> Result<(&[u8], &[u8]), D
 }
 
 /// The bytes after their length, and those after them.
-#[tactic(auto, unfolding(crate::specs::Reading::sized_at, crate::specs::Reading::taken))]
+#[tactic(auto, unfolding(crate::specs::Decodings::sized_at, crate::specs::Decodings::taken))]
 fn sized_at(fault: DecodeFault, bytes: &[u8]) -> Result<(&[u8], &[u8]), DecodeFault>
     ensures { Reads (λ parts. (parts.0.now, parts.1.now)) result (sized_at fault bytes.now) }
 {
@@ -29,7 +29,7 @@ fn sized_at(fault: DecodeFault, bytes: &[u8]) -> Result<(&[u8], &[u8]), DecodeFa
 }
 
 /// The number of two halves in two's complement, where a column can hold it.
-#[tactic(auto, unfolding(crate::specs::Reading::number_of))]
+#[tactic(auto, unfolding(crate::specs::Decodings::number_of))]
 fn number_of(high: u64, low: u64) -> Option<Value>
     ensures { result ≡ number_of high low }
 {
@@ -41,7 +41,7 @@ fn number_of(high: u64, low: u64) -> Option<Value>
 }
 
 /// A number, and what follows it.
-#[tactic(auto, unfolding(crate::specs::Reading::number_at, crate::specs::Reading::taken))]
+#[tactic(auto, unfolding(crate::specs::Decodings::number_at, crate::specs::Decodings::taken))]
 fn number_at(bytes: &[u8]) -> Result<(Option<Value>, &[u8]), DecodeFault>
     ensures { Reads (λ value. (value.0, value.1.now)) result (number_at bytes.now) }
 {
@@ -74,7 +74,7 @@ fn text_of(alloc: Global, bytes: &[u8]) -> Result<Option<Value>, AllocError>
 }
 
 /// A text, and what follows it.
-#[tactic(auto, unfolding(crate::specs::Reading::text_at))]
+#[tactic(auto, unfolding(crate::specs::Decodings::text_at))]
 fn text_at(alloc: Global, bytes: &[u8]) -> Result<(Option<Value>, &[u8]), DecodeFault>
     ensures { Reads (λ value. (value.0, value.1.now)) result (text_at bytes.now) }
 {
@@ -83,7 +83,7 @@ fn text_at(alloc: Global, bytes: &[u8]) -> Result<(Option<Value>, &[u8]), Decode
 }
 
 /// Bytes that are a value, and what follows them.
-#[tactic(auto, unfolding(crate::specs::Reading::blob_at))]
+#[tactic(auto, unfolding(crate::specs::Decodings::blob_at))]
 fn blob_at(alloc: Global, bytes: &[u8]) -> Result<(Option<Value>, &[u8]), DecodeFault>
     ensures { Reads (λ value. (value.0, value.1.now)) result (blob_at bytes.now) }
 {
@@ -93,7 +93,7 @@ fn blob_at(alloc: Global, bytes: &[u8]) -> Result<(Option<Value>, &[u8]), Decode
 }
 
 /// A value, and what follows it.
-#[tactic(auto, unfolding(crate::specs::Reading::value_at))]
+#[tactic(auto, unfolding(crate::specs::Decodings::value_at))]
 fn value_at(alloc: Global, bytes: &[u8]) -> Result<(Option<Value>, &[u8]), DecodeFault>
     ensures { Reads (λ value. (value.0, value.1.now)) result (value_at bytes.now) }
 {
@@ -130,9 +130,9 @@ fn values_at(alloc: Global, count: u8, bytes: &[u8]) -> Result<(Option<Row>, &[u
     let mut left = count;
     while left > 0 {
         match value_at(alloc, rest) {
-            Ok((value, behind)) => {
+            Ok((value, following)) => {
                 values = with_value(values, value)?;
-                rest = behind;
+                rest = following;
                 left -= 1;
             }
             Err(fault) => return Err(fault),
@@ -155,7 +155,7 @@ fn name_of(alloc: Global, bytes: &[u8]) -> Result<Option<Name>, AllocError>
 }
 
 /// A name after its length, and what follows it.
-#[tactic(auto, unfolding(crate::specs::Reading::name_at))]
+#[tactic(auto, unfolding(crate::specs::Decodings::name_at))]
 fn name_at(alloc: Global, bytes: &[u8]) -> Result<(Option<Name>, &[u8]), DecodeFault>
     ensures { Reads (λ name. (name.0, name.1.now)) result (name_at bytes.now) }
 {
@@ -168,7 +168,7 @@ fn name_at(alloc: Global, bytes: &[u8]) -> Result<(Option<Name>, &[u8]), DecodeF
 }
 
 /// The number of columns, and what follows it.
-#[tactic(auto, unfolding(crate::specs::Reading::count_at))]
+#[tactic(auto, unfolding(crate::specs::Decodings::count_at))]
 fn count_at(bytes: &[u8]) -> Result<(u8, &[u8]), DecodeFault>
     ensures { Reads (λ count. (count.0, count.1.now)) result (count_at bytes.now) }
 {
@@ -202,7 +202,7 @@ fn two_rows(before: Option<Row>, after: Option<Row>) -> Option<Change>
 }
 
 /// The change of a tag, with this many columns, and what follows it.
-#[tactic(auto, unfolding(crate::specs::Reading::change_at))]
+#[tactic(auto, unfolding(crate::specs::Decodings::change_at))]
 fn change_at(
     alloc: Global,
     tag: u8,
@@ -237,7 +237,7 @@ fn event_of(
 }
 
 /// The event whose body this is.
-#[tactic(auto, unfolding(crate::specs::Reading::event_at))]
+#[tactic(auto, unfolding(crate::specs::Decodings::event_at))]
 fn event_at(alloc: Global, tag: u8, body: &[u8]) -> Result<RowEvent, DecodeFault>
     ensures { Reads (λ event. event) result (event_at tag body.now) }
 {
@@ -249,7 +249,7 @@ fn event_at(alloc: Global, tag: u8, body: &[u8]) -> Result<RowEvent, DecodeFault
 
 /// The event that bytes begin with, and how many of them it takes. It is refused as `Cut` where the bytes end within
 /// it, else as `BadTag`, else as `BadLength`, else as `BadValue`.
-#[tactic(auto, unfolding(crate::specs::Reading::decoded))]
+#[tactic(auto, unfolding(crate::specs::Decodings::decoded))]
 pub fn decode(alloc: Global, bytes: &[u8]) -> Result<(RowEvent, usize), DecodeFault>
     ensures { Reads (λ event. event) result (decoded bytes.now) }
 {

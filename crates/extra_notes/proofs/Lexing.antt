@@ -7,15 +7,15 @@ use Rattle.std.specs.List.{flat_map, AllByRecursion}
 use Rattle.std.specs.Option.{option_map, option_to_list}
 use Rattle.base_values.specs.declared.value.Value.{Value}
 use Rattle.base_values.specs.declared.value.Value.TheVariants.{Null, Num, Text, Blob}
-use Rattle.base_values.specs.Printing.{printed, listed, printed_row}
+use Rattle.base_values.specs.Literals.{printed, listed, printed_row}
 use Rattle.sql_words.specs.declared.word.WordClass.{WordClass}
 use Rattle.sql_words.specs.declared.word.WordClass.TheVariants as class
 use Rattle.sql_words.specs.declared.front.Front.TheVariants.{Found}
 use Rattle.sql_words.specs.Characters.{begins_with}
 use Rattle.sql_words.specs.Front.{front_at}
-use Rattle.sql_words.specs.Meaning.{number_value}
-use Rattle.sql_words.specs.Reading.{Reading, with_word, words_after}
-use Rattle.sql_words.proofs.Behind.{words_after-gap, words_after-end}
+use Rattle.sql_words.specs.Meanings.{number_value}
+use Rattle.sql_words.specs.Readings.{Reading, with_word, words_after}
+use Rattle.sql_words.proofs.Following.{words_after-gap, words_after-end}
 use Rattle.sql_words.proofs.NumberWords.{front_at-number_value, number_value-unsigned, number_value-minus}
 use Rattle.sql_words.proofs.Reprinted.{words_after-append, front_at-printed_text, text_value-printed_text, front_at-printed_bytes, bytes_value-printed_bytes}
 use Rattle.sql_grammar.proofs.WordValues.ReadBack.{decimal_digits, decimal_value}
@@ -26,8 +26,8 @@ use Rattle.extra_notes.specs.Readings.{literals_among, literals_read, literals}
 abbrev pub Tells : List ℕ → List Value → Type 0
 Tells bytes values = (place : ℕ) → (ws : List Reading) × (words_after 0 place bytes ≡ Ok ws) × (literals_among ws ≡ values)
 
-pub told : (bytes : List ℕ) (values : List Value) → Tells bytes values → literals bytes ≡ values
-told bytes values tells = let r = tells 0 in ap literals_read r.1 ∙ r.2
+pub reported : (bytes : List ℕ) (values : List Value) → Tells bytes values → literals bytes ≡ values
+reported bytes values tells = let r = tells 0 in ap literals_read r.1 ∙ r.2
 
 tells-end : Tells [] []
 tells-end place = ([], words_after-end place, refl)
@@ -88,7 +88,7 @@ unfolding printed
 tells_number number wide =
     let more : 2 ^ 64 < 10 ^ 38 = lit< tt in
     let all : Tells (decimal number ++ []) (Num (pos number) ∷ []) = tells-value (Num (pos number)) [] [] (omega arith) (refl, refl) tells-end in
-    ap literals (sym (append-nil (decimal number))) ∙ told (decimal number ++ []) (Num (pos number) ∷ []) all
+    ap literals (sym (append-nil (decimal number))) ∙ reported (decimal number ++ []) (Num (pos number) ∷ []) all
 
 -- the other values and the closing parenthesis
 abbrev others : List Value → List ℕ
@@ -102,10 +102,10 @@ tells-others : (values : List Value) → AllByRecursion IsLiteral values → Tel
 unfolding front_at
 tells-others [] all = tells-word class.Sign (codes ")") [] [] (omega arith) (λ place. refl) tells-end
 tells-others (value ∷ values) all =
-    let behind = tells-value value (others values) values all.0 (others_end values) (tells-others values all.1) in
+    let following = tells-value value (others values) values all.0 (others_end values) (tells-others values all.1) in
     let apart : (printed value ++ flat_map (λ next. codes ", " ++ printed next) values) ++ codes ")" ≡ printed value ++ others values = append_assoc (printed value) (flat_map (λ next. codes ", " ++ printed next) values) (codes ")") in
     subst (λ (text : List ℕ). Tells (44 ∷ 32 ∷ text) (value ∷ values)) (sym apart)
-    (tells-word class.Sign (codes ",") (32 ∷ (printed value ++ others values)) (value ∷ values) (omega arith) (λ place. refl) (tells-blank (printed value ++ others values) (value ∷ values) behind))
+    (tells-word class.Sign (codes ",") (32 ∷ (printed value ++ others values)) (value ∷ values) (omega arith) (λ place. refl) (tells-blank (printed value ++ others values) (value ∷ values) following))
 
 inside : (key : List Value) → AllByRecursion IsLiteral key → Tells (listed key ++ codes ")") key
 unfolding listed
@@ -116,4 +116,4 @@ inside (value ∷ values) all =
 
 pub tells_row : (key : List Value) → AllByRecursion IsLiteral key → literals (printed_row key) ≡ key
 unfolding printed_row front_at
-tells_row key all = told (printed_row key) key (tells-word class.Sign (codes "(") (listed key ++ codes ")") key (omega arith) (λ place. refl) (inside key all))
+tells_row key all = reported (printed_row key) key (tells-word class.Sign (codes "(") (listed key ++ codes ")") key (omega arith) (λ place. refl) (inside key all))

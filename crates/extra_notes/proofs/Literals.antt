@@ -6,7 +6,7 @@ use Rattle.std.proofs.lemmas.List.Folds.{flat_map-map}
 use Rattle.std.proofs.lemmas.List.{take_all}
 use Rattle.base_values.specs.declared.value.Value.{Value}
 use Rattle.sql_words.specs.declared.word.Word.{Word}
-use Rattle.sql_words.specs.Reading.{view, views}
+use Rattle.sql_words.specs.Readings.{view, views}
 use Rattle.sql_grammar.specs.WordValues.ReadBack.{word_value}
 use Rattle.extra_notes.specs.Readings.{literals_among}
 

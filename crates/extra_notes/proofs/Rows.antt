@@ -14,8 +14,8 @@ use Rattle.std.proofs.lemmas.Option.{cond_some, none-some, option_and_then_some}
 use Rattle.std.proofs.lemmas.Slice.Eq.{bytes_eq-Decides}
 use Rattle.base_values.specs.declared.value.Value.{Value}
 use Rattle.base_values.specs.declared.value.Value.TheVariants.{Null, Num, Text, Blob}
-use Rattle.base_values.specs.Printing.{printed_row}
-use Rattle.base_values.specs.Storing.{character_count}
+use Rattle.base_values.specs.Literals.{printed_row}
+use Rattle.base_values.specs.StoredValues.{character_count}
 use Rattle.sql_grammar.proofs.WordValues.ReadBack.{decimal_digits}
 use Rattle.extra_notes.specs.declared.checkpoint.Reach.{Reach}
 use Rattle.extra_notes.specs.declared.checkpoint.Reach.TheVariants.{Nothing, To, All}
@@ -138,8 +138,8 @@ made_is position reach row is = by (nat_le (character_count (checkpoint_text pos
     by false short made = absurd (none-some row made)
 
 -- a row with this text is read as what the text tells
-row_told : (text : List ℕ) → checkpoint_of (note_row text) ≡ option_and_then (checked text) (note_of text)
-row_told text =
+row_reported : (text : List ℕ) → checkpoint_of (note_row text) ≡ option_and_then (checked text) (note_of text)
+row_reported text =
     let found = option_and_then (checked text) (note_of text) in
     ap (λ (b : Bool). cond (b && bytes_eq (codes "checkpoint") (codes "checkpoint")) found None) ((Decides-int_eq (pos 0) (pos 0)).1 refl)
     ∙ ap (λ (b : Bool). cond b found None) ((bytes_eq-Decides (codes "checkpoint") (codes "checkpoint")).1 refl)
@@ -148,4 +148,4 @@ pub rows_are_read : RowsAreRead
 rows_are_read position reach row wide written is =
     let text = checkpoint_text position reach in
     let made = made_is position reach row is in
-    ap checkpoint_of (sym made.1) ∙ row_told text ∙ ap (option_and_then (checked text)) (note_is position reach wide written) ∙ checked_again position reach made.0
+    ap checkpoint_of (sym made.1) ∙ row_reported text ∙ ap (option_and_then (checked text)) (note_is position reach wide written) ∙ checked_again position reach made.0

@@ -3,13 +3,13 @@ use Rattle.std.proofs.Common.{◌≡◌, [], ◌∷◌, Some, None, refl, codes}
 use Rattle.std.specs.Prelude.{pos}
 use Rattle.std.specs.Fmt.{digits}
 use Rattle.base_values.specs.declared.value.Value.TheVariants.{Num, Text}
-use Rattle.base_values.specs.Printing.{printed, listed, printed_row}
-use Rattle.base_values.specs.Storing.{character_count}
+use Rattle.base_values.specs.Literals.{printed, listed, printed_row}
+use Rattle.base_values.specs.StoredValues.{character_count}
 use Rattle.tool_changelog.specs.Hints.{hint_row}
 use Rattle.extra_notes.specs.declared.checkpoint.Reach.TheVariants.{Nothing, To}
 use Rattle.extra_notes.specs.Checkpoints.{checkpoint_row}
 use Rattle.sql_words.specs.Front.{front_at}
-use Rattle.sql_words.specs.Reading.{words_after}
+use Rattle.sql_words.specs.Readings.{words_after}
 use Rattle.extra_notes.specs.Readings.{checkpoint_of}
 use Rattle.extra_notes.specs.Heartbeats.{heartbeat_row, heartbeat_of}
 

@@ -5,8 +5,8 @@ use Rattle.std.specs.Fmt.{signed_decimal}
 use Rattle.std.specs.Option.{option_map}
 use Rattle.base_values.specs.declared.value.Value.{Value}
 use Rattle.base_values.specs.declared.value.Value.TheVariants.{Num, Text}
-use Rattle.base_values.specs.Printing.{printed_row}
-use Rattle.base_values.specs.Storing.{character_count}
+use Rattle.base_values.specs.Literals.{printed_row}
+use Rattle.base_values.specs.StoredValues.{character_count}
 use Rattle.extra_notes.specs.declared.checkpoint.Reach.{Reach}
 use Rattle.extra_notes.specs.declared.checkpoint.Reach.TheVariants.{Nothing, To, All}
 

@@ -7,7 +7,7 @@ use Rattle.std.specs.Str.{bytes_eq}
 use Rattle.base_values.specs.declared.value.Value.{Value}
 use Rattle.base_values.specs.declared.value.Value.TheVariants.{Num, Text}
 use Rattle.sql_words.specs.declared.word.WordFault.{WordFault}
-use Rattle.sql_words.specs.Reading.{Reading, words_of}
+use Rattle.sql_words.specs.Readings.{Reading, words_of}
 use Rattle.sql_grammar.specs.WordValues.ReadBack.{word_value}
 use Rattle.extra_notes.specs.declared.checkpoint.Reach.{Reach}
 use Rattle.extra_notes.specs.declared.checkpoint.Reach.TheVariants.{Nothing, To, All}
@@ -39,8 +39,8 @@ abbrev pub is_blank : ℕ → Bool
 is_blank byte = byte == 32
 
 abbrev pub note_at : List ℕ → Option ℕ → Option Checkpoint
-note_at behind None = None
-note_at behind (Some position) = Some (record { position = position; reach = reach_of behind })
+note_at following None = None
+note_at following (Some position) = Some (record { position = position; reach = reach_of following })
 
 -- the checkpoint that a text tells: its position comes before the first blank, and its reach after it
 abbrev pub note_of : List ℕ → Option Checkpoint

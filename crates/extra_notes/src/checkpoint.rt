@@ -43,7 +43,7 @@ fn print_reach(reach: &Reach, into: &mut Text) -> Result<(), AllocError>
 }
 
 /// The text as the column stores it; none where it has too many characters.
-#[tactic(auto, unfolding(base_values::specs::Storing::stores, base_values::specs::Storing::text_within))]
+#[tactic(auto, unfolding(base_values::specs::StoredValues::stores, base_values::specs::StoredValues::text_within))]
 fn short_text(alloc: Global, text: &str) -> Result<Option<Value>, AllocError>
     ensures { IfOk result (λ value. value ≡ short_text text.now) }
 {

@@ -2,7 +2,7 @@
 
 ghost use Rattle.std.specs.Prelude.{◌≡◌, IfOk, MatchOption, length};
 ghost use Rattle.std.specs.List.{before_first, after_first, position_or_len};
-ghost use Rattle.sql_words.specs.Reading.{views};
+ghost use Rattle.sql_words.specs.Readings.{views};
 ghost use Rattle.extra_notes.specs.Readings.{is_blank, literals_among, literals, position_of, reach_of, note_of, has_text, checked, checkpoint_of};
 
 use crate::checkpoint::{Checkpoint, HINT, Reach, checkpoint_value};
@@ -65,7 +65,7 @@ fn split(text: &str) -> Option<(&str, &str)>
 /// The same, with all of the text in front where it has no blank.
 fn parts(text: &str) -> (&str, &str)
     ensures before { result.0.now ≡ before_first is_blank text.now }
-    ensures behind { result.1.now ≡ after_first is_blank text.now }
+    ensures following { result.1.now ≡ after_first is_blank text.now }
 {
     match split(text) {
         Some(parts) => parts,
@@ -77,12 +77,12 @@ fn parts(text: &str) -> (&str, &str)
 fn note_of(alloc: Global, text: &str) -> Result<Option<Checkpoint>, AllocError>
     ensures { IfOk result (λ note. note ≡ note_of text.now) }
 {
-    let (before, behind) = parts(text);
+    let (before, following) = parts(text);
     let values = literals(alloc, before)?;
     let Some(position) = position_of(values.as_slice()) else {
         return Ok(None);
     };
-    let reach = reach_of(alloc, behind)?;
+    let reach = reach_of(alloc, following)?;
     Ok(Some(Checkpoint { position, reach }))
 }
 

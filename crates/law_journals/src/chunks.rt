@@ -1,6 +1,6 @@
 //! Chunks are as small as the operator asks.
 
-ghost use Rattle.proof_migration.specs.Course.Chunks.{ChunkEndsComeAtOnce, JournalsAreOnline};
+ghost use Rattle.proof_migration.specs.ToolPhase.Chunks.{ChunkEndsComeAtOnce, JournalsAreOnline};
 
 use base_values::laws::stored_values_store_again;
 

@@ -11,7 +11,7 @@ use crate::hints::hints_are_known;
 use crate::server_turns::{
     definitions_are_done, entries_are_turns, exclusive_is_alone, locks_are_taken,
 };
-use crate::sessions::waits_are_told;
+use crate::sessions::waits_are_reported;
 
 /// A turn of the locker's is such a turn as the sentry relation asks: what its session has on the server is what the
 /// cut-over keeps of it, in its calls, its polls and its losses.
@@ -88,7 +88,7 @@ pub fn renames_come_at_the_mark()
     journals_are_turned();
     exclusive_is_alone();
     definitions_are_done();
-    waits_are_told();
+    waits_are_reported();
 }
 
 /// After the RENAME the new table's name is free for good, so no RENAME is done again.

@@ -1,7 +1,7 @@
 //! The ghost relation under the server's locks: what the grants give of it, and that every turn of the copier, the applier
 //! and the clients keeps it.
 
-ghost use Rattle.proof_journals.specs.Ghost.Laws.{WritesFit, EffectsAreDone, EffectsAnswer, UndoneIsLeft, CutsAreLeft, ChangesAgree, CommitsFit, RowsAreHeld, HeldByOne, HeldRowsAreDisjoint, CopyStarts, EmptyCopyStarts, CopyEnds, OthersCommit, OthersGoOn, TablesMove, CopierReturns, ApplierReturns, ChunksAreTold, ChunkBegins, ToldKeysStand, RowCopies, ChunkCommits, RangeIsCopied, ChunkIsLost, ChunkRepeats, BatchIsRead, BatchIsPassed, RowIsPut, RowIsPutAgain, RowIsRemoved, RowIsChanged, UnfitRowIsMissed, StatementIsRefused, RefusedRowIsRemoved, BatchCommits, BatchRepeats, BatchIsLost, RunsKeep, CopiesAlter, SceneCopiesAlter};
+ghost use Rattle.proof_journals.specs.Ghost.Laws.{WritesFit, EffectsAreDone, EffectsAnswer, UndoneIsLeft, CutsAreLeft, ChangesAgree, CommitsFit, RowsAreHeld, HeldByOne, HeldRowsAreDisjoint, CopyStarts, EmptyCopyStarts, CopyEnds, OthersCommit, OthersGoOn, TablesMove, CopierReturns, ApplierReturns, ChunksAreReported, ChunkBegins, ReportedKeysStand, RowCopies, ChunkCommits, RangeIsCopied, ChunkIsLost, ChunkRepeats, BatchIsRead, BatchIsPassed, RowIsPut, RowIsPutAgain, RowIsRemoved, RowIsChanged, UnfitRowIsMissed, StatementIsRefused, RefusedRowIsRemoved, BatchCommits, BatchRepeats, BatchIsLost, RunsKeep, CopiesAlter, SceneCopiesAlter};
 
 /// After every run, what each session wrote fits the committed tables, under its locks.
 pub fn writes_fit()
@@ -56,9 +56,9 @@ pub fn sessions_return()
 
 /// The copier's turns in a chunk.
 pub fn rows_are_copied()
-    ensures told { ChunksAreTold }
+    ensures reported { ChunksAreReported }
     ensures begun { ChunkBegins }
-    ensures stands { ToldKeysStand }
+    ensures stands { ReportedKeysStand }
     ensures copied { RowCopies }
 {}
 

@@ -1,6 +1,6 @@
 //! What holds of the tool's machines and their sessions.
 
-ghost use Rattle.proof_journals.specs.Machine.Laws.{AnswersTellStandings, SessionsAreNumbered, MachinesStand, GivenCallsComeWell, GivenCallsMayBeMade, GivenPollsMayBeMade, TablesStandUncopied, TablesStayTables, GivenCallsMayBeCalled, GivenPollsMayBeCalled, LossesMayBe, VerdictsTellTheAlter};
+ghost use Rattle.proof_journals.specs.Machine.Laws.{AnswersTellStandings, SessionsAreNumbered, MachinesStand, GivenCallsComeWell, GivenCallsMayBeMade, GivenPollsMayBeMade, TablesExistUncopied, TablesStayTables, GivenCallsMayBeCalled, GivenPollsMayBeCalled, LossesMayBe, VerdictsTellTheAlter};
 
 /// What a session has on the server follows from its turns' answers alone, and each answer is one that its request may
 /// have.
@@ -37,8 +37,8 @@ pub fn given_polls_may_be_made()
 
 /// Until all rows are copied the migrated table exists with its schema, and the new one from its making on; and no attempt was
 /// begun.
-pub fn tables_stand_uncopied()
-    ensures { TablesStandUncopied }
+pub fn tables_exist_uncopied()
+    ensures { TablesExistUncopied }
 {}
 
 /// Tables stay tables with clustered keys, since no definition comes inside a transaction and what is made is valid.

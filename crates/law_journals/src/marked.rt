@@ -1,6 +1,6 @@
 //! A journal that is kept, and in which the RENAME is done once at most and finds the altered table, is a run of its plan.
 
-ghost use Rattle.proof_migration.specs.Course.Marked.{MarkedJournalsAreRuns, MarkedJournalsAreSerial};
+ghost use Rattle.proof_migration.specs.ToolPhase.Marked.{MarkedJournalsAreRuns, MarkedJournalsAreSerial};
 
 use crate::plans::alterable_plans_are_runnable;
 

@@ -2,9 +2,9 @@
 //! of an alterable plan may ask.
 
 ghost use Rattle.proof_plans.specs.ReadPlans.Schemas.{ReadPlansAreAccepted};
-ghost use Rattle.proof_plans.specs.ReadPlans.Laws.{ReadPlansAreSerial, ReadTablesStand, ReadScriptsEnd, ReadPlansAreAlterable, ReadPlansAreWorded, ReadAttemptsDrain, ReadPlansAreRunnable};
+ghost use Rattle.proof_plans.specs.ReadPlans.Laws.{ReadPlansAreSerial, ReadTablesExist, ReadScriptsEnd, ReadPlansAreAlterable, ReadPlansAreWorded, ReadAttemptsDrain, ReadPlansAreRunnable};
 ghost use Rattle.proof_plans.specs.ReadPlans.Options.{ReadOptionsAllow};
-ghost use Rattle.proof_migration.specs.Course.Runnable.{AlterablePlansAreRunnable};
+ghost use Rattle.proof_migration.specs.ToolPhase.Runnable.{AlterablePlansAreRunnable};
 
 use base_values::laws::stored_values_store_again;
 
@@ -17,7 +17,7 @@ pub fn read_plans_are_accepted()
 /// taken; its scripts name no table of the tool's.
 pub fn read_plans_are_serial()
     ensures serial { ReadPlansAreSerial }
-    ensures stands { ReadTablesStand }
+    ensures stands { ReadTablesExist }
     ensures alterable { ReadPlansAreAlterable }
 {
     read_plans_are_accepted();

@@ -1,6 +1,6 @@
 //! While a run hasn't ended some actor is ready.
 
-ghost use Rattle.proof_migration.specs.Course.Ready.{SomeoneIsReady, ReadyRunsGoOn};
+ghost use Rattle.proof_migration.specs.ToolPhase.Ready.{SomeoneIsReady, ReadyRunsGoOn};
 ghost use Rattle.proof_migration.specs.Going.{SomeoneGoes};
 
 use crate::server_turns::entries_are_turns;

@@ -7,7 +7,7 @@ use crate::marked::marked_journals_are_serial;
 use crate::plans::alterable_plans_are_runnable;
 use crate::program::followers_alter;
 use crate::server_turns::{definitions_are_done, exclusive_is_alone};
-use crate::sessions::waits_are_told;
+use crate::sessions::waits_are_reported;
 use base_values::laws::stored_values_store_again;
 
 /// Where the RENAME is done the new table is the altered one, whether or not all is reverted.
@@ -20,7 +20,7 @@ pub fn renames_find_the_altered()
     journals_are_turned();
     exclusive_is_alone();
     definitions_are_done();
-    waits_are_told();
+    waits_are_reported();
 }
 
 /// So the history of a whole journal is serial, with one ALTER at most.

@@ -12,7 +12,7 @@ use crate::plans::{
 use crate::progress::someone_goes;
 use crate::reverts::{kept_journals_are_serial, renames_find_the_altered};
 use crate::server_turns::{definitions_are_done, exclusive_is_alone};
-use crate::sessions::waits_are_told;
+use crate::sessions::waits_are_reported;
 
 /// Every run of every accepted plan is serial: in any order of turns, whatever is answered, refused, lost or reverted,
 /// clients' replies and the tables left are those of the ended transactions run one at a time in the order they ended, with
@@ -39,7 +39,7 @@ pub fn accepted_runs_keep_tables()
     journals_are_turned();
     exclusive_is_alone();
     definitions_are_done();
-    waits_are_told();
+    waits_are_reported();
     read_plans_are_runnable();
     read_plans_are_serial();
     read_plans_are_worded();

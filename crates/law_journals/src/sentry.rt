@@ -1,7 +1,7 @@
 //! The sentry relation: where the tool's RENAME may run, the sentry exists, or all of the table is in the new one and nobody
 //! else holds it.
 
-ghost use Rattle.proof_journals.specs.Sentry.Turning.{RenamesAreWhole, RenamesFollow};
+ghost use Rattle.proof_journals.specs.Sentry.TurnResults.{RenamesAreWhole, RenamesFollow};
 ghost use Rattle.proof_journals.specs.Sentry.Laws.{JournalsAreGuarded, SessionsDiffer, LiveIsLast};
 
 /// After every journal of such turns the sentry relation holds.

@@ -1,7 +1,7 @@
 //! Whose the server's sessions are, what those of the tool wait for, and that the cut-over goes on in the live ones.
 
-ghost use Rattle.proof_migration.specs.Course.Laws.{SessionsAreOwned};
-ghost use Rattle.proof_migration.specs.Course.Waits.{WaitsAreTold};
+ghost use Rattle.proof_migration.specs.ToolPhase.Laws.{SessionsAreOwned};
+ghost use Rattle.proof_migration.specs.ToolPhase.Waits.{WaitsAreReported};
 ghost use Rattle.proof_migration.specs.Program.Holds.{HoldsAreLive, LockersGoOn, RenamersGoOn};
 
 /// Each session that is live on the server is some actor's.
@@ -10,8 +10,8 @@ pub fn sessions_are_owned()
 {}
 
 /// What the law of a whole RENAME asks of the renamer's waits holds of every journal that follows the program.
-pub fn waits_are_told()
-    ensures told { WaitsAreTold }
+pub fn waits_are_reported()
+    ensures reported { WaitsAreReported }
 {}
 
 /// Who has no live session has nothing: the locker no lock and no wait, the renamer no RENAME that waits.

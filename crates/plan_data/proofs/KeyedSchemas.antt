@@ -3,7 +3,7 @@ use Rattle.std.proofs.Common.{◌≡◌, ◌<◌, true, length, Option, Some, No
 use Rattle.std.specs.List.{AllByRecursion, slice_get}
 use Rattle.base_values.specs.declared.gho_schema.schema.Index.{Index}
 use Rattle.base_values.specs.declared.gho_schema.schema.Schema.{Schema}
-use Rattle.base_values.specs.GhoSchema.Clustering.{is_not_null, unique_at, clustered_place, clustered_key}
+use Rattle.base_values.specs.GhoSchema.ClusteredKey.{is_not_null, unique_at, clustered_place, clustered_key}
 use Rattle.base_values.specs.GhoSchema.Rows.{places_of}
 use Rattle.base_values.proofs.SchemaRules.Lists.{list_all-All, All-at}
 use Rattle.base_values.specs.SchemaRules.Valid.{IsKey, IsNotNull, IsValid}

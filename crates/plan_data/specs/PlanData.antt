@@ -6,7 +6,7 @@ use Rattle.std.specs.Result.{result_ok}
 use Rattle.base_values.specs.declared.gho_schema.schema.Schema.{Schema}
 use Rattle.base_values.specs.declared.row_conversion.clause.Clause.{Clause}
 use Rattle.base_values.specs.declared.row_conversion.map.MapColumn.{MapColumn}
-use Rattle.sql_change.specs.Altering.{altered}
+use Rattle.sql_change.specs.AlteredSchema.{altered}
 use Rattle.table_store.specs.Databases.{TableRows, Database, find_table}
 use Rattle.base_script.specs.declared.actor.Actor.{Actor}
 use Rattle.base_script.specs.declared.loss.Loss.{Loss}

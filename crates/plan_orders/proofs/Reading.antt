@@ -8,7 +8,7 @@ use Rattle.base_values.specs.declared.fault.Fault.TheVariants as faults
 use Rattle.plan_orders.specs.declared.fault.OrderRefusal.{OrderRefusal}
 use Rattle.plan_orders.specs.Operators.{line_command, next_line, commands_from}
 use Rattle.base_values.specs.Faults.{Refuses}
-use Rattle.plan_orders.specs.Spacing.{spaced_words}
+use Rattle.plan_orders.specs.Words.{spaced_words}
 
 -- the commands so far, and those that are still read
 abbrev pub with_front : List Command → Result (List Command) OrderRefusal → Result (List Command) OrderRefusal

@@ -3,5 +3,5 @@ pub mod Losses
 pub mod Numbers
 pub mod Operators
 pub mod Refusals
-pub mod Spacing
+pub mod Words
 pub mod TurnOrder

@@ -13,7 +13,7 @@ use Rattle.plan_orders.specs.declared.losses.TheConstants.{LOSS_LIMIT}
 use Rattle.plan_orders.specs.Actors.{actor_among}
 use Rattle.plan_orders.specs.Numbers.{number_up_to}
 use Rattle.plan_orders.specs.Refusals.{or_refused}
-use Rattle.plan_orders.specs.Spacing.{spaced_words}
+use Rattle.plan_orders.specs.Words.{spaced_words}
 
 abbrev pub side_of : List ℕ → Option Side
 side_of word = if bytes_eq word (codes "before") then Some Before else if bytes_eq word (codes "after") then Some After else None

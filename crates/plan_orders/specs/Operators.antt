@@ -13,7 +13,7 @@ use Rattle.plan_orders.specs.declared.fault.OrderRefusal.TheVariants as refusals
 use Rattle.plan_orders.specs.declared.operator.TheConstants.{CHUNK_SIZE_LIMIT, WAIT_LIMIT}
 use Rattle.plan_orders.specs.Numbers.{number_up_to}
 use Rattle.plan_orders.specs.Refusals.{or_refused}
-use Rattle.plan_orders.specs.Spacing.{spaced_words, parts_at}
+use Rattle.plan_orders.specs.Words.{spaced_words, parts_at}
 
 -- `chunk-size=N` with N from 1 to 100,000
 abbrev pub chunk_size_of : Option (List ℕ × List ℕ) → Option OperatorWord

@@ -5,7 +5,7 @@ ghost use Rattle.std.specs.List.{count_by};
 ghost use Rattle.std.specs.Str.Lines.{lines};
 ghost use Rattle.plan_orders.specs.Operators.{chunk_size_of, operator_word, wait_of, command_of, line_command, has_words, command_count, commands_from, operator_of};
 ghost use Rattle.base_values.specs.Faults.{Answers};
-ghost use Rattle.plan_orders.specs.Spacing.{spaced_words, parts_at};
+ghost use Rattle.plan_orders.specs.Words.{spaced_words, parts_at};
 
 use crate::fault::{OrderFault, OrderRefusal};
 use crate::numbers::number_up_to;

@@ -2,7 +2,7 @@
 
 ghost use Rattle.std.specs.Prelude.{◌≡◌, ◌<◌, ◌==◌, length, position, IfOk, IfSome, map, option_map};
 ghost use Rattle.std.specs.Str.{bytes_eq};
-ghost use Rattle.plan_orders.specs.Spacing.{is_space, spaced_words, parts_at};
+ghost use Rattle.plan_orders.specs.Words.{is_space, spaced_words, parts_at};
 
 use std::alloc::{AllocError, Global};
 

@@ -2,8 +2,8 @@
 use Rattle.std.proofs.Common.{◌≡◌, Bool, true, false, cond, ℕ, List, [], ◌∷◌, Option, Some, None, Result, Ok, Err, refl, ap, subst, ◌∙◌}
 use Rattle.std.specs.List.{AllByRecursion}
 use Rattle.sql_change.specs.declared.code.AlterCode.{AlterCode}
-use Rattle.sql_change.specs.Altering.{altered}
-use Rattle.sql_alter.specs.Reading.{alter_at}
+use Rattle.sql_change.specs.AlteredSchema.{altered}
+use Rattle.sql_alter.specs.AlterText.{alter_at}
 use Rattle.table_store.specs.Databases.{TableRows, Database, is_named, find_table}
 use Rattle.base_values.proofs.SchemaRules.Steps.{bind_ok, ok_is, kept_out}
 use Rattle.plan_data.specs.PlanData.{PlanData, Altered, plan_altered}

@@ -5,8 +5,8 @@ use Rattle.std.specs.Str.{bytes_eq}
 use Rattle.base_values.specs.declared.row_conversion.clause.Clause.{Clause}
 use Rattle.table_store.specs.Databases.{Database, TableRows, find_table, has_table, database}
 use Rattle.base_values.specs.SchemaRules.Results.{◌>>=◌}
-use Rattle.sql_change.specs.Altering.{altered}
-use Rattle.sql_alter.specs.Reading.{alter_at}
+use Rattle.sql_change.specs.AlteredSchema.{altered}
+use Rattle.sql_alter.specs.AlterText.{alter_at}
 use Rattle.base_values.specs.ToolNames.{ghost_name, old_name}
 use Rattle.tool_changelog.specs.ToolTables.{sentry_comment}
 use Rattle.plan_data.specs.declared.options.Options.{Options}

@@ -2,8 +2,8 @@
 
 ghost use Rattle.std.specs.Prelude.{◌≡◌, Some, IfOk, map, option_map};
 ghost use Rattle.std.specs.List.{AllByRecursion};
-ghost use Rattle.sql_change.specs.Altering.{altered};
-ghost use Rattle.sql_alter.specs.Reading.{alter_at};
+ghost use Rattle.sql_change.specs.AlteredSchema.{altered};
+ghost use Rattle.sql_alter.specs.AlterText.{alter_at};
 ghost use Rattle.table_store.specs.Databases.{database, find_table, has_table};
 ghost use Rattle.base_values.specs.SchemaRules.Valid.{IsValid};
 ghost use Rattle.sql_create.specs.Laws.{ReadSchemasAreValid};

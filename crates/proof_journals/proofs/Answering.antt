@@ -26,7 +26,7 @@ use Rattle.proof_journals.specs.Scenes.{PlainItem, Stored, Scene, NamesTable, Ev
 use Rattle.server_model.specs.Alone.{stays, commit_was_done, is_commit, is_done, is_statement, line_says, line_events, line_replies}
 use Rattle.server_model.specs.LockedRows.Covering.{Apart}
 use Rattle.proof_journals.proofs.Held.{hold_in, holding_face, rests_face, said_mine, mine_both}
-use Rattle.server_model.specs.Jobs.{job_of, says, after_events}
+use Rattle.server_model.specs.Operations.{operation_of, statement_result, after_events}
 use Rattle.proof_journals.specs.Turns.{Adds, Ends, Breaks, line_outcome_answered}
 use Rattle.proof_journals.specs.Holdings.{Face, no_face, face_in, face_of, stored, Fits, Holds, held_after, lines_after}
 use Rattle.proof_journals.proofs.Faces.{faces_with, faces_without}
@@ -34,8 +34,8 @@ use Rattle.proof_journals.proofs.Words.{line_fine, line_undone}
 use Rattle.proof_journals.proofs.Turning.{Turned, besides_then, turned_adds, turned_ends, turned_breaks}
 use Rattle.server_model.specs.declared.need.Need.{Need}
 use Rattle.server_model.specs.States.{State, is_in_transaction, locked_names, session_of, view, with_session, writes_of}
-use Rattle.server_model.specs.Serving.{at_rest, commits, goes_on, holding, loses}
-use Rattle.proof_journals.specs.Asking.{does_word, need_of_word}
+use Rattle.server_model.specs.PlainServer.{at_rest, commits, goes_on, holding, loses}
+use Rattle.proof_journals.specs.LineRequests.{does_word, need_of_word}
 use Rattle.server_model.proofs.LockedRows.Tests.{turned}
 
 -- the last line of a lost transaction decides whether it was done
@@ -99,8 +99,8 @@ more_lines scene [] line all is = (is, tt)
 more_lines scene (first ∷ lines) line all is = (all.0, more_lines scene lines line all.1 is)
 
 line_mine : (scene : Scene) (tables : Database) (word : ScriptWord) (mark : Mark) → NamesTable scene.mine word → EventsMine scene true (line_events tables word mark)
-line_mine scene tables (words.Do statement) marks.Answered is = said_mine scene true tables (job_of statement) is
-line_mine scene tables (words.Do statement) (marks.Lost After) is = said_mine scene true tables (job_of statement) is
+line_mine scene tables (words.Do statement) marks.Answered is = said_mine scene true tables (operation_of statement) is
+line_mine scene tables (words.Do statement) (marks.Lost After) is = said_mine scene true tables (operation_of statement) is
 line_mine scene tables (words.Do statement) marks.TimedOut is = tt
 line_mine scene tables (words.Do statement) (marks.Lost Before) is = tt
 line_mine scene tables words.Begin marks.Answered is = tt
@@ -169,14 +169,14 @@ rests_with scene state number going past work =
 -- a statement, in a transaction and outside
 do_answered : (scene : Scene) (state : State) (number : ℕ) (going : ℕ → Going) (past : List PlainItem) (work : AtWork scene state number going past) (statement : Statement) (seen : Database) → seen ≡ after_events state.tables work.found.writes
     → IsGranted scene state number (words.Do statement) → (busy : Bool) → work.found.in_transaction ≡ busy
-    → Turned scene (stored (cond busy (goes_on number (need_of_word seen (words.Do statement)) (says seen statement).events state) (commits number (says seen statement).events state)))
-    (face_of (cond busy (goes_on number (need_of_word seen (words.Do statement)) (says seen statement).events state) (commits number (says seen statement).events state)).sessions) number
-    (line_outcome_answered busy (words.Do statement) marks.Answered (option_to_list (reply_of (says seen statement).answer))) going past
+    → Turned scene (stored (cond busy (goes_on number (need_of_word seen (words.Do statement)) (statement_result seen statement).events state) (commits number (statement_result seen statement).events state)))
+    (face_of (cond busy (goes_on number (need_of_word seen (words.Do statement)) (statement_result seen statement).events state) (commits number (statement_result seen statement).events state)).sessions) number
+    (line_outcome_answered busy (words.Do statement) marks.Answered (option_to_list (reply_of (statement_result seen statement).answer))) going past
 do_answered scene state number going past work statement seen same granted true busy =
     rw same (adds_line scene state number going past work (words.Do statement) granted (last_done (going number).lines (record { word = words.Do statement; mark = marks.Answered }) ((own_fits scene state number going past work).goes refl busy)))
 do_answered scene state number going past work statement seen same granted false busy =
     let none : going number ≡ not_going = ((own_fits scene state number going past work).rests busy).1 in
-    rw same (ends_line scene (stored (commits number (says (after_events state.tables work.found.writes) statement).events state)) state (face_of (with_session number at_rest state.sessions)) number going past work (words.Do statement) marks.Answered ends.Single true granted
+    rw same (ends_line scene (stored (commits number (statement_result (after_events state.tables work.found.writes) statement).events state)) state (face_of (with_session number at_rest state.sessions)) number going past work (words.Do statement) marks.Answered ends.Single true granted
     (rests_with scene state number going past work) (ap (λ (g : Going). stays (g.lines ++ record { word = words.Do statement; mark = marks.Answered } ∷ [])) none) (rw work.is refl) (rw work.is refl))
 
 seen_is : (scene : Scene) (state : State) (number : ℕ) (going : ℕ → Going) (past : List PlainItem) (work : AtWork scene state number going past) → view number state ≡ after_events state.tables work.found.writes
@@ -223,15 +223,15 @@ commits_lost scene state number going past work word events kept granted done_is
 -- a statement that is done, and then its session is lost
 do_lost : (scene : Scene) (state : State) (number : ℕ) (going : ℕ → Going) (past : List PlainItem) (work : AtWork scene state number going past) (statement : Statement) (seen : Database) → seen ≡ after_events state.tables work.found.writes
     → IsGranted scene state number (words.Do statement) → (busy : Bool) → work.found.in_transaction ≡ busy
-    → Turned scene (stored (loses number (cond busy (goes_on number (need_of_word seen (words.Do statement)) (says seen statement).events state) (commits number (says seen statement).events state))))
-    (face_of (loses number (cond busy (goes_on number (need_of_word seen (words.Do statement)) (says seen statement).events state) (commits number (says seen statement).events state))).sessions) number
+    → Turned scene (stored (loses number (cond busy (goes_on number (need_of_word seen (words.Do statement)) (statement_result seen statement).events state) (commits number (statement_result seen statement).events state))))
+    (face_of (loses number (cond busy (goes_on number (need_of_word seen (words.Do statement)) (statement_result seen statement).events state) (commits number (statement_result seen statement).events state))).sessions) number
     (Ends (words.Do statement) (marks.Lost After) [] ends.Lost) going past
 do_lost scene state number going past work statement seen same granted true busy =
-    goes_lost scene state number going past work (words.Do statement) (need_of_word seen (words.Do statement)) (says seen statement).events granted
+    goes_lost scene state number going past work (words.Do statement) (need_of_word seen (words.Do statement)) (statement_result seen statement).events granted
     (last_done (going number).lines (record { word = words.Do statement; mark = marks.Lost After }) ((own_fits scene state number going past work).goes refl busy))
 do_lost scene state number going past work statement seen same granted false busy =
     let none : going number ≡ not_going = ((own_fits scene state number going past work).rests busy).1 in
-    rw same (commits_lost scene state number going past work (words.Do statement) (says (after_events state.tables work.found.writes) statement).events true granted
+    rw same (commits_lost scene state number going past work (words.Do statement) (statement_result (after_events state.tables work.found.writes) statement).events true granted
     (ap (λ (g : Going). stays (g.lines ++ record { word = words.Do statement; mark = marks.Lost After } ∷ [])) none) (rw work.is refl) (rw work.is refl))
 
 -- a COMMIT that is done, and then its session is lost

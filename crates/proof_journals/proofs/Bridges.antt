@@ -6,7 +6,7 @@ use Rattle.table_store.specs.Databases.{Database, with_change}
 use Rattle.base_script.specs.declared.script.ScriptWord.{ScriptWord}
 use Rattle.base_script.specs.declared.script.ScriptWord.TheVariants as words
 use Rattle.server_model.specs.declared.transaction.TxnLine.{TxnLine}
-use Rattle.server_model.specs.Jobs.{table_of, job_says, after_events, change_table}
+use Rattle.server_model.specs.Operations.{table_of, operation_result, after_events, change_table}
 use Rattle.proof_journals.specs.Scenes.{FoundAlike, NamesTable}
 use Rattle.server_model.specs.Alone.{line_says, Ran, lines_run}
 use Rattle.server_model.proofs.LockedRows.Finding.{found_after}
@@ -20,7 +20,7 @@ alike_events names a b (event ∷ events) alike =
     (record { each = λ name is. rw (found_after event.table name event.change a, found_after event.table name event.change b, alike.each name is) refl })
 
 said_alike : (names : List (List ℕ)) (a b : Database) (word : ScriptWord) → NamesTable names word → FoundAlike names a b → line_says a word ≡ line_says b word
-unfolding job_says
+unfolding operation_result
 said_alike names a b (words.Do statement) named alike = rw (alike.each (table_of statement) named) refl
 said_alike names a b words.Begin named alike = refl
 said_alike names a b words.Commit named alike = refl

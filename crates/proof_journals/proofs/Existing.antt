@@ -3,14 +3,14 @@ use Rattle.std.proofs.Common.{◌≡◌, List, [], ◌∷◌, ◌++◌, refl, sy
 use Rattle.server_model.specs.declared.session.Limits.{Limits}
 use Rattle.server_model.specs.Along.{Along}
 use Rattle.proof_journals.specs.Scenes.{Scene}
-use Rattle.proof_journals.specs.Turns.{Turn, unanswered, answered, kept_from, scene_state, inner, answer_at, missed_at, IsTold}
+use Rattle.proof_journals.specs.Turns.{Turn, unanswered, answered, kept_from, scene_state, inner, answer_at, missed_at, IsReported}
 use Rattle.server_model.specs.declared.entry.Entry.{Entry}
 use Rattle.proof_journals.specs.Laws.{TurnsHaveJournals}
 use Rattle.proof_journals.proofs.Journals.{state_more}
 use Rattle.server_model.specs.States.{State, opened}
 use Rattle.tool_program.specs.JournalWords.Journals.{after_entry, state_after}
 
-from_here : (limits : Limits) (scene : Scene) (before : List Entry) (state : State) (turns : List Turn) → scene_state limits scene before ≡ state → Along (IsTold limits scene) before (kept_from state turns)
+from_here : (limits : Limits) (scene : Scene) (before : List Entry) (state : State) (turns : List Turn) → scene_state limits scene before ≡ state → Along (IsReported limits scene) before (kept_from state turns)
 unfolding kept_from
 from_here limits scene before state [] same = tt
 from_here limits scene before state (turn ∷ turns) same = (

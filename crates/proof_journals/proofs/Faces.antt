@@ -5,8 +5,8 @@ use Rattle.std.proofs.lemmas.Bool.{true≢false}
 use Rattle.std.proofs.lemmas.Bool.Decides.{nat_tests}
 use Rattle.server_locks.specs.declared.row_locks.lock.Lock.{Lock}
 use Rattle.server_locks.specs.declared.row_locks.lock.HeldLock.{HeldLock}
-use Rattle.server_locks.specs.RowLocks.Holding.{held_by}
-use Rattle.server_locks.specs.RowLocks.Granting.{conflict, refusal, blocker_of_lock, blocker_of_set}
+use Rattle.server_locks.specs.RowLocks.LockTable.{held_by}
+use Rattle.server_locks.specs.RowLocks.Grants.{conflict, refusal, blocker_of_lock, blocker_of_set}
 use Rattle.server_locks.proofs.LeastSession.Sessions.{none_of, not_refused}
 use Rattle.server_locks.proofs.RowLocks.HeldLocks.{conflict_both_ways}
 use Rattle.server_model.specs.declared.session.Session.{Session}

@@ -14,11 +14,11 @@ use Rattle.server_model.specs.declared.request.Request.TheVariants as requests
 use Rattle.server_model.specs.declared.session.Waiting.{Waiting}
 use Rattle.server_model.specs.declared.transaction.Mark.TheVariants as marks
 use Rattle.server_model.specs.declared.work.StatementResult.{StatementResult}
-use Rattle.server_model.specs.Jobs.{says}
+use Rattle.server_model.specs.Operations.{statement_result}
 use Rattle.server_model.specs.States.{State, session_of, is_in_transaction, view, waiting_of}
-use Rattle.server_model.specs.Locking.{need, need_within, blocker}
+use Rattle.server_model.specs.Blockers.{need, need_within, blocker}
 use Rattle.server_model.specs.Effects.{result_effect, effect_within, effect_unless, is_outside}
-use Rattle.server_model.specs.Serving.{does, done, called_unless, calls, is_over, polled_over, polled_unless, polled_of, polls, serves, without_waiting}
+use Rattle.server_model.specs.PlainServer.{does, done, called_unless, calls, is_over, polled_over, polled_unless, polled_of, polls, serves, without_waiting}
 use Rattle.tool_program.specs.JournalWords.Journals.{may_lose}
 use Rattle.tool_program.specs.JournalWords.Clients.{Reached, lost_side, word_asks}
 use Rattle.proof_journals.specs.Turns.{answer_at, missed_at, was_given, mark_lost, request_of}
@@ -40,7 +40,7 @@ within_reply state number words.Begin = tt
 within_reply state number words.Commit = tt
 within_reply state number words.Rollback = tt
 within_reply state number (words.Do statement) =
-    result_reply (is_in_transaction (session_of number state.sessions)) (need_within (view number state) (requests.Do statement)) (says (view number state) statement) state number (line_replies_so (view number state) (words.Do statement))
+    result_reply (is_in_transaction (session_of number state.sessions)) (need_within (view number state) (requests.Do statement)) (statement_result (view number state) statement) state number (line_replies_so (view number state) (words.Do statement))
 
 done_reply : (state : State) (number : ℕ) (word : ScriptWord) → IsReply (done state number (word_asks word)).answer
 unfolding done

@@ -5,12 +5,12 @@ use Rattle.base_values.specs.declared.event.Change.{Change}
 use Rattle.table_store.specs.Databases.{TableRows, Database, find_table}
 use Rattle.server_model.specs.declared.session.Session.{Session}
 use Rattle.server_model.specs.declared.session.HeldName.{HeldName}
-use Rattle.server_model.specs.Jobs.{Job, result_in, job_says, events_of}
-use Rattle.server_model.specs.Saying.{tells}
+use Rattle.server_model.specs.Operations.{Operation, result_in, operation_result, events_of}
+use Rattle.server_model.specs.StatementResults.{tells}
 use Rattle.proof_journals.specs.Scenes.{Scene, is_mine, EventsMine, SessionHold, no_hold}
 use Rattle.proof_journals.specs.Holdings.{face_in, names_of}
 use Rattle.server_model.specs.declared.need.Need.{Need}
-use Rattle.server_model.specs.Serving.{at_rest, exclusive, holding, locking, shared, unlocking}
+use Rattle.server_model.specs.PlainServer.{at_rest, exclusive, holding, locking, shared, unlocking}
 use Rattle.server_model.specs.States.{kept_names, locked_names, shared_names}
 
 abbrev pub hold_in : Session → SessionHold
@@ -97,12 +97,12 @@ mine_each : (scene : Scene) (own : Bool) (table : List ℕ) (changes : List Chan
 mine_each scene own table [] is = tt
 mine_each scene own table (change ∷ changes) is = (is, mine_each scene own table changes is)
 
-mine_in : (scene : Scene) (own : Bool) (task : Job) (found : Option TableRows) → is_mine scene task.table ≡ own → EventsMine scene own (result_in task found).events
+mine_in : (scene : Scene) (own : Bool) (task : Operation) (found : Option TableRows) → is_mine scene task.table ≡ own → EventsMine scene own (result_in task found).events
 mine_in scene own task None is = tt
 mine_in scene own task (Some table) is = mine_each scene own task.table (tells table.schema table.rows (task.work table.schema)).changes is
 
-pub said_mine : (scene : Scene) (own : Bool) (tables : Database) (task : Job) → is_mine scene task.table ≡ own → EventsMine scene own (job_says tables task).events
-unfolding job_says
+pub said_mine : (scene : Scene) (own : Bool) (tables : Database) (task : Operation) → is_mine scene task.table ≡ own → EventsMine scene own (operation_result tables task).events
+unfolding operation_result
 said_mine scene own tables task is = mine_in scene own task (find_table task.table tables) is
 
 pub mine_both : (scene : Scene) (own : Bool) (a b : List RowEvent) → EventsMine scene own a → EventsMine scene own b → EventsMine scene own (a ++ b)

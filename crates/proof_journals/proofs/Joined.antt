@@ -10,12 +10,12 @@ use Rattle.server_model.specs.declared.entry.Asked.TheVariants.{Call, Poll, Comm
 use Rattle.server_model.specs.declared.entry.Entry.{Entry}
 use Rattle.server_model.specs.Entries.{is_cut}
 use Rattle.server_model.specs.States.{State}
-use Rattle.server_model.specs.Serving.{serves}
+use Rattle.server_model.specs.PlainServer.{serves}
 use Rattle.table_store.specs.Databases.{TableRows, Database, find_table, with_change}
 use Rattle.proof_journals.specs.Scenes.{Scene, Stored, PlainItem, Txn, Alter, LeadsTo, SerialHistory}
 use Rattle.server_model.specs.Alone.{alone}
-use Rattle.proof_journals.specs.Turns.{scene_state, inner, answer_at, missed_at, IsTold}
-use Rattle.server_model.specs.Serving.{given_at}
+use Rattle.proof_journals.specs.Turns.{scene_state, inner, answer_at, missed_at, IsReported}
+use Rattle.server_model.specs.PlainServer.{given_at}
 use Rattle.tool_program.specs.JournalWords.Journals.{opens, heard, missed, may_lose, inner_answer, IsAnswered}
 use Rattle.std.proofs.lemmas.Bool.{false≢true}
 
@@ -52,19 +52,19 @@ cut_sides entry sides is = sides (by entry.asked is) where
   by (Command word) is = absurd (false≢true is)
 
 -- the entry has the server's answer, heard or missed
-pub told_answer : (state : State) (entry : Entry) → IsAnswered state entry → entry.answer ≡ answer_at entry.side (inner state entry)
+pub reported_answer : (state : State) (entry : Entry) → IsAnswered state entry → entry.answer ≡ answer_at entry.side (inner state entry)
 unfolding inner_answer
-told_answer state entry is = is.answer ∙ heard_is entry.side (opens entry state) entry.session entry.asked (cut_sides entry is.sides)
+reported_answer state entry is = is.answer ∙ heard_is entry.side (opens entry state) entry.session entry.asked (cut_sides entry is.sides)
 
-pub told_missed : (state : State) (entry : Entry) → IsAnswered state entry → entry.missed ≡ missed_at entry.side (inner state entry)
+pub reported_missed : (state : State) (entry : Entry) → IsAnswered state entry → entry.missed ≡ missed_at entry.side (inner state entry)
 unfolding inner_answer
-told_missed state entry is = is.missed ∙ missed_is entry.side (opens entry state) entry.session entry.asked (cut_sides entry is.sides)
+reported_missed state entry is = is.missed ∙ missed_is entry.side (opens entry state) entry.session entry.asked (cut_sides entry is.sides)
 
 -- a faithful journal's entries have them
-pub faithful_told : (limits : Limits) (scene : Scene) (before journal : List Entry) → Along (λ some entry. IsAnswered (scene_state limits scene some) entry) before journal → Along (IsTold limits scene) before journal
-faithful_told limits scene before [] all = tt
-faithful_told limits scene before (entry ∷ journal) all =
-    (record { answer = told_answer (scene_state limits scene before) entry all.0; missed = told_missed (scene_state limits scene before) entry all.0 }, faithful_told limits scene (before ++ entry ∷ []) journal all.1)
+pub faithful_reported : (limits : Limits) (scene : Scene) (before journal : List Entry) → Along (λ some entry. IsAnswered (scene_state limits scene some) entry) before journal → Along (IsReported limits scene) before journal
+faithful_reported limits scene before [] all = tt
+faithful_reported limits scene before (entry ∷ journal) all =
+    (record { answer = reported_answer (scene_state limits scene before) entry all.0; missed = reported_missed (scene_state limits scene before) entry all.0 }, faithful_reported limits scene (before ++ entry ∷ []) journal all.1)
 
 -- SERIAL, OF TABLES ALONE: the ALTER by a function of databases
 

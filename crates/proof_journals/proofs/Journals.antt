@@ -17,7 +17,7 @@ use Rattle.proof_journals.specs.Scenes.{PlainItem, Stored, Scene, is_mine, table
 use Rattle.server_model.specs.declared.answer.Answer.{Answer}
 use Rattle.server_model.specs.declared.answer.Answer.TheVariants as answers
 use Rattle.server_model.specs.Answers.{ok}
-use Rattle.proof_journals.specs.Turns.{scene_state, inner, answer_at, missed_at, told_at, IsTold, LineOutcome, Still, word_given, was_given, broken, word_lost, word_asked, line_outcome_renamed, request_of, about, is_busy, line_outcome_if, line_outcome, happens, goings_after, goings_from, goings_at, entry_adds, history, MayAskIf, MayAsk, ClientAsks, ToolAsks, RenamesSo, DefinesSo, AtRest, IsAllowed, IsSceneRun}
+use Rattle.proof_journals.specs.Turns.{scene_state, inner, answer_at, missed_at, reported_at, IsReported, LineOutcome, Still, word_given, was_given, broken, word_lost, word_asked, line_outcome_renamed, request_of, about, is_busy, line_outcome_if, line_outcome, happens, goings_after, goings_from, goings_at, entry_adds, history, MayAskIf, MayAsk, ClientAsks, ToolAsks, RenamesSo, DefinesSo, AtRest, IsAllowed, IsSceneRun}
 use Rattle.tool_program.specs.JournalWords.Histories.{renames_away}
 use Rattle.server_model.specs.declared.entry.Asked.{Asked}
 use Rattle.server_model.specs.declared.entry.Asked.TheVariants.{Call, Poll, Cut, Command}
@@ -41,11 +41,11 @@ use Rattle.std.specs.Prelude.{is_some}
 use Rattle.server_model.specs.States.{connected, State, is_in_transaction, opened, polls_of, session_of, waiting_of, with_session}
 use Rattle.server_model.specs.declared.request.Request.TheVariants as requests
 use Rattle.server_model.specs.Effects.{Effect, Forgets, Grows, Locks, Moves, Rests, Unlocks, Writes, effect}
-use Rattle.server_model.specs.Serving.{at_rest, called_unless, calls, counting, does, done, is_over, leaves, loses, polled_of, polled_over, polled_unless, polls, serves, without_waiting}
+use Rattle.server_model.specs.PlainServer.{at_rest, called_unless, calls, counting, does, done, is_over, leaves, loses, polled_of, polled_over, polled_unless, polls, serves, without_waiting}
 use Rattle.server_model.specs.declared.session.Waiting.{Waiting}
-use Rattle.proof_journals.specs.Asking.{word_in}
+use Rattle.proof_journals.specs.LineRequests.{word_in}
 use Rattle.tool_program.specs.JournalWords.Clients.{word_asks}
-use Rattle.server_model.specs.Locking.{need, blocker}
+use Rattle.server_model.specs.Blockers.{need, blocker}
 use Rattle.tool_program.specs.JournalWords.Journals.{after_entry, opens, opens_if, state_after}
 use Rattle.server_model.proofs.LockedRows.Tests.{are_one}
 
@@ -249,10 +249,10 @@ tool_polled : (scene : Scene) (state : State) (number : ℕ) (going : ℕ → Go
 tool_polled scene state number going past work mine one lost None asks so = tool_stays scene state number going past work lost
 tool_polled scene state number going past work mine one lost (Some waiting) asks so = tool_poll scene state number going past work mine one lost waiting.request asks (blocker state number (need state number waiting.request)) so refl
 
-lost_still : (scene : Scene) (state : State) (number : ℕ) (going : ℕ → Going) (past : List PlainItem) (work : ToolWork scene state number going past) (away : Bool) (told : Option Answer) → ((b : Bool) → line_outcome_renamed b told ≡ Still)
-    → Turned scene (stored (loses number state)) (face_of (loses number state).sessions) number (line_outcome_renamed away told) going past
+lost_still : (scene : Scene) (state : State) (number : ℕ) (going : ℕ → Going) (past : List PlainItem) (work : ToolWork scene state number going past) (away : Bool) (reported : Option Answer) → ((b : Bool) → line_outcome_renamed b reported ≡ Still)
+    → Turned scene (stored (loses number state)) (face_of (loses number state).sessions) number (line_outcome_renamed away reported) going past
 unfolding loses
-lost_still scene state number going past work away told still = rw (still away) (tool_stays scene state number going past work true)
+lost_still scene state number going past work away reported still = rw (still away) (tool_stays scene state number going past work true)
 
 lost_given : (b : Bool) → line_outcome_renamed b (Some answers.Lost) ≡ Still
 lost_given true = refl
@@ -268,7 +268,7 @@ gone_twice scene state number going past work =
     tool_rests scene (stored state) (face_of state.sessions) (face_of (filter (λ session. not (session.number == number)) (filter (λ session. not (session.number == number)) state.sessions))) number going past [] work.tool work.holds
     (lost_faces number state.sessions (filter (λ session. not (session.number == number)) state.sessions) no_face (faces_without number state.sessions))
 
-tool_turn : (scene : Scene) (side : Option Side) (state : State) (number : ℕ) (asked : Asked) (going : ℕ → Going) (past : List PlainItem) (work : ToolWork scene state number going past) → is_mine scene scene.migrated ≡ true → OneIn state.sessions → AsksIf false scene (about state number asked) → DefinesSo scene (is_in_transaction (session_of number state.sessions)) state.tables (about state number asked) (told_at side (answer_at side (serves state number asked).answer) (missed_at side (serves state number asked).answer)) → TurnsSo false scene side state number asked going past
+tool_turn : (scene : Scene) (side : Option Side) (state : State) (number : ℕ) (asked : Asked) (going : ℕ → Going) (past : List PlainItem) (work : ToolWork scene state number going past) → is_mine scene scene.migrated ≡ true → OneIn state.sessions → AsksIf false scene (about state number asked) → DefinesSo scene (is_in_transaction (session_of number state.sessions)) state.tables (about state number asked) (reported_at side (answer_at side (serves state number asked).answer) (missed_at side (serves state number asked).answer)) → TurnsSo false scene side state number asked going past
 unfolding calls polls
 tool_turn scene None state number (Call request) going past work mine one asks so = tool_call scene state number going past work mine one false request asks (blocker state number (need state number request)) so refl
 tool_turn scene None state number Poll going past work mine one asks so = tool_polled scene state number going past work mine one false (waiting_of number state.waiting) asks so
@@ -413,7 +413,7 @@ asks_about scene state number (Command word) may waits = tt_if (scene.client num
   tt_if own = tt
 
 any_turn : (scene : Scene) (side : Option Side) (state : State) (number : ℕ) (asked : Asked) (going : ℕ → Going) (past : List PlainItem) → is_mine scene scene.migrated ≡ true → Holds scene (stored state) (face_of state.sessions) going past → OneIn state.sessions → (found : Session) → session_of number state.sessions ≡ Some found
-    → DefinesSo scene (is_in_transaction (session_of number state.sessions)) state.tables (about state number asked) (told_at side (answer_at side (serves state number asked).answer) (missed_at side (serves state number asked).answer)) → (own : Bool) → scene.client number ≡ own → AsksIf own scene (about state number asked) → AsksIf own scene (request_of (waiting_of number state.waiting)) → TurnsSo own scene side state number asked going past
+    → DefinesSo scene (is_in_transaction (session_of number state.sessions)) state.tables (about state number asked) (reported_at side (answer_at side (serves state number asked).answer) (missed_at side (serves state number asked).answer)) → (own : Bool) → scene.client number ≡ own → AsksIf own scene (about state number asked) → AsksIf own scene (request_of (waiting_of number state.waiting)) → TurnsSo own scene side state number asked going past
 any_turn scene side state number asked going past mine holds one found is so true own asks waits = client_turn scene side state number asked going past (record { holds = holds; found = found; is = is; client = own }) one asks waits
 any_turn scene side state number asked going past mine holds one found is so false own asks waits = tool_turn scene side state number asked going past (record { holds = holds; found = found; is = is; tool = own }) mine one asks so
 
@@ -423,7 +423,7 @@ command_still scene false state number word going past holds = turned_still scen
 
 -- a turn whose session is live, unless it is a command
 live_turn : (scene : Scene) (side : Option Side) (state : State) (number : ℕ) (asked : Asked) (going : ℕ → Going) (past : List PlainItem) → is_mine scene scene.migrated ≡ true → Holds scene (stored state) (face_of state.sessions) going past → OneIn state.sessions
-    → (is_command asked ≡ false → is_some (session_of number state.sessions) ≡ true) → (is_command asked ≡ true → side ≡ None) → DefinesSo scene (is_in_transaction (session_of number state.sessions)) state.tables (about state number asked) (told_at side (answer_at side (serves state number asked).answer) (missed_at side (serves state number asked).answer)) → AsksIf (scene.client number) scene (about state number asked)
+    → (is_command asked ≡ false → is_some (session_of number state.sessions) ≡ true) → (is_command asked ≡ true → side ≡ None) → DefinesSo scene (is_in_transaction (session_of number state.sessions)) state.tables (about state number asked) (reported_at side (answer_at side (serves state number asked).answer) (missed_at side (serves state number asked).answer)) → AsksIf (scene.client number) scene (about state number asked)
     → AsksIf (scene.client number) scene (request_of (waiting_of number state.waiting)) → TurnsSo (scene.client number) scene side state number asked going past
 live_turn scene side state number (Command word) going past mine holds one live commands so asks waits =
     subst (λ (s : Option Side). TurnsSo (scene.client number) scene s state number (Command word) going past) (sym (commands refl)) (command_still scene (scene.client number) state number word going past holds)
@@ -440,7 +440,7 @@ line_outcome_is scene state entry answer missed =
     ∙ ap (λ (m : Option Answer). line_outcome_if (scene.client entry.session) scene (opens entry state) entry.session entry.asked entry.side (answer_at entry.side (inner state entry)) m) missed
 
 entry_kept : (scene : Scene) (state : State) (going : ℕ → Going) (past : List PlainItem) (entry : Entry) → is_mine scene scene.migrated ≡ true → entry.answer ≡ answer_at entry.side (inner state entry) → entry.missed ≡ missed_at entry.side (inner state entry) → MayAsk scene entry.session entry.asked → (is_command entry.asked ≡ true → entry.side ≡ None)
-    → AtRest (is_busy entry.session (opens entry state)) (about (opens entry state) entry.session entry.asked) → (told_at entry.side entry.answer entry.missed ≡ Some ok → RenamesSo scene state.tables (about (opens entry state) entry.session entry.asked)) → BookHolds scene state going past → BookHolds scene (after_entry state entry) (goings_after entry.session (line_outcome scene state entry) going) (past ++ happens (line_outcome scene state entry) (going entry.session))
+    → AtRest (is_busy entry.session (opens entry state)) (about (opens entry state) entry.session entry.asked) → (reported_at entry.side entry.answer entry.missed ≡ Some ok → RenamesSo scene state.tables (about (opens entry state) entry.session entry.asked)) → BookHolds scene state going past → BookHolds scene (after_entry state entry) (goings_after entry.session (line_outcome scene state entry) going) (past ++ happens (line_outcome scene state entry) (going entry.session))
 entry_kept scene state going past entry mine answer missed may commands rest so is =
     let nothing : Bool = is_command entry.asked in
     let tool : Bool = not (is_client entry.actor) in
@@ -451,10 +451,10 @@ entry_kept scene state going past entry mine answer missed may commands rest so 
     let holds : Holds scene (stored now) (face_of now.sessions) going past = rw (stored_opened nothing tool number state) (holds_faces scene (stored state) (face_of state.sessions) (face_of now.sessions) going past (λ n. faces_opened nothing tool number n state) is.holds) in
     let asks = waits_found scene number now.waiting waits in
     let tables : now.tables ≡ state.tables = ap (λ (s : Stored). s.tables) (stored_opened nothing tool number state) in
-    let told : told_at entry.side entry.answer entry.missed ≡ told_at entry.side (answer_at entry.side (inner state entry)) (missed_at entry.side (inner state entry)) =
-    ap (λ (g : Answer). told_at entry.side g entry.missed) answer ∙ ap (λ (m : Option Answer). told_at entry.side (answer_at entry.side (inner state entry)) m) missed in
-    let renames : told_at entry.side (answer_at entry.side (inner state entry)) (missed_at entry.side (inner state entry)) ≡ Some ok → RenamesSo scene now.tables (about now number entry.asked) =
-    λ done. subst (λ (d : Database). RenamesSo scene d (about now number entry.asked)) (sym tables) (so (told ∙ done)) in
+    let reported : reported_at entry.side entry.answer entry.missed ≡ reported_at entry.side (answer_at entry.side (inner state entry)) (missed_at entry.side (inner state entry)) =
+    ap (λ (g : Answer). reported_at entry.side g entry.missed) answer ∙ ap (λ (m : Option Answer). reported_at entry.side (answer_at entry.side (inner state entry)) m) missed in
+    let renames : reported_at entry.side (answer_at entry.side (inner state entry)) (missed_at entry.side (inner state entry)) ≡ Some ok → RenamesSo scene now.tables (about now number entry.asked) =
+    λ done. subst (λ (d : Database). RenamesSo scene d (about now number entry.asked)) (sym tables) (so (reported ∙ done)) in
     let turned : TurnsSo (scene.client number) scene entry.side now number entry.asked going past =
     live_turn scene entry.side now number entry.asked going past mine holds one (opened_live nothing tool number state) commands (rest, renames) (asks_about scene now number entry.asked may asks) asks in
     record {
@@ -485,7 +485,7 @@ abbrev pub JournalHolds : Limits → Scene → List Entry → Type 0
 JournalHolds limits scene journal = BookHolds scene (scene_state limits scene journal) (goings_at limits scene journal) (history limits scene journal)
 
 abbrev pub IsGood : Limits → Scene → List Entry → Entry → Type 0
-IsGood limits scene before entry = IsTold limits scene before entry × IsAllowed limits scene before entry
+IsGood limits scene before entry = IsReported limits scene before entry × IsAllowed limits scene before entry
 
 pub step : (limits : Limits) (scene : Scene) → is_mine scene scene.migrated ≡ true → (journal : List Entry) (entry : Entry) → IsGood limits scene journal entry → JournalHolds limits scene journal → JournalHolds limits scene (journal ++ entry ∷ [])
 unfolding history
@@ -506,7 +506,7 @@ begins limits scene is = record {
 
 pub journal_holds : (limits : Limits) (scene : Scene) (journal : List Entry) → IsSceneRun limits scene journal → JournalHolds limits scene journal
 journal_holds limits scene journal run =
-    Along-keeps (IsGood limits scene) (JournalHolds limits scene) (step limits scene run.migrated) [] journal (Along-both (IsTold limits scene) (IsAllowed limits scene) [] journal run.told run.allowed) (begins limits scene run.well_formed)
+    Along-keeps (IsGood limits scene) (JournalHolds limits scene) (step limits scene run.migrated) [] journal (Along-both (IsReported limits scene) (IsAllowed limits scene) [] journal run.reported run.allowed) (begins limits scene run.well_formed)
 
 pub going_replies : (scene : Scene) (own : Bool) (tables : Database) (hold : SessionHold) (going : Going) → IsWellFormedDatabase tables → IsFine scene own tables hold going → (own ≡ false → going ≡ not_going) → (lines_run (tables_left scene.mine tables) nothing_ran going.lines).replies ≡ going.replies
 unfolding lines_run
@@ -530,7 +530,7 @@ scenes_are_serial limits scene journal run = scene_serial limits scene journal r
 plain_allowed : (limits : Limits) (scene : Scene) (before journal : List Entry) → scene.exchanges ≡ false → Along (IsPlain limits scene) before journal → Along (IsAllowed limits scene) before journal
 plain_allowed limits scene before [] never plain = tt
 plain_allowed limits scene before (entry ∷ journal) never plain =
-    (record { may = plain.0.may; commands = plain.0.commands; rests = plain.0.rests; renames = λ told. so (about (opens entry (scene_state limits scene before)) entry.session entry.asked) }, plain_allowed limits scene (before ++ entry ∷ []) journal never plain.1) where
+    (record { may = plain.0.may; commands = plain.0.commands; rests = plain.0.rests; renames = λ reported. so (about (opens entry (scene_state limits scene before)) entry.session entry.asked) }, plain_allowed limits scene (before ++ entry ∷ []) journal never plain.1) where
       so : (asks : Option Request) → RenamesSo scene (scene_state limits scene before).tables asks
       so None = tt
       so (Some (Rename pairs)) = λ may takes after is. absurd (false≢true (sym never ∙ may))
@@ -554,5 +554,5 @@ plain_allowed limits scene before (entry ∷ journal) never plain =
 -- *Plain runs are serial*
 pub plain_scenes_are_serial : PlainScenesAreSerial
 plain_scenes_are_serial limits scene journal is mine never faithful plain =
-    let serial : SceneSerial limits scene journal = scenes_are_serial limits scene journal (record { well_formed = is; migrated = mine; told = faithful; allowed = plain_allowed limits scene [] journal never plain }) in
+    let serial : SceneSerial limits scene journal = scenes_are_serial limits scene journal (record { well_formed = is; migrated = mine; reported = faithful; allowed = plain_allowed limits scene [] journal never plain }) in
     record { serial = serial; plain = none_alters scene (left scene (record { tables = scene.opening; log = [] })) (left scene (stored (scene_state limits scene journal))) (history limits scene journal) never serial.ended }

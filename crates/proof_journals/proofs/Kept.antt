@@ -15,7 +15,7 @@ use Rattle.server_model.specs.Alone.{stays, lines_run, nothing_ran, outcome_if, 
 use Rattle.server_model.specs.LockedRows.Agreeing.{Agree}
 use Rattle.server_model.specs.LockedRows.Covering.{Apart}
 use Rattle.server_model.specs.LockedRows.Databases.{IsWellFormedDatabase}
-use Rattle.server_model.specs.Jobs.{after_events, change_table}
+use Rattle.server_model.specs.Operations.{after_events, change_table}
 use Rattle.server_model.specs.LockedRows.Stability.{RunSo}
 use Rattle.proof_journals.specs.Scenes.{PlainItem, Txn, Stored, Scene, is_mine, logged, seen, FoundAlike, Alike, NamesTable, Leads, Serial, SessionHold, Going, no_hold, not_going, IsLasting, EventsMine, IsFine, IsKept, Besides}
 use Rattle.server_model.proofs.LockedRows.Finding.{agree_itself, tables_itself, found_after, change_if}

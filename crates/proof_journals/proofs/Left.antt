@@ -9,7 +9,7 @@ use Rattle.base_values.specs.declared.event.RowEvent.{RowEvent}
 use Rattle.base_values.specs.declared.event.Change.{Change}
 use Rattle.table_store.specs.Databases.{TableRows, Database, find_table, is_named, with_change}
 use Rattle.server_model.specs.Alone.{stays, Ran, lines_run, nothing_ran, outcome_if, alone}
-use Rattle.server_model.specs.Jobs.{after_events, change_table}
+use Rattle.server_model.specs.Operations.{after_events, change_table}
 use Rattle.proof_journals.specs.Scenes.{Past, PlainItem, Txn, Alter, Stored, Scene, is_mine, FoundAlike, AltersTo, Leads, Serial, tables_left, LeadsTo, SerialHistory}
 use Rattle.proof_journals.specs.Laws.{IsTxn}
 use Rattle.server_model.proofs.LockedRows.Finding.{found_after, change_if}

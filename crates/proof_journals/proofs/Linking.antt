@@ -26,16 +26,16 @@ use Rattle.server_model.specs.Answers.{ok}
 use Rattle.server_model.specs.declared.transaction.TxnLine.{TxnLine}
 use Rattle.server_model.specs.Entries.{same_actor, is_client, is_command, is_cut}
 use Rattle.server_model.specs.States.{State, session_of, is_in_transaction, waiting_of}
-use Rattle.server_model.specs.Serving.{serves, leaves, loses}
+use Rattle.server_model.specs.PlainServer.{serves, leaves, loses}
 use Rattle.plan_data.specs.PlanData.{PlanData}
 use Rattle.tool_program.specs.JournalWords.Journals.{opening, opens, after_entry, state_at, missed, may_lose}
 use Rattle.tool_program.specs.JournalWords.Sessions.{session_left, live_session, sessions_named}
 use Rattle.tool_program.specs.JournalWords.Clients.{Reached, became, client_after, after_turn, client_at, new_client, script_of, is_inside, client_asks, line_asks, word_asks}
-use Rattle.tool_program.specs.JournalWords.Keeping.{TakesNext}
+use Rattle.tool_program.specs.JournalWords.KeptPlans.{TakesNext}
 use Rattle.tool_program.specs.JournalWords.Histories as histories
 use Rattle.tool_program.specs.JournalWords.Histories.{HistoryItem, waits_after, waits_in, request_waiting, asked_about, answer_in, renames_away, alters, adds, client_ends}
 use Rattle.proof_journals.specs.Scenes.{PlainItem, AltersTo, Scene, NamesTable, Going, not_going}
-use Rattle.proof_journals.specs.Turns.{request_of, LineOutcome, line_outcome_renamed, line_outcome_if, client_line_outcome, going_on, goings_after, happens, told_at, is_busy, inner, line_outcome, ClientAsks, LineOf, MayAsk, MayAskIf, AtRest, RenamesSo, IsAllowed, answer_at, missed_at}
+use Rattle.proof_journals.specs.Turns.{request_of, LineOutcome, line_outcome_renamed, line_outcome_if, client_line_outcome, going_on, goings_after, happens, reported_at, is_busy, inner, line_outcome, ClientAsks, LineOf, MayAsk, MayAskIf, AtRest, RenamesSo, IsAllowed, answer_at, missed_at}
 use Rattle.proof_journals.specs.Turns as law
 use Rattle.proof_journals.specs.Holdings.{Face, Fits, face_in, face_of}
 use Rattle.server_model.specs.declared.session.Session.{Session}
@@ -376,7 +376,7 @@ module _ (plan : PlanData) (whole journal : List Entry) (entry : Entry) (going :
       (λ differ. rw (client_other c differ) (linked.named c))
 
   -- what the tool's turn adds to the history
-  renamed_items : (asks : Option Request) (told : Option Answer) (g : Going) → happens (line_outcome_renamed (renames_away plan.table asks) told) g ≡ map plain (alters plan asks told)
+  renamed_items : (asks : Option Request) (reported : Option Answer) (g : Going) → happens (line_outcome_renamed (renames_away plan.table asks) reported) g ≡ map plain (alters plan asks reported)
   renamed_items asks (Some (answers.Ok count)) g = by (renames_away plan.table asks) where
     by : (b : Bool) → happens (line_outcome_renamed b (Some (answers.Ok count))) g ≡ map plain (cond b (histories.Alter ∷ []) [])
     by true = refl
@@ -390,17 +390,17 @@ module _ (plan : PlanData) (whole journal : List Entry) (entry : Entry) (going :
     by true = refl
     by false = refl
 
-  told_same : (asked : Asked) → (asked ≡ Cut → ⊥) → (side : Option Side) (answer : Answer) (missed : Option Answer) → (side ≡ Some Before → missed ≡ None) → told_at side answer missed ≡ answer_in asked side answer missed
-  told_same Cut called side answer missed none = absurd (called refl)
-  told_same (Call request) called None answer missed none = refl
-  told_same (Call request) called (Some Before) answer missed none = none refl
-  told_same (Call request) called (Some After) answer missed none = refl
-  told_same Poll called None answer missed none = refl
-  told_same Poll called (Some Before) answer missed none = none refl
-  told_same Poll called (Some After) answer missed none = refl
-  told_same (Command word) called None answer missed none = refl
-  told_same (Command word) called (Some Before) answer missed none = none refl
-  told_same (Command word) called (Some After) answer missed none = refl
+  reported_same : (asked : Asked) → (asked ≡ Cut → ⊥) → (side : Option Side) (answer : Answer) (missed : Option Answer) → (side ≡ Some Before → missed ≡ None) → reported_at side answer missed ≡ answer_in asked side answer missed
+  reported_same Cut called side answer missed none = absurd (called refl)
+  reported_same (Call request) called None answer missed none = refl
+  reported_same (Call request) called (Some Before) answer missed none = none refl
+  reported_same (Call request) called (Some After) answer missed none = refl
+  reported_same Poll called None answer missed none = refl
+  reported_same Poll called (Some Before) answer missed none = none refl
+  reported_same Poll called (Some After) answer missed none = refl
+  reported_same (Command word) called None answer missed none = refl
+  reported_same (Command word) called (Some Before) answer missed none = none refl
+  reported_same (Command word) called (Some After) answer missed none = refl
 
   missed_none : entry.side ≡ Some Before → entry.missed ≡ None
   missed_none is = known.missed ∙ ap (λ (s : Option Side). missed_at s (inner now entry)) is
@@ -408,14 +408,14 @@ module _ (plan : PlanData) (whole journal : List Entry) (entry : Entry) (going :
   not_cut : (asked : Asked) → entry.asked ≡ asked → is_cut asked ≡ false → entry.asked ≡ Cut → ⊥
   not_cut asked asks uncut cut = true≢false (sym (ap is_cut cut) ∙ ap is_cut asks ∙ uncut)
 
-  called_told : (entry.asked ≡ Cut → ⊥) → (g : Going) → happens (line_outcome_renamed (renames_away plan.table (histories.about journal entry)) (told_at entry.side entry.answer entry.missed)) g ≡ map plain (alters plan (histories.about journal entry) (answer_in entry.asked entry.side entry.answer entry.missed))
-  called_told called g =
-      ap (λ (t : Option Answer). happens (line_outcome_renamed (renames_away plan.table (histories.about journal entry)) t) g) (told_same entry.asked called entry.side entry.answer entry.missed missed_none)
+  called_reported : (entry.asked ≡ Cut → ⊥) → (g : Going) → happens (line_outcome_renamed (renames_away plan.table (histories.about journal entry)) (reported_at entry.side entry.answer entry.missed)) g ≡ map plain (alters plan (histories.about journal entry) (answer_in entry.asked entry.side entry.answer entry.missed))
+  called_reported called g =
+      ap (λ (t : Option Answer). happens (line_outcome_renamed (renames_away plan.table (histories.about journal entry)) t) g) (reported_same entry.asked called entry.side entry.answer entry.missed missed_none)
       ∙ renamed_items (histories.about journal entry) (answer_in entry.asked entry.side entry.answer entry.missed) g
 
-  tool_told : (asked : Asked) → entry.asked ≡ asked → (g : Going) → happens (line_outcome_renamed (renames_away plan.table (histories.about journal entry)) (told_at entry.side entry.answer entry.missed)) g ≡ map plain (alters plan (histories.about journal entry) (answer_in entry.asked entry.side entry.answer entry.missed))
-  tool_told Cut asks g =
-      ap (λ (t : Option Answer). happens (line_outcome_renamed (renames_away plan.table (histories.about journal entry)) t) g) lost_told ∙ never (renames_away plan.table (histories.about journal entry))
+  tool_reported : (asked : Asked) → entry.asked ≡ asked → (g : Going) → happens (line_outcome_renamed (renames_away plan.table (histories.about journal entry)) (reported_at entry.side entry.answer entry.missed)) g ≡ map plain (alters plan (histories.about journal entry) (answer_in entry.asked entry.side entry.answer entry.missed))
+  tool_reported Cut asks g =
+      ap (λ (t : Option Answer). happens (line_outcome_renamed (renames_away plan.table (histories.about journal entry)) t) g) lost_reported ∙ never (renames_away plan.table (histories.about journal entry))
       ∙ ap (λ (a : Asked). map plain (alters plan (histories.about journal entry) (answer_in a entry.side entry.answer entry.missed))) (sym asks) where
         no_side : entry.side ≡ None
         no_side = known.sides (ap may_lose asks)
@@ -423,15 +423,15 @@ module _ (plan : PlanData) (whole journal : List Entry) (entry : Entry) (going :
         lost : entry.answer ≡ answers.Lost
         lost = known.answer ∙ ap (λ (s : Option Side). answer_at s (inner now entry)) no_side ∙ ap (λ (a : Asked). (serves open_now entry.session a).answer) asks
 
-        lost_told : told_at entry.side entry.answer entry.missed ≡ Some answers.Lost
-        lost_told = ap (λ (s : Option Side). told_at s entry.answer entry.missed) no_side ∙ ap Some lost
+        lost_reported : reported_at entry.side entry.answer entry.missed ≡ Some answers.Lost
+        lost_reported = ap (λ (s : Option Side). reported_at s entry.answer entry.missed) no_side ∙ ap Some lost
 
         never : (b : Bool) → happens (line_outcome_renamed b (Some answers.Lost)) g ≡ []
         never true = refl
         never false = refl
-  tool_told (Call request) asks g = called_told (not_cut (Call request) asks refl) g
-  tool_told Poll asks g = called_told (not_cut Poll asks refl) g
-  tool_told (Command word) asks g = called_told (not_cut (Command word) asks refl) g
+  tool_reported (Call request) asks g = called_reported (not_cut (Call request) asks refl) g
+  tool_reported Poll asks g = called_reported (not_cut Poll asks refl) g
+  tool_reported (Command word) asks g = called_reported (not_cut (Command word) asks refl) g
 
   adds_tool : (a : Actor) → is_client a ≡ false → adds plan journal entry a ≡ alters plan (histories.about journal entry) (answer_in entry.asked entry.side entry.answer entry.missed)
   adds_tool (Client c) tool = absurd (true≢false tool)
@@ -446,8 +446,8 @@ module _ (plan : PlanData) (whole journal : List Entry) (entry : Entry) (going :
     tool : is_client entry.actor ≡ false → IsAway plan journal entry → happens line_outcome_now (going entry.session) ≡ map plain (adds plan journal entry entry.actor)
     tool no_client away =
         ap (λ (own : Bool). happens (line_outcome_if own (scene_of plan whole) open_now entry.session entry.asked entry.side entry.answer entry.missed) (going entry.session)) (tool_kind no_client)
-        ∙ ap (λ (asks : Option Request). happens (line_outcome_renamed (renames_away plan.table asks) (told_at entry.side entry.answer entry.missed)) (going entry.session)) about_is
-        ∙ tool_told entry.asked refl (going entry.session) ∙ ap (map plain) (sym (adds_tool entry.actor no_client))
+        ∙ ap (λ (asks : Option Request). happens (line_outcome_renamed (renames_away plan.table asks) (reported_at entry.side entry.answer entry.missed)) (going entry.session)) about_is
+        ∙ tool_reported entry.asked refl (going entry.session) ∙ ap (map plain) (sym (adds_tool entry.actor no_client))
 
   items_after : past ++ happens line_outcome_now (going entry.session) ≡ map plain (histories.history plan more)
   unfolding histories.history
@@ -516,16 +516,16 @@ module _ (plan : PlanData) (whole journal : List Entry) (entry : Entry) (going :
   no_loss Cut is = absurd (false≢true is)
 
   -- what was told is told in the journal's words, where it is an answer of a request
-  told_ok : told_at entry.side entry.answer entry.missed ≡ Some ok → (entry.asked ≡ Cut → ⊥) → answer_in entry.asked entry.side entry.answer entry.missed ≡ Some ok
-  told_ok told called = sym (told_same entry.asked called entry.side entry.answer entry.missed missed_none) ∙ told
+  reported_ok : reported_at entry.side entry.answer entry.missed ≡ Some ok → (entry.asked ≡ Cut → ⊥) → answer_in entry.asked entry.side entry.answer entry.missed ≡ Some ok
+  reported_ok reported called = sym (reported_same entry.asked called entry.side entry.answer entry.missed missed_none) ∙ reported
 
-  no_cut_told : entry.asked ≡ Cut → told_at entry.side entry.answer entry.missed ≡ Some ok → ⊥
-  no_cut_told cut told = lost_ok (sym lost_told ∙ told) where
+  no_cut_reported : entry.asked ≡ Cut → reported_at entry.side entry.answer entry.missed ≡ Some ok → ⊥
+  no_cut_reported cut reported = lost_ok (sym lost_reported ∙ reported) where
     no_side : entry.side ≡ None
     no_side = known.sides (ap may_lose cut)
 
-    lost_told : told_at entry.side entry.answer entry.missed ≡ Some answers.Lost
-    lost_told = ap (λ (s : Option Side). told_at s entry.answer entry.missed) no_side ∙ ap Some (known.answer ∙ ap (λ (s : Option Side). answer_at s (inner now entry)) no_side ∙ ap (λ (a : Asked). (serves open_now entry.session a).answer) cut)
+    lost_reported : reported_at entry.side entry.answer entry.missed ≡ Some answers.Lost
+    lost_reported = ap (λ (s : Option Side). reported_at s entry.answer entry.missed) no_side ∙ ap Some (known.answer ∙ ap (λ (s : Option Side). answer_at s (inner now entry)) no_side ∙ ap (λ (a : Asked). (serves open_now entry.session a).answer) cut)
 
     lost_ok : Some answers.Lost ≡ Some ok → ⊥
     lost_ok same = cc
@@ -537,9 +537,9 @@ module _ (plan : PlanData) (whole journal : List Entry) (entry : Entry) (going :
     rests = subst (λ (asks : Option Request). AtRest (is_busy entry.session open_now) asks) (sym about_is) (by_actor (AtRest (is_busy entry.session open_now) (histories.about journal entry))
         (λ c is. own_about (λ asks. AtRest (is_busy entry.session open_now) asks) tt (λ word. word_rests word (is_busy entry.session open_now)) c is)
         (λ tool away. subst (λ (b : Bool). AtRest b (histories.about journal entry)) (sym open_busy) away.rests));
-    renames = λ told. subst (λ (asks : Option Request). RenamesSo (scene_of plan whole) now.tables asks) (sym about_is) (by_actor (RenamesSo (scene_of plan whole) now.tables (histories.about journal entry))
+    renames = λ reported. subst (λ (asks : Option Request). RenamesSo (scene_of plan whole) now.tables asks) (sym about_is) (by_actor (RenamesSo (scene_of plan whole) now.tables (histories.about journal entry))
         (λ c is. own_about (λ asks. RenamesSo (scene_of plan whole) now.tables asks) tt (word_renames (scene_of plan whole) now.tables) c is)
-        (λ tool away. exchanged told away));
+        (λ tool away. exchanged reported away));
   } where
-    exchanged : told_at entry.side entry.answer entry.missed ≡ Some ok → IsAway plan journal entry → RenamesSo (scene_of plan whole) now.tables (histories.about journal entry)
-    exchanged told away = renames_any plan whole now.tables (histories.about journal entry) (away.exchanges (told_ok told (λ cut. no_cut_told cut told)))
+    exchanged : reported_at entry.side entry.answer entry.missed ≡ Some ok → IsAway plan journal entry → RenamesSo (scene_of plan whole) now.tables (histories.about journal entry)
+    exchanged reported away = renames_any plan whole now.tables (histories.about journal entry) (away.exchanges (reported_ok reported (λ cut. no_cut_reported cut reported)))

@@ -8,8 +8,8 @@ use Rattle.std.proofs.Math.Bool.{or-true}
 use Rattle.std.specs.List.{list_any}
 use Rattle.std.specs.Str.{bytes_eq}
 use Rattle.server_locks.specs.declared.metadata_locks.request.Waiter.{Waiter}
-use Rattle.server_locks.specs.MetadataLocks.Granting as grants
-use Rattle.server_locks.specs.MetadataLocks.Granting.{holds, holding_session, least_holder, blocker_of_name, blocker_of_names, ahead_of, least_waiter}
+use Rattle.server_locks.specs.MetadataLocks.Grants as grants
+use Rattle.server_locks.specs.MetadataLocks.Grants.{holds, holding_session, least_holder, blocker_of_name, blocker_of_names, ahead_of, least_waiter}
 use Rattle.server_model.specs.declared.session.Session.{Session}
 use Rattle.server_model.specs.declared.session.HeldName.{HeldName}
 use Rattle.server_locks.specs.LeastSession.Least.{least}
@@ -18,7 +18,7 @@ use Rattle.proof_journals.specs.Holdings.{face_of, face_in, names_of, IsHeld, On
 use Rattle.std.specs.Prelude.{is_some}
 use Rattle.server_model.specs.States.{connected, State, name_held, names_held, new_session, session_of, shared_names, with_session}
 use Rattle.server_model.specs.declared.need.Need.{Need}
-use Rattle.server_model.specs.Serving.{at_rest, counting, exclusive, holding, locking, shared, unlocking}
+use Rattle.server_model.specs.PlainServer.{at_rest, counting, exclusive, holding, locking, shared, unlocking}
 use Rattle.tool_program.specs.JournalWords.Journals.{opens_if}
 use Rattle.server_model.proofs.LockedRows.Tests.{same_number, are_one, are_same, turned_bytes}
 
@@ -75,17 +75,17 @@ held_with number change (first ∷ sessions) added grows one is = at (first.numb
   front more (inl here) = inl (held_left one (as_held first.number first.names) more here)
   front more (inr new) = inr new
 
-  behind : IsHeld one (names_held sessions) ⊎ IsHeld one (as_held number added) → IsHeld one (names_held (first ∷ sessions)) ⊎ IsHeld one (as_held number added)
-  behind (inl there) = inl (held_right one (as_held first.number first.names) (names_held sessions) there)
-  behind (inr new) = inr new
+  following : IsHeld one (names_held sessions) ⊎ IsHeld one (as_held number added) → IsHeld one (names_held (first ∷ sessions)) ⊎ IsHeld one (as_held number added)
+  following (inl there) = inl (held_right one (as_held first.number first.names) (names_held sessions) there)
+  following (inr new) = inr new
 
   changed : (first.number == number) ≡ true → IsHeld one (as_held (change first).number (change first).names) ⊎ IsHeld one (names_held sessions) → IsHeld one (names_held (first ∷ sessions)) ⊎ IsHeld one (as_held number added)
   changed here (inl mine) = front (names_held sessions) (grows first here one mine)
-  changed here (inr rest) = behind (inl rest)
+  changed here (inr rest) = following (inl rest)
 
   passed : IsHeld one (as_held first.number first.names) ⊎ IsHeld one (names_held (with_session number change sessions)) → (IsHeld one (names_held (with_session number change sessions)) → IsHeld one (names_held sessions) ⊎ IsHeld one (as_held number added)) → IsHeld one (names_held (first ∷ sessions)) ⊎ IsHeld one (as_held number added)
   passed (inl mine) rest = front (names_held sessions) (inl mine)
-  passed (inr more) rest = behind (rest more)
+  passed (inr more) rest = following (rest more)
 
   at : (b : Bool) → (first.number == number) ≡ b → IsHeld one (names_held (cond b (change first ∷ sessions) (first ∷ with_session number change sessions))) → (IsHeld one (names_held (with_session number change sessions)) → IsHeld one (names_held sessions) ⊎ IsHeld one (as_held number added)) → IsHeld one (names_held (first ∷ sessions)) ⊎ IsHeld one (as_held number added)
   at true here is rest = changed here (held_parts one (as_held (change first).number (change first).names) (names_held sessions) is)
@@ -167,16 +167,16 @@ one_unlocks number sessions is =
 pub held_less : (test : Session → Bool) (sessions : List Session) (one : grants.HeldName) → IsHeld one (names_held (filter test sessions)) → IsHeld one (names_held sessions)
 held_less test [] one is = is
 held_less test (first ∷ sessions) one is = at (test first) is (held_less test sessions one) where
-  behind : IsHeld one (names_held sessions) → IsHeld one (names_held (first ∷ sessions))
-  behind there = held_right one (as_held first.number first.names) (names_held sessions) there
+  following : IsHeld one (names_held sessions) → IsHeld one (names_held (first ∷ sessions))
+  following there = held_right one (as_held first.number first.names) (names_held sessions) there
 
   parts : IsHeld one (as_held first.number first.names) ⊎ IsHeld one (names_held (filter test sessions)) → (IsHeld one (names_held (filter test sessions)) → IsHeld one (names_held sessions)) → IsHeld one (names_held (first ∷ sessions))
   parts (inl here) rest = held_left one (as_held first.number first.names) (names_held sessions) here
-  parts (inr more) rest = behind (rest more)
+  parts (inr more) rest = following (rest more)
 
   at : (b : Bool) → IsHeld one (names_held (cond b (first ∷ filter test sessions) (filter test sessions))) → (IsHeld one (names_held (filter test sessions)) → IsHeld one (names_held sessions)) → IsHeld one (names_held (first ∷ sessions))
   at true is rest = parts (held_parts one (as_held first.number first.names) (names_held (filter test sessions)) is) rest
-  at false is rest = behind (rest is)
+  at false is rest = following (rest is)
 
 pub one_less : (test : Session → Bool) (sessions : List Session) → OneIn sessions → OneIn (filter test sessions)
 one_less test sessions is = one_fewer (names_held sessions) (names_held (filter test sessions)) is (held_less test sessions)

@@ -14,7 +14,7 @@ use Rattle.base_script.specs.declared.script.ScriptLine.{ScriptLine}
 use Rattle.base_script.specs.declared.script.ScriptWord.{ScriptWord}
 use Rattle.base_script.specs.declared.script.ScriptWord.TheVariants as words
 use Rattle.server_model.specs.Alone.{Ran, outcome_if, alone, stays, lines_run, nothing_ran}
-use Rattle.server_model.specs.Jobs.{change_table, after_events}
+use Rattle.server_model.specs.Operations.{change_table, after_events}
 use Rattle.base_values.specs.ToolNames.{is_tool_name, ghost_name, log_name, old_name}
 use Rattle.plan_data.specs.PlanData.{PlanData}
 use Rattle.tool_program.specs.JournalWords.Clients.{script_of}
@@ -67,13 +67,13 @@ in_front : (names some more : List (List ℕ)) → IsIn names some → IsIn name
 in_front [] some more all = tt
 in_front (name ∷ names) some more all = (list_any-append (bytes_eq name) some more ∙ or_left (list_any (bytes_eq name) some) (list_any (bytes_eq name) more) all.0, in_front names some more all.1)
 
-behind : (names some more : List (List ℕ)) → IsIn names more → IsIn names (some ++ more)
-behind [] some more all = tt
-behind (name ∷ names) some more all = (list_any-append (bytes_eq name) some more ∙ or_right (list_any (bytes_eq name) some) (list_any (bytes_eq name) more) all.0, behind names some more all.1)
+following : (names some more : List (List ℕ)) → IsIn names more → IsIn names (some ++ more)
+following [] some more all = tt
+following (name ∷ names) some more all = (list_any-append (bytes_eq name) some more ∙ or_right (list_any (bytes_eq name) some) (list_any (bytes_eq name) more) all.0, following names some more all.1)
 
 in_itself : (names : List (List ℕ)) → IsIn names names
 in_itself [] = tt
-in_itself (name ∷ names) = (or_left (bytes_eq name name) (list_any (bytes_eq name) names) (same_bytes name), behind names (name ∷ []) names (in_itself names))
+in_itself (name ∷ names) = (or_left (bytes_eq name name) (list_any (bytes_eq name) names) (same_bytes name), following names (name ∷ []) names (in_itself names))
 
 lines_in : (lines : List ScriptLine) (all : List (List ℕ)) → IsIn (flat_map (λ line. names_of line.word) lines) all → AllByRecursion (λ line. IsIn (names_of line.word) all) lines
 lines_in [] all is = tt
@@ -93,7 +93,7 @@ scripts_in (first ∷ scripts) zero script is =
     (in_front (flat_map (λ line. names_of line.word) first) (flat_map (λ line. names_of line.word) first) (flat_map (λ script. flat_map (λ line. names_of line.word) script) scripts) (in_itself (flat_map (λ line. names_of line.word) first))) where
       some_same : Some first ≡ Some script → first ≡ script
       some_same same = cc
-scripts_in (first ∷ scripts) (suc i) script is = behind (flat_map (λ line. names_of line.word) script) (flat_map (λ line. names_of line.word) first) (flat_map (λ script. flat_map (λ line. names_of line.word) script) scripts) (scripts_in scripts i script is)
+scripts_in (first ∷ scripts) (suc i) script is = following (flat_map (λ line. names_of line.word) script) (flat_map (λ line. names_of line.word) first) (flat_map (λ script. flat_map (λ line. names_of line.word) script) scripts) (scripts_in scripts i script is)
 
 word_named : (plan : PlanData) (word : ScriptWord) → IsIn (names_of word) (script_names plan) → NamesTable (client_names plan) word
 word_named plan words.Begin is = tt
@@ -202,7 +202,7 @@ extras_open plan is = extras_among plan (plan.table ∷ script_names plan) (migr
 
 extras_named : (plan : PlanData) → IsIn (extra_names plan) (client_names plan)
 unfolding client_names
-extras_named plan = behind (extra_names plan) (client_tables plan) (extra_names plan) (in_itself (extra_names plan))
+extras_named plan = following (extra_names plan) (client_tables plan) (extra_names plan) (in_itself (extra_names plan))
 
 pub extras_serial : (plan : PlanData) (scene : Scene) (before : Stored) (items : List PlainItem) (after : Stored) → scene.mine ≡ client_names plan → Serial scene before items after → AllByRecursion (λ name. find_table name before.tables ≡ None) (extra_names plan)
     → AllByRecursion (λ name. find_table name after.tables ≡ None) (extra_names plan)

@@ -13,7 +13,7 @@ use Rattle.plan_data.specs.PlanData.{PlanData}
 use Rattle.tool_program.specs.JournalWords.Journals.{state_after, state_at, IsAnswered}
 use Rattle.tool_program.specs.JournalWords.Sessions.{live_session, IsSeated, KeepsSessions}
 use Rattle.tool_program.specs.JournalWords.Clients.{client_at}
-use Rattle.tool_program.specs.JournalWords.Keeping.{IsPlanned, KeepsPlan}
+use Rattle.tool_program.specs.JournalWords.KeptPlans.{IsPlanned, KeepsPlan}
 use Rattle.tool_program.specs.JournalWords.Histories as histories
 use Rattle.tool_program.specs.JournalWords.Histories.{HistoryItem, request_waiting}
 use Rattle.tool_program.specs.JournalWords.Serials as serials
@@ -25,7 +25,7 @@ use Rattle.proof_journals.specs.Laws.{SceneSerial, PlanRunsAreSceneRuns, Journal
 use Rattle.proof_journals.specs.Plans.{client_names, is_client_session, limits_of, scene_of, KeepsAway, IsSerialPlan, IsPlanRun}
 use Rattle.proof_journals.proofs.Actors.{placed, sessions_begin, Kinds, KindSo, all_kinds}
 use Rattle.proof_journals.proofs.Journals.{JournalHolds, scene_serial, step, begins, goings_more}
-use Rattle.proof_journals.proofs.Joined.{faithful_told, told_answer, told_missed, SerialPlain, LeadsPlain, AltersAs, serial_plain}
+use Rattle.proof_journals.proofs.Joined.{faithful_reported, reported_answer, reported_missed, SerialPlain, LeadsPlain, AltersAs, serial_plain}
 use Rattle.proof_journals.proofs.Linking.{Linked, Known, linked_more, allowed_here}
 use Rattle.proof_journals.proofs.Naming.{migrated_named, script_lines, extras_open, extras_serial, left_is}
 use Rattle.proof_journals.proofs.Openings.{opening_well_formed}
@@ -48,8 +48,8 @@ known_of : (plan : PlanData) (whole journal : List Entry) (entry : Entry) → is
 known_of plan whole journal entry zero good is = record {
   placed = placed journal entry good.seated;
   sides = good.answered.sides;
-  answer = told_answer (state_at plan journal) entry good.answered;
-  missed = told_missed (state_at plan journal) entry good.answered;
+  answer = reported_answer (state_at plan journal) entry good.answered;
+  missed = reported_missed (state_at plan journal) entry good.answered;
   kind = λ call. (good.kind call).0;
   zero = zero;
   next = good.planned.next;
@@ -118,7 +118,7 @@ pub plan_runs_are_scene_runs : PlanRunsAreSceneRuns
 plan_runs_are_scene_runs plan journal run = record {
   well_formed = opening_well_formed plan.tables run.serial.tables;
   migrated = migrated_named plan;
-  told = faithful_told (limits_of plan) (scene_of plan journal) [] journal run.faithful;
+  reported = faithful_reported (limits_of plan) (scene_of plan journal) [] journal run.faithful;
   allowed = (plan_goes plan journal run).1;
 }
 

@@ -99,26 +99,26 @@ alike_as : (number : ℕ) (client : Reached) (became : Became) (one two : LineOu
 alike_as number client became one two a b same also is = subst (λ (f : LineOutcome). Alike number client became f b) (sym same) (subst (λ (w : Option Request). Alike number client became one w) (sym also) is)
 
 -- a line that is answered, where this waits behind each answer
-given_alike : (number : ℕ) (client : Reached) (line : ScriptLine) (lines : List ScriptLine) → client.left ≡ line ∷ lines → (behind : Answer → Option Request)
-    → ((answer : Answer) → IsLineAnswer answer → ((by : ℕ) → answer ≡ answers.Waits by → ⊥) → behind answer ≡ None) → ((by : ℕ) → behind (answers.Waits by) ≡ Some (word_asks line.word)) → (answer : Answer) → IsLineAnswer answer
-    → Alike number client (became_of answer) (word_given (is_inside client.lines) line.word answer) (behind answer)
-given_alike number client line lines left behind none some (answers.Ok count) is =
+given_alike : (number : ℕ) (client : Reached) (line : ScriptLine) (lines : List ScriptLine) → client.left ≡ line ∷ lines → (following : Answer → Option Request)
+    → ((answer : Answer) → IsLineAnswer answer → ((by : ℕ) → answer ≡ answers.Waits by → ⊥) → following answer ≡ None) → ((by : ℕ) → following (answers.Waits by) ≡ Some (word_asks line.word)) → (answer : Answer) → IsLineAnswer answer
+    → Alike number client (became_of answer) (word_given (is_inside client.lines) line.word answer) (following answer)
+given_alike number client line lines left following none some (answers.Ok count) is =
     alike_as number client (became_of (answers.Ok count)) _ _ None _ (answered_so (is_inside client.lines) line.word (option_to_list (reply_of (answers.Ok count)))) (none (answers.Ok count) tt (λ by same. absurd (cc))) (marked_alike number client line lines left marks.Answered (reply_of (answers.Ok count)))
-given_alike number client line lines left behind none some (answers.Rows rows) is =
+given_alike number client line lines left following none some (answers.Rows rows) is =
     alike_as number client (became_of (answers.Rows rows)) _ _ None _ (answered_so (is_inside client.lines) line.word (option_to_list (reply_of (answers.Rows rows)))) (none (answers.Rows rows) tt (λ by same. absurd (cc))) (marked_alike number client line lines left marks.Answered (reply_of (answers.Rows rows)))
-given_alike number client line lines left behind none some (answers.Refused refusal column) is =
+given_alike number client line lines left following none some (answers.Refused refusal column) is =
     alike_as number client (became_of (answers.Refused refusal column)) _ _ None _ (answered_so (is_inside client.lines) line.word (option_to_list (reply_of (answers.Refused refusal column)))) (none (answers.Refused refusal column) tt (λ by same. absurd (cc))) (marked_alike number client line lines left marks.Answered (reply_of (answers.Refused refusal column)))
-given_alike number client line lines left behind none some (answers.TimedOut waited) is =
+given_alike number client line lines left following none some (answers.TimedOut waited) is =
     alike_as number client (became_of (answers.TimedOut waited)) _ _ None _ refl (none (answers.TimedOut waited) tt (λ by same. absurd (cc))) (marked_alike number client line lines left marks.TimedOut (Some (replies.Error ER_LOCK_WAIT_TIMEOUT)))
-given_alike number client line lines left behind none some (answers.Waits by) is = record { going = refl; items = refl; waits = Held line lines refl left (some by) }
-given_alike number client line lines left behind none some (answers.Keys keys end) is = absurd is
-given_alike number client line lines left behind none some (answers.Ends range) is = absurd is
-given_alike number client line lines left behind none some (answers.End end) is = absurd is
-given_alike number client line lines left behind none some (answers.At position) is = absurd is
-given_alike number client line lines left behind none some (answers.Events events next) is = absurd is
-given_alike number client line lines left behind none some (answers.Tables tables) is = absurd is
-given_alike number client line lines left behind none some (answers.Waiting waits) is = absurd is
-given_alike number client line lines left behind none some answers.Lost is = absurd is
+given_alike number client line lines left following none some (answers.Waits by) is = record { going = refl; items = refl; waits = Held line lines refl left (some by) }
+given_alike number client line lines left following none some (answers.Keys keys end) is = absurd is
+given_alike number client line lines left following none some (answers.Ends range) is = absurd is
+given_alike number client line lines left following none some (answers.End end) is = absurd is
+given_alike number client line lines left following none some (answers.At position) is = absurd is
+given_alike number client line lines left following none some (answers.Events events next) is = absurd is
+given_alike number client line lines left following none some (answers.Tables tables) is = absurd is
+given_alike number client line lines left following none some (answers.Waiting waits) is = absurd is
+given_alike number client line lines left following none some answers.Lost is = absurd is
 
 asked_word : (busy : Bool) (word : ScriptWord) (answer : Answer) → word_asked busy (Some (word_asks word)) answer ≡ word_given busy word answer
 asked_word busy word answer = rw (word_back word) refl

@@ -7,9 +7,9 @@ use Rattle.base_values.specs.declared.unfit.Unfit.{Unfit}
 use Rattle.base_values.specs.declared.gho_schema.schema.Schema.{Schema}
 use Rattle.base_values.specs.declared.gho_schema.schema.Column.{Column}
 use Rattle.base_values.specs.GhoSchema.Tables.{clash}
-use Rattle.base_values.specs.GhoSchema.Clustering.{clustered_place}
+use Rattle.base_values.specs.GhoSchema.ClusteredKey.{clustered_place}
 use Rattle.base_values.specs.GhoSchema.Rows.{key_places}
-use Rattle.base_values.specs.Storing.{stores, seeks}
+use Rattle.base_values.specs.StoredValues.{stores, seeks}
 use Rattle.base_values.specs.declared.row_conversion.conversion_fault.UnfitAt.{UnfitAt}
 use Rattle.base_values.specs.declared.event.Change.{Change}
 use Rattle.base_values.specs.declared.event.Change.TheVariants as changes
@@ -33,9 +33,9 @@ use Rattle.server_model.specs.declared.work.Selection.{Selection}
 use Rattle.server_model.specs.declared.work.Selection.TheVariants.{AllColumns, Columns, Count}
 use Rattle.server_model.specs.declared.work.Work.{Work}
 use Rattle.server_model.specs.declared.work.Work.TheVariants.{Refuse, Insert, Copy, Replace, Delete, Update, Select}
-use Rattle.server_model.specs.Checking.{◌>>=◌, unless, or_unknown, place_of, places_named, are_distinct, value_at, given_or, beside, row_from, places_listed, new_row, wanted_at, wanted_each, keyed, reach_equal, reach_range, reach_of, selection_of, or_refused, update_of, select_of, work_of}
-use Rattle.server_model.specs.Saying.{TableResult, only, clashes_besides, change_first, with_sets, updates, result_or_refusal, updated, selected, tells}
-use Rattle.server_model.specs.Jobs.{Job, result_in, job_of, job_says, copy_work, copy_from, copy_job}
+use Rattle.server_model.specs.Checks.{◌>>=◌, unless, or_unknown, place_of, places_named, are_distinct, value_at, given_or, beside, row_from, places_listed, new_row, wanted_at, wanted_each, keyed, reach_equal, reach_range, reach_of, selection_of, or_refused, update_of, select_of, work_of}
+use Rattle.server_model.specs.StatementResults.{TableResult, only, clashes_besides, change_first, with_sets, updates, result_or_refusal, updated, selected, tells}
+use Rattle.server_model.specs.Operations.{Operation, result_in, operation_of, operation_result, copy_work, copy_from, copy_operation}
 use Rattle.std.specs.Option.{option_map}
 use Rattle.base_values.specs.declared.row_conversion.map.MapColumn.{MapColumn}
 use Rattle.base_values.specs.RowConversion.ConvertedRows.{converted_row}
@@ -186,12 +186,12 @@ updates_reply schema sets (old ∷ met) rows =
       at false true r s one two = tt
       at false false r s one two = two
 
-told_replies : (r : Result (List Change) Answer) → ErrReplies r → IsReply (result_or_refusal r).answer
-told_replies (Ok all) is = tt
-told_replies (Err refusal) is = is
+reported_replies : (r : Result (List Change) Answer) → ErrReplies r → IsReply (result_or_refusal r).answer
+reported_replies (Ok all) is = tt
+reported_replies (Err refusal) is = is
 
 updated_replies : (schema : Schema) (sets : Result (List (Option Value)) UnfitAt) (met rows : List (List Value)) → IsReply (updated schema sets met rows).answer
-updated_replies schema (Ok sets) met rows = told_replies (updates schema sets met rows) (updates_reply schema sets met rows)
+updated_replies schema (Ok sets) met rows = reported_replies (updates schema sets met rows) (updates_reply schema sets met rows)
 updated_replies schema (Err at) [] rows = tt
 updated_replies schema (Err at) (row ∷ met) rows = tt
 
@@ -214,14 +214,14 @@ tells_replies schema rows (Delete reach) is = tt
 tells_replies schema rows (Update reach sets) is = updated_replies schema sets (rows_met schema reach rows) rows
 tells_replies schema rows (Select reach selection) is = shows_reply selection (rows_met schema reach rows)
 
-said_replies : (statement : Statement) (found : Option TableRows) → IsReply (result_in (job_of statement) found).answer
+said_replies : (statement : Statement) (found : Option TableRows) → IsReply (result_in (operation_of statement) found).answer
 said_replies statement None = tt
 said_replies statement (Some table) = tells_replies table.schema table.rows _ (work_replies table.schema statement)
 
 -- what copying a row says is a reply too
-work_in : (job : Job) (found : Option TableRows) → ((schema : Schema) → WorkReplies (job.work schema)) → IsReply (result_in job found).answer
-work_in job None is = tt
-work_in job (Some table) is = tells_replies table.schema table.rows (job.work table.schema) (is table.schema)
+work_in : (operation : Operation) (found : Option TableRows) → ((schema : Schema) → WorkReplies (operation.work schema)) → IsReply (result_in operation found).answer
+work_in operation None is = tt
+work_in operation (Some table) is = tells_replies table.schema table.rows (operation.work table.schema) (is table.schema)
 
 converted_row_replies : (converted_row : Option (Result (List Value) UnfitAt)) (schema : Schema) → WorkReplies (copy_work converted_row schema)
 converted_row_replies None schema = tt
@@ -232,17 +232,17 @@ copy_replies : (from : Option TableRows) (map : List MapColumn) (key : List Valu
 copy_replies None map key schema = tt
 copy_replies (Some table) map key schema = converted_row_replies (option_map (converted_row map) (row_at_key table key)) schema
 
-pub copied_replies : (tables : Database) (from into : List ℕ) (map : List MapColumn) (key : List Value) → IsReply (job_says tables (copy_job tables from into map key)).answer
-unfolding job_says
-copied_replies tables from into map key = work_in (copy_job tables from into map key) (find_table into tables) (copy_replies (find_table from tables) map key)
+pub copied_replies : (tables : Database) (from into : List ℕ) (map : List MapColumn) (key : List Value) → IsReply (operation_result tables (copy_operation tables from into map key)).answer
+unfolding operation_result
+copied_replies tables from into map key = work_in (copy_operation tables from into map key) (find_table into tables) (copy_replies (find_table from tables) map key)
 
 -- *what a line says is a reply*
 pub line_replies_so : (tables : Database) (word : ScriptWord) → IsReply (line_says tables word).answer
-unfolding job_says
+unfolding operation_result
 line_replies_so tables words.Begin = tt
 line_replies_so tables words.Commit = tt
 line_replies_so tables words.Rollback = tt
-line_replies_so tables (words.Do statement) = said_replies statement (find_table (job_of statement).table tables)
+line_replies_so tables (words.Do statement) = said_replies statement (find_table (operation_of statement).table tables)
 
 -- what such an answer does to its session's transaction
 pub given_so : (busy : Bool) (word : ScriptWord) (answer : Answer) → IsReply answer → word_given busy word answer ≡ line_outcome_answered busy word marks.Answered (option_to_list (reply_of answer))

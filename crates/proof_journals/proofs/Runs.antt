@@ -7,29 +7,29 @@ use Rattle.base_values.specs.declared.kind.Kind.TheVariants.{Int}
 use Rattle.base_values.specs.Spans.{point}
 use Rattle.base_values.specs.declared.gho_schema.schema.Schema.{Schema}
 use Rattle.base_values.specs.GhoSchema.Names as X
-use Rattle.base_values.specs.GhoSchema.Clustering as X1
-use Rattle.base_values.specs.Storing as X2
+use Rattle.base_values.specs.GhoSchema.ClusteredKey as X1
+use Rattle.base_values.specs.StoredValues as X2
 use Rattle.base_values.specs.GhoSchema.Rows as X3
 use Rattle.base_values.specs.Spans as X4
-use Rattle.base_values.specs.Comparing as X5
+use Rattle.base_values.specs.KeyOrder as X5
 use Rattle.base_values.specs.declared.gho_schema.schema.Column.{Column}
 use Rattle.base_values.specs.declared.event.Change.TheVariants as changes
 use Rattle.base_script.specs.declared.statement.Statement.{Statement}
 use Rattle.base_script.specs.declared.statement.Statement.TheVariants as statements
 use Rattle.server_model.specs.declared.answer.Answer.TheVariants as answers
 use Rattle.server_model.specs.Rows.{lies_under, change_rows}
-use Rattle.server_model.specs.Checking.{work_of, places_named, are_distinct, beside, row_from, new_row, wanted_each, reach_equal, reach_range, reach_of, sets_from}
-use Rattle.server_model.specs.Saying.{with_sets, updates, tells}
-use Rattle.server_model.specs.Needing.{points_from, needs}
+use Rattle.server_model.specs.Checks.{work_of, places_named, are_distinct, beside, row_from, new_row, wanted_each, reach_equal, reach_range, reach_of, sets_from}
+use Rattle.server_model.specs.StatementResults.{with_sets, updates, tells}
+use Rattle.server_model.specs.Needs.{points_from, needs}
 use Rattle.table_store.specs.Databases.{TableRows, Database}
 use Rattle.base_script.specs.declared.actor.Side.TheVariants.{Before, After}
 use Rattle.server_model.specs.declared.transaction.Reply.{Reply}
 use Rattle.server_model.specs.declared.transaction.Reply.TheVariants as replies
 use Rattle.server_model.specs.States as Y
-use Rattle.server_model.specs.Showing as Y9
-use Rattle.server_locks.specs.RowLocks.Granting as Y1
-use Rattle.server_locks.specs.MetadataLocks.Granting as Y2
-use Rattle.server_model.specs.Jobs.{job_says, job_needs, after_events}
+use Rattle.server_model.specs.Listings as Y9
+use Rattle.server_locks.specs.RowLocks.Grants as Y1
+use Rattle.server_locks.specs.MetadataLocks.Grants as Y2
+use Rattle.server_model.specs.Operations.{operation_result, operation_needs, after_events}
 use Rattle.base_script.specs.declared.actor.Side.{Side}
 use Rattle.table_store.specs.declared.renames.Pair.{Pair}
 use Rattle.table_store.specs.Databases as D
@@ -50,8 +50,8 @@ use Rattle.server_model.specs.declared.entry.Entry.{Entry}
 use Rattle.server_model.specs.declared.request.Request.TheVariants.{BeginSpan, CopyRow, Create, Drop, Ends, LockTables, LogEnd, ReadLog, Rename, ShowTables, ShowWaiting, Unlock}
 use Rattle.server_model.specs.declared.request.Request.{Request}
 use Rattle.server_model.specs.declared.request.Request.TheVariants as requests
-use Rattle.server_model.specs.Serving.{calls, done, loses, polls}
-use Rattle.server_model.specs.Showing.{events_read, read_from, tables_shown, waits_shown}
+use Rattle.server_model.specs.PlainServer.{calls, done, loses, polls}
+use Rattle.server_model.specs.Listings.{events_read, read_from, tables_shown, waits_shown}
 use Rattle.tool_program.specs.JournalWords.Journals.{opens_if, state_after}
 
 col : List ℕ → ℕ → Column
@@ -86,8 +86,8 @@ by session request = record { actor = actor_of session; session = session; asked
 poll : ℕ → Turn
 poll session = record { actor = actor_of session; session = session; asked = Poll; side = None }
 
-says : Statement → Request
-says statement = requests.Do statement
+statement_result : Statement → Request
+statement_result statement = requests.Do statement
 
 put : ℕ → Statement
 put k = statements.Insert (codes "t") None (n k ∷ [])
@@ -98,14 +98,14 @@ exchange = record { old = codes "t"; new = codes "d" } ∷ record { old = codes 
 -- the sentry d is made; LOCK TABLES waits for client 1, client 2 for LOCK TABLES; then the exchange
 turns : List Turn
 turns =
-    by 1 requests.Begin ∷ by 1 (says (put 2)) ∷ by 11 (Create (keyed (codes "d") (col (codes "id") 4 ∷ []))) ∷ by 11 (LockTables (codes "t" ∷ codes "d" ∷ [])) ∷ by 2 (says (put 3))
-    ∷ by 1 requests.Commit ∷ poll 11 ∷ by 11 (Ends (codes "g")) ∷ by 13 (says (statements.Replace (codes "g") None (n 2 ∷ n 7 ∷ []))) ∷ by 12 (Rename exchange) ∷ by 13 ShowWaiting
+    by 1 requests.Begin ∷ by 1 (statement_result (put 2)) ∷ by 11 (Create (keyed (codes "d") (col (codes "id") 4 ∷ []))) ∷ by 11 (LockTables (codes "t" ∷ codes "d" ∷ [])) ∷ by 2 (statement_result (put 3))
+    ∷ by 1 requests.Commit ∷ poll 11 ∷ by 11 (Ends (codes "g")) ∷ by 13 (statement_result (statements.Replace (codes "g") None (n 2 ∷ n 7 ∷ []))) ∷ by 12 (Rename exchange) ∷ by 13 ShowWaiting
     ∷ by 11 (Drop (codes "d")) ∷ poll 2 ∷ by 11 Unlock ∷ poll 2 ∷ by 13 (ReadLog 0 5 (codes "t" ∷ [])) ∷ poll 12 ∷ poll 2 ∷ by 13 ShowTables ∷ by 13 LogEnd ∷ []
 
-told : List PlainItem → List (List Reply)
-told [] = []
-told (Txn past ∷ more) = past.replies ∷ told more
-told (Alter ∷ more) = [] ∷ told more
+reported : List PlainItem → List (List Reply)
+reported [] = []
+reported (Txn past ∷ more) = past.replies ∷ reported more
+reported (Alter ∷ more) = [] ∷ reported more
 
 ok : Answer
 ok = (answers.Ok 0)
@@ -115,12 +115,12 @@ answers_are : map (λ (e : Entry). e.answer) (journal_of limits scene turns)
     ∷ (answers.Waiting (record { session = 12; names = codes "t" ∷ codes "d" ∷ codes "g" ∷ []; by = 11 } ∷ [])) ∷ ok ∷ answers.Waits 11 ∷ ok ∷ answers.Waits 12
     ∷ (answers.Events (record { table = codes "t"; change = changes.Write (n 2 ∷ []) } ∷ []) 2) ∷ ok ∷ (answers.Refused 1136 None)
     ∷ (answers.Tables (record { name = codes "d"; comment = [] } ∷ record { name = codes "t"; comment = [] } ∷ [])) ∷ (answers.At 2) ∷ []
-unfolding col keyed n tables altered limits scene actor_of by poll says put exchange turns told ok kept_from state_after opens_if calls polls loses done Y9.distinct read_from events_read tables_shown waits_shown D.rename_tables job_says job_needs after_events work_of tells updates with_sets reach_of reach_range reach_equal new_row row_from places_named wanted_each are_distinct sets_from beside lies_under change_rows needs points_from X.same_name X1.clustered_among X2.seeks X2.stores X2.text_number X2.in_range X2.half X3.key_of X4.has X4.meets X5.compare_values X3.with_row Y.with_session Y1.conflict Y1.refusal Y1.blocker_of_lock Y1.blocker_of_set Y2.holds Y2.least_holder Y2.least_waiter Y2.place_of Y2.blocker_of_name Y2.blocker_of_names
+unfolding col keyed n tables altered limits scene actor_of by poll statement_result put exchange turns reported ok kept_from state_after opens_if calls polls loses done Y9.distinct read_from events_read tables_shown waits_shown D.rename_tables operation_result operation_needs after_events work_of tells updates with_sets reach_of reach_range reach_equal new_row row_from places_named wanted_each are_distinct sets_from beside lies_under change_rows needs points_from X.same_name X1.clustered_among X2.seeks X2.stores X2.text_number X2.in_range X2.half X3.key_of X4.has X4.meets X5.compare_values X3.with_row Y.with_session Y1.conflict Y1.refusal Y1.blocker_of_lock Y1.blocker_of_set Y2.holds Y2.least_holder Y2.least_waiter Y2.place_of Y2.blocker_of_name Y2.blocker_of_names
 answers_are = refl
 
 -- client 1 commits, the table is altered, and client 2 is refused by the new table
-history_is : told (history limits scene (journal_of limits scene turns)) ≡ (replies.Ok 0 ∷ replies.Ok 1 ∷ replies.Ok 0 ∷ []) ∷ [] ∷ (replies.Error 1136 ∷ []) ∷ []
-unfolding col keyed n tables altered limits scene actor_of by poll says put exchange turns told ok kept_from state_after opens_if calls polls loses done Y9.distinct read_from events_read tables_shown waits_shown D.rename_tables job_says job_needs after_events work_of tells updates with_sets reach_of reach_range reach_equal new_row row_from places_named wanted_each are_distinct sets_from beside lies_under change_rows needs points_from X.same_name X1.clustered_among X2.seeks X2.stores X2.text_number X2.in_range X2.half X3.key_of X4.has X4.meets X5.compare_values X3.with_row Y.with_session Y1.conflict Y1.refusal Y1.blocker_of_lock Y1.blocker_of_set Y2.holds Y2.least_holder Y2.least_waiter Y2.place_of Y2.blocker_of_name Y2.blocker_of_names history goings_from
+history_is : reported (history limits scene (journal_of limits scene turns)) ≡ (replies.Ok 0 ∷ replies.Ok 1 ∷ replies.Ok 0 ∷ []) ∷ [] ∷ (replies.Error 1136 ∷ []) ∷ []
+unfolding col keyed n tables altered limits scene actor_of by poll statement_result put exchange turns reported ok kept_from state_after opens_if calls polls loses done Y9.distinct read_from events_read tables_shown waits_shown D.rename_tables operation_result operation_needs after_events work_of tells updates with_sets reach_of reach_range reach_equal new_row row_from places_named wanted_each are_distinct sets_from beside lies_under change_rows needs points_from X.same_name X1.clustered_among X2.seeks X2.stores X2.text_number X2.in_range X2.half X3.key_of X4.has X4.meets X5.compare_values X3.with_row Y.with_session Y1.conflict Y1.refusal Y1.blocker_of_lock Y1.blocker_of_set Y2.holds Y2.least_holder Y2.least_waiter Y2.place_of Y2.blocker_of_name Y2.blocker_of_names history goings_from
 history_is = refl
 
 -- *the journal is allowed*, and so the law speaks of it
@@ -151,9 +151,9 @@ renames : RenamesSo scene exchanged (Some (Rename exchange))
 renames = exchange_alters scene exchanged exchange one_mine is_exchange
 
 journal_is_allowed : Along (IsAllowed limits scene) [] (journal_of limits scene turns)
-unfolding col keyed n tables altered limits scene actor_of by poll says put exchange turns told ok kept_from state_after opens_if calls polls loses done Y9.distinct read_from events_read tables_shown waits_shown D.rename_tables job_says job_needs after_events work_of tells updates with_sets reach_of reach_range reach_equal new_row row_from places_named wanted_each are_distinct sets_from beside lies_under change_rows needs points_from X.same_name X1.clustered_among X2.seeks X2.stores X2.text_number X2.in_range X2.half X3.key_of X4.has X4.meets X5.compare_values X3.with_row Y.with_session Y1.conflict Y1.refusal Y1.blocker_of_lock Y1.blocker_of_set Y2.holds Y2.least_holder Y2.least_waiter Y2.place_of Y2.blocker_of_name Y2.blocker_of_names exchanged
+unfolding col keyed n tables altered limits scene actor_of by poll statement_result put exchange turns reported ok kept_from state_after opens_if calls polls loses done Y9.distinct read_from events_read tables_shown waits_shown D.rename_tables operation_result operation_needs after_events work_of tells updates with_sets reach_of reach_range reach_equal new_row row_from places_named wanted_each are_distinct sets_from beside lies_under change_rows needs points_from X.same_name X1.clustered_among X2.seeks X2.stores X2.text_number X2.in_range X2.half X3.key_of X4.has X4.meets X5.compare_values X3.with_row Y.with_session Y1.conflict Y1.refusal Y1.blocker_of_lock Y1.blocker_of_set Y2.holds Y2.least_holder Y2.least_waiter Y2.place_of Y2.blocker_of_name Y2.blocker_of_names exchanged
 journal_is_allowed =
-    (record { may = tt; commands = λ is. refl; rests = tt; renames = λ told. tt }, (record { may = refl; commands = λ is. refl; rests = tt; renames = λ told. tt }, (record { may = (refl, new_keyed); commands = λ is. refl; rests = refl; renames = λ told. tt }, (record { may = tt; commands = λ is. refl; rests = tt; renames = λ told. tt }, (record { may = refl; commands = λ is. refl; rests = tt; renames = λ told. tt }, (record { may = tt; commands = λ is. refl; rests = tt; renames = λ told. tt }, (record { may = tt; commands = λ is. refl; rests = tt; renames = λ told. tt }, (record { may = tt; commands = λ is. refl; rests = tt; renames = λ told. tt }, (record { may = refl; commands = λ is. refl; rests = tt; renames = λ told. tt }, (record { may = inr (refl, refl); commands = λ is. refl; rests = refl; renames = λ may takes after is. absurd (cc) }, (record { may = tt; commands = λ is. refl; rests = tt; renames = λ told. tt }, (record { may = refl; commands = λ is. refl; rests = refl; renames = λ told. tt }, (record { may = tt; commands = λ is. refl; rests = tt; renames = λ told. tt }, (record { may = tt; commands = λ is. refl; rests = tt; renames = λ told. tt }, (record { may = tt; commands = λ is. refl; rests = tt; renames = λ told. tt }, (record { may = tt; commands = λ is. refl; rests = tt; renames = λ told. tt }, (record { may = tt; commands = λ is. refl; rests = refl; renames = λ told. renames }, (record { may = tt; commands = λ is. refl; rests = tt; renames = λ told. tt }, (record { may = tt; commands = λ is. refl; rests = tt; renames = λ told. tt }, (record { may = tt; commands = λ is. refl; rests = tt; renames = λ told. tt }, tt))))))))))))))))))))
+    (record { may = tt; commands = λ is. refl; rests = tt; renames = λ reported. tt }, (record { may = refl; commands = λ is. refl; rests = tt; renames = λ reported. tt }, (record { may = (refl, new_keyed); commands = λ is. refl; rests = refl; renames = λ reported. tt }, (record { may = tt; commands = λ is. refl; rests = tt; renames = λ reported. tt }, (record { may = refl; commands = λ is. refl; rests = tt; renames = λ reported. tt }, (record { may = tt; commands = λ is. refl; rests = tt; renames = λ reported. tt }, (record { may = tt; commands = λ is. refl; rests = tt; renames = λ reported. tt }, (record { may = tt; commands = λ is. refl; rests = tt; renames = λ reported. tt }, (record { may = refl; commands = λ is. refl; rests = tt; renames = λ reported. tt }, (record { may = inr (refl, refl); commands = λ is. refl; rests = refl; renames = λ may takes after is. absurd (cc) }, (record { may = tt; commands = λ is. refl; rests = tt; renames = λ reported. tt }, (record { may = refl; commands = λ is. refl; rests = refl; renames = λ reported. tt }, (record { may = tt; commands = λ is. refl; rests = tt; renames = λ reported. tt }, (record { may = tt; commands = λ is. refl; rests = tt; renames = λ reported. tt }, (record { may = tt; commands = λ is. refl; rests = tt; renames = λ reported. tt }, (record { may = tt; commands = λ is. refl; rests = tt; renames = λ reported. tt }, (record { may = tt; commands = λ is. refl; rests = refl; renames = λ reported. renames }, (record { may = tt; commands = λ is. refl; rests = tt; renames = λ reported. tt }, (record { may = tt; commands = λ is. refl; rests = tt; renames = λ reported. tt }, (record { may = tt; commands = λ is. refl; rests = tt; renames = λ reported. tt }, tt))))))))))))))))))))
 
 -- LOSSES: the RENAME's answer is lost, and so is a commit's; a statement that waits is lost before it is done
 lost : ℕ → Asked → Side → Turn
@@ -161,14 +161,14 @@ lost session asked side = record { actor = actor_of session; session = session; 
 
 losses : List Turn
 losses =
-    by 1 requests.Begin ∷ by 1 (says (put 2)) ∷ by 3 (says (put 2)) ∷ record { actor = actor_of 3; session = 3; asked = Cut; side = None } ∷ lost 1 (Call requests.Commit) After
-    ∷ by 13 (says (statements.Replace (codes "g") None (n 2 ∷ n 7 ∷ []))) ∷ lost 12 (Call (Rename exchange)) After ∷ lost 4 (Call (says (put 5))) Before ∷ by 5 (says (put 6)) ∷ []
+    by 1 requests.Begin ∷ by 1 (statement_result (put 2)) ∷ by 3 (statement_result (put 2)) ∷ record { actor = actor_of 3; session = 3; asked = Cut; side = None } ∷ lost 1 (Call requests.Commit) After
+    ∷ by 13 (statement_result (statements.Replace (codes "g") None (n 2 ∷ n 7 ∷ []))) ∷ lost 12 (Call (Rename exchange)) After ∷ lost 4 (Call (statement_result (put 5))) Before ∷ by 5 (statement_result (put 6)) ∷ []
 
 -- 1 was done though its COMMIT was lost, 3 and 4 did nothing, the ALTER stands where its answer was missed, 5 meets the new table
-losses_are : told (history limits scene (journal_of limits scene losses)) ≡ [] ∷ (replies.Ok 0 ∷ replies.Ok 1 ∷ []) ∷ [] ∷ [] ∷ (replies.Error 1136 ∷ []) ∷ []
-unfolding col keyed n tables altered limits scene actor_of by poll says put exchange turns told ok kept_from state_after opens_if calls polls loses done Y9.distinct read_from events_read tables_shown waits_shown D.rename_tables job_says job_needs after_events work_of tells updates with_sets reach_of reach_range reach_equal new_row row_from places_named wanted_each are_distinct sets_from beside lies_under change_rows needs points_from X.same_name X1.clustered_among X2.seeks X2.stores X2.text_number X2.in_range X2.half X3.key_of X4.has X4.meets X5.compare_values X3.with_row Y.with_session Y1.conflict Y1.refusal Y1.blocker_of_lock Y1.blocker_of_set Y2.holds Y2.least_holder Y2.least_waiter Y2.place_of Y2.blocker_of_name Y2.blocker_of_names lost losses history goings_from
+losses_are : reported (history limits scene (journal_of limits scene losses)) ≡ [] ∷ (replies.Ok 0 ∷ replies.Ok 1 ∷ []) ∷ [] ∷ [] ∷ (replies.Error 1136 ∷ []) ∷ []
+unfolding col keyed n tables altered limits scene actor_of by poll statement_result put exchange turns reported ok kept_from state_after opens_if calls polls loses done Y9.distinct read_from events_read tables_shown waits_shown D.rename_tables operation_result operation_needs after_events work_of tells updates with_sets reach_of reach_range reach_equal new_row row_from places_named wanted_each are_distinct sets_from beside lies_under change_rows needs points_from X.same_name X1.clustered_among X2.seeks X2.stores X2.text_number X2.in_range X2.half X3.key_of X4.has X4.meets X5.compare_values X3.with_row Y.with_session Y1.conflict Y1.refusal Y1.blocker_of_lock Y1.blocker_of_set Y2.holds Y2.least_holder Y2.least_waiter Y2.place_of Y2.blocker_of_name Y2.blocker_of_names lost losses history goings_from
 losses_are = refl
 
 tables_are : (scene_state limits scene (journal_of limits scene losses)).tables ≡ record { schema = keyed (codes "d") (col (codes "id") 4 ∷ []); rows = (n 1 ∷ []) ∷ (n 2 ∷ []) ∷ [] } ∷ record { schema = keyed (codes "t") (col (codes "id") 4 ∷ col (codes "b") 1 ∷ []); rows = (n 1 ∷ n 7 ∷ []) ∷ (n 2 ∷ n 7 ∷ []) ∷ [] } ∷ []
-unfolding col keyed n tables altered limits scene actor_of by poll says put exchange turns told ok kept_from state_after opens_if calls polls loses done Y9.distinct read_from events_read tables_shown waits_shown D.rename_tables job_says job_needs after_events work_of tells updates with_sets reach_of reach_range reach_equal new_row row_from places_named wanted_each are_distinct sets_from beside lies_under change_rows needs points_from X.same_name X1.clustered_among X2.seeks X2.stores X2.text_number X2.in_range X2.half X3.key_of X4.has X4.meets X5.compare_values X3.with_row Y.with_session Y1.conflict Y1.refusal Y1.blocker_of_lock Y1.blocker_of_set Y2.holds Y2.least_holder Y2.least_waiter Y2.place_of Y2.blocker_of_name Y2.blocker_of_names lost losses
+unfolding col keyed n tables altered limits scene actor_of by poll statement_result put exchange turns reported ok kept_from state_after opens_if calls polls loses done Y9.distinct read_from events_read tables_shown waits_shown D.rename_tables operation_result operation_needs after_events work_of tells updates with_sets reach_of reach_range reach_equal new_row row_from places_named wanted_each are_distinct sets_from beside lies_under change_rows needs points_from X.same_name X1.clustered_among X2.seeks X2.stores X2.text_number X2.in_range X2.half X3.key_of X4.has X4.meets X5.compare_values X3.with_row Y.with_session Y1.conflict Y1.refusal Y1.blocker_of_lock Y1.blocker_of_set Y2.holds Y2.least_holder Y2.least_waiter Y2.place_of Y2.blocker_of_name Y2.blocker_of_names lost losses
 tables_are = refl

@@ -7,8 +7,8 @@ use Rattle.std.specs.List.{list_any, flat_map}
 use Rattle.std.specs.Str.{bytes_eq}
 use Rattle.base_values.specs.declared.gho_schema.schema.Schema.{Schema}
 use Rattle.base_values.specs.declared.mysql_errors.TheConstants.{ER_TABLE_EXISTS_ERROR, ER_BAD_TABLE_ERROR, ER_NO_SUCH_TABLE, ER_TABLE_NOT_LOCKED}
-use Rattle.server_locks.specs.RowLocks.Granting.{blocker_of_set}
-use Rattle.server_locks.specs.MetadataLocks.Granting.{blocker_of_names}
+use Rattle.server_locks.specs.RowLocks.Grants.{blocker_of_set}
+use Rattle.server_locks.specs.MetadataLocks.Grants.{blocker_of_names}
 use Rattle.table_store.specs.Databases.{TableRows, Database, find_table, has_table, rename_tables}
 use Rattle.table_store.specs.declared.renames.Pair.{Pair}
 use Rattle.table_store.specs.declared.renames.NotRenamed.{NotRenamed}
@@ -17,7 +17,7 @@ use Rattle.base_script.specs.declared.script.ScriptWord.TheVariants as words
 use Rattle.server_model.specs.declared.answer.Answer.{Answer}
 use Rattle.server_model.specs.declared.session.Session.{Session}
 use Rattle.server_model.specs.LockedRows.Covering.{Apart}
-use Rattle.server_model.specs.Jobs.{says, job_says, after_events, copy_job}
+use Rattle.server_model.specs.Operations.{statement_result, operation_result, after_events, copy_operation}
 use Rattle.proof_journals.specs.Scenes.{PlainItem, Alter, Scene, seen, is_mine, AltersTo, NamesTable, Going, not_going, IsFine}
 use Rattle.proof_journals.specs.Turns.{LineOutcome, Still, Alters, ClientAsks, ToolAsks, AllOther, RenamesSo, DefinesSo, line_outcome_renamed, word_given, mark_lost, was_given, happens, is_busy}
 use Rattle.tool_program.specs.JournalWords.Histories.{takes_away, renames_away}
@@ -40,12 +40,12 @@ use Rattle.server_model.specs.declared.request.Request.TheVariants.{BeginSpan, C
 use Rattle.server_model.specs.declared.request.Request.{Request}
 use Rattle.server_model.specs.Answers.{refuses, ok}
 use Rattle.server_model.specs.declared.request.Request.TheVariants as requests
-use Rattle.server_model.specs.Serving.{Served, commits, does, done, exclusive, goes_on, loses}
-use Rattle.server_model.specs.Effects.{all_stand, begins, created, effect_unless, effect_within, defined, dropped, is_beyond, is_outside, locks_if, nothing_needed, renamed_or, result_effect}
+use Rattle.server_model.specs.PlainServer.{Served, commits, does, done, exclusive, goes_on, loses}
+use Rattle.server_model.specs.Effects.{all_exist, begins, created, effect_unless, effect_within, defined, dropped, is_beyond, is_outside, locks_if, nothing_needed, renamed_or, result_effect}
 use Rattle.server_model.specs.declared.need.Need.{Need}
-use Rattle.server_model.specs.Locking.{need, need_within, blocker}
+use Rattle.server_model.specs.Blockers.{need, need_within, blocker}
 use Rattle.server_model.specs.States.{State, is_in_transaction, locks_held, names_held, pair_names, session_of, tables_named, view, waits_for, writes_of}
-use Rattle.proof_journals.specs.Asking.{does_word, need_of_word}
+use Rattle.proof_journals.specs.LineRequests.{does_word, need_of_word}
 use Rattle.tool_program.specs.JournalWords.Clients.{word_asks}
 use Rattle.server_model.proofs.LockedRows.Tests.{are_same}
 
@@ -74,10 +74,10 @@ effect_one false busy seen state number requests.Begin one free = one_goes numbe
 effect_one false busy seen state number requests.Commit one free = one_rests number state.sessions one
 effect_one false busy seen state number requests.Rollback one free = one_rests number state.sessions one
 effect_one false busy seen state number (requests.Do statement) one free = at busy where
-  at : (b : Bool) → OneIn (does (result_effect b (need_within seen (requests.Do statement)) (says seen statement)) state number).after.sessions
-  at true = one_goes number (need_within seen (requests.Do statement)) (says seen statement).events state.sessions one free
+  at : (b : Bool) → OneIn (does (result_effect b (need_within seen (requests.Do statement)) (statement_result seen statement)) state number).after.sessions
+  at true = one_goes number (need_within seen (requests.Do statement)) (statement_result seen statement).events state.sessions one free
   at false = one_rests number state.sessions one
-effect_one false busy seen state number (LockTables names) one free = at (all_stand names state.tables) where
+effect_one false busy seen state number (LockTables names) one free = at (all_exist names state.tables) where
   at : (b : Bool) → OneIn (does (locks_if b names) state number).after.sessions
   at true = one_locks number names state.sessions one free
   at false = one
@@ -96,8 +96,8 @@ effect_one false busy seen state number (BeginSpan table span size) one free = a
   at None = one
   at (Some t) = one_goes number (need_within seen (BeginSpan table span size)) [] state.sessions one free
 effect_one false busy seen state number (CopyRow from into columns key) one free = at busy where
-  at : (b : Bool) → OneIn (does (result_effect b (need_within seen (CopyRow from into columns key)) (job_says seen (copy_job seen from into columns key))) state number).after.sessions
-  at true = one_goes number (need_within seen (CopyRow from into columns key)) (job_says seen (copy_job seen from into columns key)).events state.sessions one free
+  at : (b : Bool) → OneIn (does (result_effect b (need_within seen (CopyRow from into columns key)) (operation_result seen (copy_operation seen from into columns key))) state number).after.sessions
+  at true = one_goes number (need_within seen (CopyRow from into columns key)) (operation_result seen (copy_operation seen from into columns key)).events state.sessions one free
   at false = one_rests number state.sessions one
 
 pub done_one : (state : State) (number : ℕ) (request : Request) → OneIn state.sessions → IsFree state number (need state number request) → OneIn (done state number request).after.sessions
@@ -118,8 +118,8 @@ word_effect state number words.Begin = refl
 word_effect state number words.Commit = refl
 word_effect state number words.Rollback = refl
 word_effect state number (words.Do statement) = at (is_in_transaction (session_of number state.sessions)) where
-  at : (b : Bool) → does (result_effect b (need_within (view number state) (requests.Do statement)) (says (view number state) statement)) state number
-      ≡ record { answer = (says (view number state) statement).answer; after = cond b (goes_on number (need_of_word (view number state) (words.Do statement)) (says (view number state) statement).events state) (commits number (says (view number state) statement).events state) }
+  at : (b : Bool) → does (result_effect b (need_within (view number state) (requests.Do statement)) (statement_result (view number state) statement)) state number
+      ≡ record { answer = (statement_result (view number state) statement).answer; after = cond b (goes_on number (need_of_word (view number state) (words.Do statement)) (statement_result (view number state) statement).events state) (commits number (statement_result (view number state) statement).events state) }
   at true = refl
   at false = refl
 
@@ -239,10 +239,10 @@ within_left scene state number going past work lost requests.Begin mine asks so 
 within_left scene state number going past work lost requests.Commit mine asks so free = tool_word scene state number going past work words.Commit tt free.apart lost
 within_left scene state number going past work lost requests.Rollback mine asks so free = tool_word scene state number going past work words.Rollback tt free.apart lost
 within_left scene state number going past work lost (requests.Do statement) mine asks so free = at (is_in_transaction (session_of number state.sessions)) where
-  at : (b : Bool) → Left scene state number going past lost false (does (result_effect b (need_within (view number state) (requests.Do statement)) (says (view number state) statement)) state number)
+  at : (b : Bool) → Left scene state number going past lost false (does (result_effect b (need_within (view number state) (requests.Do statement)) (statement_result (view number state) statement)) state number)
   at true = tool_do scene state number going past work statement (view number state) (seen_is scene state number going past work) asks free.apart true lost
   at false = tool_do scene state number going past work statement (view number state) (seen_is scene state number going past work) asks free.apart false lost
-within_left scene state number going past work lost (LockTables names) mine asks so free = at (all_stand names state.tables) where
+within_left scene state number going past work lost (LockTables names) mine asks so free = at (all_exist names state.tables) where
   at : (b : Bool) → Left scene state number going past lost false (does (locks_if b names) state number)
   at true = tool_locks_names scene state number going past work names lost
   at false = refused_left scene state number going past work lost false ER_NO_SUCH_TABLE
@@ -268,7 +268,7 @@ within_left scene state number going past work lost (CopyRow from into columns k
   need' = need_within (view number state) (CopyRow from into columns key)
 
   said' : StatementResult
-  said' = job_says (view number state) (copy_job (view number state) from into columns key)
+  said' = operation_result (view number state) (copy_operation (view number state) from into columns key)
 
   fine : IsFine scene false state.tables (record { names = (hold_in work.found).names ++ need'.names; locks = (hold_in work.found).locks ++ need'.locks; writes = (hold_in work.found).writes ++ said'.events }) not_going
   fine = tool_copies scene state number going past work need' from into columns key (view number state) (seen_is scene state number going past work) asks refl refl free.apart

@@ -19,11 +19,11 @@ use Rattle.base_script.specs.declared.script.ScriptWord.TheVariants as words
 use Rattle.base_script.specs.declared.statement.Statement.{Statement}
 use Rattle.server_model.specs.declared.session.Session.{Session}
 use Rattle.server_model.specs.declared.work.Work.TheVariants.{Copy}
-use Rattle.server_model.specs.Checking.{new_row}
+use Rattle.server_model.specs.Checks.{new_row}
 use Rattle.server_model.specs.LockedRows.Agreeing.{Within}
 use Rattle.server_model.specs.LockedRows.Covering.{Apart, IsWellFormedTable, IsSound}
 use Rattle.server_model.specs.LockedRows.Databases.{WhereFound, IsWellFormedDatabase, TaskSound}
-use Rattle.server_model.specs.Jobs.{Job, table_of, job_of, says, job_says, job_needs, row_needs, after_events, copy_from, copy_job, copy_work}
+use Rattle.server_model.specs.Operations.{Operation, table_of, operation_of, statement_result, operation_result, operation_needs, row_needs, after_events, copy_from, copy_operation, copy_work}
 use Rattle.proof_journals.specs.Scenes.{PlainItem, Scene, seen, is_mine, Serial, SessionHold, Going, no_hold, not_going, IsFine, Besides}
 use Rattle.proof_journals.specs.Turns.{Still, happens}
 use Rattle.proof_journals.specs.Holdings.{Face, no_face, face_in, face_of, stored, Holds}
@@ -37,10 +37,10 @@ use Rattle.proof_journals.proofs.Faces.{faces_with, faces_without}
 use Rattle.proof_journals.proofs.Held.{hold_in, holding_face, rests_face, locking_face, unlocking_face, said_mine, mine_both}
 use Rattle.proof_journals.proofs.Turning.{Turned, turned_still, tool_grows, tool_writes, tool_rests, tool_moves, tool_locks, moving}
 use Rattle.proof_journals.proofs.Answering.{apart_both, lost_faces}
-use Rattle.server_model.specs.Serving.{at_rest, commits, counting, forgets, goes_on, holding, locking, loses, unlocking}
+use Rattle.server_model.specs.PlainServer.{at_rest, commits, counting, forgets, goes_on, holding, locking, loses, unlocking}
 use Rattle.server_model.specs.declared.need.Need.{Need}
 use Rattle.server_model.specs.States.{State, is_in_transaction, locked_names, session_of, view, with_session, writes_of}
-use Rattle.proof_journals.specs.Asking.{does_word, need_of_word}
+use Rattle.proof_journals.specs.LineRequests.{does_word, need_of_word}
 use Rattle.server_model.proofs.LockedRows.Tests.{turned, same_bytes}
 
 -- a session of the tool at work on the server
@@ -75,13 +75,13 @@ quiet_fine scene tables hold need fine = record {
 }
 
 -- a task on no client table
-pub task_fine : (scene : Scene) (tables : Database) (hold : SessionHold) (need : Need) (task : Job) → IsWellFormedDatabase tables → IsFine scene false tables hold not_going → TaskSound task (after_events tables hold.writes) → is_mine scene task.table ≡ false
-    → list_any (bytes_eq task.table) (hold.names ++ need.names) ≡ true → need.locks ≡ job_needs (after_events tables hold.writes) task → IsFine scene false tables (grown hold need (job_says (after_events tables hold.writes) task).events) not_going
+pub task_fine : (scene : Scene) (tables : Database) (hold : SessionHold) (need : Need) (task : Operation) → IsWellFormedDatabase tables → IsFine scene false tables hold not_going → TaskSound task (after_events tables hold.writes) → is_mine scene task.table ≡ false
+    → list_any (bytes_eq task.table) (hold.names ++ need.names) ≡ true → need.locks ≡ operation_needs (after_events tables hold.writes) task → IsFine scene false tables (grown hold need (operation_result (after_events tables hold.writes) task).events) not_going
 task_fine scene tables hold need task well_formed fine sound off mine locks =
     let named = names_left hold.names need.names in
     let all = within-left hold.locks hold.locks need.locks (within-itself hold.locks) in
-    let needed : Within (job_needs (after_events tables hold.writes) task) (hold.locks ++ need.locks) = subst (λ (l : List Lock). Within l (hold.locks ++ need.locks)) locks (within-right need.locks hold.locks need.locks (within-itself need.locks)) in
-    let events = (job_says (after_events tables hold.writes) task).events in
+    let needed : Within (operation_needs (after_events tables hold.writes) task) (hold.locks ++ need.locks) = subst (λ (l : List Lock). Within l (hold.locks ++ need.locks)) locks (within-right need.locks hold.locks need.locks (within-itself need.locks)) in
+    let events = (operation_result (after_events tables hold.writes) task).events in
     record {
       lasting = safe_task hold.names (hold.names ++ need.names) hold.locks (hold.locks ++ need.locks) hold.writes tables task fine.lasting well_formed sound named all mine needed;
       covered = covered_both (hold.names ++ need.names) (hold.locks ++ need.locks) tables hold.writes events (covered_more hold.names (hold.names ++ need.names) hold.locks (hold.locks ++ need.locks) tables hold.writes named all fine.covered)
@@ -102,7 +102,7 @@ copy_sound None columns key None is = tt
 copy_sound None columns key (Some table) is = tt
 copy_sound (Some source) columns key found is = copied_sound (option_map (converted_row columns) (row_at_key source key)) found is
 
-pub copies_sound : (tables : Database) (from into : List ℕ) (columns : List MapColumn) (key : List Value) → IsWellFormedDatabase tables → TaskSound (copy_job tables from into columns key) tables
+pub copies_sound : (tables : Database) (from into : List ℕ) (columns : List MapColumn) (key : List Value) → IsWellFormedDatabase tables → TaskSound (copy_operation tables from into columns key) tables
 copies_sound tables from into columns key is = copy_sound (find_table from tables) columns key (find_table into tables) (is.each into)
 
 -- the end of a turn: its session may be lost then
@@ -221,20 +221,20 @@ names_two (x ∷ a) from into = rw (names_two a from into) (or-true (bytes_eq in
 -- a line of the tool
 pub tool_do : (scene : Scene) (state : State) (number : ℕ) (going : ℕ → Going) (past : List PlainItem) (work : ToolWork scene state number going past) (statement : Statement) (seen : Database) → seen ≡ after_events state.tables work.found.writes → is_mine scene (table_of statement) ≡ false
     → AreApart state number (row_needs seen statement) → (busy lost : Bool)
-    → Turned scene (stored (final lost number (cond busy (goes_on number (need_of_word seen (words.Do statement)) (says seen statement).events state) (commits number (says seen statement).events state))))
-    (face_of (final lost number (cond busy (goes_on number (need_of_word seen (words.Do statement)) (says seen statement).events state) (commits number (says seen statement).events state))).sessions) number Still going past
+    → Turned scene (stored (final lost number (cond busy (goes_on number (need_of_word seen (words.Do statement)) (statement_result seen statement).events state) (commits number (statement_result seen statement).events state))))
+    (face_of (final lost number (cond busy (goes_on number (need_of_word seen (words.Do statement)) (statement_result seen statement).events state) (commits number (statement_result seen statement).events state))).sessions) number Still going past
 tool_do scene state number going past work statement seen same off apart busy lost = at busy where
   hold : SessionHold
   hold = hold_in work.found
 
-  fine : IsFine scene false state.tables (grown hold (need_of_word seen (words.Do statement)) (says seen statement).events) not_going
-  fine = rw same (task_fine scene state.tables hold (need_of_word (after_events state.tables work.found.writes) (words.Do statement)) (job_of statement) work.holds.kept.well_formed (own_fine scene state number going past work)
+  fine : IsFine scene false state.tables (grown hold (need_of_word seen (words.Do statement)) (statement_result seen statement).events) not_going
+  fine = rw same (task_fine scene state.tables hold (need_of_word (after_events state.tables work.found.writes) (words.Do statement)) (operation_of statement) work.holds.kept.well_formed (own_fine scene state number going past work)
       (statement_sound (after_events state.tables work.found.writes) statement ((own_fine scene state number going past work).lasting.each state.tables work.holds.kept.well_formed (agree_itself hold.names hold.locks state.tables))) off (names_last hold.names (table_of statement)) refl)
 
-  at : (b : Bool) → Turned scene (stored (final lost number (cond b (goes_on number (need_of_word seen (words.Do statement)) (says seen statement).events state) (commits number (says seen statement).events state))))
-      (face_of (final lost number (cond b (goes_on number (need_of_word seen (words.Do statement)) (says seen statement).events state) (commits number (says seen statement).events state))).sessions) number Still going past
-  at true = tool_goes_on scene state number going past work (need_of_word seen (words.Do statement)) (says seen statement).events lost apart fine
-  at false = tool_commits scene state number going past work (need_of_word seen (words.Do statement)) (says seen statement).events lost apart fine
+  at : (b : Bool) → Turned scene (stored (final lost number (cond b (goes_on number (need_of_word seen (words.Do statement)) (statement_result seen statement).events state) (commits number (statement_result seen statement).events state))))
+      (face_of (final lost number (cond b (goes_on number (need_of_word seen (words.Do statement)) (statement_result seen statement).events state) (commits number (statement_result seen statement).events state))).sessions) number Still going past
+  at true = tool_goes_on scene state number going past work (need_of_word seen (words.Do statement)) (statement_result seen statement).events lost apart fine
+  at false = tool_commits scene state number going past work (need_of_word seen (words.Do statement)) (statement_result seen statement).events lost apart fine
 
 abbrev pub ToolWord : Scene → ScriptWord → Type 0
 ToolWord scene (words.Do statement) = is_mine scene (table_of statement) ≡ false
@@ -252,10 +252,10 @@ tool_word scene state number going past work (words.Do statement) off apart lost
 
 -- copying a row
 pub tool_copies : (scene : Scene) (state : State) (number : ℕ) (going : ℕ → Going) (past : List PlainItem) (work : ToolWork scene state number going past) (need : Need) (from into : List ℕ) (columns : List MapColumn) (key : List Value) (seen : Database) → seen ≡ after_events state.tables work.found.writes → is_mine scene into ≡ false
-    → need.names ≡ from ∷ into ∷ [] → need.locks ≡ job_needs seen (copy_job seen from into columns key) → AreApart state number need.locks → IsFine scene false state.tables (grown (hold_in work.found) need (job_says seen (copy_job seen from into columns key)).events) not_going
+    → need.names ≡ from ∷ into ∷ [] → need.locks ≡ operation_needs seen (copy_operation seen from into columns key) → AreApart state number need.locks → IsFine scene false state.tables (grown (hold_in work.found) need (operation_result seen (copy_operation seen from into columns key)).events) not_going
 tool_copies scene state number going past work need from into columns key seen same off names locks apart =
     let hold = hold_in work.found in
     let well_formed = (own_fine scene state number going past work).lasting.each state.tables work.holds.kept.well_formed (agree_itself hold.names hold.locks state.tables) in
-    let locks_are : need.locks ≡ job_needs (after_events state.tables work.found.writes) (copy_job (after_events state.tables work.found.writes) from into columns key) = locks ∙ ap (λ (d : Database). job_needs d (copy_job d from into columns key)) same in
-    rw same (task_fine scene state.tables hold need (copy_job (after_events state.tables work.found.writes) from into columns key) work.holds.kept.well_formed (own_fine scene state number going past work)
+    let locks_are : need.locks ≡ operation_needs (after_events state.tables work.found.writes) (copy_operation (after_events state.tables work.found.writes) from into columns key) = locks ∙ ap (λ (d : Database). operation_needs d (copy_operation d from into columns key)) same in
+    rw same (task_fine scene state.tables hold need (copy_operation (after_events state.tables work.found.writes) from into columns key) work.holds.kept.well_formed (own_fine scene state number going past work)
     (copies_sound (after_events state.tables work.found.writes) from into columns key well_formed) off (rw names (names_two hold.names from into)) locks_are)

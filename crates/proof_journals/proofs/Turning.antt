@@ -15,7 +15,7 @@ use Rattle.server_model.specs.declared.transaction.Reply.{Reply}
 use Rattle.server_model.specs.Alone.{stays}
 use Rattle.server_model.specs.LockedRows.Covering.{Apart}
 use Rattle.server_model.specs.LockedRows.Databases.{IsWellFormedDatabase}
-use Rattle.server_model.specs.Jobs.{after_events}
+use Rattle.server_model.specs.Operations.{after_events}
 use Rattle.proof_journals.specs.Scenes.{PlainItem, Stored, Scene, seen, Serial, SessionHold, Going, no_hold, not_going, IsFine, Besides}
 use Rattle.proof_journals.specs.Turns.{LineOutcome, Still, Adds, Ends, Breaks, Alters, going_on, happens, goings_after}
 use Rattle.proof_journals.specs.Holdings.{Face, no_face, Fits, Holds, lines_after}

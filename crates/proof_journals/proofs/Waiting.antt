@@ -16,14 +16,14 @@ use Rattle.server_model.specs.declared.request.Request.{Request}
 use Rattle.server_model.specs.declared.request.Request.TheVariants as requests
 use Rattle.server_model.specs.declared.session.Waiting.{Waiting}
 use Rattle.server_model.specs.Chunks.{keys_of, ends_of, span_keys}
-use Rattle.server_model.specs.Jobs.{says, job_says, copy_job}
-use Rattle.server_model.specs.Showing.{events_read}
+use Rattle.server_model.specs.Operations.{statement_result, operation_result, copy_operation}
+use Rattle.server_model.specs.Listings.{events_read}
 use Rattle.server_model.specs.States.{State, session_of, is_in_transaction, view, waiting_of}
-use Rattle.server_model.specs.Locking.{need, need_within, blocker}
+use Rattle.server_model.specs.Blockers.{need, need_within, blocker}
 use Rattle.server_model.specs.declared.need.Need.{Need}
 use Rattle.server_model.specs.declared.work.StatementResult.{StatementResult}
-use Rattle.server_model.specs.Effects.{of_table, result_effect, begins, all_stand, locks_if, created, dropped, renamed_or, defined, effect_within, effect_unless, is_outside}
-use Rattle.server_model.specs.Serving.{does, done, called_unless, calls, is_over, polled_over, polled_unless, polled_of, polls, loses, leaves, serves, without_waiting}
+use Rattle.server_model.specs.Effects.{of_table, result_effect, begins, all_exist, locks_if, created, dropped, renamed_or, defined, effect_within, effect_unless, is_outside}
+use Rattle.server_model.specs.PlainServer.{does, done, called_unless, calls, is_over, polled_over, polled_unless, polled_of, polls, loses, leaves, serves, without_waiting}
 use Rattle.tool_program.specs.JournalWords.Histories.{waits_after}
 use Rattle.proof_journals.specs.Turns.{request_of}
 use Rattle.proof_journals.proofs.Replies.{IsReply, line_replies_so, copied_replies}
@@ -71,7 +71,7 @@ within_done state number requests.Begin = tt
 within_done state number requests.Commit = tt
 within_done state number requests.Rollback = tt
 within_done state number (requests.Do statement) =
-    result_done (is_in_transaction (session_of number state.sessions)) (need_within (view number state) (requests.Do statement)) (says (view number state) statement) state number (reply_done (says (view number state) statement).answer (line_replies_so (view number state) (words.Do statement)))
+    result_done (is_in_transaction (session_of number state.sessions)) (need_within (view number state) (requests.Do statement)) (statement_result (view number state) statement) state number (reply_done (statement_result (view number state) statement).answer (line_replies_so (view number state) (words.Do statement)))
 within_done state number (requests.Ends table) = table_done (find_table table state.tables) (λ t. ends_of (keys_of (key_places t.schema) t.rows)) (λ t. ends_done (keys_of (key_places t.schema) t.rows))
 within_done state number (requests.ChunkEnd table low top size) = table_done (find_table table state.tables) _ (λ t. tt)
 within_done state number (requests.BeginSpan table span size) = at (find_table table state.tables) where
@@ -79,9 +79,9 @@ within_done state number (requests.BeginSpan table span size) = at (find_table t
   at None = tt
   at (Some t) = tt
 within_done state number (requests.CopyRow from into map key) =
-    result_done (is_in_transaction (session_of number state.sessions)) (need_within (view number state) (requests.CopyRow from into map key)) (job_says (view number state) (copy_job (view number state) from into map key)) state number
-    (reply_done (job_says (view number state) (copy_job (view number state) from into map key)).answer (copied_replies (view number state) from into map key))
-within_done state number (requests.LockTables names) = at (all_stand names state.tables) where
+    result_done (is_in_transaction (session_of number state.sessions)) (need_within (view number state) (requests.CopyRow from into map key)) (operation_result (view number state) (copy_operation (view number state) from into map key)) state number
+    (reply_done (operation_result (view number state) (copy_operation (view number state) from into map key)).answer (copied_replies (view number state) from into map key))
+within_done state number (requests.LockTables names) = at (all_exist names state.tables) where
   at : (b : Bool) → IsDone (does (locks_if b names) state number).answer
   at true = tt
   at false = tt

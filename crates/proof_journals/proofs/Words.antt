@@ -15,7 +15,7 @@ use Rattle.server_model.specs.declared.transaction.Mark.{Mark}
 use Rattle.server_model.specs.declared.transaction.Mark.TheVariants as marks
 use Rattle.server_model.specs.declared.transaction.Reply.{Reply}
 use Rattle.server_model.specs.LockedRows.Databases.{IsWellFormedDatabase, EventsCovered}
-use Rattle.server_model.specs.Jobs.{table_of, row_needs, after_events}
+use Rattle.server_model.specs.Operations.{table_of, row_needs, after_events}
 use Rattle.server_model.specs.Alone.{line_events, line_replies, Ran}
 use Rattle.server_model.specs.LockedRows.Stability.{Stable}
 use Rattle.proof_journals.specs.Scenes.{SessionHold, Going, IsSteady}

@@ -2,7 +2,7 @@
 use Rattle.std.specs.Prelude.{◌≡◌, ◌≢◌, ◌⊎◌, ℕ, ◌==◌, Bool, true, false, List, [], ◌∷◌, ◌++◌, map, Option, Some, None}
 use Rattle.std.specs.List.{AllByRecursion}
 use Rattle.std.specs.Str.{bytes_eq}
-use Rattle.server_locks.specs.MetadataLocks.Granting as grants
+use Rattle.server_locks.specs.MetadataLocks.Grants as grants
 use Rattle.server_model.specs.declared.transaction.Mark.TheVariants as marks
 use Rattle.server_model.specs.declared.session.Session.{Session}
 use Rattle.server_model.specs.declared.session.HeldName.{HeldName}
@@ -10,13 +10,13 @@ use Rattle.server_model.specs.declared.transaction.Mark.{Mark}
 use Rattle.server_model.specs.declared.transaction.Reply.{Reply}
 use Rattle.base_script.specs.declared.script.ScriptWord.{ScriptWord}
 use Rattle.table_store.specs.Databases.{Database}
-use Rattle.server_model.specs.Jobs.{after_events}
+use Rattle.server_model.specs.Operations.{after_events}
 use Rattle.server_model.specs.Alone.{stays, line_events}
 use Rattle.proof_journals.specs.Scenes.{Scene, PlainItem, Stored, SessionHold, Going, no_hold, not_going, IsKept}
 use Rattle.proof_journals.specs.Turns.{MayAskIf}
 use Rattle.server_model.specs.States.{State, locked_names, session_of, shared_names}
 use Rattle.server_model.specs.declared.session.Waiting.{Waiting}
-use Rattle.proof_journals.specs.Asking.{need_of_word}
+use Rattle.proof_journals.specs.LineRequests.{need_of_word}
 
 -- what others see of a session: what it holds and wrote, the tables that it locked, and whether it is in a transaction
 pub record Face : Type 0 where

@@ -8,7 +8,7 @@ use Rattle.table_store.specs.Databases.{Database}
 use Rattle.server_model.specs.LockedRows.Databases.{IsWellFormedDatabase}
 use Rattle.server_model.specs.Alone.{lines_run, nothing_ran}
 use Rattle.proof_journals.specs.Scenes.{Scene, PlainItem, Txn, Alter, is_mine, SerialHistory, left}
-use Rattle.proof_journals.specs.Turns.{Turn, journal_of, AllTold, IsSceneRun, MayAsk, AtRest, is_busy, about, IsExchange, RenamesSo, scene_state, goings_at, history}
+use Rattle.proof_journals.specs.Turns.{Turn, journal_of, AllReported, IsSceneRun, MayAsk, AtRest, is_busy, about, IsExchange, RenamesSo, scene_state, goings_at, history}
 use Rattle.server_model.specs.declared.entry.Entry.{Entry}
 use Rattle.server_model.specs.Entries.{is_command}
 use Rattle.proof_journals.specs.Holdings.{stored}
@@ -41,7 +41,7 @@ JournalsAreSerial = (plan : PlanData) (journal : List Entry) → IsPlanRun plan 
 
 -- *Every list of turns has a faithful journal*
 abbrev pub TurnsHaveJournals : Type 0
-TurnsHaveJournals = (limits : Limits) (scene : Scene) (turns : List Turn) → AllTold limits scene (journal_of limits scene turns)
+TurnsHaveJournals = (limits : Limits) (scene : Scene) (turns : List Turn) → AllReported limits scene (journal_of limits scene turns)
 
 -- *The exchange alters the table*
 abbrev pub ExchangeAlters : Type 0
@@ -64,4 +64,4 @@ pub record PlainSceneSerial (limits : Limits) (scene : Scene) (journal : List En
   pub plain : AllByRecursion IsTxn (history limits scene journal)
 
 abbrev pub PlainScenesAreSerial : Type 0
-PlainScenesAreSerial = (limits : Limits) (scene : Scene) (journal : List Entry) → IsWellFormedDatabase scene.opening → is_mine scene scene.migrated ≡ true → scene.exchanges ≡ false → AllTold limits scene journal → Along (IsPlain limits scene) [] journal → PlainSceneSerial limits scene journal
+PlainScenesAreSerial = (limits : Limits) (scene : Scene) (journal : List Entry) → IsWellFormedDatabase scene.opening → is_mine scene scene.migrated ≡ true → scene.exchanges ≡ false → AllReported limits scene journal → Along (IsPlain limits scene) [] journal → PlainSceneSerial limits scene journal

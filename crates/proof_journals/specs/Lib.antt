@@ -1,4 +1,4 @@
-pub mod Asking
+pub mod LineRequests
 pub mod Scenes
 pub mod Turns
 pub mod Holdings

@@ -2,8 +2,8 @@
 pub mod Standings
 pub mod Machines
 pub mod Scripts
-pub mod Tabling
-pub mod Forming
-pub mod Keying
+pub mod MigrationTables
+pub mod FormedPlans
+pub mod TableKeys
 pub mod Runnable
 pub mod Laws

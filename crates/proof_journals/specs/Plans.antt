@@ -11,13 +11,13 @@ use Rattle.server_model.specs.declared.entry.Asked.TheVariants.{Call}
 use Rattle.server_model.specs.declared.entry.Entry.{Entry}
 use Rattle.server_model.specs.Answers.{ok}
 use Rattle.server_model.specs.Entries.{is_client, is_command}
-use Rattle.server_model.specs.Jobs.{table_of}
+use Rattle.server_model.specs.Operations.{table_of}
 use Rattle.server_model.specs.States.{State, session_of, is_in_transaction, is_waiting}
 use Rattle.base_values.specs.ToolNames.{is_tool_name}
 use Rattle.plan_data.specs.PlanData.{PlanData}
-use Rattle.tool_program.specs.JournalWords.Altering.{plan_altered_table}
+use Rattle.tool_program.specs.JournalWords.AlteredTables.{plan_altered_table}
 use Rattle.tool_program.specs.JournalWords.Journals.{state_at, IsFaithful}
-use Rattle.tool_program.specs.JournalWords.Keeping.{KeepsPlan}
+use Rattle.tool_program.specs.JournalWords.KeptPlans.{KeepsPlan}
 use Rattle.tool_program.specs.JournalWords.Sessions.{KeepsSessions}
 use Rattle.server_model.specs.declared.session.Limits.{Limits}
 use Rattle.server_model.specs.Along.{Along}

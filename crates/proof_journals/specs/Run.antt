@@ -1,4 +1,4 @@
 -- What holds of a run turn by turn.
-pub mod Counting
+pub mod Counts
 pub mod Kept
 pub mod Laws

@@ -14,7 +14,7 @@ use Rattle.server_model.specs.declared.transaction.Reply.{Reply}
 use Rattle.server_model.specs.LockedRows.Agreeing.{Agree}
 use Rattle.server_model.specs.LockedRows.Covering.{Apart}
 use Rattle.server_model.specs.LockedRows.Databases.{IsWellFormedDatabase, EventsCovered}
-use Rattle.server_model.specs.Jobs.{table_of, after_events}
+use Rattle.server_model.specs.Operations.{table_of, after_events}
 use Rattle.server_model.specs.Alone.{alone}
 use Rattle.server_model.specs.LockedRows.Stability.{Stable}
 

@@ -2,5 +2,5 @@
 -- else holds it.
 pub mod Laws
 pub mod Sentries
-pub mod Turning
+pub mod TurnResults
 pub mod Turns

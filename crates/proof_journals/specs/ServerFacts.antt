@@ -1,3 +1,3 @@
-pub mod Keeping
-pub mod Granting
+pub mod Invariants
+pub mod Grants
 pub mod Laws

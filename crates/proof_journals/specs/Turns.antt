@@ -21,7 +21,7 @@ use Rattle.proof_journals.specs.Scenes.{Scene, is_mine, AltersTo, NamesTable, Pl
 use Rattle.server_model.specs.Along.{Along, gathered}
 use Rattle.server_model.specs.LockedRows.Covering.{IsWellFormedTable}
 use Rattle.server_model.specs.LockedRows.Databases.{IsWellFormedDatabase}
-use Rattle.server_model.specs.Jobs.{table_of}
+use Rattle.server_model.specs.Operations.{table_of}
 use Rattle.server_model.specs.declared.request.Request.TheVariants as requests
 use Rattle.server_model.specs.declared.request.Request.TheVariants.{CopyRow, Create, Drop, Rename}
 use Rattle.server_model.specs.declared.request.Request.{Request}
@@ -30,12 +30,12 @@ use Rattle.server_model.specs.declared.entry.Asked.{Asked}
 use Rattle.server_model.specs.declared.entry.Asked.TheVariants.{Call, Poll, Command, Cut}
 use Rattle.server_model.specs.declared.entry.Entry.{Entry}
 use Rattle.server_model.specs.Entries.{is_command}
-use Rattle.server_model.specs.Serving.{serves}
+use Rattle.server_model.specs.PlainServer.{serves}
 use Rattle.server_model.specs.Answers.{ok}
 use Rattle.server_model.specs.Alone.{reply_of}
 use Rattle.server_model.specs.States.{State, is_in_transaction, names_in, opened, session_of, waiting_of}
 use Rattle.server_model.specs.declared.session.Waiting.{Waiting}
-use Rattle.proof_journals.specs.Asking.{word_in}
+use Rattle.proof_journals.specs.LineRequests.{word_in}
 use Rattle.tool_program.specs.JournalWords.Journals.{opens, after_entry, state_after}
 use Rattle.tool_program.specs.JournalWords.Histories.{takes_away, renames_away}
 
@@ -58,12 +58,12 @@ missed_at (Some Before) given = None
 missed_at (Some After) given = Some given
 
 -- the entry's answers are the server's
-pub record IsTold (limits : Limits) (scene : Scene) (before : List Entry) (entry : Entry) : Type 0 where
+pub record IsReported (limits : Limits) (scene : Scene) (before : List Entry) (entry : Entry) : Type 0 where
   pub answer : entry.answer ≡ answer_at entry.side (inner (scene_state limits scene before) entry)
   pub missed : entry.missed ≡ missed_at entry.side (inner (scene_state limits scene before) entry)
 
-abbrev pub AllTold : Limits → Scene → List Entry → Type 0
-AllTold limits scene journal = Along (IsTold limits scene) [] journal
+abbrev pub AllReported : Limits → Scene → List Entry → Type 0
+AllReported limits scene journal = Along (IsReported limits scene) [] journal
 
 -- a turn; and the journal that the server keeps of turns
 pub record Turn : Type 0 where
@@ -155,12 +155,12 @@ client_line_outcome (Some side) busy asked asks given missed = word_lost busy as
 -- it was done
 abbrev pub line_outcome_renamed : Bool → Option Answer → LineOutcome
 line_outcome_renamed true (Some ((answers.Ok count))) = Alters
-line_outcome_renamed away told = Still
+line_outcome_renamed away reported = Still
 
 -- the answer that was got or missed
-abbrev pub told_at : Option Side → Answer → Option Answer → Option Answer
-told_at None given missed = Some given
-told_at (Some side) given missed = missed
+abbrev pub reported_at : Option Side → Answer → Option Answer → Option Answer
+reported_at None given missed = Some given
+reported_at (Some side) given missed = missed
 
 abbrev pub request_of : Option Waiting → Option Request
 request_of None = None
@@ -178,7 +178,7 @@ is_busy number state = is_in_transaction (session_of number state.sessions)
 
 abbrev pub line_outcome_if : Bool → Scene → State → ℕ → Asked → Option Side → Answer → Option Answer → LineOutcome
 line_outcome_if true scene state number asked side given missed = client_line_outcome side (is_busy number state) asked (about state number asked) given missed
-line_outcome_if false scene state number asked side given missed = line_outcome_renamed (renames_away scene.migrated (about state number asked)) (told_at side given missed)
+line_outcome_if false scene state number asked side given missed = line_outcome_renamed (renames_away scene.migrated (about state number asked)) (reported_at side given missed)
 
 abbrev pub line_outcome : Scene → State → Entry → LineOutcome
 line_outcome scene state entry = line_outcome_if (scene.client entry.session) scene (opens entry state) entry.session entry.asked entry.side entry.answer entry.missed
@@ -279,19 +279,19 @@ AtRest busy asks = Unit {0}
 
 -- what is seen of a turn; only where the request was done the RENAME counts
 abbrev pub DefinesSo : Scene → Bool → Database → Option Request → Option Answer → Type 0
-DefinesSo scene busy tables asks told = AtRest busy asks × (told ≡ Some ok → RenamesSo scene tables asks)
+DefinesSo scene busy tables asks reported = AtRest busy asks × (reported ≡ Some ok → RenamesSo scene tables asks)
 
 -- *Allowed*: what an entry may ask
 pub record IsAllowed (limits : Limits) (scene : Scene) (before : List Entry) (entry : Entry) : Type 0 where
   pub may : MayAsk scene entry.session entry.asked
   pub commands : is_command entry.asked ≡ true → entry.side ≡ None
   pub rests : AtRest (is_busy entry.session (opens entry (scene_state limits scene before))) (about (opens entry (scene_state limits scene before)) entry.session entry.asked)
-  pub renames : told_at entry.side entry.answer entry.missed ≡ Some ok → RenamesSo scene (scene_state limits scene before).tables (about (opens entry (scene_state limits scene before)) entry.session entry.asked)
+  pub renames : reported_at entry.side entry.answer entry.missed ≡ Some ok → RenamesSo scene (scene_state limits scene before).tables (about (opens entry (scene_state limits scene before)) entry.session entry.asked)
 
 -- *Run of a scene*: its tables are tables, and the migrated one is a client's; each entry has the server's answers and asks
 -- what it may
 pub record IsSceneRun (limits : Limits) (scene : Scene) (journal : List Entry) : Type 0 where
   pub well_formed : IsWellFormedDatabase scene.opening
   pub migrated : is_mine scene scene.migrated ≡ true
-  pub told : AllTold limits scene journal
+  pub reported : AllReported limits scene journal
   pub allowed : Along (IsAllowed limits scene) [] journal

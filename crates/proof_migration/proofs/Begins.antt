@@ -18,17 +18,17 @@ use Rattle.tool_program.specs.JournalWords.Journals.{state_at}
 use Rattle.tool_program.specs.JournalWords.Sessions.{live_session, sessions_named}
 use Rattle.tool_program.specs.Operators.{is_throttled}
 use Rattle.tool_program.specs.Programs.{apply_call, copy_call, rolls_back, tool_call}
-use Rattle.tool_program.specs.Tools.{Course, Migrating, Work, is_reverting, moment}
+use Rattle.tool_program.specs.Tools.{ToolPhase, Migrating, Work, is_reverting, moment}
 use Rattle.proof_journals.specs.Plans.{limits_of, scene_of}
 use Rattle.proof_journals.specs.Scenes.{no_hold}
 use Rattle.server_model.proofs.LockedRows.Tests.{turned}
 use Rattle.proof_journals.specs.Ghost.Rows.Moments.{Row}
 use Rattle.proof_journals.specs.Ghost.Rows.Timelines.{Migration}
-use Rattle.proof_journals.specs.Ghost.Holding.{Clustered}
-use Rattle.proof_journals.specs.Ghost.Running.{ToolStands}
+use Rattle.proof_journals.specs.Ghost.HeldKeys.{Clustered}
+use Rattle.proof_journals.specs.Ghost.ToolTurns.{ToolStands}
 use Rattle.proof_journals.specs.Ghost.Tool.{CopyState}
-use Rattle.proof_migration.specs.Migration.Applier.Applying.{plan_at}
-use Rattle.proof_migration.specs.Migration.Copier.Copying.{copy_state, moment_of}
+use Rattle.proof_migration.specs.Migration.Applier.ApplierPlace.{plan_at}
+use Rattle.proof_migration.specs.Migration.Copier.CopierPlace.{copy_state, moment_of}
 use Rattle.proof_journals.specs.Machine.Standings.{standing_of}
 use Rattle.proof_journals.proofs.Machine.Asking.{unless_called}
 use Rattle.proof_journals.proofs.Machine.Journals.{IsTogether, apply_called}
@@ -36,7 +36,7 @@ use Rattle.proof_migration.specs.Migration.Machines.{IsUnbusy, Machines, Migrati
 use Rattle.proof_migration.specs.Migration.Machines.MigrationMove.{applier_moves, copier_moves}
 use Rattle.proof_migration.proofs.Migration.Migrating.{moves_keep}
 use Rattle.proof_migration.proofs.Migration.Moving.{copied_state}
-use Rattle.proof_migration.proofs.Course.Unaltered.Away.{IsKnownAsked}
+use Rattle.proof_migration.proofs.ToolPhase.Unaltered.Away.{IsKnownAsked}
 use Rattle.proof_migration.specs.Program.Turns.Goes.{CopyWaits, Goes, machines_in}
 use Rattle.proof_migration.proofs.Program.Turns.ActorStates.{SomeActorStates, new_holds, some_actor_states}
 use Rattle.proof_migration.proofs.Program.Turns.Goes.{rests_own}
@@ -65,7 +65,7 @@ above_more a b n low small = omega (arith, small)
 one_two : (a b n : ℕ) → n + a + b + 1 < n + a + b + 2
 one_two a b n = omega arith
 
-module _ (plan : PlanData) (m : Migration) (at : Clustered m.schema) (rows : List Row) (above : ℕ) (journal : List Entry) (known : IsKnownAsked plan journal) (within : sessions_named journal ≤ above) (work : Work) (course : (moment plan journal).tool.course ≡ Migrating work)
+module _ (plan : PlanData) (m : Migration) (at : Clustered m.schema) (rows : List Row) (above : ℕ) (journal : List Entry) (known : IsKnownAsked plan journal) (within : sessions_named journal ≤ above) (work : Work) (tool_phase : (moment plan journal).tool.tool_phase ≡ Migrating work)
     (goes : Goes plan m at rows journal work) (copied : work.copier.is_copied ≡ true) (reading : work.applier.step ≡ Reading) where
   together : IsTogether plan journal
   together = known.marking.tabled.all.tool
@@ -92,7 +92,7 @@ module _ (plan : PlanData) (m : Migration) (at : Clustered m.schema) (rows : Lis
       stands = subst (λ (c : CopyState). ToolStands m at rows some.copier some.applier (moment_of (state_at plan journal) c (plan_at m journal work.applier.step) work.applier.position)) (copied_state journal work.copier copied ∙ sym (copied_state journal copier copied)) was.tool.stands;
       away = was.tool.away;
     };
-    copier_knows = record { behind = was.copier_knows.behind; step = tt; sized = was.copier_knows.sized };
+    copier_knows = record { following = was.copier_knows.following; step = tt; sized = was.copier_knows.sized };
     applier_knows = was.applier_knows;
     busy = was.busy;
   }
@@ -153,7 +153,7 @@ module _ (plan : PlanData) (m : Migration) (at : Clustered m.schema) (rows : Lis
     stands = stands_settled;
     copied = copied;
     idle = reading;
-    here = subst (StandsAt work.applier.position) (sym course) refl;
+    here = subst (StandsAt work.applier.position) (sym tool_phase) refl;
     copier_above = above_less some.copier some.applier above above (le_refl above);
     applier_above = above_more some.copier some.applier above above (le_refl above);
     quiet = quiet;
@@ -165,7 +165,7 @@ module _ (plan : PlanData) (m : Migration) (at : Clustered m.schema) (rows : Lis
       absurd (no_next journal work.copier request copied
       (unless_called (copiers.starts work.copier && is_throttled plan (moment plan journal).server (moment plan journal).tool.operator) (copiers.next journal work.copier) request
       (ap (λ (b : Bool). cond b (rolls_back (moment plan journal).server (live_session journal Copy)) (copy_call plan (moment plan journal).server journal (moment plan journal).tool work)) (sym going)
-      ∙ ap (λ (c : Course). tool_call plan (moment plan journal).server journal (moment plan journal).tool c Copy) (sym course) ∙ call)))
+      ∙ ap (λ (c : ToolPhase). tool_call plan (moment plan journal).server journal (moment plan journal).tool c Copy) (sym tool_phase) ∙ call)))
 
   pub applier_quiet : is_reverting (moment plan journal).tool.reason ≡ false → CallsQuiet plan journal Apply
   applier_quiet going request call =
@@ -173,4 +173,4 @@ module _ (plan : PlanData) (m : Migration) (at : Clustered m.schema) (rows : Lis
       (sym
       (apply_called plan journal work request
       (ap (λ (b : Bool). cond b (rolls_back (moment plan journal).server (live_session journal Apply)) (apply_call plan (moment plan journal).server journal (moment plan journal).tool work)) (sym going)
-      ∙ ap (λ (c : Course). tool_call plan (moment plan journal).server journal (moment plan journal).tool c Apply) (sym course) ∙ call)))
+      ∙ ap (λ (c : ToolPhase). tool_call plan (moment plan journal).server journal (moment plan journal).tool c Apply) (sym tool_phase) ∙ call)))

@@ -20,24 +20,24 @@ use Rattle.tool_program.specs.JournalWords.Sessions.{sessions_named}
 use Rattle.tool_program.specs.Programs.{given, tool_call}
 use Rattle.tool_program.specs.Tools.{Migrating, Work, is_reverting, moment}
 use Rattle.proof_journals.specs.Plans.{limits_of, scene_of}
-use Rattle.proof_journals.specs.Turns.{about, told_at}
+use Rattle.proof_journals.specs.Turns.{about, reported_at}
 use Rattle.proof_journals.proofs.Actors.{Placed, named_differs, placed, same_actor_is}
 use Rattle.server_model.proofs.LockedRows.Tests.{turned}
 use Rattle.proof_journals.specs.Ghost.Rows.Moments.{Row}
 use Rattle.proof_journals.specs.Ghost.Rows.Timelines.{Migration}
-use Rattle.proof_journals.specs.Ghost.Holding.{Clustered}
+use Rattle.proof_journals.specs.Ghost.HeldKeys.{Clustered}
 use Rattle.proof_journals.specs.Run.Kept.{IsKept}
 use Rattle.proof_journals.specs.Machine.Standings.{IsAbout, Standing, answered, free, is_called, is_polled, standing_of}
 use Rattle.proof_journals.proofs.Machine.Journals.{Asking, IsRun, IsTogether, asking, calls_so, has_now, polls_so}
 use Rattle.proof_journals.proofs.Machine.Marks.{Unmarked}
 use Rattle.proof_journals.proofs.Machine.Seated.{IsServed, others_stand, own_lost}
-use Rattle.proof_journals.proofs.Machine.Tabling.{Behind, behind, rests, waits_on}
+use Rattle.proof_journals.proofs.Machine.Tabling.{Following, following, rests, waits_on}
 use Rattle.proof_migration.specs.Migration.Away.{KeepsAway}
 use Rattle.proof_migration.specs.Migration.Machines.{Machines, MigrationStands}
 use Rattle.proof_migration.specs.Migration.Machines.MigrationTurn.{others_turn}
 use Rattle.proof_migration.proofs.Migration.Migrating.{turns_keep}
-use Rattle.proof_migration.specs.Course.Unaltered.{IsUnaltered}
-use Rattle.proof_migration.proofs.Course.Unaltered.Away.{IsKnownAsked, all_asked, unaltered_front}
+use Rattle.proof_migration.specs.ToolPhase.Unaltered.{IsUnaltered}
+use Rattle.proof_migration.proofs.ToolPhase.Unaltered.Away.{IsKnownAsked, all_asked, unaltered_front}
 use Rattle.proof_migration.specs.Program.Turns.Laws.{IsMigrationOf}
 use Rattle.proof_migration.proofs.Program.Turns.Asked.{gave, waits_with}
 use Rattle.proof_migration.proofs.Program.Turns.Follows.{kept_front, kept_run, kept_scene, unmarked_now}
@@ -52,10 +52,10 @@ IsHarmless requests.Rollback = Unit {0}
 IsHarmless (requests.ReadLog position limit tables) = Unit {0}
 IsHarmless request = ⊥
 
-harmless_away : (m : Migration) (told : Option Answer) (request : Request) → IsHarmless request → KeepsAway m told request
-harmless_away m told requests.Rollback is = tt
-harmless_away m told (requests.ReadLog position limit tables) is = tt
-harmless_away m told request is = absurd is
+harmless_away : (m : Migration) (reported : Option Answer) (request : Request) → IsHarmless request → KeepsAway m reported request
+harmless_away m reported requests.Rollback is = tt
+harmless_away m reported (requests.ReadLog position limit tables) is = tt
+harmless_away m reported request is = absurd is
 
 abbrev pub WaitsHarmless : Option Request → Type 0
 WaitsHarmless None = Unit {0}
@@ -70,7 +70,7 @@ IsQuiet plan journal = WaitsHarmless (standing_of plan journal Copy).waits × Wa
 
 -- what they are asked for next
 abbrev pub CallsQuiet : PlanData → List Entry → Actor → Type 0
-CallsQuiet plan journal actor = (request : Request) → tool_call plan (moment plan journal).server journal (moment plan journal).tool (moment plan journal).tool.course actor ≡ Some request → IsHarmless request
+CallsQuiet plan journal actor = (request : Request) → tool_call plan (moment plan journal).server journal (moment plan journal).tool (moment plan journal).tool.tool_phase actor ≡ Some request → IsHarmless request
 
 -- *Frozen*: the migration stands with a copier that has copied the range and an applier that reads, in sessions above these, and the
 -- tool's applier is at the same position
@@ -79,13 +79,13 @@ pub record Frozen (plan : PlanData) (m : Migration) (at : Clustered m.schema) (r
   pub stands : MigrationStands m at rows (limits_of plan) (scene_of plan []) journal machines
   pub copied : machines.copier.is_copied ≡ true
   pub idle : machines.applier.step ≡ Reading
-  pub here : StandsAt machines.applier.position (moment plan journal).tool.course
+  pub here : StandsAt machines.applier.position (moment plan journal).tool.tool_phase
   pub copier_above : above < machines.copier_session
   pub applier_above : above < machines.applier_session
   pub quiet : IsQuiet plan journal
 
 module _ (plan : PlanData) (m : Migration) (at : Clustered m.schema) (rows : List Row) (of : IsMigrationOf plan m rows) (above : ℕ) (journal : List Entry) (entry : Entry) (kept : IsKept plan (journal ++ entry ∷ [])) (off : IsUnaltered plan (journal ++ entry ∷ [])) (within : sessions_named (journal ++ entry ∷ []) ≤ above)
-    (work : Work) (course : (moment plan journal).tool.course ≡ Migrating work) (copy_calls : CallsQuiet plan journal Copy) (apply_calls : CallsQuiet plan journal Apply) (frozen : Frozen plan m at rows above journal) where
+    (work : Work) (tool_phase : (moment plan journal).tool.tool_phase ≡ Migrating work) (copy_calls : CallsQuiet plan journal Copy) (apply_calls : CallsQuiet plan journal Apply) (frozen : Frozen plan m at rows above journal) where
   abbrev more : List Entry
   more = journal ++ entry ∷ []
 
@@ -114,7 +114,7 @@ module _ (plan : PlanData) (m : Migration) (at : Clustered m.schema) (rows : Lis
   actor_state = placed journal entry served.seated
 
   unmarked : Unmarked plan journal work
-  unmarked = unmarked_now plan journal work known (unaltered_front plan journal (entry ∷ []) off) course
+  unmarked = unmarked_now plan journal work known (unaltered_front plan journal (entry ∷ []) off) tool_phase
 
   abbrev Asks : Actor → Type 0
   Asks actor = entry.actor ≡ actor → is_cut entry.asked ≡ false → Asking plan journal actor entry.asked
@@ -148,19 +148,19 @@ module _ (plan : PlanData) (m : Migration) (at : Clustered m.schema) (rows : Lis
   is_actor : (actor : Actor) → same_actor entry.actor actor ≡ true → entry.actor ≡ actor
   is_actor actor same = same_actor_is entry.actor actor same
 
-  away : (request : Request) → about (opens entry now) entry.session entry.asked ≡ Some request → KeepsAway m (told_at entry.side entry.answer entry.missed) request
+  away : (request : Request) → about (opens entry now) entry.session entry.asked ≡ Some request → KeepsAway m (reported_at entry.side entry.answer entry.missed) request
   away request is = by (same_actor entry.actor Copy) refl (same_actor entry.actor Apply) refl where
-    by_third : same_actor entry.actor Copy ≡ false → same_actor entry.actor Apply ≡ false → (asked : Asked) → entry.asked ≡ asked → KeepsAway m (told_at entry.side entry.answer entry.missed) request
+    by_third : same_actor entry.actor Copy ≡ false → same_actor entry.actor Apply ≡ false → (asked : Asked) → entry.asked ≡ asked → KeepsAway m (reported_at entry.side entry.answer entry.missed) request
     by_third no_copy no_apply (Command word) asks = absurd (no (sym (ap (about (opens entry now) entry.session) asks) ∙ is)) where
       no : None ≡ Some request → ⊥
       no same = cc
-    by_third no_copy no_apply (Call called) asks = others_away plan of.serial m of.of of.runs.fitting journal entry known run off work course unmarked (ap is_command asks) (no_copy, no_apply) request is
-    by_third no_copy no_apply Poll asks = others_away plan of.serial m of.of of.runs.fitting journal entry known run off work course unmarked (ap is_command asks) (no_copy, no_apply) request is
-    by_third no_copy no_apply Cut asks = others_away plan of.serial m of.of of.runs.fitting journal entry known run off work course unmarked (ap is_command asks) (no_copy, no_apply) request is
+    by_third no_copy no_apply (Call called) asks = others_away plan of.serial m of.of of.runs.fitting journal entry known run off work tool_phase unmarked (ap is_command asks) (no_copy, no_apply) request is
+    by_third no_copy no_apply Poll asks = others_away plan of.serial m of.of of.runs.fitting journal entry known run off work tool_phase unmarked (ap is_command asks) (no_copy, no_apply) request is
+    by_third no_copy no_apply Cut asks = others_away plan of.serial m of.of of.runs.fitting journal entry known run off work tool_phase unmarked (ap is_command asks) (no_copy, no_apply) request is
 
-    by : (copy : Bool) → same_actor entry.actor Copy ≡ copy → (apply : Bool) → same_actor entry.actor Apply ≡ apply → KeepsAway m (told_at entry.side entry.answer entry.missed) request
-    by true copy apply so = harmless_away m (told_at entry.side entry.answer entry.missed) request (two_away Copy copy_asking (is_actor Copy copy) frozen.quiet.0 copy_calls entry.asked refl request is)
-    by false copy true so = harmless_away m (told_at entry.side entry.answer entry.missed) request (two_away Apply apply_asking (is_actor Apply so) frozen.quiet.1 apply_calls entry.asked refl request is)
+    by : (copy : Bool) → same_actor entry.actor Copy ≡ copy → (apply : Bool) → same_actor entry.actor Apply ≡ apply → KeepsAway m (reported_at entry.side entry.answer entry.missed) request
+    by true copy apply so = harmless_away m (reported_at entry.side entry.answer entry.missed) request (two_away Copy copy_asking (is_actor Copy copy) frozen.quiet.0 copy_calls entry.asked refl request is)
+    by false copy true so = harmless_away m (reported_at entry.side entry.answer entry.missed) request (two_away Apply apply_asking (is_actor Apply so) frozen.quiet.1 apply_calls entry.asked refl request is)
     by false copy false so = by_third copy so entry.asked refl
 
   apart : (n : ℕ) → above < n → (n == entry.session) ≡ false
@@ -180,11 +180,11 @@ module _ (plan : PlanData) (m : Migration) (at : Clustered m.schema) (rows : Lis
   quiet_now : (actor : Actor) → Asks actor → WaitsHarmless (has actor).waits → CallsQuiet plan journal actor → WaitsHarmless (standing_of plan more actor).waits
   quiet_now actor asking_so quiet calls = by (same_actor entry.actor actor) refl where
     still : (request : Request) → entry.actor ≡ actor → IsAbout request (has actor) entry.asked → IsHarmless request → WaitsHarmless (standing_of plan more actor).waits
-    still request same is_about harmless = by_after (behind request entry.answer (has actor)) where
+    still request same is_about harmless = by_after (following request entry.answer (has actor)) where
       waits_now : (standing_of plan more actor).waits ≡ (answered request entry.answer (has actor)).waits
       waits_now = ap (λ (s : Standing). s.waits) (has_now plan journal entry together run actor request same is_about)
 
-      by_after : Behind request entry.answer (has actor) → WaitsHarmless (standing_of plan more actor).waits
+      by_after : Following request entry.answer (has actor) → WaitsHarmless (standing_of plan more actor).waits
       by_after (rests none) = subst WaitsHarmless (sym (waits_now ∙ none)) tt
       by_after (waits_on one is) = subst WaitsHarmless (sym (waits_now ∙ ap (λ (a : Answer). (answered request a (has actor)).waits) is)) harmless
 
@@ -208,7 +208,7 @@ module _ (plan : PlanData) (m : Migration) (at : Clustered m.schema) (rows : Lis
     by true same = own (is_actor actor same) entry.asked refl
 
   position_is : work.applier.position ≡ frozen.machines.applier.position
-  position_is = subst (StandsAt frozen.machines.applier.position) course frozen.here
+  position_is = subst (StandsAt frozen.machines.applier.position) tool_phase frozen.here
 
   -- *One turn more*
   pub frozen_more : MayStay (is_reverting (moment plan journal).tool.reason) work → is_reverting (moment plan more).tool.reason ≡ true → Frozen plan m at rows above more
@@ -217,7 +217,7 @@ module _ (plan : PlanData) (m : Migration) (at : Clustered m.schema) (rows : Lis
     stands = stands_now;
     copied = frozen.copied;
     idle = frozen.idle;
-    here = subst (λ (n : ℕ). StandsAt n (moment plan more).tool.course) position_is (applier_stays plan journal entry work course may on);
+    here = subst (λ (n : ℕ). StandsAt n (moment plan more).tool.tool_phase) position_is (applier_stays plan journal entry work tool_phase may on);
     copier_above = frozen.copier_above;
     applier_above = frozen.applier_above;
     quiet = (quiet_now Copy copy_asking frozen.quiet.0 copy_calls, quiet_now Apply apply_asking frozen.quiet.1 apply_calls);

@@ -30,10 +30,10 @@ use Rattle.proof_journals.proofs.Actors.{same_actor_is}
 use Rattle.proof_journals.specs.Machine.Standings.{IsAbout, Standing, free, is_called, is_polled, standing_of}
 use Rattle.proof_journals.proofs.Machine.Journals.{Asking, IsRun, IsTogether, asking, calls_so, has_now, never_commands, polls_so}
 use Rattle.proof_journals.proofs.Machine.Seated.{IsServed, others_stand, own_lost}
-use Rattle.proof_journals.proofs.Machine.Tabling.{Behind, behind, rests, waits_on}
-use Rattle.proof_migration.proofs.Course.CourseTurns.{gives_asked}
+use Rattle.proof_journals.proofs.Machine.Tabling.{Following, following, rests, waits_on}
+use Rattle.proof_migration.proofs.ToolPhase.ToolPhaseTurns.{gives_asked}
 use Rattle.proof_journals.specs.Sentry.Sentries.{AfterFailure, AfterUnlock, Fits, Guards, HasSentry, InspectorTurns, IsDrained, LockerServes, MayExchange, RenamerServes, WhereItWaits, scene}
-use Rattle.proof_journals.specs.Sentry.Turning.{AskedTurn, InspectorTurn, LockerTurn, RenamerTurn, WorkTurn, told}
+use Rattle.proof_journals.specs.Sentry.TurnResults.{AskedTurn, InspectorTurn, LockerTurn, RenamerTurn, WorkTurn, reported}
 use Rattle.proof_migration.proofs.Stays.{IsUndrained}
 
 -- WHERE THE RELATION LEAVES THE RENAME
@@ -118,7 +118,7 @@ module _ (plan : PlanData) (journal : List Entry) (entry : Entry) (together : Is
   given_here same asked asks uncut = subst (λ (a : Actor). given plan journal a ≡ Some entry.asked) same (gives_asked plan journal entry entry.asked run.followed.given refl (λ cut. uncut (sym asks ∙ cut)))
 
   -- where the renamer doesn't wait and isn't asked it doesn't wait behind the turn
-  pub rests_on : (has Ren).waits ≡ None → ((request : Request) → tool_call plan (moment plan journal).server journal (moment plan journal).tool (moment plan journal).tool.course Ren ≡ Some request → ⊥) → (has_after Ren).waits ≡ None
+  pub rests_on : (has Ren).waits ≡ None → ((request : Request) → tool_call plan (moment plan journal).server journal (moment plan journal).tool (moment plan journal).tool.tool_phase Ren ≡ Some request → ⊥) → (has_after Ren).waits ≡ None
   unfolding given
   rests_on none uncalled = by (same_actor entry.actor Ren) refl where
     own : entry.actor ≡ Ren → (asked : Asked) → entry.asked ≡ asked → (has_after Ren).waits ≡ None
@@ -150,17 +150,17 @@ module _ (plan : PlanData) (journal : List Entry) (entry : Entry) (together : Is
     by true same = own (same_actor_is entry.actor Ren same) entry.asked refl
 
   -- where it waits behind its own turn it was told so
-  told_waits : (request : Request) → entry.actor ≡ Ren → (has_after Ren).waits ≡ Some request → (is_cut entry.asked ≡ false) × ((one : ℕ) × (entry.answer ≡ answers.Waits one))
+  reported_waits : (request : Request) → entry.actor ≡ Ren → (has_after Ren).waits ≡ Some request → (is_cut entry.asked ≡ false) × ((one : ℕ) × (entry.answer ≡ answers.Waits one))
   unfolding given
-  told_waits request same waits = by entry.asked refl where
+  reported_waits request same waits = by entry.asked refl where
     no : None ≡ Some request → ⊥
     no same = cc
 
     uncut : (asked : Asked) → entry.asked ≡ asked → (asked ≡ Cut → ⊥) → ((one : ℕ) × (entry.answer ≡ answers.Waits one))
     uncut asked asks never = by_asking (asking plan journal Ren entry.asked together.server (given_here same asked asks never)) where
       still : (one : Request) → IsAbout one (has Ren) entry.asked → ((one : ℕ) × (entry.answer ≡ answers.Waits one))
-      still one is_about = by_after (behind one entry.answer (has Ren)) where
-        by_after : Behind one entry.answer (has Ren) → ((one : ℕ) × (entry.answer ≡ answers.Waits one))
+      still one is_about = by_after (following one entry.answer (has Ren)) where
+        by_after : Following one entry.answer (has Ren) → ((one : ℕ) × (entry.answer ≡ answers.Waits one))
         by_after (rests none) = absurd (no (sym none ∙ sym (ap (λ (s : Standing). s.waits) (has_now plan journal entry together run Ren one same is_about)) ∙ waits))
         by_after (waits_on blocker is) = (blocker, is)
 
@@ -205,20 +205,20 @@ module _ (plan : PlanData) (journal : List Entry) (entry : Entry) (together : Is
 
     ren_on : entry.actor ≡ Ren → RenamerTurn plan before after locker renamer work (Some entry.answer) entry.session → Stood
     ren_on same turned =
-        let heard = told_waits request same waits in
+        let heard = reported_waits request same waits in
         as_before (subst (λ (a : Answer). RenamerServes plan.table entry.session work.cutover.phase a (scene before) (scene after)) heard.1.1 turned.serves).rests.tables
 
     work_on : (answer : Option Answer) → (entry.actor ≡ Ren → answer ≡ Some entry.answer) → (actor : Actor) → entry.actor ≡ actor → WorkTurn plan before after locker renamer work turn entry actor answer → Stood
-    work_on answer says Lock same turned = lock_on answer turned
-    work_on answer says Ren same turned = ren_on same (subst (λ (a : Option Answer). RenamerTurn plan before after locker renamer work a entry.session) (says same) turned)
-    work_on answer says Insp same turned = insp_on answer turned
-    work_on answer says Copy same turned = as_before turned.0.1.old_stays
-    work_on answer says Apply same turned = as_before turned.0.1.old_stays
-    work_on answer says (Client c) same turned = as_before turned.1.old_stays
-    work_on answer says Op same turned = as_before turned.1.old_stays
+    work_on answer statement_result Lock same turned = lock_on answer turned
+    work_on answer statement_result Ren same turned = ren_on same (subst (λ (a : Option Answer). RenamerTurn plan before after locker renamer work a entry.session) (statement_result same) turned)
+    work_on answer statement_result Insp same turned = insp_on answer turned
+    work_on answer statement_result Copy same turned = as_before turned.0.1.old_stays
+    work_on answer statement_result Apply same turned = as_before turned.0.1.old_stays
+    work_on answer statement_result (Client c) same turned = as_before turned.1.old_stays
+    work_on answer statement_result Op same turned = as_before turned.1.old_stays
 
     pub sentry_on : (asked : Asked) → entry.asked ≡ asked → AskedTurn plan before after locker renamer work turn entry asked → Stood
     sentry_on (Command word) asks turned = as_before (ap (λ (s : State). has_table (old_name plan.table) s.tables) turned)
-    sentry_on Cut asks turned = work_on (told before entry Cut) (λ same. absurd (true≢false (sym (ap is_cut asks) ∙ (told_waits request same waits).0))) entry.actor refl turned
+    sentry_on Cut asks turned = work_on (reported before entry Cut) (λ same. absurd (true≢false (sym (ap is_cut asks) ∙ (reported_waits request same waits).0))) entry.actor refl turned
     sentry_on (Call one) asks turned = work_on (Some entry.answer) (λ same. refl) entry.actor refl turned
     sentry_on Poll asks turned = work_on (Some entry.answer) (λ same. refl) entry.actor refl turned

@@ -8,6 +8,6 @@ pub mod Once
 pub mod CutOver
 pub mod Unfit
 pub mod Migration
-pub mod Course
+pub mod ToolPhase
 pub mod Attempt
 pub mod Program

@@ -29,30 +29,30 @@ use Rattle.tool_program.specs.JournalWords.Journals.{state_at}
 use Rattle.tool_program.specs.JournalWords.Sessions.{live_session, sessions_named}
 use Rattle.tool_program.specs.Programs.{apply_call, copy_call, in_transaction, rolls_back, tool_call}
 use Rattle.tool_program.specs.Setups.{Setup}
-use Rattle.tool_program.specs.Tools.{Course, Migrating, SettingUp, Work, is_reverting, moment}
+use Rattle.tool_program.specs.Tools.{ToolPhase, Migrating, SettingUp, Work, is_reverting, moment}
 use Rattle.proof_journals.specs.Plans.{IsSerialPlan, limits_of, scene_of}
 use Rattle.proof_journals.proofs.Actors.{named_keeps, placed}
 use Rattle.proof_journals.specs.ServerTurns.Others.{DefinitionsAreDone, ExclusiveIsAlone}
 use Rattle.proof_journals.specs.Ghost.Rows.Moments.{Row}
 use Rattle.proof_journals.specs.Ghost.Rows.Timelines.{Migration}
 use Rattle.proof_journals.specs.Ghost.Copies.{IsAltered}
-use Rattle.proof_journals.specs.Ghost.Holding.{Clustered}
+use Rattle.proof_journals.specs.Ghost.HeldKeys.{Clustered}
 use Rattle.proof_journals.proofs.Ghost.Keys.{clustered}
 use Rattle.proof_migration.specs.Migration.Planning.{migration_of}
 use Rattle.proof_journals.specs.Run.Kept.{IsKept}
-use Rattle.proof_journals.specs.Machine.Machines.{CourseStands, WorkStands, renaming}
+use Rattle.proof_journals.specs.Machine.Machines.{ToolPhaseStands, WorkStands, renaming}
 use Rattle.proof_journals.specs.Machine.Runnable.{IsRunnable}
 use Rattle.proof_journals.specs.Machine.Standings.{Standing, standing_of}
 use Rattle.proof_journals.proofs.Machine.Journals.{Asking, IsRun, IsTogether, calls_so, polls_so}
 use Rattle.proof_migration.proofs.Migration.Migrating.{ends}
-use Rattle.proof_migration.specs.Course.Runnable.{AlterablePlansAreRunnable, IsAlterable, IsWorded}
-use Rattle.proof_migration.specs.Course.Unaltered.{IsUnaltered}
-use Rattle.proof_migration.proofs.Course.Unaltered.Away.{IsKnownAsked, all_asked, unaltered_front}
-use Rattle.proof_migration.proofs.Course.Ready.Going.{CourseGoes, all_going}
+use Rattle.proof_migration.specs.ToolPhase.Runnable.{AlterablePlansAreRunnable, IsAlterable, IsWorded}
+use Rattle.proof_migration.specs.ToolPhase.Unaltered.{IsUnaltered}
+use Rattle.proof_migration.proofs.ToolPhase.Unaltered.Away.{IsKnownAsked, all_asked, unaltered_front}
+use Rattle.proof_migration.proofs.ToolPhase.Ready.Going.{ToolPhaseGoes, all_going}
 use Rattle.proof_journals.specs.Sentry.Sentries.{Fits, HasSentry, scene}
-use Rattle.proof_journals.specs.Sentry.Turning.{AskedTurn, CourseHolds, CourseTurn, Holds, IsGuarded, IsTurned, last_session}
+use Rattle.proof_journals.specs.Sentry.TurnResults.{AskedTurn, ToolPhaseHolds, ToolPhaseTurn, Holds, IsGuarded, IsTurned, last_session}
 use Rattle.proof_journals.proofs.Sentry.Inductions.{all_guarded}
-use Rattle.proof_migration.specs.Course.Waits.{WaitsAreTold}
+use Rattle.proof_migration.specs.ToolPhase.Waits.{WaitsAreReported}
 use Rattle.proof_migration.specs.Program.Turns.Goes.{Goes}
 use Rattle.proof_migration.specs.Program.Turns.Laws.{GoesSomehow, IsMark, IsMigrationOf}
 use Rattle.proof_migration.proofs.Program.Turns.Follows.{kept_front, kept_run, kept_scene}
@@ -60,7 +60,7 @@ use Rattle.proof_migration.proofs.Program.Turns.Goes.{in_scene}
 use Rattle.proof_migration.specs.Program.Laws.{FollowersAlter}
 use Rattle.proof_migration.proofs.Program.Follows.{migration, own_table}
 use Rattle.proof_migration.proofs.Program.Starts.{followers_go}
-use Rattle.proof_migration.specs.Course.Marked.{IsMarkedAt, MarkedJournalsAreSerial}
+use Rattle.proof_migration.specs.ToolPhase.Marked.{IsMarkedAt, MarkedJournalsAreSerial}
 use Rattle.proof_migration.specs.Once.{RenamesComeOnce}
 use Rattle.proof_migration.specs.CutOver.{IsRename, JournalsAreTurned}
 use Rattle.proof_migration.proofs.CutOver.Renames.{Found, reads, renames_found, renames_marked}
@@ -134,28 +134,28 @@ module _ (plan : PlanData) (m : Migration) (at : Clustered m.schema) (rows : Lis
     then_together : IsTogether plan more
     then_together = then_known.marking.tabled.all.tool
 
-    setup_held : (setup : Setup) (tries : List ℕ) → (moment plan journal).tool.course ≡ SettingUp setup tries → HeldMore
-    setup_held setup tries course =
-        rests_so (rests_on plan journal entry together run (ap (λ (s : Standing). s.waits) (subst (CourseStands journal has (is_reverting (moment plan journal).tool.reason)) course together.stands).renamer)
-        (λ request call. none-some request (ap (λ (c : Course). tool_call plan (moment plan journal).server journal (moment plan journal).tool c Ren) (sym course) ∙ call)))
+    setup_held : (setup : Setup) (tries : List ℕ) → (moment plan journal).tool.tool_phase ≡ SettingUp setup tries → HeldMore
+    setup_held setup tries tool_phase =
+        rests_so (rests_on plan journal entry together run (ap (λ (s : Standing). s.waits) (subst (ToolPhaseStands journal has (is_reverting (moment plan journal).tool.reason)) tool_phase together.stands).renamer)
+        (λ request call. none-some request (ap (λ (c : ToolPhase). tool_call plan (moment plan journal).server journal (moment plan journal).tool c Ren) (sym tool_phase) ∙ call)))
 
-    module _ (work : Work) (course : (moment plan journal).tool.course ≡ Migrating work) where
+    module _ (work : Work) (tool_phase : (moment plan journal).tool.tool_phase ≡ Migrating work) where
       stands : WorkStands journal (is_reverting (moment plan journal).tool.reason) has work
-      stands = subst (CourseStands journal has (is_reverting (moment plan journal).tool.reason)) course together.stands
+      stands = subst (ToolPhaseStands journal has (is_reverting (moment plan journal).tool.reason)) tool_phase together.stands
 
       holds : Holds plan (state_at plan journal) (last_session journal Lock) (last_session journal Ren) work
-      holds = subst (λ (s : State). Holds plan s (last_session journal Lock) (last_session journal Ren) work) together.server (subst (CourseHolds plan (moment plan journal).server (last_session journal Lock) (last_session journal Ren)) course guarded.course)
+      holds = subst (λ (s : State). Holds plan s (last_session journal Lock) (last_session journal Ren) work) together.server (subst (ToolPhaseHolds plan (moment plan journal).server (last_session journal Lock) (last_session journal Ren)) tool_phase guarded.tool_phase)
 
       asked : AskedTurn plan (state_at plan journal) (state_at plan more) (last_session journal Lock) (last_session journal Ren) work ((moment plan journal).tool.turns + 1) entry entry.asked
       asked =
           subst (λ (s : State). AskedTurn plan (state_at plan journal) s (last_session journal Lock) (last_session journal Ren) work ((moment plan journal).tool.turns + 1) entry entry.asked) then_together.server
           (subst (λ (s : State). AskedTurn plan s (moment plan more).server (last_session journal Lock) (last_session journal Ren) work ((moment plan journal).tool.turns + 1) entry entry.asked) together.server
-          (subst (λ (c : Course). CourseTurn plan (moment plan journal).server (moment plan more).server (last_session journal Lock) (last_session journal Ren) c ((moment plan journal).tool.turns + 1) entry) course turned.turn))
+          (subst (λ (c : ToolPhase). ToolPhaseTurn plan (moment plan journal).server (moment plan more).server (last_session journal Lock) (last_session journal Ren) c ((moment plan journal).tool.turns + 1) entry) tool_phase turned.turn))
 
       -- the RENAME neither waits nor is asked for
       unasked : (has Ren).waits ≡ None → (IsAtDrained work.cutover.phase → ⊥) → HeldMore
       unasked none never =
-          rests_so (rests_on plan journal entry together run none (λ request call. never (called_drained work request (ap (λ (c : Course). tool_call plan (moment plan journal).server journal (moment plan journal).tool c Ren) (sym course) ∙ call))))
+          rests_so (rests_on plan journal entry together run none (λ request call. never (called_drained work request (ap (λ (c : ToolPhase). tool_call plan (moment plan journal).server journal (moment plan journal).tool c Ren) (sym tool_phase) ∙ call))))
 
       unwaited : work.cutover.renamer_waits ≡ false → (has Ren).waits ≡ None
       unwaited = waits_none work.cutover.table work.cutover.renamer_waits (has Ren) stands.renamer
@@ -178,13 +178,13 @@ module _ (plan : PlanData) (m : Migration) (at : Clustered m.schema) (rows : Lis
       turns_held : is_reverting (moment plan journal).tool.reason ≡ false → is_reverting (moment plan more).tool.reason ≡ true → HeldMore
       turns_held going on = by left where
         somehow : GoesSomehow plan m at rows journal
-        somehow = followers_go plan m at rows of found journal work before off_before going course
+        somehow = followers_go plan m at rows of found journal work before off_before going tool_phase
 
         same_work : (one other : Work) → Migrating one ≡ Migrating other → one ≡ other
         same_work one other same = cc
 
         goes_here : Goes plan m at rows journal work
-        goes_here = subst (Goes plan m at rows journal) (same_work somehow.work work (sym somehow.course ∙ course)) somehow.goes
+        goes_here = subst (Goes plan m at rows journal) (same_work somehow.work work (sym somehow.tool_phase ∙ tool_phase)) somehow.goes
 
         by : Left plan.table (state_at plan journal) work.copier work.applier work.cutover.phase work.cutover.renamer_waits → HeldMore
         by (left_unasked none never) = unasked (unwaited none) never
@@ -192,8 +192,8 @@ module _ (plan : PlanData) (m : Migration) (at : Clustered m.schema) (rows : Lis
         by (left_drained drained undrained) =
             let reading : work.applier.step ≡ Reading = reads work.applier.step drained.idle in
             frozen_so
-            (frozen_more plan m at rows of above journal entry kept off within work course (copier_quiet plan m at rows above journal known within_before work course goes_here drained.copied reading going)
-            (applier_quiet plan m at rows above journal known within_before work course goes_here drained.copied reading going) (frozen_here plan m at rows above journal known within_before work course goes_here drained.copied reading) (inr (reading, undrained)) on)
+            (frozen_more plan m at rows of above journal entry kept off within work tool_phase (copier_quiet plan m at rows above journal known within_before work tool_phase goes_here drained.copied reading going)
+            (applier_quiet plan m at rows above journal known within_before work tool_phase goes_here drained.copied reading going) (frozen_here plan m at rows above journal known within_before work tool_phase goes_here drained.copied reading) (inr (reading, undrained)) on)
 
       -- a turn while all is reverted
       rollback_quiet : is_reverting (moment plan journal).tool.reason ≡ true → CallsQuiet plan journal Copy × CallsQuiet plan journal Apply
@@ -201,15 +201,15 @@ module _ (plan : PlanData) (m : Migration) (at : Clustered m.schema) (rows : Lis
         λ request call.
             harmless_rollback (in_transaction (moment plan journal).server (live_session journal Copy)) request
             (ap (λ (b : Bool). cond b (rolls_back (moment plan journal).server (live_session journal Copy)) (copy_call plan (moment plan journal).server journal (moment plan journal).tool work)) (sym on)
-            ∙ ap (λ (c : Course). tool_call plan (moment plan journal).server journal (moment plan journal).tool c Copy) (sym course) ∙ call),
+            ∙ ap (λ (c : ToolPhase). tool_call plan (moment plan journal).server journal (moment plan journal).tool c Copy) (sym tool_phase) ∙ call),
         λ request call.
             harmless_rollback (in_transaction (moment plan journal).server (live_session journal Apply)) request
             (ap (λ (b : Bool). cond b (rolls_back (moment plan journal).server (live_session journal Apply)) (apply_call plan (moment plan journal).server journal (moment plan journal).tool work)) (sym on)
-            ∙ ap (λ (c : Course). tool_call plan (moment plan journal).server journal (moment plan journal).tool c Apply) (sym course) ∙ call),
+            ∙ ap (λ (c : ToolPhase). tool_call plan (moment plan journal).server journal (moment plan journal).tool c Apply) (sym tool_phase) ∙ call),
       )
 
       ended : is_reverting (moment plan journal).tool.reason ≡ true → cutovers.ended work.cutover.phase ≡ work.cutover.phase
-      ended on = (subst (CourseGoes plan journal (is_reverting (moment plan journal).tool.reason)) course (all_going plan journal of.runs.fitting of.runs.stands before.faithful before.follows).course).ended on
+      ended on = (subst (ToolPhaseGoes plan journal (is_reverting (moment plan journal).tool.reason)) tool_phase (all_going plan journal of.runs.fitting of.runs.stands before.faithful before.follows).tool_phase).ended on
 
       goes_held : is_reverting (moment plan journal).tool.reason ≡ true → is_reverting (moment plan more).tool.reason ≡ true → Held plan m at rows above journal → HeldMore
       goes_held on then_on (rests_so none) = unasked none (ended_undrained work.cutover.phase (ended on))
@@ -221,19 +221,19 @@ module _ (plan : PlanData) (m : Migration) (at : Clustered m.schema) (rows : Lis
             (gone_so plan.table (state_at plan journal) work.copier work.applier work.cutover (last_session journal Lock) (last_session journal Ren) work.cutover.phase (ended on) is (subst (λ (w : Bool). Fits work.cutover.phase work.cutover.hold w) is holds.fits) holds.guards sentry) sentry
       goes_held on then_on (frozen_so frozen) =
           let quiet = rollback_quiet on in
-          frozen_so (frozen_more plan m at rows of above journal entry kept off within work course quiet.0 quiet.1 frozen (inl on) then_on)
+          frozen_so (frozen_more plan m at rows of above journal entry kept off within work tool_phase quiet.0 quiet.1 frozen (inl on) then_on)
 
     held_begins : is_reverting (moment plan journal).tool.reason ≡ false → is_reverting (moment plan more).tool.reason ≡ true → HeldMore
-    held_begins going on = by (moment plan journal).tool.course refl where
-      by : (course : Course) → (moment plan journal).tool.course ≡ course → HeldMore
-      by (SettingUp setup tries) course = setup_held setup tries course
-      by (Migrating work) course = turns_held work course going on
+    held_begins going on = by (moment plan journal).tool.tool_phase refl where
+      by : (tool_phase : ToolPhase) → (moment plan journal).tool.tool_phase ≡ tool_phase → HeldMore
+      by (SettingUp setup tries) tool_phase = setup_held setup tries tool_phase
+      by (Migrating work) tool_phase = turns_held work tool_phase going on
 
     held_more : is_reverting (moment plan journal).tool.reason ≡ true → is_reverting (moment plan more).tool.reason ≡ true → Held plan m at rows above journal → HeldMore
-    held_more on then_on held = by (moment plan journal).tool.course refl where
-      by : (course : Course) → (moment plan journal).tool.course ≡ course → HeldMore
-      by (SettingUp setup tries) course = setup_held setup tries course
-      by (Migrating work) course = goes_held work course on then_on held
+    held_more on then_on held = by (moment plan journal).tool.tool_phase refl where
+      by : (tool_phase : ToolPhase) → (moment plan journal).tool.tool_phase ≡ tool_phase → HeldMore
+      by (SettingUp setup tries) tool_phase = setup_held setup tries tool_phase
+      by (Migrating work) tool_phase = goes_held work tool_phase on then_on held
 
   -- WHOLE JOURNALS
 
@@ -294,10 +294,10 @@ module _ (plan : PlanData) (m : Migration) (at : Clustered m.schema) (rows : Lis
   held = all_held plan m at rows of found (sessions_named journal) [] journal tt turned kept rename.unaltered (le_refl (sessions_named journal)) start_going on
 
   work_ended : cutovers.ended finds.work.cutover.phase ≡ finds.work.cutover.phase
-  work_ended = (subst (CourseGoes plan journal (is_reverting (moment plan journal).tool.reason)) finds.course (all_going plan journal of.runs.fitting of.runs.stands kept.faithful kept.follows).course).ended on
+  work_ended = (subst (ToolPhaseGoes plan journal (is_reverting (moment plan journal).tool.reason)) finds.tool_phase (all_going plan journal of.runs.fitting of.runs.stands kept.faithful kept.follows).tool_phase).ended on
 
   never_waited : (standing_of plan journal Ren).waits ≡ None → Asking plan journal Ren entry.asked → ⊥
-  never_waited none (calls_so request asks idle call) = ended_undrained finds.work.cutover.phase work_ended (called_drained finds.work request (ap (λ (c : Course). tool_call plan (moment plan journal).server journal (moment plan journal).tool c Ren) (sym finds.course) ∙ call))
+  never_waited none (calls_so request asks idle call) = ended_undrained finds.work.cutover.phase work_ended (called_drained finds.work request (ap (λ (c : ToolPhase). tool_call plan (moment plan journal).server journal (moment plan journal).tool c Ren) (sym finds.tool_phase) ∙ call))
   never_waited none (polls_so request asks some) = no (sym none ∙ some) where
     no : None ≡ Some request → ⊥
     no same = cc
@@ -308,7 +308,7 @@ module _ (plan : PlanData) (m : Migration) (at : Clustered m.schema) (rows : Lis
     by (rests_so none) = absurd (never_waited none finds.asks)
     by (stands_so sentry) = absurd (true≢false (sym sentry ∙ finds.renamed.free))
     by (frozen_so frozen) =
-        let position : finds.work.applier.position ≡ frozen.machines.applier.position = subst (StandsAt frozen.machines.applier.position) finds.course frozen.here in
+        let position : finds.work.applier.position ≡ frozen.machines.applier.position = subst (StandsAt frozen.machines.applier.position) finds.tool_phase frozen.here in
         ends m at rows of.place of.planned of.is_place (limits_of plan) (scene_of plan journal) journal frozen.machines (kept_scene plan m rows of journal kept rename.unaltered)
         (record {
           copied = frozen.copied;
@@ -318,8 +318,8 @@ module _ (plan : PlanData) (m : Migration) (at : Clustered m.schema) (rows : Lis
         }) (in_scene plan m at rows [] journal journal frozen.machines frozen.stands)
 
 -- *Renames find the altered table*
-pub renames_altered : StoresAgain → AlterablePlansAreRunnable → FollowersAlter → JournalsAreTurned → ExclusiveIsAlone → DefinitionsAreDone → WaitsAreTold → RenamesFindTheAltered
-renames_altered again runnable alter turned alone done told plan is journal entry worded serial rename = by (is_reverting (moment plan journal).tool.reason) refl where
+pub renames_altered : StoresAgain → AlterablePlansAreRunnable → FollowersAlter → JournalsAreTurned → ExclusiveIsAlone → DefinitionsAreDone → WaitsAreReported → RenamesFindTheAltered
+renames_altered again runnable alter turned alone done reported plan is journal entry worded serial rename = by (is_reverting (moment plan journal).tool.reason) refl where
   runs : IsRunnable plan
   runs = runnable plan is worded
 
@@ -330,14 +330,14 @@ renames_altered again runnable alter turned alone done told plan is journal entr
   kept = kept_front plan journal (entry ∷ []) rename.kept
 
   finds : Found plan journal entry
-  finds = renames_found alone done told turned plan journal entry runs serial rename
+  finds = renames_found alone done reported turned plan journal entry runs serial rename
 
   by : (b : Bool) → is_reverting (moment plan journal).tool.reason ≡ b → IsAltered (migration_of is.table.schema is.new) (state_at plan journal).tables
   by true on =
       altered_on plan (migration_of is.table.schema is.new) (clustered is.table.schema of.planned.old_key) is.table.rows of (own_table plan is) journal entry rename (turned plan journal runs serial kept rename.unaltered) finds on
   by false going = alter plan is worded serial journal kept (marked going) where
     marked : is_reverting (moment plan journal).tool.reason ≡ false → IsMark plan journal
-    marked going = renames_marked alone done told turned plan journal entry runs serial rename going
+    marked going = renames_marked alone done reported turned plan journal entry runs serial rename going
 
 -- each turn that does the RENAME is the first, and finds the altered table
 pub all_marked : RenamesFindTheAltered → (plan : PlanData) (is : IsAlterable plan) → IsWorded plan → IsSerialPlan plan → (some journal : List Entry) → IsKept plan (some ++ journal) → Along (λ before one. list_any is_alter (entry_adds plan before one) ≡ true → IsUnaltered plan before) some journal → Along (IsMarkedAt plan is) some journal

@@ -11,8 +11,8 @@ use Rattle.tool_program.specs.Tools.{is_reverting, moment}
 use Rattle.proof_journals.specs.Plans.{IsSerialPlan}
 use Rattle.proof_journals.specs.Run.Kept.{IsKept}
 use Rattle.proof_journals.specs.Machine.Runnable.{IsRunnable}
-use Rattle.proof_journals.specs.Sentry.Turning.{IsTurned}
-use Rattle.proof_migration.specs.Course.Unaltered.{IsUnaltered}
+use Rattle.proof_journals.specs.Sentry.TurnResults.{IsTurned}
+use Rattle.proof_migration.specs.ToolPhase.Unaltered.{IsUnaltered}
 use Rattle.proof_migration.specs.Program.Turns.Laws.{IsMark}
 
 -- *Clients' turns are turned*: a client's turn leaves the cut-over what the sentry relation asks.

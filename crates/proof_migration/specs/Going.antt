@@ -8,7 +8,7 @@ use Rattle.tool_program.specs.Orders.{actors, is_ready}
 use Rattle.tool_program.specs.Verdicts.{has_ended}
 use Rattle.proof_journals.specs.Run.Kept.{IsKept}
 use Rattle.proof_journals.specs.Machine.Runnable.{IsRunnable}
-use Rattle.proof_migration.specs.Course.Ready.{ScriptsEnd}
+use Rattle.proof_migration.specs.ToolPhase.Ready.{ScriptsEnd}
 
 -- *Someone goes*: while a run of a runnable and serial plan, whose scripts leave no transaction open, hasn't ended some actor
 -- is ready.

@@ -8,7 +8,7 @@ use Rattle.proof_journals.specs.Plans.{IsSerialPlan}
 use Rattle.proof_journals.specs.Ghost.Copies.{IsAltered}
 use Rattle.proof_migration.specs.Migration.Planning.{migration_of}
 use Rattle.proof_journals.specs.Run.Kept.{IsKept}
-use Rattle.proof_migration.specs.Course.Runnable.{IsAlterable, IsWorded}
+use Rattle.proof_migration.specs.ToolPhase.Runnable.{IsAlterable, IsWorded}
 use Rattle.proof_migration.specs.CutOver.{IsRename}
 
 -- *Renames find the altered table*: where the RENAME is done, the new table is the altered one, whether or not all is reverted.

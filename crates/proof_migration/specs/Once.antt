@@ -8,7 +8,7 @@ use Rattle.tool_program.specs.JournalWords.Histories.{entry_adds, is_alter}
 use Rattle.proof_journals.specs.Plans.{IsSerialPlan}
 use Rattle.proof_journals.specs.Run.Kept.{IsKept}
 use Rattle.proof_journals.specs.Machine.Runnable.{IsRunnable}
-use Rattle.proof_migration.specs.Course.Unaltered.{IsUnaltered}
+use Rattle.proof_migration.specs.ToolPhase.Unaltered.{IsUnaltered}
 
 -- *Renames come once*: in a journal that is kept, where a turn does the RENAME of the migrated table no turn before it did.
 abbrev pub RenamesComeOnce : Type 0

@@ -9,7 +9,7 @@ use Rattle.tool_program.specs.Failures.{Stands}
 use Rattle.tool_program.specs.Verdicts.{verdict_of}
 use Rattle.proof_journals.specs.Plans.{IsSerialPlan}
 use Rattle.proof_journals.specs.Run.Kept.{IsKept}
-use Rattle.proof_migration.specs.Course.Runnable.{IsAlterable, IsWorded}
+use Rattle.proof_migration.specs.ToolPhase.Runnable.{IsAlterable, IsWorded}
 
 -- *Unfit rows stand*: where a verdict names a row that can't be converted, a value was refused so in that turn. The row stood
 -- in the migrated table then, where the turn was the copier's; or an event of the table left it, where it was the applier's.

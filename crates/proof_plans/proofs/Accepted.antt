@@ -9,10 +9,10 @@ use Rattle.tool_program.specs.JournalWords.Journals.{state_at}
 use Rattle.proof_journals.specs.Ghost.Copies.{IsAltered}
 use Rattle.proof_migration.specs.Migration.Planning.{migration_of}
 use Rattle.proof_migration.specs.Attempt.Causes.{SpentCutOversStand}
-use Rattle.proof_migration.specs.Course.Chunks.{JournalsAreOnline}
+use Rattle.proof_migration.specs.ToolPhase.Chunks.{JournalsAreOnline}
 use Rattle.proof_migration.specs.Going.{SomeoneGoes}
 use Rattle.proof_migration.specs.Laws.{KeptJournalsAreSerial, RenamesFindTheAltered}
-use Rattle.proof_migration.specs.Course.Runnable.{IsAlterable}
+use Rattle.proof_migration.specs.ToolPhase.Runnable.{IsAlterable}
 use Rattle.proof_migration.specs.Unfit.{UnfitRowsStand}
 use Rattle.proof_migration.specs.Attempt.Verdicts.{PanicsStand, SpentTasksStand}
 use Rattle.proof_plans.specs.ReadPlans.Laws.{ReadAttemptsDrain, ReadPlansAreAlterable, ReadPlansAreRunnable, ReadPlansAreSerial, ReadPlansAreWorded, ReadScriptsEnd}

@@ -20,15 +20,15 @@ use Rattle.tool_program.specs.JournalWords.Journals.{state_at}
 -- refused: there is no such table
 abbrev pub is_missing : Option Answer → Bool
 is_missing (Some (answers.Refused number column)) = number == ER_NO_SUCH_TABLE
-is_missing told = false
+is_missing reported = false
 
 -- the request names no table but this one
 abbrev pub names_alone : List ℕ → Request → Bool
 names_alone table request = list_all (bytes_eq table) (names_in request)
 
 abbrev pub IsFound : List ℕ → Option Request → Option Answer → Type 0
-IsFound table None told = Unit {0}
-IsFound table (Some request) told = names_alone table request ≡ true → is_missing told ≡ false
+IsFound table None reported = Unit {0}
+IsFound table (Some request) reported = names_alone table request ≡ true → is_missing reported ≡ false
 
 -- *Finds the table*: what names the migrated table alone, whoever asks it, as each client's statement on it does, isn't
 -- answered ER_NO_SUCH_TABLE: in no turn that calls it or polls it, nor where the answer was missed.

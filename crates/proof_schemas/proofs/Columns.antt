@@ -6,12 +6,12 @@ use Rattle.base_values.specs.declared.kind.Kind.{Kind}
 use Rattle.base_values.specs.declared.value.Value.{Value}
 use Rattle.base_values.specs.declared.value.Value.TheVariants.{Null}
 use Rattle.base_values.specs.Laws.{StoresAgain}
-use Rattle.base_values.specs.Storing.{stores}
+use Rattle.base_values.specs.StoredValues.{stores}
 use Rattle.base_values.specs.declared.gho_schema.schema.Column.{Column}
 use Rattle.sql_grammar.specs.declared.code.SchemaCode.{SchemaCode}
 use Rattle.base_values.specs.SchemaRules.Results.{◌>>=◌}
 use Rattle.sql_create.specs.declared.written.WrittenColumn.{WrittenColumn}
-use Rattle.sql_create.specs.Declaring.{nullable_of, declared_column, declared_columns}
+use Rattle.sql_create.specs.DeclaredSchema.{nullable_of, declared_column, declared_columns}
 use Rattle.base_values.specs.SchemaRules.Defaults.{stored, stored_default, default_or}
 use Rattle.base_values.specs.SchemaRules.Valid.{StoresDefault, IsColumn}
 use Rattle.proof_schemas.proofs.Parts.{IsWritten}

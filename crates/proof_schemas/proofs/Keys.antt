@@ -9,8 +9,8 @@ use Rattle.base_values.specs.declared.gho_schema.schema.Column.{Column}
 use Rattle.base_values.specs.declared.gho_schema.schema.Index.{Index}
 use Rattle.base_values.specs.GhoSchema.Names.{same_name}
 use Rattle.sql_create.specs.declared.written.WrittenColumn.{WrittenColumn}
-use Rattle.base_values.specs.GhoSchema.Clustering.{is_not_null}
-use Rattle.sql_create.specs.Declaring.{are_known, nullable_of}
+use Rattle.base_values.specs.GhoSchema.ClusteredKey.{is_not_null}
+use Rattle.sql_create.specs.DeclaredSchema.{are_known, nullable_of}
 use Rattle.base_values.specs.SchemaRules.Names.{is_among, place_of, places_of}
 use Rattle.base_values.specs.SchemaRules.Valid.{IsKey}
 use Rattle.proof_schemas.proofs.Columns.{Becomes, AllBecome, column-at}

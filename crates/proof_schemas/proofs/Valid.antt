@@ -16,15 +16,15 @@ use Rattle.sql_create.specs.declared.parts.Parts.{Parts}
 use Rattle.sql_create.specs.declared.written.WrittenColumn.{WrittenColumn}
 use Rattle.sql_create.specs.declared.written.WrittenKey.{WrittenKey}
 use Rattle.sql_create.specs.declared.written.WrittenTable.{WrittenTable}
-use Rattle.base_values.specs.GhoSchema.Clustering.{is_not_null, may_cluster, clustered_among, clustered_place, unique_at, clustered_key}
+use Rattle.base_values.specs.GhoSchema.ClusteredKey.{is_not_null, may_cluster, clustered_among, clustered_place, unique_at, clustered_key}
 use Rattle.base_values.specs.SchemaRules.Reasons.{Reasons, first_reason}
-use Rattle.sql_create.specs.Declaring.{column_names, size_reasons, are_known, name_reasons, declared_columns, primary_index, key_index, schema_of, clustered, built, declared_parts, declared}
+use Rattle.sql_create.specs.DeclaredSchema.{column_names, size_reasons, are_known, name_reasons, declared_columns, primary_index, key_index, schema_of, clustered, built, declared_parts, declared}
 use Rattle.base_values.specs.SchemaRules.Defaults.{defaults_fit}
 use Rattle.base_values.specs.SchemaRules.Names.{is_among, names_differ}
 use Rattle.sql_create.specs.Keys.{named_keys}
 use Rattle.base_values.specs.SchemaRules.Valid.{IsKey, IsNotNull, IsColumn, IsValid}
 use Rattle.sql_create.specs.Parts.{parts_of}
-use Rattle.sql_create.specs.Reading.{schema_at}
+use Rattle.sql_create.specs.CreateText.{schema_at}
 use Rattle.sql_create.specs.Written.{written}
 use Rattle.sql_create.proofs.Reasons.{few_columns}
 use Rattle.proof_schemas.proofs.Columns.{AllBecome, declared_columns-become, names-become, columns-are}

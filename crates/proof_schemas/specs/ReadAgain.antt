@@ -9,8 +9,8 @@ use Rattle.base_values.specs.SchemaRules.Names.{names_differ}
 use Rattle.base_values.specs.SchemaRules.Valid.{IsValid}
 use Rattle.base_values.specs.SchemaRules.Limits.{is_column_name, is_table_name, is_reserved}
 use Rattle.base_values.specs.ToolNames.{is_tool_name}
-use Rattle.sql_show.specs.Printing.{printed_schema}
-use Rattle.sql_create.specs.Reading.{schema_at}
+use Rattle.sql_show.specs.SchemaText.{printed_schema}
+use Rattle.sql_create.specs.CreateText.{schema_at}
 use Rattle.proof_schemas.specs.Printed.Laws.{CanPrint}
 
 -- the key has a name, so it isn't the PRIMARY KEY

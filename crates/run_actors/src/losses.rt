@@ -1,7 +1,7 @@
 //! Where losses strike the turns of actors. Nothing here takes memory.
 
 ghost use Rattle.std.specs.Prelude.{◌≡◌};
-ghost use Rattle.tool_program.specs.JournalWords.Keeping.{struck_by, struck_among};
+ghost use Rattle.tool_program.specs.JournalWords.KeptPlans.{struck_by, struck_among};
 
 use crate::actors::same_actor;
 use base_script::{Actor, Loss, Side};
@@ -30,7 +30,7 @@ fn struck_by(actor: Actor, number: u64, loss: &Loss) -> Option<Side>
 }
 
 /// Where the first loss strikes that strikes the actor's turn of this number, from 1.
-#[tactic(auto, unfolding(tool_program::specs::JournalWords::Keeping::struck_among))]
+#[tactic(auto, unfolding(tool_program::specs::JournalWords::KeptPlans::struck_among))]
 pub fn struck_among(actor: Actor, number: u64, losses: &[Loss]) -> Option<Side>
     ensures { result ≡ struck_among actor number losses.now }
 {

@@ -10,8 +10,8 @@ use Rattle.run_desk.specs.Views.{hand_of, known_opening, worker_view}
 module _ {O E : Type 0} (opening : O) where
   -- the seat of a pass has its hand
   pub has_hand : (pass known : PassView O E) (o : O) (view : List (Hand O E)) → view ≡ worker_view o pass.seen pass.worker pass.own Rests → pass.opening ≡ known_opening view → pass ≡ known → known.opening ≡ Some opening → view ≡ hand_of opening known ∷ []
-  has_hand pass known o view is told same knows =
-      let one : o ≡ opening = same_Some o opening (sym (ap known_opening is) ∙ sym told ∙ ap (λ (p : PassView O E). p.opening) same ∙ knows) in
+  has_hand pass known o view is reported same knows =
+      let one : o ≡ opening = same_Some o opening (sym (ap known_opening is) ∙ sym reported ∙ ap (λ (p : PassView O E). p.opening) same ∙ knows) in
       is ∙ ap (λ (p : O). worker_view p pass.seen pass.worker pass.own Rests) one ∙ ap (λ (p : PassView O E). hand_of opening p ∷ []) same
 
   -- the hands of all passes, the last one's taken from the list

@@ -342,18 +342,18 @@ module _ {B O E : Type 0} (opening_of : B → O) (entries_in : B → List (Entry
         }
 
     -- a worker compares what it has seen with what another has
-    pub compares : (p : O) (told : List (Entry E)) (carried : List (ℕ × Option B))
-        → Allows Keeps slots id (record { opening = p; seen = told; role = Witness } ∷ worker_view o seen number own Rests, carried) 1 (λ n. n) (Compared any (record { opening = p; seen = told; role = Witness } ∷ worker_view o seen number own Rests, carried))
-    compares p told carried s h len at small = (w, keeps, tt, subst (λ (ws : List ℕ). Keeps record { words = ws; homes = s.homes; views = set s.views id w }) (sym read) rule, (refl, refl, agree))
+    pub compares : (p : O) (reported : List (Entry E)) (carried : List (ℕ × Option B))
+        → Allows Keeps slots id (record { opening = p; seen = reported; role = Witness } ∷ worker_view o seen number own Rests, carried) 1 (λ n. n) (Compared any (record { opening = p; seen = reported; role = Witness } ∷ worker_view o seen number own Rests, carried))
+    compares p reported carried s h len at small = (w, keeps, tt, subst (λ (ws : List ℕ). Keeps record { words = ws; homes = s.homes; views = set s.views id w }) (sym read) rule, (refl, refl, agree))
       where
         witness : Hand O E
-        witness = record { opening = p; seen = told; role = Witness }
+        witness = record { opening = p; seen = reported; role = Witness }
 
         v : View
         v = witness ∷ worker_view o seen number own Rests
 
         w : View
-        w = worker_view o (longer told seen) number own Rests
+        w = worker_view o (longer reported seen) number own Rests
 
         read : set s.words 1 (slice_index s.words 1) ≡ s.words
         read = read_again s.words _ _ _ h.words
@@ -367,17 +367,17 @@ module _ {B O E : Type 0} (opening_of : B → O) (entries_in : B → List (Entry
         mine : fit s h (hand_at Rests)
         mine = All-head (fit s h) (hand_at Rests) [] (All-tail (fit s h) witness (hand_at Rests ∷ []) all)
 
-        agree : StartsWith told seen ⊎ StartsWith seen told
-        agree = beginnings h.entries told seen theirs.1 mine.1
+        agree : StartsWith reported seen ⊎ StartsWith seen reported
+        agree = beginnings h.entries reported seen theirs.1 mine.1
 
-        either_way : (b : Bool) → StartsWith h.entries (cond b seen told)
+        either_way : (b : Bool) → StartsWith h.entries (cond b seen reported)
         either_way true = mine.1
         either_way false = theirs.1
 
         rule : Keeps record { words = s.words; homes = s.homes; views = set s.views id w }
         rule = regrouped s h (set s.views id w) (λ f z. let c = count_set f s.views id v w at in let e = count_in_append f (witness ∷ []) (hand_at Rests ∷ []) in omega arith)
             (each_set (All (fit s h)) s.views id w (λ j y _ e. h.hands j y e)
-            (only (fit s h) (record { opening = o; seen = longer told seen; role = Worker number own Rests }) (mine.0, either_way (ltb (length told) (length seen)), mine.2)))
+            (only (fit s h) (record { opening = o; seen = longer reported seen; role = Worker number own Rests }) (mine.0, either_way (ltb (length reported) (length seen)), mine.2)))
 
   -- the same steps, at seats of which it is known what they have
   module _ (id slots : ℕ) (me : Me (Option B) (List (Hand O E))) where
@@ -393,5 +393,5 @@ module _ {B O E : Type 0} (opening_of : B → O) (entries_in : B → List (Entry
     pub serves_as : slots ≡ 1 → HoldsAll opening_of entries_in me → Allows Keeps slots id me 1 (λ n. (n + 1) % 2 ^ 64) (Served any me)
     serves_as one all = subst (λ (m : Me (Option B) (List (Hand O E))). Allows Keeps slots id m 1 (λ n. (n + 1) % 2 ^ 64) (Served any m)) (sym all.4.2) (serves id slots all.0 all.1 all.2 all.3 all.4.0 all.4.1 one all.4.3 all.4.4)
 
-    pub compares_as : (p o : O) (told seen : List (Entry E)) (number : ℕ) (own : List (Entry E)) → me.0 ≡ record { opening = p; seen = told; role = Witness } ∷ worker_view o seen number own Rests → Allows Keeps slots id me 1 (λ n. n) (Compared any me)
-    compares_as p o told seen number own is = subst (λ (v : View). Allows Keeps slots id (v, me.1) 1 (λ n. n) (Compared any (v, me.1))) (sym is) (compares id slots o seen number own p told me.1)
+    pub compares_as : (p o : O) (reported seen : List (Entry E)) (number : ℕ) (own : List (Entry E)) → me.0 ≡ record { opening = p; seen = reported; role = Witness } ∷ worker_view o seen number own Rests → Allows Keeps slots id me 1 (λ n. n) (Compared any me)
+    compares_as p o reported seen number own is = subst (λ (v : View). Allows Keeps slots id (v, me.1) 1 (λ n. n) (Compared any (v, me.1))) (sym is) (compares id slots o seen number own p reported me.1)

@@ -10,8 +10,8 @@ use Rattle.run_desk.specs.Views.{ticket_of, staged, shown, recorded, compared}
 -- What the first two hands have seen are beginnings of one list.
 abbrev pub Agree : {O E : Type 0} → List (Hand O E) → Type 0
 Agree [] = Unit {0}
-Agree (told ∷ []) = Unit {0}
-Agree (told ∷ mine ∷ hands) = StartsWith told.seen mine.seen ⊎ StartsWith mine.seen told.seen
+Agree (reported ∷ []) = Unit {0}
+Agree (reported ∷ mine ∷ hands) = StartsWith reported.seen mine.seen ⊎ StartsWith mine.seen reported.seen
 
 -- The entries of the shared state that a seat took last.
 abbrev pub shared_state_entries : {B E : Type 0} → (B → List (Entry E)) → Option B → List (Entry E)

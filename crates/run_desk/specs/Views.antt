@@ -79,8 +79,8 @@ module _ {O E : Type 0} where
   -- A witness and a worker: the worker has seen the longer of what both had seen.
   abbrev pub compared : List (Hand O E) → List (Hand O E)
   compared [] = []
-  compared (told ∷ []) = told ∷ []
-  compared (told ∷ mine ∷ hands) = record { opening = mine.opening; seen = longer told.seen mine.seen; role = mine.role } ∷ hands
+  compared (reported ∷ []) = reported ∷ []
+  compared (reported ∷ mine ∷ hands) = record { opening = mine.opening; seen = longer reported.seen mine.seen; role = mine.role } ∷ hands
 
   -- The hand of a pass, whose shared state began with this opening.
   abbrev pub hand_of : O → PassView O E → Hand O E

@@ -9,9 +9,9 @@ use Rattle.server_model.specs.declared.entry.Entry.{Entry}
 use Rattle.server_model.specs.States.{State, unread}
 use Rattle.plan_data.specs.PlanData.{PlanData}
 use Rattle.tool_program.specs.JournalWords.Sessions.{live_session}
-use Rattle.tool_program.specs.Tools.{Course, SettingUp, Migrating, Tool, is_reverting, moment}
+use Rattle.tool_program.specs.Tools.{ToolPhase, SettingUp, Migrating, Tool, is_reverting, moment}
 use Rattle.tool_program.specs.Programs.{waits, in_transaction, rolls_back, copy_call, tool_call, calls, tool_asks, commands, given}
-use Rattle.proof_journals.specs.Run.Counting.{numbered, IsAfter}
+use Rattle.proof_journals.specs.Run.Counts.{numbered, IsAfter}
 
 pub waits_same : (made : ℕ) (state : State) (session : Option ℕ) → waits (numbered made state) session ≡ waits state session
 waits_same made state None = refl
@@ -21,7 +21,7 @@ rolls_same : (made : ℕ) (state : State) (session : Option ℕ) → rolls_back 
 rolls_same made state None = refl
 rolls_same made state (Some session) = refl
 
-call_same : (plan : PlanData) (made : ℕ) (state : State) (journal : List Entry) (tool : Tool) (course : Course) (actor : Actor) → tool_call plan (numbered made state) journal tool course actor ≡ tool_call plan state journal tool course actor
+call_same : (plan : PlanData) (made : ℕ) (state : State) (journal : List Entry) (tool : Tool) (tool_phase : ToolPhase) (actor : Actor) → tool_call plan (numbered made state) journal tool tool_phase actor ≡ tool_call plan state journal tool tool_phase actor
 unfolding unread
 call_same plan made state journal tool (SettingUp setup tries) Op = refl
 call_same plan made state journal tool (SettingUp setup tries) Insp = refl
@@ -41,14 +41,14 @@ call_same plan made state journal tool (Migrating work) (Client client) = refl
 
 asks_same : (plan : PlanData) (made : ℕ) (state : State) (journal : List Entry) (tool : Tool) (actor : Actor) → tool_asks plan journal (record { server = numbered made state; tool = tool }) actor ≡ tool_asks plan journal (record { server = state; tool = tool }) actor
 asks_same plan made state journal tool actor =
-    ap (λ b. if b then Some Poll else calls (tool_call plan (numbered made state) journal tool tool.course actor)) (waits_same made state (live_session journal actor))
-    ∙ ap (λ request. if waits state (live_session journal actor) then Some Poll else calls request) (call_same plan made state journal tool tool.course actor)
+    ap (λ b. if b then Some Poll else calls (tool_call plan (numbered made state) journal tool tool.tool_phase actor)) (waits_same made state (live_session journal actor))
+    ∙ ap (λ request. if waits state (live_session journal actor) then Some Poll else calls request) (call_same plan made state journal tool tool.tool_phase actor)
 
 -- what an actor of the tool asks, by the server as it is and the tool's record
 pub asks_is : (plan : PlanData) (journal : List Entry) (state : State) (tool : Tool) (actor : Actor) → IsAfter (moment plan journal).server state → tool ≡ (moment plan journal).tool
     → tool_asks plan journal (record { server = state; tool = tool }) actor ≡ tool_asks plan journal (moment plan journal) actor
-asks_is plan journal state tool actor behind is =
-    ap (λ (s : State). tool_asks plan journal (record { server = s; tool = tool }) actor) behind.same
+asks_is plan journal state tool actor following is =
+    ap (λ (s : State). tool_asks plan journal (record { server = s; tool = tool }) actor) following.same
     ∙ asks_same plan state.made (moment plan journal).server journal tool actor
     ∙ ap (λ (t : Tool). tool_asks plan journal (record { server = (moment plan journal).server; tool = t }) actor) is
 

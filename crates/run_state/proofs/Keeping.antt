@@ -28,7 +28,7 @@ use Rattle.tool_state.specs.ToolState.Sound.{IsSound}
 use Rattle.run_actors.specs.ActorStates.{actor_state_at, actor_state_after}
 use Rattle.run_actors.proofs.More.{live_more, actor_states_more}
 use Rattle.proof_journals.proofs.Actors.{same_actor_is}
-use Rattle.proof_journals.specs.Run.Counting.{busy_count}
+use Rattle.proof_journals.specs.Run.Counts.{busy_count}
 use Rattle.proof_journals.proofs.Run.Taking.{moment_more, turns_are}
 use Rattle.run_state.specs.declared.run_state.RunState.{RunState}
 use Rattle.run_state.specs.Books.{is_planned, free_actor_state, free_client, AreReached, IsRunState}

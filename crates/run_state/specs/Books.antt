@@ -20,7 +20,7 @@ use Rattle.run_actors.specs.declared.actor_state.ActorState.{ActorState}
 use Rattle.run_actors.specs.ActorStates.{actor_state_at}
 use Rattle.run_actors.specs.declared.client_turns.actor_state.ClientState.{ClientState}
 use Rattle.run_actors.specs.ClientTurns.ActorStates.{IsReached}
-use Rattle.proof_journals.specs.Run.Counting.{busy_count}
+use Rattle.proof_journals.specs.Run.Counts.{busy_count}
 use Rattle.run_state.specs.declared.run_state.RunState.{RunState}
 
 -- the actor's place in the fixed order

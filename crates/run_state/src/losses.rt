@@ -1,7 +1,7 @@
 //! Which losses of sessions are due. Nothing here takes memory.
 
 ghost use Rattle.std.specs.Prelude.{◌≡◌, true};
-ghost use Rattle.tool_program.specs.JournalWords.Keeping.{cut_by, cut_among, cut_due, side_due};
+ghost use Rattle.tool_program.specs.JournalWords.KeptPlans.{cut_by, cut_among, cut_due, side_due};
 ghost use Rattle.run_state.specs.Books.{is_planned, IsRunState};
 
 use crate::run_state::RunState;
@@ -30,7 +30,7 @@ impl RunState<'_> {
     }
 
     /// The actor whose session is lost between calls in the next turn.
-    #[tactic(auto, unfolding(tool_program::specs::JournalWords::Keeping::cut_among))]
+    #[tactic(auto, unfolding(tool_program::specs::JournalWords::KeptPlans::cut_among))]
     pub fn cut_due(&self) -> Option<Actor>
         requires { IsRunState self.now.plan.now self.now.journal.items self.now }
         ensures { result ≡ cut_due self.now.plan.now self.now.journal.items }

@@ -2,13 +2,13 @@
 
 ghost use Rattle.std.specs.Prelude.{◌≡◌, is_some, slice_get, IfOk};
 ghost use Rattle.plan_data.specs.PlanData.{PlanData};
-ghost use Rattle.tool_program.specs.JournalWords.Keeping.{words_of};
+ghost use Rattle.tool_program.specs.JournalWords.KeptPlans.{words_of};
 ghost use Rattle.tool_program.specs.JournalWords.Clients.{clients_over};
 ghost use Rattle.tool_program.specs.Tools.{moment};
 ghost use Rattle.tool_program.specs.Programs.{tool_asks, commands, given};
 ghost use Rattle.tool_program.specs.Orders.{is_ready};
 ghost use Rattle.tool_program.specs.Verdicts.{is_over, has_ended, verdict_of};
-ghost use Rattle.proof_journals.specs.Run.Counting.{IsAfter};
+ghost use Rattle.proof_journals.specs.Run.Counts.{IsAfter};
 ghost use Rattle.tool_state.specs.ToolState.Meanings.{tool_of};
 ghost use Rattle.run_state.specs.Books.{IsRunState};
 

@@ -10,7 +10,7 @@ use Rattle.tool_program.specs.JournalWords.Journals.{state_at, after_entry}
 use Rattle.tool_program.specs.Programs.{waits}
 use Rattle.tool_program.specs.Tools.{moment}
 use Rattle.tool_program.specs.Verdicts.{has_ended}
-use Rattle.proof_journals.specs.Run.Counting.{IsAfter}
+use Rattle.proof_journals.specs.Run.Counts.{IsAfter}
 use Rattle.proof_journals.proofs.Run.Taking.{server_is}
 use Rattle.run_turns.specs.declared.due_turns.migration_run.turn.Turn.{Turn}
 use Rattle.run_turns.specs.DueTurns.Due.{due, next_entry}
@@ -19,11 +19,11 @@ use Rattle.run_turns.specs.Runs.{RunView, is_over, TakesTurn, IsUnmoved}
 
 -- it stands behind the moment's
 pub after_moment : (plan : PlanData) (journal : List Entry) (server : State) → IsAfter (state_at plan journal) server → IsAfter (moment plan journal).server server
-after_moment plan journal server behind = subst (λ (s : State). IsAfter s server) (sym (server_is plan journal)) behind
+after_moment plan journal server following = subst (λ (s : State). IsAfter s server) (sym (server_is plan journal)) following
 
 -- the same sessions wait
-pub waits_after : (told server : State) (session : Option ℕ) → IsAfter told server → waits server session ≡ waits told session
-waits_after told server session behind = ap (λ (s : State). waits s session) behind.same ∙ waits_same server.made told session
+pub waits_after : (reported server : State) (session : Option ℕ) → IsAfter reported server → waits server session ≡ waits reported session
+waits_after reported server session following = ap (λ (s : State). waits s session) following.same ∙ waits_same server.made reported session
 
 pub none_some : {A : Type 0} (x : Option A) → is_some x ≡ false → x ≡ None
 none_some None is = refl

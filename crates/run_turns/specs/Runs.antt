@@ -7,7 +7,7 @@ use Rattle.server_model.specs.States.{State}
 use Rattle.plan_data.specs.PlanData.{PlanData}
 use Rattle.tool_program.specs.JournalWords.Journals.{after_entry}
 use Rattle.tool_program.specs.Verdicts.{has_ended}
-use Rattle.proof_journals.specs.Run.Counting.{IsAfter}
+use Rattle.proof_journals.specs.Run.Counts.{IsAfter}
 use Rattle.run_turns.specs.declared.due_turns.migration_run.turn.Turn.{Turn}
 use Rattle.run_turns.specs.DueTurns.Due.{due, next_entry}
 use Rattle.run_turns.specs.declared.run.Stepped.{Stepped}

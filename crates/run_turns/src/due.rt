@@ -2,7 +2,7 @@
 
 ghost use Rattle.std.specs.Prelude.{◌≡◌, is_some, IfOk};
 ghost use Rattle.tool_program.specs.Tools.{moment};
-ghost use Rattle.proof_journals.specs.Run.Counting.{IsAfter};
+ghost use Rattle.proof_journals.specs.Run.Counts.{IsAfter};
 ghost use Rattle.run_state.specs.Books.{IsRunState};
 ghost use Rattle.run_turns.specs.DueTurns.Due.{due};
 

@@ -2,13 +2,13 @@
 
 ghost use Rattle.std.specs.Prelude.{◌≡◌, ◌≤◌, ◌+◌, ◌<◌, ◌^◌, [], length, is_some, true, false, IfOk, OnOk, OnErr};
 ghost use Rattle.tool_program.specs.JournalWords.Journals.{opening, state_at, IsFaithful};
-ghost use Rattle.tool_program.specs.JournalWords.Keeping.{cut_due, KeepsPlan};
+ghost use Rattle.tool_program.specs.JournalWords.KeptPlans.{cut_due, KeepsPlan};
 ghost use Rattle.tool_program.specs.JournalWords.Sessions.{live_session, KeepsSessions};
 ghost use Rattle.tool_program.specs.Orders.{is_ready};
 ghost use Rattle.tool_program.specs.Programs.{waits, Follows};
 ghost use Rattle.tool_program.specs.Verdicts.{has_ended, verdict_of};
 ghost use Rattle.proof_journals.specs.Machine.Runnable.{IsRunnable};
-ghost use Rattle.proof_journals.specs.Run.Counting.{IsAfter};
+ghost use Rattle.proof_journals.specs.Run.Counts.{IsAfter};
 ghost use Rattle.run_turns.specs.DueTurns.Due.{due};
 ghost use Rattle.run_turns.specs.Runs.{is_over, TakesTurn, IsUnmoved, Steps};
 
@@ -45,7 +45,7 @@ pub struct Run<'a, V: Serve> {
 }
 
 impl<'a, V: Serve> Model for Run<'a, V> {
-    ghost use Rattle.run_turns.specs.RunTurns.Running.{IsRun};
+    ghost use Rattle.run_turns.specs.RunTurns.Invariants.{IsRun};
     ghost use Rattle.run_turns.specs.Runs.{RunView};
 
     ghost Value = { RunView };
@@ -190,7 +190,7 @@ impl<'a, V: Serve> Run<'a, V> {
     /// The server, after the journal's turns.
     pub fn server(&self) -> &V
         ensures server { V.state result.now ≡ self.now.server }
-        ensures behind { IsAfter (state_at self.now.plan self.now.journal) self.now.server }
+        ensures following { IsAfter (state_at self.now.plan self.now.journal) self.now.server }
     {
         &self.server
     }
@@ -199,7 +199,7 @@ impl<'a, V: Serve> Run<'a, V> {
     pub fn stop(self) -> (V, Journal)
         ensures server { V.state result.0 ≡ self.entry.server }
         ensures turns { result.1 ≡ self.entry.journal }
-        ensures behind { IsAfter (state_at self.entry.plan self.entry.journal) self.entry.server }
+        ensures following { IsAfter (state_at self.entry.plan self.entry.journal) self.entry.server }
         ensures faithful { IsFaithful self.entry.plan self.entry.journal }
         ensures planned { KeepsPlan self.entry.plan self.entry.journal }
         ensures follows { Follows self.entry.plan self.entry.journal }

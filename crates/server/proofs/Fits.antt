@@ -14,7 +14,7 @@ use Rattle.table_store.specs.RowLists.{is_at, without_key}
 use Rattle.table_store.proofs.Orders.{Row}
 use Rattle.table_store.proofs.TableLaws.{put_keeps, remove_keeps}
 use Rattle.server_model.specs.declared.need.Need.{Need}
-use Rattle.server_model.specs.Jobs.{after_events, change_table}
+use Rattle.server_model.specs.Operations.{after_events, change_table}
 use Rattle.server_model.specs.Rows.{without_row}
 use Rattle.server_model.specs.LockedRows.Covering.{IsWellFormedTable}
 use Rattle.server_model.specs.LockedRows.Databases.{IsWellFormedDatabase, WhereFound}
@@ -23,14 +23,14 @@ use Rattle.server_model.proofs.LockedRows.WellFormed.{nulls}
 use Rattle.server_model.proofs.LockedRows.Stables.{after_events-append, others_agree}
 use Rattle.proof_journals.specs.Ghost.Rows.Moments.{Fits}
 use Rattle.proof_journals.proofs.Ghost.Rows.TimelineLaws.{none_clashing}
-use Rattle.proof_journals.specs.Ghost.Fitting as ghost
+use Rattle.proof_journals.specs.Ghost.FittingEvents as ghost
 use Rattle.proof_journals.proofs.Ghost.Changing.{found_stands}
 use Rattle.proof_journals.proofs.Ghost.Fitting.{fitting_end, well_formed_event}
 use Rattle.proof_journals.specs.Holdings.{Face}
-use Rattle.server_seen.specs.Fitting.{FitsRows, IsNewAmong}
-use Rattle.server_transaction.specs.ServerData.Fitting.{EventsFit, FitsIn}
-use Rattle.proof_journals.specs.ServerFacts.Keeping.{AllStand, OwnFits}
-use Rattle.proof_journals.specs.ServerFacts.Granting.{grown, GrowsWell}
+use Rattle.server_seen.specs.FittingChanges.{FitsRows, IsNewAmong}
+use Rattle.server_transaction.specs.ServerData.FittingEvents.{EventsFit, FitsIn}
+use Rattle.proof_journals.specs.ServerFacts.Invariants.{AllExist, OwnFits}
+use Rattle.proof_journals.specs.ServerFacts.Grants.{grown, GrowsWell}
 use Rattle.proof_journals.proofs.ServerFacts.Kept.{Keeps, own_others}
 use Rattle.proof_journals.proofs.ServerFacts.Granted.{seen_well_formed, stands_after}
 use Rattle.proof_journals.proofs.ServerFacts.Effects.{grown_apart, grown_well_formed}
@@ -51,13 +51,13 @@ found_fits : (change : Change) (found : Option TableRows) → WhereFound IsWellF
 found_fits change None is stands fits = absurd (false≢true stands)
 found_fits change (Some table) is stands fits = change_fits table.schema table.rows change is.keyed is.is_table fits
 
-stand_event : (tables : Database) (event : RowEvent) (events : List RowEvent) → AllStand tables events → AllStand (with_change event.table (change_table event.change) tables) events
+stand_event : (tables : Database) (event : RowEvent) (events : List RowEvent) → AllExist tables events → AllExist (with_change event.table (change_table event.change) tables) events
 unfolding after_events
 stand_event tables event [] stand = tt
 stand_event tables event (first ∷ events) stand = (stands_after first.table tables (event ∷ []) ∙ stand.0, stand_event tables event events stand.1)
 
 -- *Events that fit, and whose tables stand, fit by their keys.*
-pub data_fits : (tables : Database) (events : List RowEvent) → IsWellFormedDatabase tables → AllStand tables events → ghost.EventsFit tables events → EventsFit tables events
+pub data_fits : (tables : Database) (events : List RowEvent) → IsWellFormedDatabase tables → AllExist tables events → ghost.EventsFit tables events → EventsFit tables events
 unfolding ghost.EventsFit EventsFit
 data_fits tables [] is stand fits = tt
 data_fits tables (event ∷ events) is stand fits = (
@@ -70,11 +70,11 @@ unfolding after_events ghost.EventsFit
 fit_after tables [] b fits = fits
 fit_after tables (event ∷ a) b fits = fit_after (with_change event.table (change_table event.change) tables) a b fits.1
 
-stand_after : (tables : Database) (a b : List RowEvent) → AllStand tables (a ++ b) → AllStand tables b
+stand_after : (tables : Database) (a b : List RowEvent) → AllExist tables (a ++ b) → AllExist tables b
 stand_after tables [] b stand = stand
 stand_after tables (event ∷ a) b stand = stand_after tables a b stand.1
 
-stand_seen : (tables : Database) (writes events : List RowEvent) → AllStand tables events → AllStand (after_events tables writes) events
+stand_seen : (tables : Database) (writes events : List RowEvent) → AllExist tables events → AllExist (after_events tables writes) events
 stand_seen tables writes [] stand = tt
 stand_seen tables writes (event ∷ events) stand = (stands_after event.table tables writes ∙ stand.0, stand_seen tables writes events stand.1)
 

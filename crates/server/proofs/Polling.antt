@@ -9,11 +9,11 @@ use Rattle.server_model.specs.declared.answer.Answer.TheVariants as answers
 use Rattle.server_model.specs.declared.request.Request.{Request}
 use Rattle.server_model.specs.declared.session.Waiting.{Waiting}
 use Rattle.server_model.specs.Conditions.{IsWellFormed, MayCall, MayPoll}
-use Rattle.server_model.specs.Jobs.{after_events}
-use Rattle.server_model.specs.Locking.{blocker, row_locks_of}
-use Rattle.server_model.specs.Serving.{polled_over}
+use Rattle.server_model.specs.Operations.{after_events}
+use Rattle.server_model.specs.Blockers.{blocker, row_locks_of}
+use Rattle.server_model.specs.PlainServer.{polled_over}
 use Rattle.server_model.specs.States.{State, names_in, waiting_of}
-use Rattle.proof_journals.specs.ServerFacts.Keeping.{IsServing}
+use Rattle.proof_journals.specs.ServerFacts.Invariants.{IsServing}
 use Rattle.proof_journals.proofs.ServerFacts.Calls.{comes_of, names_of}
 use Rattle.server.specs.Parts.{needed, state_of, GoTogether, HaveWritten, MayDo}
 use Rattle.server.proofs.Steps.{seen_so}

@@ -21,17 +21,17 @@ use Rattle.server_model.specs.declared.work.StatementResult.{StatementResult}
 use Rattle.server_model.specs.Answers.{ok, refuses}
 use Rattle.server_model.specs.Conditions.{is_blocked_exclusive, is_freely_polled}
 use Rattle.server_model.specs.Effects.{Effect, Rests, Grows, Writes, Forgets, Moves, Locks, Unlocks, effect, effect_unless, effect_within, is_beyond, is_outside}
-use Rattle.server_model.specs.Jobs.{after_events, copy_job, job_says, says}
-use Rattle.server_model.specs.Locking.{blocker, need, need_within, row_locks_of}
-use Rattle.server_model.specs.Serving.{calls, commits, counting, does, done, exclusive, forgets, is_over, polled_over, polls, serving, unlocking, without_waiting}
+use Rattle.server_model.specs.Operations.{after_events, copy_operation, operation_result, statement_result}
+use Rattle.server_model.specs.Blockers.{blocker, need, need_within, row_locks_of}
+use Rattle.server_model.specs.PlainServer.{calls, commits, counting, does, done, exclusive, forgets, is_over, polled_over, polls, serving, unlocking, without_waiting}
 use Rattle.server_model.specs.States.{State, is_exclusive, is_in_transaction, locked_names, names_held, names_in, pair_names, session_of, tables_named, view, waiting_of, with_session}
 use Rattle.server_model.specs.LockedRows.Databases.{EventsCovered}
 use Rattle.server_model.proofs.LockedRows.Tests.{are_one}
 use Rattle.proof_journals.specs.Holdings.{face_of}
 use Rattle.proof_journals.proofs.Names.{Free, names_granted}
 use Rattle.proof_journals.proofs.Faces.{writes_face, busy_face}
-use Rattle.server_transaction.specs.ServerData.Fitting.{NoneOf}
-use Rattle.proof_journals.specs.ServerFacts.Granting.{GrowsWell}
+use Rattle.server_transaction.specs.ServerData.FittingEvents.{NoneOf}
+use Rattle.proof_journals.specs.ServerFacts.Grants.{GrowsWell}
 use Rattle.proof_journals.proofs.ServerFacts.Effects.{AtWork, within_fits}
 use Rattle.proof_journals.proofs.ServerFacts.Waits.{nothing_blocks}
 use Rattle.server.specs.Parts.{needed, state_of, GoTogether, HaveWritten, MayDo}
@@ -41,24 +41,24 @@ use Rattle.server.proofs.Steps.{at_work, need_so, seen_so}
 
 grows_so : (tables : Database) (written : ℕ → List RowEvent) (all_sessions : State) (number : ℕ) (request own : Request) (locks : List Lock) (result said : StatementResult) → MayDo (state_of tables all_sessions) number request locks → request ≡ own → result ≡ said
     → GrowsWell tables (face_of all_sessions.sessions) number (need_within (view number (state_of tables all_sessions)) own) said.events → GrowsWell tables (face_of all_sessions.sessions) number (needed request locks) result.events
-grows_so tables written all_sessions number request own locks result said may is told well =
+grows_so tables written all_sessions number request own locks result said may is executed well =
     let needs : needed request locks ≡ need_within (view number (state_of tables all_sessions)) own = need_so tables all_sessions number request locks may ∙ ap (need_within (view number (state_of tables all_sessions))) is in
-    rw (needs, told) well
+    rw (needs, executed) well
 
 pub statement_grows : (tables : Database) (written : ℕ → List RowEvent) (all_sessions : State) (number : ℕ) (statement : Statement) (request : Request) (locks : List Lock) (result : StatementResult) → GoTogether tables written all_sessions → MayDo (state_of tables all_sessions) number request locks
-    → request ≡ requests.Do statement → result ≡ says (after_events tables (written number)) statement → GrowsWell tables (face_of all_sessions.sessions) number (needed request locks) result.events
-statement_grows tables written all_sessions number statement request locks result together may is told =
+    → request ≡ requests.Do statement → result ≡ statement_result (after_events tables (written number)) statement → GrowsWell tables (face_of all_sessions.sessions) number (needed request locks) result.events
+statement_grows tables written all_sessions number statement request locks result together may is executed =
     let state : State = state_of tables all_sessions in
     let work : AtWork state number (requests.Do statement) = subst (AtWork state number) is (at_work tables written all_sessions number request locks together may) in
-    grows_so tables written all_sessions number request (requests.Do statement) locks result (says (view number state) statement) may is (told ∙ ap (λ (d : Database). says d statement) (seen_so tables written all_sessions number together.have)) (within_fits state number true (requests.Do statement) work)
+    grows_so tables written all_sessions number request (requests.Do statement) locks result (statement_result (view number state) statement) may is (executed ∙ ap (λ (d : Database). statement_result d statement) (seen_so tables written all_sessions number together.have)) (within_fits state number true (requests.Do statement) work)
 
 pub copy_grows : (tables : Database) (written : ℕ → List RowEvent) (all_sessions : State) (number : ℕ) (from into : List ℕ) (columns : List MapColumn) (key : List Value) (request : Request) (locks : List Lock) (result : StatementResult) → GoTogether tables written all_sessions → MayDo (state_of tables all_sessions) number request locks
-    → request ≡ requests.CopyRow from into columns key → result ≡ job_says (after_events tables (written number)) (copy_job (after_events tables (written number)) from into columns key) → GrowsWell tables (face_of all_sessions.sessions) number (needed request locks) result.events
-copy_grows tables written all_sessions number from into columns key request locks result together may is told =
+    → request ≡ requests.CopyRow from into columns key → result ≡ operation_result (after_events tables (written number)) (copy_operation (after_events tables (written number)) from into columns key) → GrowsWell tables (face_of all_sessions.sessions) number (needed request locks) result.events
+copy_grows tables written all_sessions number from into columns key request locks result together may is executed =
     let state : State = state_of tables all_sessions in
     let work : AtWork state number (requests.CopyRow from into columns key) = subst (AtWork state number) is (at_work tables written all_sessions number request locks together may) in
-    grows_so tables written all_sessions number request (requests.CopyRow from into columns key) locks result (job_says (view number state) (copy_job (view number state) from into columns key)) may is
-    (told ∙ ap (λ (d : Database). job_says d (copy_job d from into columns key)) (seen_so tables written all_sessions number together.have)) (within_fits state number true (requests.CopyRow from into columns key) work)
+    grows_so tables written all_sessions number request (requests.CopyRow from into columns key) locks result (operation_result (view number state) (copy_operation (view number state) from into columns key)) may is
+    (executed ∙ ap (λ (d : Database). operation_result d (copy_operation d from into columns key)) (seen_so tables written all_sessions number together.have)) (within_fits state number true (requests.CopyRow from into columns key) work)
 
 -- TABLES THAT NOBODY WROTE TO
 

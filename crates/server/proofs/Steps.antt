@@ -8,10 +8,10 @@ use Rattle.table_store.specs.Databases.{Database}
 use Rattle.server_model.specs.declared.need.Need.{Need}
 use Rattle.server_model.specs.declared.request.Request.{Request}
 use Rattle.server_model.specs.Effects.{nothing_needed}
-use Rattle.server_model.specs.Jobs.{after_events}
-use Rattle.server_model.specs.Locking.{need, need_within}
-use Rattle.server_model.specs.Serving.{commits, counting, forgets, goes_on, locking, loses, polled_over, unlocking}
-use Rattle.server_model.specs.Showing.{waits_shown}
+use Rattle.server_model.specs.Operations.{after_events}
+use Rattle.server_model.specs.Blockers.{need, need_within}
+use Rattle.server_model.specs.PlainServer.{commits, counting, forgets, goes_on, locking, loses, polled_over, unlocking}
+use Rattle.server_model.specs.Listings.{waits_shown}
 use Rattle.server_model.specs.declared.session.Limits.{Limits}
 use Rattle.server_model.specs.declared.session.Waiting.{Waiting}
 use Rattle.server_model.specs.States.{State, connected, is_live, opened, polls_of, session_of, unread, view, with_session, writes_of}
@@ -19,10 +19,10 @@ use Rattle.server_model.specs.LockedRows.Databases.{IsWellFormedDatabase}
 use Rattle.proof_journals.specs.Holdings.{face_of}
 use Rattle.proof_journals.proofs.Serves.{granted}
 use Rattle.proof_journals.proofs.Faces.{writes_face}
-use Rattle.server_transaction.specs.ServerData.Fitting.{EventsFit}
+use Rattle.server_transaction.specs.ServerData.FittingEvents.{EventsFit}
 use Rattle.server_sessions.specs.LiveSessions.Rooms.{logs}
-use Rattle.proof_journals.specs.ServerFacts.Granting.{GrowsWell}
-use Rattle.proof_journals.specs.ServerFacts.Keeping.{IsServing}
+use Rattle.proof_journals.specs.ServerFacts.Grants.{GrowsWell}
+use Rattle.proof_journals.specs.ServerFacts.Invariants.{IsServing}
 use Rattle.proof_journals.proofs.ServerFacts.Calls.{connected_serves, kept_in, live_found, opened_serves}
 use Rattle.proof_journals.proofs.ServerFacts.Effects.{AtWork}
 use Rattle.proof_journals.proofs.ServerFacts.Granted.{quiet_own}

@@ -10,10 +10,10 @@ use Rattle.server_model.specs.declared.need.Need.{Need}
 use Rattle.server_model.specs.declared.request.Request.{Request}
 use Rattle.server_model.specs.declared.request.Request.TheVariants as requests
 use Rattle.server_model.specs.Conditions.{ComesWell, IsWellFormed}
-use Rattle.server_model.specs.Locking.{blocker, need, row_locks_of}
-use Rattle.server_model.specs.Serving.{serves}
+use Rattle.server_model.specs.Blockers.{blocker, need, row_locks_of}
+use Rattle.server_model.specs.PlainServer.{serves}
 use Rattle.server_model.specs.States.{State, holds_tables, is_exclusive, is_in_transaction, is_live, names_in, session_of, view, writes_of}
-use Rattle.proof_journals.specs.ServerFacts.Keeping.{IsServing}
+use Rattle.proof_journals.specs.ServerFacts.Invariants.{IsServing}
 
 -- *The server's state*: what its sessions keep, with the committed tables
 abbrev pub state_of : Database → State → State

@@ -2,9 +2,9 @@
 
 ghost use Rattle.std.specs.Prelude.{◌≡◌, true, Some, IfOk, IsOk, OnOk, OnErr};
 ghost use Rattle.server_model.specs.Conditions.{IsWellFormed, MayCall, MayPoll, is_free, is_freely_polled};
-ghost use Rattle.server_model.specs.Jobs.{after_events};
-ghost use Rattle.server_model.specs.Locking.{row_locks_of};
-ghost use Rattle.server_model.specs.Serving.{calls, done, is_over, polled_over, polls, without_waiting};
+ghost use Rattle.server_model.specs.Operations.{after_events};
+ghost use Rattle.server_model.specs.Blockers.{row_locks_of};
+ghost use Rattle.server_model.specs.PlainServer.{calls, done, is_over, polled_over, polls, without_waiting};
 ghost use Rattle.server_model.specs.States.{is_exclusive};
 ghost use Rattle.server.specs.Parts.{state_of, GoTogether, HaveWritten, MayDo};
 

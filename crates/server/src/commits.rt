@@ -1,7 +1,7 @@
 //! The end of a transaction. Nothing here takes memory.
 
 ghost use Rattle.std.specs.Prelude.{◌≡◌, []};
-ghost use Rattle.server_model.specs.Serving.{commits, forgets, loses};
+ghost use Rattle.server_model.specs.PlainServer.{commits, forgets, loses};
 ghost use Rattle.server.specs.Parts.{state_of, HaveWritten, GoTogether};
 
 use server_sessions::live_sessions::Sessions;

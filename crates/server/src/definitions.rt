@@ -4,16 +4,16 @@ ghost use Rattle.std.specs.Prelude.{◌≡◌, ℕ, [], ◌∷◌, IfOk, OnOk, O
 ghost use Rattle.table_store.specs.Databases.{has_table, rename_tables};
 ghost use Rattle.server_model.specs.declared.request.Request.TheVariants as requests;
 ghost use Rattle.server_model.specs.Conditions.{IsWellFormed};
-ghost use Rattle.server_model.specs.Effects.{all_stand, created, defined, dropped, locks_if, renamed_or};
-ghost use Rattle.server_model.specs.Serving.{does};
+ghost use Rattle.server_model.specs.Effects.{all_exist, created, defined, dropped, locks_if, renamed_or};
+ghost use Rattle.server_model.specs.PlainServer.{does};
 ghost use Rattle.server_model.specs.States.{State, pair_names};
-ghost use Rattle.server_transaction.specs.ServerData.Fitting.{NoneOf};
+ghost use Rattle.server_transaction.specs.ServerData.FittingEvents.{NoneOf};
 ghost use Rattle.server.specs.Parts.{state_of, HaveWritten};
 
 use base_values::gho_schema::Schema;
 use base_values::mysql_errors::{ER_BAD_TABLE_ERROR, ER_NO_SUCH_TABLE, ER_TABLE_EXISTS_ERROR};
 use base_values::{Name, Names};
-use server_api::paged_answers::{all_stand, refuses};
+use server_api::paged_answers::{all_exist, refuses};
 use server_model::Answer;
 use server_sessions::live_sessions::Sessions;
 use server_transaction::server_data::Data;
@@ -28,12 +28,12 @@ pub fn lock_tables<D: Data>(
     names: &Names,
 ) -> Result<Answer, AllocError>
     requires { HaveWritten (D.written store.now) all_sessions.old }
-    ensures answer { IfOk result (λ answer. answer ≡ (does (locks_if (all_stand names.now (D.committed store.now)) names.now) (state_of (D.committed store.now) all_sessions.old) session).answer) }
-    ensures ok { OnOk result (state_of (D.committed store.now) all_sessions.new ≡ (does (locks_if (all_stand names.now (D.committed store.now)) names.now) (state_of (D.committed store.now) all_sessions.old) session).after) }
+    ensures answer { IfOk result (λ answer. answer ≡ (does (locks_if (all_exist names.now (D.committed store.now)) names.now) (state_of (D.committed store.now) all_sessions.old) session).answer) }
+    ensures ok { OnOk result (state_of (D.committed store.now) all_sessions.new ≡ (does (locks_if (all_exist names.now (D.committed store.now)) names.now) (state_of (D.committed store.now) all_sessions.old) session).after) }
     ensures err { OnErr result (all_sessions.new ≡ all_sessions.old) }
     ensures have { HaveWritten (D.written store.now) all_sessions.new }
 {
-    if !all_stand(store.tables(), names.as_slice()) {
+    if !all_exist(store.tables(), names.as_slice()) {
         return Ok(refuses(ER_NO_SUCH_TABLE));
     }
     all_sessions.lock(session, names)?;

@@ -3,7 +3,7 @@
 ghost use Rattle.std.specs.Prelude.{◌≡◌, ◌≢◌, Some, IfOk, IsOk, OnOk, OnErr};
 ghost use Rattle.base_script.specs.declared.actor.Side.TheVariants.{After};
 ghost use Rattle.server_model.specs.Conditions.{MayLose};
-ghost use Rattle.server_model.specs.Serving.{given_at, leaves, serves};
+ghost use Rattle.server_model.specs.PlainServer.{given_at, leaves, serves};
 ghost use Rattle.server.specs.Parts.{before_loss, state_of, GoTogether, HaveWritten};
 
 use crate::calls::{call, poll};

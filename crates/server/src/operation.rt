@@ -4,7 +4,7 @@ ghost use Rattle.std.specs.Prelude.{◌≡◌, Bool, true, IfOk, OnOk, OnErr};
 ghost use Rattle.table_store.specs.Databases.{Database};
 ghost use Rattle.server_model.specs.Conditions.{IsWellFormed};
 ghost use Rattle.server_model.specs.Effects.{Rests, effect_within};
-ghost use Rattle.server_model.specs.Serving.{does, done};
+ghost use Rattle.server_model.specs.PlainServer.{does, done};
 ghost use Rattle.server_model.specs.States.{is_in_transaction, session_of, view};
 ghost use Rattle.server.specs.Parts.{is_look, state_of, GoTogether, HaveWritten, MayDo};
 
@@ -76,7 +76,7 @@ fn do_inside<D: Data>(
             roll_back(store, all_sessions, session);
             Ok(Answer::Ok(0))
         }
-        Request::Do(told) => statement(store, all_sessions, session, request, told, locks),
+        Request::Do(executed) => statement(store, all_sessions, session, request, executed, locks),
         Request::BeginSpan { table, span, size } => {
             begin_span(
                 store,

@@ -2,10 +2,10 @@
 
 ghost use Rattle.std.specs.Prelude.{◌≡◌, IfOk, OnOk, OnErr, true};
 ghost use Rattle.server_model.specs.Effects.{result_effect};
-ghost use Rattle.server_model.specs.Serving.{commits, does, goes_on};
+ghost use Rattle.server_model.specs.PlainServer.{commits, does, goes_on};
 ghost use Rattle.server_model.specs.States.{is_in_transaction, is_live, session_of};
 ghost use Rattle.proof_journals.specs.Holdings.{face_of};
-ghost use Rattle.proof_journals.specs.ServerFacts.Granting.{GrowsWell};
+ghost use Rattle.proof_journals.specs.ServerFacts.Grants.{GrowsWell};
 ghost use Rattle.server.specs.Parts.{needed, state_of, HaveWritten, GoTogether};
 
 use server_locks::row_locks::LockSet;
@@ -21,19 +21,19 @@ fn go_on<D: Data>(
     session: u32,
     request: &Request,
     locks: LockSet,
-    told: ReadyResult<D::Writes>,
+    executed: ReadyResult<D::Writes>,
 ) -> Result<Answer, AllocError>
     requires together { GoTogether (D.committed store.old) (D.written store.old) all_sessions.old }
     requires live { is_live all_sessions.old session ≡ true }
-    requires ready { D.is_ready store.old session told.writes }
-    requires events { D.events told.writes ≡ told.result.events }
-    requires grows { GrowsWell (D.committed store.old) (face_of all_sessions.old.sessions) session (needed request.now locks) told.result.events }
-    ensures answer { IfOk result (λ answer. answer ≡ told.result.answer) }
-    ensures ok { OnOk result (state_of (D.committed store.new) all_sessions.new ≡ goes_on session (needed request.now locks) told.result.events (state_of (D.committed store.old) all_sessions.old)) }
+    requires ready { D.is_ready store.old session executed.writes }
+    requires events { D.events executed.writes ≡ executed.result.events }
+    requires grows { GrowsWell (D.committed store.old) (face_of all_sessions.old.sessions) session (needed request.now locks) executed.result.events }
+    ensures answer { IfOk result (λ answer. answer ≡ executed.result.answer) }
+    ensures ok { OnOk result (state_of (D.committed store.new) all_sessions.new ≡ goes_on session (needed request.now locks) executed.result.events (state_of (D.committed store.old) all_sessions.old)) }
     ensures err { OnErr result (state_of (D.committed store.new) all_sessions.new ≡ state_of (D.committed store.old) all_sessions.old) }
     ensures have { HaveWritten (D.written store.new) all_sessions.new }
 {
-    let ReadyResult { result, writes } = told;
+    let ReadyResult { result, writes } = executed;
     let StatementResult { answer, events } = result;
     all_sessions.go_on(session, request, locks, events)?;
     store.write(session, writes);
@@ -47,18 +47,18 @@ fn commit_at_once<D: Data>(
     session: u32,
     request: &Request,
     locks: LockSet,
-    told: ReadyResult<D::Writes>,
+    executed: ReadyResult<D::Writes>,
 ) -> Result<Answer, AllocError>
     requires together { GoTogether (D.committed store.old) (D.written store.old) all_sessions.old }
-    requires ready { D.is_ready store.old session told.writes }
-    requires events { D.events told.writes ≡ told.result.events }
-    requires grows { GrowsWell (D.committed store.old) (face_of all_sessions.old.sessions) session (needed request.now locks) told.result.events }
-    ensures answer { IfOk result (λ answer. answer ≡ told.result.answer) }
-    ensures ok { OnOk result (state_of (D.committed store.new) all_sessions.new ≡ commits session told.result.events (state_of (D.committed store.old) all_sessions.old)) }
+    requires ready { D.is_ready store.old session executed.writes }
+    requires events { D.events executed.writes ≡ executed.result.events }
+    requires grows { GrowsWell (D.committed store.old) (face_of all_sessions.old.sessions) session (needed request.now locks) executed.result.events }
+    ensures answer { IfOk result (λ answer. answer ≡ executed.result.answer) }
+    ensures ok { OnOk result (state_of (D.committed store.new) all_sessions.new ≡ commits session executed.result.events (state_of (D.committed store.old) all_sessions.old)) }
     ensures err { OnErr result (state_of (D.committed store.new) all_sessions.new ≡ state_of (D.committed store.old) all_sessions.old) }
     ensures have { HaveWritten (D.written store.new) all_sessions.new }
 {
-    let ReadyResult { result, writes } = told;
+    let ReadyResult { result, writes } = executed;
     let StatementResult { answer, events } = result;
     all_sessions.commit_with(session, events)?;
     store.write(session, writes);
@@ -73,21 +73,21 @@ pub fn keep<D: Data>(
     session: u32,
     request: &Request,
     locks: LockSet,
-    told: ReadyResult<D::Writes>,
+    executed: ReadyResult<D::Writes>,
 ) -> Result<Answer, AllocError>
     requires together { GoTogether (D.committed store.old) (D.written store.old) all_sessions.old }
     requires live { is_live all_sessions.old session ≡ true }
-    requires ready { D.is_ready store.old session told.writes }
-    requires events { D.events told.writes ≡ told.result.events }
-    requires grows { GrowsWell (D.committed store.old) (face_of all_sessions.old.sessions) session (needed request.now locks) told.result.events }
-    ensures answer { IfOk result (λ answer. answer ≡ told.result.answer) }
-    ensures ok { OnOk result (state_of (D.committed store.new) all_sessions.new ≡ (does (result_effect (is_in_transaction (session_of session all_sessions.old.sessions)) (needed request.now locks) told.result) (state_of (D.committed store.old) all_sessions.old) session).after) }
+    requires ready { D.is_ready store.old session executed.writes }
+    requires events { D.events executed.writes ≡ executed.result.events }
+    requires grows { GrowsWell (D.committed store.old) (face_of all_sessions.old.sessions) session (needed request.now locks) executed.result.events }
+    ensures answer { IfOk result (λ answer. answer ≡ executed.result.answer) }
+    ensures ok { OnOk result (state_of (D.committed store.new) all_sessions.new ≡ (does (result_effect (is_in_transaction (session_of session all_sessions.old.sessions)) (needed request.now locks) executed.result) (state_of (D.committed store.old) all_sessions.old) session).after) }
     ensures err { OnErr result (state_of (D.committed store.new) all_sessions.new ≡ state_of (D.committed store.old) all_sessions.old) }
     ensures have { HaveWritten (D.written store.new) all_sessions.new }
 {
     if all_sessions.is_in_transaction(session) {
-        go_on(store, all_sessions, session, request, locks, told)
+        go_on(store, all_sessions, session, request, locks, executed)
     } else {
-        commit_at_once(store, all_sessions, session, request, locks, told)
+        commit_at_once(store, all_sessions, session, request, locks, executed)
     }
 }

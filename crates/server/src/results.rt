@@ -5,8 +5,8 @@ ghost use Rattle.table_store.specs.Databases.{find_table};
 ghost use Rattle.server_model.specs.declared.request.Request.TheVariants as requests;
 ghost use Rattle.server_model.specs.Answers.{ok};
 ghost use Rattle.server_model.specs.Effects.{begins, nothing_needed, result_effect};
-ghost use Rattle.server_model.specs.Jobs.{copy_job, job_says, says};
-ghost use Rattle.server_model.specs.Serving.{does, goes_on};
+ghost use Rattle.server_model.specs.Operations.{copy_operation, operation_result, statement_result};
+ghost use Rattle.server_model.specs.PlainServer.{does, goes_on};
 ghost use Rattle.server_model.specs.States.{is_in_transaction, is_live, session_of, view};
 ghost use Rattle.server.specs.Parts.{needed, state_of, GoTogether, HaveWritten, MayDo};
 
@@ -34,13 +34,13 @@ pub fn statement<D: Data>(
     requires together { GoTogether (D.committed store.old) (D.written store.old) all_sessions.old }
     requires may { MayDo (state_of (D.committed store.old) all_sessions.old) session request.now locks }
     requires request { request.now ≡ requests.Do statement.now }
-    ensures answer { IfOk result (λ answer. answer ≡ (says (view session (state_of (D.committed store.old) all_sessions.old)) statement.now).answer) }
-    ensures ok { OnOk result (state_of (D.committed store.new) all_sessions.new ≡ (does (result_effect (is_in_transaction (session_of session all_sessions.old.sessions)) (needed request.now locks) (says (view session (state_of (D.committed store.old) all_sessions.old)) statement.now)) (state_of (D.committed store.old) all_sessions.old) session).after) }
+    ensures answer { IfOk result (λ answer. answer ≡ (statement_result (view session (state_of (D.committed store.old) all_sessions.old)) statement.now).answer) }
+    ensures ok { OnOk result (state_of (D.committed store.new) all_sessions.new ≡ (does (result_effect (is_in_transaction (session_of session all_sessions.old.sessions)) (needed request.now locks) (statement_result (view session (state_of (D.committed store.old) all_sessions.old)) statement.now)) (state_of (D.committed store.old) all_sessions.old) session).after) }
     ensures err { OnErr result (state_of (D.committed store.new) all_sessions.new ≡ state_of (D.committed store.old) all_sessions.old) }
     ensures have { HaveWritten (D.written store.new) all_sessions.new }
 {
-    let told = store.say(session, statement)?;
-    keep(store, all_sessions, session, request, locks, told)
+    let executed = store.execute(session, statement)?;
+    keep(store, all_sessions, session, request, locks, executed)
 }
 
 /// INSERT IGNORE of one converted row.
@@ -58,13 +58,13 @@ pub fn copy_row<D: Data>(
     requires together { GoTogether (D.committed store.old) (D.written store.old) all_sessions.old }
     requires may { MayDo (state_of (D.committed store.old) all_sessions.old) session request.now locks }
     requires request { request.now ≡ requests.CopyRow from.now into.now map.now key.now }
-    ensures answer { IfOk result (λ answer. answer ≡ (job_says (view session (state_of (D.committed store.old) all_sessions.old)) (copy_job (view session (state_of (D.committed store.old) all_sessions.old)) from.now into.now map.now key.now)).answer) }
-    ensures ok { OnOk result (state_of (D.committed store.new) all_sessions.new ≡ (does (result_effect (is_in_transaction (session_of session all_sessions.old.sessions)) (needed request.now locks) (job_says (view session (state_of (D.committed store.old) all_sessions.old)) (copy_job (view session (state_of (D.committed store.old) all_sessions.old)) from.now into.now map.now key.now))) (state_of (D.committed store.old) all_sessions.old) session).after) }
+    ensures answer { IfOk result (λ answer. answer ≡ (operation_result (view session (state_of (D.committed store.old) all_sessions.old)) (copy_operation (view session (state_of (D.committed store.old) all_sessions.old)) from.now into.now map.now key.now)).answer) }
+    ensures ok { OnOk result (state_of (D.committed store.new) all_sessions.new ≡ (does (result_effect (is_in_transaction (session_of session all_sessions.old.sessions)) (needed request.now locks) (operation_result (view session (state_of (D.committed store.old) all_sessions.old)) (copy_operation (view session (state_of (D.committed store.old) all_sessions.old)) from.now into.now map.now key.now))) (state_of (D.committed store.old) all_sessions.old) session).after) }
     ensures err { OnErr result (state_of (D.committed store.new) all_sessions.new ≡ state_of (D.committed store.old) all_sessions.old) }
     ensures have { HaveWritten (D.written store.new) all_sessions.new }
 {
-    let told = store.copy_row(session, from, into, map, key)?;
-    keep(store, all_sessions, session, request, locks, told)
+    let executed = store.copy_row(session, from, into, map, key)?;
+    keep(store, all_sessions, session, request, locks, executed)
 }
 
 /// BEGIN.

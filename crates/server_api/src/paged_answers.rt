@@ -4,5 +4,5 @@ mod answers;
 mod chunk;
 mod listing;
 
-pub use answers::{all_stand, end_of_chunk, ends, keys_of_span, refuses};
+pub use answers::{all_exist, end_of_chunk, ends, keys_of_span, refuses};
 pub use listing::tables_shown;

@@ -4,7 +4,7 @@ ghost use Rattle.std.specs.Prelude.{◌≡◌, ◌≢◌, ◌+◌, ◌<◌, true
 ghost use Rattle.base_script.specs.declared.actor.Side.TheVariants.{After};
 ghost use Rattle.table_store.specs.Databases.{database};
 ghost use Rattle.server_model.specs.States.{State, connected, session_of, is_live, is_waiting, is_in_transaction, holds_tables, unread};
-ghost use Rattle.server_model.specs.Serving.{calls, polls, serves, leaves, given_at};
+ghost use Rattle.server_model.specs.PlainServer.{calls, polls, serves, leaves, given_at};
 ghost use Rattle.server_model.specs.Conditions.{MayCall, MayPoll, MayLose, is_free, is_freely_polled};
 
 use base_script::Side;

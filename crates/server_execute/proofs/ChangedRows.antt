@@ -4,7 +4,7 @@ use Rattle.std.proofs.lemmas.Bool.{false≢true, or_right}
 use Rattle.std.proofs.lemmas.Bool.Decides.{nat_tests}
 use Rattle.std.specs.List.{AllByRecursion, list_any}
 use Rattle.base_values.specs.declared.value.Value.{Value}
-use Rattle.base_values.specs.Comparing.{compare_keys}
+use Rattle.base_values.specs.KeyOrder.{compare_keys}
 use Rattle.base_values.specs.declared.gho_schema.schema.Schema.{Schema}
 use Rattle.base_values.specs.GhoSchema.Rows.{key_of, key_places, with_row}
 use Rattle.base_values.specs.GhoSchema.Tables.{Ascends, IsRow, IsTable}
@@ -14,12 +14,12 @@ use Rattle.table_store.proofs.Orders.{Row}
 use Rattle.table_store.proofs.Ascending.{all-filter, ascends-filter}
 use Rattle.table_store.proofs.TableLaws.{some_rows}
 use Rattle.server_model.specs.Rows.{same_row, stands, without_row, change_rows}
-use Rattle.server_model.specs.Saying.{with_sets, clashes_besides}
+use Rattle.server_model.specs.StatementResults.{with_sets, clashes_besides}
 use Rattle.server_model.specs.LockedRows.Covering.{SetsFit}
 use Rattle.server_model.proofs.LockedRows.Standing.{one_row, same_itself, stands-put, stands-filter, other_row}
 use Rattle.server_model.proofs.LockedRows.WellFormed.{well_formed_put, with_sets_row, none_besides}
-use Rattle.server_seen.specs.Fitting.{FitsRows}
-use Rattle.server_execute.specs.Updating.{AreMet}
+use Rattle.server_seen.specs.FittingChanges.{FitsRows}
+use Rattle.server_execute.specs.RowUpdates.{AreMet}
 use Rattle.server_execute.proofs.NewKeys.{new_from}
 
 -- what holds of all rows holds of one that stands
@@ -38,16 +38,16 @@ unfolding stands
 more_stand first [] rows all = tt
 more_stand first (row ∷ some) rows all = (or_right (same_row row first) (stands row rows) all.0, more_stand first some rows all.1)
 
-pub all_stand : (rows : List Row) → AllByRecursion (λ row. stands row rows ≡ true) rows
+pub all_exist : (rows : List Row) → AllByRecursion (λ row. stands row rows ≡ true) rows
 unfolding stands
-all_stand [] = tt
-all_stand (row ∷ rows) = (rw (same_itself row) refl, more_stand row rows rows (all_stand rows))
+all_exist [] = tt
+all_exist (row ∷ rows) = (rw (same_itself row) refl, more_stand row rows rows (all_exist rows))
 
 -- those of rows in order that pass a test are met
 pub are_met : (places : List ℕ) (test : Row → Bool) (rows : List Row) → Ascends places rows → AreMet places (filter test rows) rows
 are_met places test rows ascends = record {
   ascends = ascends-filter places test rows ascends;
-  stand = all-filter (λ row. stands row rows ≡ true) test rows (all_stand rows);
+  stand = all-filter (λ row. stands row rows ≡ true) test rows (all_exist rows);
 }
 
 after_stand : (places : List ℕ) (old : Row) (met rows : List Row) → AllByRecursion (λ other. compare_keys (key_of places old) (key_of places other) ≡ Less) met → AllByRecursion (λ row. stands row rows ≡ true) met → AllByRecursion (λ row. stands row (without_row old rows) ≡ true) met

@@ -17,12 +17,12 @@ use Rattle.server_model.specs.declared.work.Work.{Work}
 use Rattle.server_model.specs.declared.work.Work.TheVariants.{Refuse, Insert, Copy, Replace, Delete, Update, Select}
 use Rattle.server_model.specs.Answers.{refuses}
 use Rattle.server_model.specs.Rows.{reaches, rows_met, same_row, without_row, change_rows, change_all}
-use Rattle.server_model.specs.Saying.{only, displaced, with_sets, clashes_besides, change_first, updates, updated, result_or_refusal, tells}
+use Rattle.server_model.specs.StatementResults.{only, displaced, with_sets, clashes_besides, change_first, updates, updated, result_or_refusal, tells}
 use Rattle.server_model.specs.LockedRows.Covering.{SetsFit, IsSound}
 use Rattle.server_model.proofs.LockedRows.WellFormed.{well_formed_put, tells_well_formed, change_all-append}
-use Rattle.server_seen.specs.Fitting.{AllFit}
-use Rattle.server_execute.specs.Updating.{AreMet}
-use Rattle.server_execute.specs.Laws.{ToldChangesFit}
+use Rattle.server_seen.specs.FittingChanges.{AllFit}
+use Rattle.server_execute.specs.RowUpdates.{AreMet}
+use Rattle.server_execute.specs.Laws.{ReportedChangesFit}
 use Rattle.server_execute.proofs.NewKeys.{new_from}
 use Rattle.server_execute.proofs.ChangedRows.{are_met, met_without, IsChanged, changed_one}
 
@@ -116,5 +116,5 @@ all_fit schema key rows (Update reach (Ok sets)) sound are =
     (updates_fit schema key sets sound (rows_met schema reach rows) rows (are_met (key_places schema) (reaches schema reach) rows are.ascends) are)
 all_fit schema key rows (Select reach selection) sound are = nothing_fits (key_places schema) rows
 
-pub told_fit : ToldChangesFit
-told_fit table work well_formed sound = all_fit table.schema well_formed.keyed table.rows work sound well_formed.is_table
+pub reported_fit : ReportedChangesFit
+reported_fit table work well_formed sound = all_fit table.schema well_formed.keyed table.rows work sound well_formed.is_table

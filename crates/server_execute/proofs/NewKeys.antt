@@ -2,13 +2,13 @@
 use Rattle.std.proofs.Common.{◌≡◌, ℕ, List, [], ◌∷◌, find, cond, Some, None, Ordering, Less, Equal, Greater, refl}
 use Rattle.std.specs.Ordering.{is_eq, match_ordering}
 use Rattle.std.specs.List.{AllByRecursion}
-use Rattle.base_values.specs.Comparing.{compare_keys}
+use Rattle.base_values.specs.KeyOrder.{compare_keys}
 use Rattle.base_values.specs.GhoSchema.Rows.{key_of, with_row}
 use Rattle.base_values.specs.GhoSchema.Tables.{Ascends}
 use Rattle.table_store.specs.RowLists.{is_at}
 use Rattle.table_store.proofs.Orders.{Row}
 use Rattle.table_store.proofs.FoundRows.{none_found, none_at}
-use Rattle.server_seen.specs.Fitting.{IsNewAmong}
+use Rattle.server_seen.specs.FittingChanges.{IsNewAmong}
 
 none_after : (places : List ℕ) (row : Row) (rows : List Row) → AllByRecursion (λ other. compare_keys (key_of places row) (key_of places other) ≡ Less) rows → IsNewAmong places rows row
 none_after places row rows less = none_found (is_at places (key_of places row)) (is_at places (key_of places row)) rows (λ other fails. fails) (none_at places row rows less)

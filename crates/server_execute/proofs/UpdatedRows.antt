@@ -12,32 +12,32 @@ use Rattle.table_store.proofs.Orders.{Row}
 use Rattle.server_model.specs.declared.answer.Answer.{Answer}
 use Rattle.server_model.specs.Answers.{refuses}
 use Rattle.server_model.specs.Rows.{same_row, change_rows}
-use Rattle.server_model.specs.Saying.{with_sets, clashes_besides, change_first, updates}
+use Rattle.server_model.specs.StatementResults.{with_sets, clashes_besides, change_first, updates}
 use Rattle.server_model.specs.LockedRows.Covering.{SetsFit}
 use Rattle.server_seen.specs.Written.{Written, nothing, seen, wrote}
-use Rattle.server_seen.specs.Fitting.{IsWritten}
+use Rattle.server_seen.specs.FittingChanges.{IsWritten}
 use Rattle.server_seen.proofs.SeenRows.{seen-nothing}
 use Rattle.server_seen.proofs.SeenChanges.{seen_change}
 use Rattle.server_execute.specs.declared.updates.RowUpdate.TheVariants.{Same, Clashes, Becomes}
-use Rattle.server_execute.specs.Updating.{row_update, AreMet}
+use Rattle.server_execute.specs.RowUpdates.{row_update, AreMet}
 use Rattle.server_execute.proofs.ChangedRows.{IsChanged, changed_one}
 
 -- changes in front of those that are left
-abbrev pub behind : List Change → Result (List Change) Answer → Result (List Change) Answer
-behind done (Ok more) = Ok (done ++ more)
-behind done (Err refusal) = Err refusal
+abbrev pub following : List Change → Result (List Change) Answer → Result (List Change) Answer
+following done (Ok more) = Ok (done ++ more)
+following done (Err refusal) = Err refusal
 
 -- what is changed so far, and what is left, are all
 pub record IsGoing (schema : Schema) (sets : List (Option Value)) (met rows : List Row) (written : Written) (done : List Change) (left : List Row) : Type 0 where
   pub is_table : IsTable schema (seen (key_places schema) written rows)
   pub left_met : AreMet (key_places schema) left (seen (key_places schema) written rows)
-  pub same : behind done (updates schema sets left (seen (key_places schema) written rows)) ≡ updates schema sets met rows
+  pub same : following done (updates schema sets left (seen (key_places schema) written rows)) ≡ updates schema sets met rows
 
-none_done : (result : Result (List Change) Answer) → behind [] result ≡ result
+none_done : (result : Result (List Change) Answer) → following [] result ≡ result
 none_done (Ok all) = refl
 none_done (Err refusal) = refl
 
-none_left : (done : List Change) → behind done (Ok []) ≡ Ok done
+none_left : (done : List Change) → following done (Ok []) ≡ Ok done
 none_left done = ap {B = Result (List Change) Answer} Ok (append-nil done)
 
 pub begins : (schema : Schema) (sets : List (Option Value)) (met rows : List Row) (written : Written) → written ≡ nothing → IsTable schema rows → AreMet (key_places schema) met rows → IsGoing schema sets met rows written [] met
@@ -76,7 +76,7 @@ clashes schema sets met rows written done old left going is =
     let now : List Row = seen (key_places schema) written rows in
     let tests = is_clash (same_row old (with_sets sets old)) (clashes_besides schema (with_sets sets old) old now) (with_sets sets old) (sym is) in
     let here : updates schema sets (old ∷ left) (seen (key_places schema) written rows) ≡ Err (refuses ER_DUP_ENTRY) = rw (tests.0, tests.1) refl in
-    sym (ap (behind done) here) ∙ going.same
+    sym (ap (following done) here) ∙ going.same
 
 pub stays : (schema : Schema) (sets : List (Option Value)) (met rows : List Row) (written : Written) (done : List Change) (old : Row) (left : List Row) → IsGoing schema sets met rows written done (old ∷ left)
     → Same ≡ row_update schema sets (seen (key_places schema) written rows) old → IsGoing schema sets met rows written done left
@@ -88,13 +88,13 @@ stays schema sets met rows written done old left going is =
     record {
       is_table = going.is_table;
       left_met = record { ascends = going.left_met.ascends.1; stand = going.left_met.stand.1 };
-      same = ap (behind done) (sym here) ∙ going.same;
+      same = ap (following done) (sym here) ∙ going.same;
     }
 
 neither : (b c : Bool) (still changed : Result (List Change) Answer) → b ≡ false → c ≡ false → cond b still (cond c (Err (refuses ER_DUP_ENTRY)) changed) ≡ changed
 neither b c still changed one two = ap (λ (x : Bool). cond x still (cond c (Err (refuses ER_DUP_ENTRY)) changed)) one ∙ ap (λ (x : Bool). cond x (Err (refuses ER_DUP_ENTRY)) changed) two
 
-one_after : (done : List Change) (change : Change) (result : Result (List Change) Answer) → behind (done ++ change ∷ []) result ≡ behind done (change_first change result)
+one_after : (done : List Change) (change : Change) (result : Result (List Change) Answer) → following (done ++ change ∷ []) result ≡ following done (change_first change result)
 one_after done change (Ok more) = ap {B = Result (List Change) Answer} Ok (append_assoc done (change ∷ []) more)
 one_after done change (Err refusal) = refl
 
@@ -117,8 +117,8 @@ becomes schema key sets sound met rows written written' done done' old new left 
       is_table = subst (IsTable schema) (sym then) one.is_table;
       left_met = subst (AreMet places left) (sym then) one.after_met;
       same =
-          ap (behind done') (ap (updates schema sets left) then) ∙ ap (λ (cs : List Change). behind cs (updates schema sets left (change_rows places change now))) (done_is ∙ ap (λ (c : Change). done ++ c ∷ []) own)
-          ∙ one_after done change (updates schema sets left (change_rows places change now)) ∙ ap (behind done) (sym here) ∙ going.same;
+          ap (following done') (ap (updates schema sets left) then) ∙ ap (λ (cs : List Change). following cs (updates schema sets left (change_rows places change now))) (done_is ∙ ap (λ (c : Change). done ++ c ∷ []) own)
+          ∙ one_after done change (updates schema sets left (change_rows places change now)) ∙ ap (following done) (sym here) ∙ going.same;
     }
 
 -- what is written and changed so far, by equal names

@@ -1,3 +1,3 @@
 pub mod Laws
 pub mod ReadyResult
-pub mod Updating
+pub mod RowUpdates

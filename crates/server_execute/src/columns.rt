@@ -2,7 +2,7 @@
 
 ghost use Rattle.std.specs.Prelude.{◌≡◌, map, unwrap_or, option_to_list, slice_get, IfOk};
 ghost use Rattle.std.specs.List.{flat_map};
-ghost use Rattle.server_model.specs.Saying.{with_sets};
+ghost use Rattle.server_model.specs.StatementResults.{with_sets};
 
 use base_values::gho_schema::key_of;
 use base_values::{Duplicate, Row, Rows, Sequence, Value};

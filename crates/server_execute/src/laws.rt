@@ -1,8 +1,8 @@
 //! What holds of all that statements say: each function's contract is a law.
 
-ghost use Rattle.server_execute.specs.Laws.{ToldChangesFit};
+ghost use Rattle.server_execute.specs.Laws.{ReportedChangesFit};
 
 /// What a statement changes fits the rows of its table.
-pub fn told_changes_fit()
-    ensures { ToldChangesFit }
+pub fn reported_changes_fit()
+    ensures { ReportedChangesFit }
 {}

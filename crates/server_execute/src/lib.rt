@@ -2,7 +2,7 @@
 //! it needs.
 #![tactic(auto)]
 
-mod changing;
+mod change_lists;
 mod columns;
 pub mod laws;
 mod results;
@@ -10,5 +10,5 @@ mod selection;
 pub mod statement_work;
 mod updates;
 
-pub use changing::{Changes, ReadyResult, events_of, written_by};
+pub use change_lists::{Changes, ReadyResult, events_of, written_by};
 pub use results::tells;

@@ -6,11 +6,11 @@ ghost use Rattle.base_values.specs.GhoSchema.Tables.{clash};
 ghost use Rattle.base_values.specs.declared.event.Change.TheVariants as changes;
 ghost use Rattle.server_model.specs.declared.answer.Answer.TheVariants as answers;
 ghost use Rattle.server_model.specs.declared.work.Work.TheVariants as works;
-ghost use Rattle.server_model.specs.Saying.{tells};
+ghost use Rattle.server_model.specs.StatementResults.{tells};
 ghost use Rattle.server_model.specs.LockedRows.Covering.{IsWellFormedTable, IsSound};
 ghost use Rattle.server_execute.specs.ReadyResult.{as_result};
 
-use crate::changing::{ReadyResult, deletes, only};
+use crate::change_lists::{ReadyResult, deletes, only};
 use crate::selection::selected;
 use crate::updates::updated;
 use base_values::mysql_errors::ER_DUP_ENTRY;
@@ -30,7 +30,7 @@ fn clashes(alloc: Global, seen: &SeenTable<'_>, row: &Row) -> Result<bool, Alloc
 
 /// A row is written that clashes with none.
 fn one_written(alloc: Global, row: &Row) -> Result<ReadyResult, AllocError>
-    ensures { IfOk result (λ told. as_result told ≡ record { answer = answers.Ok 1; changes = changes.Write row.now ∷ [] }) }
+    ensures { IfOk result (λ executed. as_result executed ≡ record { answer = answers.Ok 1; changes = changes.Write row.now ∷ [] }) }
 {
     let mut changes = Sequence::new(alloc);
     changes.push(Change::Write(row.copy()?))?;
@@ -41,9 +41,9 @@ fn one_written(alloc: Global, row: &Row) -> Result<ReadyResult, AllocError>
 }
 
 /// What an INSERT says: `ER_DUP_ENTRY` where its row clashes with one.
-#[tactic(auto, unfolding(server_model::specs::Saying::tells))]
+#[tactic(auto, unfolding(server_model::specs::StatementResults::tells))]
 fn insert(alloc: Global, seen: &SeenTable<'_>, row: &Row) -> Result<ReadyResult, AllocError>
-    ensures { IfOk result (λ told. as_result told ≡ tells seen.now.schema seen.now.rows (works.Insert row.now)) }
+    ensures { IfOk result (λ executed. as_result executed ≡ tells seen.now.schema seen.now.rows (works.Insert row.now)) }
 {
     if clashes(alloc, seen, row)? {
         return Ok(only(alloc, refuses(ER_DUP_ENTRY)));
@@ -52,9 +52,9 @@ fn insert(alloc: Global, seen: &SeenTable<'_>, row: &Row) -> Result<ReadyResult,
 }
 
 /// What an INSERT IGNORE says: nothing is done where its row clashes with one.
-#[tactic(auto, unfolding(server_model::specs::Saying::tells))]
+#[tactic(auto, unfolding(server_model::specs::StatementResults::tells))]
 fn copy(alloc: Global, seen: &SeenTable<'_>, row: &Row) -> Result<ReadyResult, AllocError>
-    ensures { IfOk result (λ told. as_result told ≡ tells seen.now.schema seen.now.rows (works.Copy row.now)) }
+    ensures { IfOk result (λ executed. as_result executed ≡ tells seen.now.schema seen.now.rows (works.Copy row.now)) }
 {
     if clashes(alloc, seen, row)? {
         return Ok(only(alloc, Answer::Ok(0)));
@@ -63,9 +63,9 @@ fn copy(alloc: Global, seen: &SeenTable<'_>, row: &Row) -> Result<ReadyResult, A
 }
 
 /// What a REPLACE says: the rows that clash with its row are removed, and counted with it.
-#[tactic(auto, unfolding(server_model::specs::Saying::tells))]
+#[tactic(auto, unfolding(server_model::specs::StatementResults::tells))]
 fn replace(alloc: Global, seen: &SeenTable<'_>, row: &Row) -> Result<ReadyResult, AllocError>
-    ensures { IfOk result (λ told. as_result told ≡ tells seen.now.schema seen.now.rows (works.Replace row.now)) }
+    ensures { IfOk result (λ executed. as_result executed ≡ tells seen.now.schema seen.now.rows (works.Replace row.now)) }
 {
     let displaced = seen.displaced(alloc, row)?;
     let count = displaced.as_slice().len() as u64;
@@ -78,9 +78,9 @@ fn replace(alloc: Global, seen: &SeenTable<'_>, row: &Row) -> Result<ReadyResult
 }
 
 /// What a DELETE says: the rows that it reaches are removed.
-#[tactic(auto, unfolding(server_model::specs::Saying::tells))]
+#[tactic(auto, unfolding(server_model::specs::StatementResults::tells))]
 fn delete(alloc: Global, seen: &SeenTable<'_>, reach: &Reach) -> Result<ReadyResult, AllocError>
-    ensures { IfOk result (λ told. as_result told ≡ tells seen.now.schema seen.now.rows (works.Delete reach.now)) }
+    ensures { IfOk result (λ executed. as_result executed ≡ tells seen.now.schema seen.now.rows (works.Delete reach.now)) }
 {
     let met = seen.met(alloc, reach)?;
     let count = met.len() as u64;
@@ -91,14 +91,14 @@ fn delete(alloc: Global, seen: &SeenTable<'_>, reach: &Reach) -> Result<ReadyRes
 }
 
 /// What a SELECT says.
-#[tactic(auto, unfolding(server_model::specs::Saying::tells))]
+#[tactic(auto, unfolding(server_model::specs::StatementResults::tells))]
 fn select(
     alloc: Global,
     seen: &SeenTable<'_>,
     reach: &Reach,
     selection: &Selection,
 ) -> Result<ReadyResult, AllocError>
-    ensures { IfOk result (λ told. as_result told ≡ tells seen.now.schema seen.now.rows (works.Select reach.now selection.now)) }
+    ensures { IfOk result (λ executed. as_result executed ≡ tells seen.now.schema seen.now.rows (works.Select reach.now selection.now)) }
 {
     let met = seen.met(alloc, reach)?;
     Ok(only(alloc, selected(alloc, selection, met)?))
@@ -106,11 +106,11 @@ fn select(
 
 /// What a statement says of its table. The table has a clustered key, its rows are rows of it, and so are the statement's
 /// new rows.
-#[tactic(auto, unfolding(server_model::specs::Saying::tells))]
+#[tactic(auto, unfolding(server_model::specs::StatementResults::tells))]
 pub fn tells(alloc: Global, seen: &SeenTable<'_>, work: &Work) -> Result<ReadyResult, AllocError>
     requires well_formed { IsWellFormedTable seen.now }
     requires sound { IsSound seen.now.schema.columns work.now }
-    ensures { IfOk result (λ told. as_result told ≡ tells seen.now.schema seen.now.rows work.now) }
+    ensures { IfOk result (λ executed. as_result executed ≡ tells seen.now.schema seen.now.rows work.now) }
 {
     match work {
         Work::Refuse(refusal) => Ok(only(alloc, refusal.copy()?)),

@@ -2,7 +2,7 @@
 
 ghost use Rattle.std.specs.Prelude.{◌≡◌, [], ◌∷◌, pos, IfOk};
 ghost use Rattle.base_values.specs.declared.value.Value.TheVariants.{Num};
-ghost use Rattle.server_model.specs.Saying.{selected};
+ghost use Rattle.server_model.specs.StatementResults.{selected};
 
 use crate::columns::columns_of;
 use base_values::{Rows, Sequence, Value};

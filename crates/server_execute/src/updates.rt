@@ -6,14 +6,14 @@ ghost use Rattle.base_values.specs.GhoSchema.Rows.{key_places};
 ghost use Rattle.base_values.specs.declared.event.Change.TheVariants as changes;
 ghost use Rattle.server_model.specs.declared.work.Work.TheVariants as works;
 ghost use Rattle.server_model.specs.Rows.{rows_met, same_row};
-ghost use Rattle.server_model.specs.Saying.{clashes_besides, updates, result_or_refusal, updated};
+ghost use Rattle.server_model.specs.StatementResults.{clashes_besides, updates, result_or_refusal, updated};
 ghost use Rattle.server_model.specs.LockedRows.Covering.{IsWellFormedTable, IsSound, SetsFit};
 ghost use Rattle.server_execute.specs.ReadyResult.{as_result};
-ghost use Rattle.server_execute.specs.Updating.{row_update, AreMet};
+ghost use Rattle.server_execute.specs.RowUpdates.{row_update, AreMet};
 ghost use Rattle.server_seen.specs.Written.{wrote};
 ghost use Rattle.server_seen.specs.Written as writes;
 
-use crate::changing::{Changes, ReadyResult, only};
+use crate::change_lists::{Changes, ReadyResult, only};
 use crate::statement_work::with_sets;
 use base_values::mysql_errors::ER_DUP_ENTRY;
 use base_values::row_conversion::UnfitAt;
@@ -142,7 +142,7 @@ pub fn updated(
 ) -> Result<ReadyResult, AllocError>
     requires well_formed { IsWellFormedTable seen.now }
     requires sets { IsSound seen.now.schema.columns (works.Update reach.now sets.now) }
-    ensures { IfOk result (λ told. as_result told ≡ updated seen.now.schema sets.now (rows_met seen.now.schema reach.now seen.now.rows) seen.now.rows) }
+    ensures { IfOk result (λ executed. as_result executed ≡ updated seen.now.schema sets.now (rows_met seen.now.schema reach.now seen.now.rows) seen.now.rows) }
 {
     let met = seen.met(alloc, reach)?;
     match sets {

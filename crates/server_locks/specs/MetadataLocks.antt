@@ -1,5 +1,5 @@
-pub mod Granting
-pub mod Holding
+pub mod Grants
+pub mod LockTable
 pub mod Laws
 pub mod Requests
-pub mod Waiting
+pub mod WaitQueue

@@ -1,5 +1,5 @@
-pub mod Granting
-pub mod Holding
-pub mod Indexing
+pub mod Grants
+pub mod LockTable
+pub mod LockIndex
 pub mod Laws
 pub mod Marks

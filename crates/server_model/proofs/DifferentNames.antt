@@ -128,6 +128,6 @@ cut granted different n same test = any_filter test (is_of (take n granted)) dif
 -- LOOKED UP
 
 -- what is told of the different names is so of those that were granted
-pub looked_up : (test : HeldName → Bool) (seen granted different slice : List HeldName) (told : Bool) → seen ≡ granted → slice ≡ different → told ≡ list_any test slice → SayTheSame granted different → told ≡ list_any test seen
+pub looked_up : (test : HeldName → Bool) (seen granted different slice : List HeldName) (executed : Bool) → seen ≡ granted → slice ≡ different → executed ≡ list_any test slice → SayTheSame granted different → executed ≡ list_any test seen
 unfolding SayTheSame
-looked_up test seen granted different slice told seen_is slice_is told_is same = told_is ∙ ap (list_any test) slice_is ∙ same test ∙ ap (list_any test) (sym seen_is)
+looked_up test seen granted different slice executed seen_is slice_is reported_is same = reported_is ∙ ap (list_any test) slice_is ∙ same test ∙ ap (list_any test) (sym seen_is)

@@ -17,7 +17,7 @@ use Rattle.server_model.specs.declared.answer.Answer.{Answer}
 use Rattle.server_model.specs.declared.work.StatementResult.{StatementResult}
 use Rattle.server_model.specs.declared.answer.Answer.TheVariants as answers
 use Rattle.server_model.specs.Answers.{ok}
-use Rattle.server_model.specs.Jobs.{says, after_events}
+use Rattle.server_model.specs.Operations.{statement_result, after_events}
 
 -- what a client sees of an answer; none where it isn't one of a client's
 abbrev pub reply_of : Answer → Option Reply
@@ -29,7 +29,7 @@ reply_of answer = None
 
 -- what a line says: BEGIN, COMMIT and ROLLBACK are answered ok 0
 abbrev pub line_says : Database → ScriptWord → StatementResult
-line_says tables (words.Do statement) = says tables statement
+line_says tables (words.Do statement) = statement_result tables statement
 line_says tables word = record { answer = ok; events = [] }
 
 -- what a line writes, by its mark: one that timed out or was lost before it was done does nothing

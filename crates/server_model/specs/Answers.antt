@@ -1,6 +1,6 @@
 -- How the server refuses (MySQL's manual, "Server Error Message Reference").
 use Rattle.std.specs.Prelude.{ℕ, Some, None}
-use Rattle.base_values.specs.Storing.{error_number}
+use Rattle.base_values.specs.StoredValues.{error_number}
 use Rattle.base_values.specs.declared.row_conversion.conversion_fault.UnfitAt.{UnfitAt}
 use Rattle.server_model.specs.declared.answer.Answer.{Answer}
 use Rattle.server_model.specs.declared.answer.Answer.TheVariants as answers

@@ -3,7 +3,7 @@
 use Rattle.std.specs.Prelude.{◌≡◌, ℕ, ◌≤◌, ◌<◌, Bool, true, false, List, [], ◌∷◌, length, ◌&&◌, is_some, Option, Some, None}
 use Rattle.std.specs.List.{AllByRecursion, slice_get, flat_map}
 use Rattle.base_values.specs.declared.kind.Kind.{Kind}
-use Rattle.base_values.specs.Storing.{character_count, AreOfKinds}
+use Rattle.base_values.specs.StoredValues.{character_count, AreOfKinds}
 use Rattle.base_values.specs.Spans.{EndOfKinds, SpanOfKinds}
 use Rattle.base_values.specs.declared.gho_schema.schema.Column.{Column}
 use Rattle.base_values.specs.declared.gho_schema.schema.Schema.{Schema}
@@ -20,7 +20,7 @@ use Rattle.server_model.specs.declared.entry.Asked.{Asked}
 use Rattle.server_model.specs.declared.entry.Asked.TheVariants.{Call, Poll, Cut}
 use Rattle.server_model.specs.declared.session.Waiting.{Waiting}
 use Rattle.server_model.specs.States.{State, session_of, is_live, is_in_transaction, holds_tables, is_waiting, waiting_of, is_exclusive}
-use Rattle.server_model.specs.Locking.{need, blocker}
+use Rattle.server_model.specs.Blockers.{need, blocker}
 
 -- WHEN A REQUEST MAY COME
 
@@ -75,18 +75,18 @@ pub record IsMapOf (map : List MapColumn) (old new : Schema) : Type 0 where
   pub columns : MapsInto map new.columns
 
 -- where a table of the name exists, this holds of its schema
-abbrev pub IfStands : (Schema → Type 0) → Option TableRows → Type 0
-IfStands P None = Unit {0}
-IfStands P (Some table) = P table.schema
+abbrev pub IfExists : (Schema → Type 0) → Option TableRows → Type 0
+IfExists P None = Unit {0}
+IfExists P (Some table) = P table.schema
 
 -- Sizes are at least 1, keys and ends are of the clustered key's kinds, maps are of their tables, new names are names of
 -- tables, and a new schema is one.
 abbrev pub IsWellFormed : Database → Request → Type 0
 IsWellFormed tables (requests.ChunkEnd table low top size) =
-    (1 ≤ size) × IfStands (λ schema. EndOfKinds low (key_kinds schema) × AreOfKinds top (key_kinds schema)) (find_table table tables)
-IsWellFormed tables (requests.BeginSpan table span size) = (1 ≤ size) × IfStands (λ schema. SpanOfKinds span (key_kinds schema)) (find_table table tables)
+    (1 ≤ size) × IfExists (λ schema. EndOfKinds low (key_kinds schema) × AreOfKinds top (key_kinds schema)) (find_table table tables)
+IsWellFormed tables (requests.BeginSpan table span size) = (1 ≤ size) × IfExists (λ schema. SpanOfKinds span (key_kinds schema)) (find_table table tables)
 IsWellFormed tables (requests.CopyRow from into map key) =
-    IfStands (λ old. AreOfKinds key (key_kinds old) × IfStands (λ new. IsMapOf map old new) (find_table into tables)) (find_table from tables)
+    IfExists (λ old. AreOfKinds key (key_kinds old) × IfExists (λ new. IsMapOf map old new) (find_table into tables)) (find_table from tables)
 IsWellFormed tables (requests.Create schema) = IsNewSchema schema
 IsWellFormed tables (requests.Rename pairs) = AllByRecursion (λ pair. IsTableName pair.new) pairs
 IsWellFormed tables (requests.ReadLog position limit names) = 1 ≤ limit

@@ -19,11 +19,11 @@ use Rattle.server_model.specs.declared.answer.Answer.TheVariants as answers
 use Rattle.server_model.specs.declared.work.StatementResult.{StatementResult}
 use Rattle.server_model.specs.declared.need.Need.{Need}
 use Rattle.server_model.specs.Answers.{ok, refuses}
-use Rattle.server_model.specs.Jobs.{says, job_says, copy_job}
+use Rattle.server_model.specs.Operations.{statement_result, operation_result, copy_operation}
 use Rattle.server_model.specs.Chunks.{keys_of, ends_of, chunk_end, span_keys}
 use Rattle.server_model.specs.States.{State, session_of, is_in_transaction, view, locked_names, tables_named}
-use Rattle.server_model.specs.Locking.{need_within}
-use Rattle.server_model.specs.Showing.{events_read, tables_shown, waits_shown}
+use Rattle.server_model.specs.Blockers.{need_within}
+use Rattle.server_model.specs.Listings.{events_read, tables_shown, waits_shown}
 
 -- what a request does once its locks are granted
 pub data Effect : Type 0 where
@@ -59,8 +59,8 @@ begins None span size need = Rests (refuses ER_NO_SUCH_TABLE)
 begins (Some table) span size need = Grows (span_keys span size table) need []
 
 -- tables are locked, where all exist
-abbrev pub all_stand : List (List ℕ) → Database → Bool
-all_stand names tables = not (list_any (λ name. not (has_table name tables)) names)
+abbrev pub all_exist : List (List ℕ) → Database → Bool
+all_exist names tables = not (list_any (λ name. not (has_table name tables)) names)
 
 abbrev pub locks_if : Bool → List (List ℕ) → Effect
 locks_if true names = Locks ok names
@@ -91,12 +91,12 @@ abbrev pub effect_within : Bool → Database → State → Request → Effect
 effect_within busy seen state requests.Begin = Grows ok nothing_needed []
 effect_within busy seen state requests.Commit = Writes ok []
 effect_within busy seen state requests.Rollback = Forgets ok
-effect_within busy seen state (requests.Do statement) = result_effect busy (need_within seen (requests.Do statement)) (says seen statement)
+effect_within busy seen state (requests.Do statement) = result_effect busy (need_within seen (requests.Do statement)) (statement_result seen statement)
 effect_within busy seen state (requests.Ends table) = Rests (of_table (find_table table state.tables) (λ t. ends_of (keys_of (key_places t.schema) t.rows)))
 effect_within busy seen state (requests.ChunkEnd table low top size) = Rests (of_table (find_table table state.tables) (λ t. answers.End (chunk_end low top size t)))
 effect_within busy seen state (requests.BeginSpan table span size) = begins (find_table table state.tables) span size (need_within seen (requests.BeginSpan table span size))
-effect_within busy seen state (requests.CopyRow from into map key) = result_effect busy (need_within seen (requests.CopyRow from into map key)) (job_says seen (copy_job seen from into map key))
-effect_within busy seen state (requests.LockTables names) = locks_if (all_stand names state.tables) names
+effect_within busy seen state (requests.CopyRow from into map key) = result_effect busy (need_within seen (requests.CopyRow from into map key)) (operation_result seen (copy_operation seen from into map key))
+effect_within busy seen state (requests.LockTables names) = locks_if (all_exist names state.tables) names
 effect_within busy seen state requests.Unlock = Unlocks ok
 effect_within busy seen state (requests.Create schema) = defined (created (has_table schema.name state.tables) schema state.tables)
 effect_within busy seen state (requests.Drop name) = defined (dropped (has_table name state.tables) name state.tables)

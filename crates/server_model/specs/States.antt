@@ -5,8 +5,8 @@ use Rattle.std.specs.List.{list_any, flat_map}
 use Rattle.std.specs.Str.{bytes_eq}
 use Rattle.base_values.specs.declared.event.RowEvent.{RowEvent}
 use Rattle.server_locks.specs.declared.row_locks.lock.HeldLock.{HeldLock}
-use Rattle.server_locks.specs.RowLocks.Holding.{held_by}
-use Rattle.server_locks.specs.MetadataLocks.Granting as grants
+use Rattle.server_locks.specs.RowLocks.LockTable.{held_by}
+use Rattle.server_locks.specs.MetadataLocks.Grants as grants
 use Rattle.server_locks.specs.declared.metadata_locks.request.Waiter.{Waiter}
 use Rattle.table_store.specs.Databases.{Database}
 use Rattle.table_store.specs.declared.renames.Pair.{Pair}
@@ -16,7 +16,7 @@ use Rattle.server_model.specs.declared.session.Limits.{Limits}
 use Rattle.server_model.specs.declared.session.Waiting.{Waiting}
 use Rattle.server_model.specs.declared.request.Request.{Request}
 use Rattle.server_model.specs.declared.request.Request.TheVariants as requests
-use Rattle.server_model.specs.Jobs.{table_of, after_events}
+use Rattle.server_model.specs.Operations.{table_of, after_events}
 
 -- the server at one moment
 pub record State : Type 0 where

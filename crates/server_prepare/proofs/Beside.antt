@@ -5,7 +5,7 @@ use Rattle.std.specs.Option.{option_to_list}
 use Rattle.base_values.specs.declared.value.Value.{Value}
 use Rattle.base_values.specs.declared.gho_schema.schema.Schema.{Schema}
 use Rattle.server_model.specs.declared.answer.Answer.{Answer}
-use Rattle.server_model.specs.Checking.{beside, with_value, wanted_each}
+use Rattle.server_model.specs.Checks.{beside, with_value, wanted_each}
 use Rattle.server_prepare.proofs.Fronts.{with_front}
 
 -- a value in front, where there is one

@@ -3,7 +3,7 @@
 ghost use Rattle.std.specs.Prelude.{◌≡◌, ◌==◌, position, option_copied, IfOk};
 ghost use Rattle.std.specs.List.{list_any};
 ghost use Rattle.base_values.specs.GhoSchema.Names.{same_name};
-ghost use Rattle.server_model.specs.Checking.{place_of, places_named, are_distinct, beside, places_from, places_listed};
+ghost use Rattle.server_model.specs.Checks.{place_of, places_named, are_distinct, beside, places_from, places_listed};
 
 use crate::refusals::{Checked, refuses};
 use base_values::gho_schema::{Column, Places, Schema, same_name};
@@ -31,7 +31,7 @@ fn place_of(schema: &Schema, name: &Name) -> Checked<usize>
 }
 
 /// The places of the columns of these names.
-#[tactic(auto, unfolding(server_model::specs::Checking::places_named))]
+#[tactic(auto, unfolding(server_model::specs::Checks::places_named))]
 pub fn places_named(
     alloc: Global,
     schema: &Schema,
@@ -57,7 +57,7 @@ pub fn is_among(place: usize, others: &[usize]) -> bool
 }
 
 /// Whether no place is named twice.
-#[tactic(auto, unfolding(server_model::specs::Checking::are_distinct))]
+#[tactic(auto, unfolding(server_model::specs::Checks::are_distinct))]
 pub fn are_distinct(places: &[usize]) -> bool
     ensures { result ≡ are_distinct places.now }
 {
@@ -72,7 +72,7 @@ pub fn are_distinct(places: &[usize]) -> bool
 }
 
 /// The value that is beside a place, where one does.
-#[tactic(auto, unfolding(server_model::specs::Checking::beside))]
+#[tactic(auto, unfolding(server_model::specs::Checks::beside))]
 pub fn beside<'a>(place: usize, places: &[usize], values: &'a [Value]) -> Option<&'a Value>
     ensures { option_copied result ≡ beside place places.now values.now }
 {

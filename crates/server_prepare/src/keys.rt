@@ -2,7 +2,7 @@
 
 ghost use Rattle.std.specs.Prelude.{◌≡◌, ◌==◌, ◌++◌, position, option_to_list, slice_get, Some, None, if◌then◌else◌, IfOk, OnOk};
 ghost use Rattle.std.specs.List.{list_all, list_any};
-ghost use Rattle.server_model.specs.Checking.{are_distinct, beside, has_columns, wanted_at, wanted_each, key_from, is_only};
+ghost use Rattle.server_model.specs.Checks.{are_distinct, beside, has_columns, wanted_at, wanted_each, key_from, is_only};
 
 use crate::columns::{are_distinct, beside, is_among};
 use crate::refusals::{Checked, refuses, refuses_value};
@@ -66,7 +66,7 @@ fn wanted_at(
 }
 
 /// The values that are wanted in the columns at these places.
-#[tactic(auto, unfolding(server_model::specs::Checking::wanted_each))]
+#[tactic(auto, unfolding(server_model::specs::Checks::wanted_each))]
 pub fn wanted_each(
     alloc: Global,
     schema: &Schema,

@@ -2,8 +2,8 @@
 
 ghost use Rattle.std.specs.Prelude.{◌≡◌, ◌∷◌, [], if◌then◌else◌, IfOk};
 ghost use Rattle.std.specs.Ordering.{is_gt};
-ghost use Rattle.base_values.specs.Comparing.{compare_keys};
-ghost use Rattle.server_model.specs.Checking.{inner_low, inner_high, span_of, both_spans, whole, spans_together};
+ghost use Rattle.base_values.specs.KeyOrder.{compare_keys};
+ghost use Rattle.server_model.specs.Checks.{inner_low, inner_high, span_of, both_spans, whole, spans_together};
 
 use base_script::{Comparison, Sign};
 use base_values::{Bound, Duplicate, Key, Sequence, Span, Value};

@@ -1,9 +1,9 @@
 //! What a condition reaches.
 
 ghost use Rattle.std.specs.Prelude.{◌≡◌, map, None, if◌then◌else◌, IfOk};
-ghost use Rattle.base_values.specs.GhoSchema.Clustering.{clustered_place};
+ghost use Rattle.base_values.specs.GhoSchema.ClusteredKey.{clustered_place};
 ghost use Rattle.base_values.specs.GhoSchema.Rows.{key_places};
-ghost use Rattle.server_model.specs.Checking.{is_only, reach_equal, reach_range, reach_of};
+ghost use Rattle.server_model.specs.Checks.{is_only, reach_equal, reach_range, reach_of};
 
 use crate::columns::places_named;
 use crate::keys::{is_only, key_from, key_of_columns, wanted_each};
@@ -18,7 +18,7 @@ use server_model::Reach;
 use std::alloc::{AllocError, Global};
 
 /// Equalities: on the columns of a unique key.
-#[tactic(auto, unfolding(server_model::specs::Checking::reach_equal))]
+#[tactic(auto, unfolding(server_model::specs::Checks::reach_equal))]
 fn reach_equal(alloc: Global, schema: &Schema, sets: &[Set]) -> Result<Checked<Reach>, AllocError>
     ensures { IfOk result (λ reach. reach ≡ reach_equal schema.now (map (λ set. set.column) sets.now) (map (λ set. set.value) sets.now)) }
 {
@@ -59,7 +59,7 @@ fn range_key(schema: &Schema, places: &[usize]) -> Option<usize>
 }
 
 /// Comparisons: of the one column of the clustered key.
-#[tactic(auto, unfolding(server_model::specs::Checking::reach_range))]
+#[tactic(auto, unfolding(server_model::specs::Checks::reach_range))]
 fn reach_range(
     alloc: Global,
     schema: &Schema,
@@ -86,7 +86,7 @@ fn reach_range(
 }
 
 /// What a condition reaches.
-#[tactic(auto, unfolding(server_model::specs::Checking::reach_of))]
+#[tactic(auto, unfolding(server_model::specs::Checks::reach_of))]
 pub fn reach_of(
     alloc: Global,
     schema: &Schema,

@@ -1,8 +1,8 @@
 //! The new row of an INSERT or a REPLACE.
 
 ghost use Rattle.std.specs.Prelude.{◌≡◌, option_copied, IfOk};
-ghost use Rattle.base_values.specs.Storing.{stores};
-ghost use Rattle.server_model.specs.Checking.{value_at, given_or, row_from, new_row};
+ghost use Rattle.base_values.specs.StoredValues.{stores};
+ghost use Rattle.server_model.specs.Checks.{value_at, given_or, row_from, new_row};
 
 use crate::columns::{beside, places_listed};
 use crate::refusals::{Checked, refuses, refuses_value};
@@ -50,7 +50,7 @@ fn given_or(
 }
 
 /// A new row, column by column, of values for the columns at these places.
-#[tactic(auto, unfolding(server_model::specs::Checking::row_from))]
+#[tactic(auto, unfolding(server_model::specs::Checks::row_from))]
 fn row_from(
     alloc: Global,
     columns: &[Column],
@@ -73,7 +73,7 @@ fn row_from(
 }
 
 /// The new row of an INSERT or a REPLACE, with its columns checked first, then the number of values, then each value.
-#[tactic(auto, unfolding(server_model::specs::Checking::new_row))]
+#[tactic(auto, unfolding(server_model::specs::Checks::new_row))]
 pub fn new_row(
     alloc: Global,
     schema: &Schema,

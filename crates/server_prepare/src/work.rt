@@ -2,7 +2,7 @@
 
 ghost use Rattle.std.specs.Prelude.{◌≡◌, option_copied, IfOk};
 ghost use Rattle.server_prepare.specs.Sets.{set_at};
-ghost use Rattle.server_model.specs.Checking.{stored_set, sets_from, selection_of, update_of, select_of, or_refused, work_of};
+ghost use Rattle.server_model.specs.Checks.{stored_set, sets_from, selection_of, update_of, select_of, or_refused, work_of};
 
 use crate::columns::{are_distinct, beside, places_named};
 use crate::parts::{set_columns, set_values};
@@ -40,7 +40,7 @@ fn column_set(
 }
 
 /// What the columns are set to, or the first that doesn't store its value.
-#[tactic(auto, unfolding(server_model::specs::Checking::sets_from))]
+#[tactic(auto, unfolding(server_model::specs::Checks::sets_from))]
 fn sets_from(
     alloc: Global,
     columns: &[Column],
@@ -168,7 +168,7 @@ fn work_or_refusal(work: Checked<Work>) -> Work
 }
 
 /// What a statement is to do on a table of this schema.
-#[tactic(auto, unfolding(server_model::specs::Checking::work_of))]
+#[tactic(auto, unfolding(server_model::specs::Checks::work_of))]
 pub fn work_of(alloc: Global, schema: &Schema, statement: &Statement) -> Result<Work, AllocError>
     ensures { IfOk result (λ work. work ≡ work_of schema.now statement.now) }
 {

@@ -5,7 +5,7 @@ use Rattle.std.proofs.lemmas.Bool.{false≢true, true≢false}
 use Rattle.std.specs.Ordering.{is_eq, match_ordering}
 use Rattle.std.specs.List.{AllByRecursion, slice_get}
 use Rattle.base_values.specs.declared.value.Value.{Value}
-use Rattle.base_values.specs.Comparing.{compare_keys}
+use Rattle.base_values.specs.KeyOrder.{compare_keys}
 use Rattle.base_values.proofs.Orders.{keys_total}
 use Rattle.base_values.specs.declared.gho_schema.schema.Schema.{Schema}
 use Rattle.base_values.specs.GhoSchema.Rows.{key_of, key_places, with_row}
@@ -17,7 +17,7 @@ use Rattle.table_store.proofs.Ascending.{none_parts}
 use Rattle.base_values.proofs.GhoSchema.Orders.{all-with_row}
 use Rattle.server_model.specs.Rows.{same_row, stands}
 use Rattle.server_seen.specs.Written.{with_key}
-use Rattle.server_seen.specs.Fitting.{KeysAscend}
+use Rattle.server_seen.specs.FittingChanges.{KeysAscend}
 use Rattle.server_seen.specs.Stored.{counted, IsKeyTable}
 use Rattle.server_seen.proofs.TouchedKeys.{before_all}
 

@@ -7,14 +7,14 @@ use Rattle.base_values.specs.declared.span.Span.{Span}
 use Rattle.base_values.specs.Spans.{has}
 use Rattle.base_values.specs.declared.gho_schema.schema.Schema.{Schema}
 use Rattle.base_values.specs.declared.gho_schema.schema.Index.{Index}
-use Rattle.base_values.specs.GhoSchema.Clustering.{clustered_place, unique_at}
+use Rattle.base_values.specs.GhoSchema.ClusteredKey.{clustered_place, unique_at}
 use Rattle.base_values.specs.GhoSchema.Rows.{key_of, key_places, places_of}
 use Rattle.base_values.specs.GhoSchema.Tables.{no_null, clash}
 use Rattle.table_store.specs.Databases.{TableRows, rows_in, clashing}
 use Rattle.table_store.proofs.Orders.{Row}
 use Rattle.server_model.specs.declared.work.Reach.{Reach}
 use Rattle.server_model.specs.Rows.{lies_under, rows_met, same_row, stands}
-use Rattle.server_model.specs.Saying.{displaced}
+use Rattle.server_model.specs.StatementResults.{displaced}
 use Rattle.server_model.proofs.LockedRows.Standing.{same_itself}
 
 -- rows that pass a test are among those that pass a wider one
@@ -74,7 +74,7 @@ pub record Found (test : Row → Bool) (rows : List Row) (row : Row) : Type 0 wh
 pub found_is : (test : Row → Bool) (rows : List Row) (row : Row) → find test rows ≡ Some row → Found test rows row
 unfolding stands
 found_is test [] row is = absurd (cc)
-found_is test (first ∷ rows) row is = here (test first) refl is (λ (behind : find test rows ≡ Some row). found_is test rows row behind) where
+found_is test (first ∷ rows) row is = here (test first) refl is (λ (following : find test rows ≡ Some row). found_is test rows row following) where
   here : (b : Bool) → test first ≡ b → cond b (Some first) (find test rows) ≡ Some row → (find test rows ≡ Some row → Found test rows row) → Found test (first ∷ rows) row
   here true passes found rest =
       let same : first ≡ row = cc in

@@ -13,7 +13,7 @@ use Rattle.server_model.specs.Rows.{same_row, stands}
 use Rattle.server_model.proofs.LockedRows.Standing.{stands-filter, one_list}
 use Rattle.server_model.proofs.LockedRows.Points2.{one_met}
 use Rattle.server_seen.specs.Written.{is_touched, put_all, seen}
-use Rattle.server_seen.specs.Fitting.{KeysAscend, IsWritten}
+use Rattle.server_seen.specs.FittingChanges.{KeysAscend, IsWritten}
 use Rattle.server_seen.proofs.KeyTables.{none_stands}
 use Rattle.server_seen.proofs.TouchedKeys.{same_both}
 use Rattle.server_seen.proofs.SeenRows.{stands-put_all, stands-seen, ascends-seen, seen-nothing}
@@ -109,8 +109,8 @@ length-kept test (row ∷ rows) = here (test row) (length-kept test rows) where
 
 pub one_fewer : (places : List ℕ) (key : Row) (rows : List Row) (row : Row) → find (is_at places key) rows ≡ Some row → length (without_key places key rows) + 1 ≤ length rows
 one_fewer places key [] row found = absurd (cc)
-one_fewer places key (first ∷ rows) row found = here (is_at places key first) found (λ (behind : find (is_at places key) rows ≡ Some row). one_fewer places key rows row behind) (length-kept (λ (r : Row). not (is_at places key r)) rows) where
+one_fewer places key (first ∷ rows) row found = here (is_at places key first) found (λ (following : find (is_at places key) rows ≡ Some row). one_fewer places key rows row following) (length-kept (λ (r : Row). not (is_at places key r)) rows) where
   here : (b : Bool) → cond b (Some first) (find (is_at places key) rows) ≡ Some row → (find (is_at places key) rows ≡ Some row → length (without_key places key rows) + 1 ≤ length rows) → length (without_key places key rows) ≤ length rows
       → length (cond (not b) (first ∷ without_key places key rows) (without_key places key rows)) + 1 ≤ length (first ∷ rows)
   here true is rest le = omega arith
-  here false is rest le = let behind : length (without_key places key rows) + 1 ≤ length rows = rest is in omega arith
+  here false is rest le = let following : length (without_key places key rows) + 1 ≤ length rows = rest is in omega arith

@@ -19,7 +19,7 @@ use Rattle.table_store.proofs.RowLaws.{gone}
 use Rattle.server_model.specs.Rows.{same_row, stands, without_row, change_rows, change_all}
 use Rattle.server_model.proofs.LockedRows.Standing.{stands-put, stands-filter, one_list}
 use Rattle.server_seen.specs.Written.{Written, nothing, with_key, with_keys, is_touched, untouched, seen, removed, stored, wrote, wrote_all, written_over}
-use Rattle.server_seen.specs.Fitting.{IsNewAmong, FitsRows, AllFit, IsWritten}
+use Rattle.server_seen.specs.FittingChanges.{IsNewAmong, FitsRows, AllFit, IsWritten}
 use Rattle.server_seen.specs.Laws.{SeenRowsChange, ChangesAreSeen, LaterOverEarlier}
 use Rattle.server_seen.proofs.TouchedKeys.{stands-with_keys, touched-with_key, ascend-with_key, ascend-with_keys}
 use Rattle.server_seen.proofs.SeenRows.{stands-seen, all-put_all, ascends-seen, seen-nothing}

@@ -4,7 +4,7 @@ use Rattle.std.proofs.lemmas.Bool.{false_from_ne_true, true≢false}
 use Rattle.std.specs.Ordering.{is_eq}
 use Rattle.std.specs.List.{AllByRecursion}
 use Rattle.std.proofs.Math.Bool.{or_assoc}
-use Rattle.base_values.specs.Comparing.{compare_keys}
+use Rattle.base_values.specs.KeyOrder.{compare_keys}
 use Rattle.base_values.specs.declared.gho_schema.schema.Schema.{Schema}
 use Rattle.base_values.specs.GhoSchema.Rows.{key_of, key_places}
 use Rattle.base_values.specs.GhoSchema.Tables.{Ascends}
@@ -18,7 +18,7 @@ use Rattle.table_store.proofs.RowLaws.{key_is, put_other}
 use Rattle.server_model.specs.Rows.{same_row, stands}
 use Rattle.server_model.proofs.LockedRows.Standing.{stands-put, stands-filter, one_list}
 use Rattle.server_seen.specs.Written.{Written, nothing, is_touched, untouched, put_all, seen}
-use Rattle.server_seen.specs.Fitting.{IsNewAmong, IsWritten}
+use Rattle.server_seen.specs.FittingChanges.{IsNewAmong, IsWritten}
 use Rattle.server_seen.specs.Stored.{StoredWrites}
 use Rattle.server_seen.specs.Laws.{SeenRowsPass}
 

@@ -6,7 +6,7 @@ use Rattle.table_store.specs.RowLists.{is_at, without_key}
 use Rattle.table_store.proofs.Orders.{Row}
 use Rattle.table_store.proofs.RowLaws.{gone}
 use Rattle.server_seen.specs.Written.{Written, with_key, with_keys, seen, removed, stored, written_over}
-use Rattle.server_seen.specs.Fitting.{IsWritten}
+use Rattle.server_seen.specs.FittingChanges.{IsWritten}
 use Rattle.server_seen.specs.Stored.{IsStored}
 use Rattle.server_seen.proofs.SeenChanges.{is_over}
 

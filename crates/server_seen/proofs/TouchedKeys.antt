@@ -3,14 +3,14 @@ use Rattle.std.proofs.Common.{◌≡◌, ℕ, Bool, true, false, ◌||◌, List,
 use Rattle.std.proofs.Math.Bool.{or_self_left}
 use Rattle.std.specs.Ordering.{is_eq, match_ordering, ordering_reverse}
 use Rattle.std.specs.List.{AllByRecursion}
-use Rattle.base_values.specs.Comparing.{compare_keys}
+use Rattle.base_values.specs.KeyOrder.{compare_keys}
 use Rattle.base_values.proofs.Orders.{keys_total, tied_keys}
 use Rattle.base_values.specs.GhoSchema.Rows.{key_of}
 use Rattle.table_store.specs.RowLists.{is_at}
 use Rattle.table_store.proofs.Orders.{Row, turned}
 use Rattle.server_model.specs.Rows.{same_row, stands}
 use Rattle.server_seen.specs.Written.{with_key, with_keys, is_touched}
-use Rattle.server_seen.specs.Fitting.{KeysAscend}
+use Rattle.server_seen.specs.FittingChanges.{KeysAscend}
 use Rattle.server_model.proofs.LockedRows.Tests.{or_swapped}
 use Rattle.table_store.proofs.PagedTables.RowPages.RowPlaces.{eq_turned}
 

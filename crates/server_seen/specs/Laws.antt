@@ -5,7 +5,7 @@ use Rattle.base_values.specs.GhoSchema.Tables.{Ascends}
 use Rattle.base_values.specs.declared.event.Change.{Change}
 use Rattle.server_model.specs.Rows.{change_rows, change_all}
 use Rattle.server_seen.specs.Written.{Written, nothing, untouched, put_all, seen, wrote, wrote_all, written_over}
-use Rattle.server_seen.specs.Fitting.{FitsRows, AllFit, IsWritten}
+use Rattle.server_seen.specs.FittingChanges.{FitsRows, AllFit, IsWritten}
 
 -- *Seen rows change*: where a change fits the rows that are seen, it leaves them in order, and what is seen after it was
 -- written are the changed rows.

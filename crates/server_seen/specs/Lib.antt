@@ -1,6 +1,6 @@
-pub mod Fitting
-pub mod Gathering
+pub mod FittingChanges
+pub mod GatheredRows
 pub mod Laws
-pub mod Merging
+pub mod MergePlaces
 pub mod Stored
 pub mod Written

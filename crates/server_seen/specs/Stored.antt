@@ -6,7 +6,7 @@ use Rattle.base_values.specs.declared.gho_schema.schema.Schema.{Schema}
 use Rattle.base_values.specs.GhoSchema.Rows.{key_places}
 use Rattle.table_store.specs.Databases.{TableRows}
 use Rattle.server_seen.specs.Written.{Written}
-use Rattle.server_seen.specs.Fitting.{IsWritten}
+use Rattle.server_seen.specs.FittingChanges.{IsWritten}
 
 -- keys, how many values each has at most, and for how many more keys there is room
 pub record StoredKeys : Type 0 where

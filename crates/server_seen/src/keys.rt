@@ -6,7 +6,7 @@ ghost use Rattle.base_values.specs.GhoSchema.Rows.{key_places};
 ghost use Rattle.server_model.specs.Rows.{stands};
 ghost use Rattle.server_seen.specs.Stored.{counted};
 ghost use Rattle.server_seen.specs.Written.{with_key};
-ghost use Rattle.server_seen.specs.Fitting.{KeysAscend};
+ghost use Rattle.server_seen.specs.FittingChanges.{KeysAscend};
 
 use base_values::gho_schema::{Index, Places, Schema};
 use base_values::{Chars, Duplicate, Key, Keys, Name, Sequence};
@@ -52,7 +52,7 @@ fn first_places(alloc: Global, width: usize) -> Result<Places, AllocError>
 }
 
 /// A schema whose clustered key is at these places.
-#[tactic(auto, unfolding(base_values::specs::GhoSchema::Clustering::clustered_among))]
+#[tactic(auto, unfolding(base_values::specs::GhoSchema::ClusteredKey::clustered_among))]
 fn schema_of_keys(alloc: Global, places: Places) -> Result<Schema, AllocError>
     ensures { IfOk result (λ schema. key_places schema ≡ places) }
 {

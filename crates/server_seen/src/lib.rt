@@ -4,11 +4,11 @@
 mod gathered_parts;
 mod keys;
 pub mod laws;
-mod lying;
-mod meeting;
 mod merge;
+mod met_rows;
 mod moves;
 mod seen;
+mod span_rows;
 mod written;
 
 pub use seen::SeenTable;

@@ -7,7 +7,7 @@ ghost use Rattle.base_values.specs.GhoSchema.Tables.{Ascends};
 ghost use Rattle.table_store.specs.RowLists.{without_key};
 ghost use Rattle.table_store.specs.Databases.{row_at_key};
 ghost use Rattle.server_seen.specs.Written.{put_all, seen, with_keys};
-ghost use Rattle.server_seen.specs.Fitting.{IsWritten};
+ghost use Rattle.server_seen.specs.FittingChanges.{IsWritten};
 
 use crate::keys::KeySet;
 use base_values::{Key, Keys};

@@ -4,9 +4,9 @@ ghost use Rattle.std.specs.Prelude.{◌≡◌, IfOk};
 ghost use Rattle.base_values.specs.GhoSchema.Rows.{key_places};
 ghost use Rattle.base_values.specs.GhoSchema.Tables.{Ascends};
 ghost use Rattle.server_model.specs.Rows.{rows_met};
-ghost use Rattle.server_model.specs.Saying.{displaced};
+ghost use Rattle.server_model.specs.StatementResults.{displaced};
 
-use crate::meeting::{rows_clashing, rows_met};
+use crate::met_rows::{rows_clashing, rows_met};
 use crate::written::WrittenRows;
 use base_values::gho_schema::Schema;
 use base_values::{Row, Rows};

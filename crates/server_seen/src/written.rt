@@ -4,13 +4,13 @@ ghost use Rattle.std.specs.Prelude.{◌≡◌, ◌≤◌, ◌<◌, ◌+◌, leng
 ghost use Rattle.base_values.specs.GhoSchema.Rows.{key_of, key_places};
 ghost use Rattle.base_values.specs.GhoSchema.Tables.{Ascends};
 ghost use Rattle.server_model.specs.Rows.{rows_met};
-ghost use Rattle.server_model.specs.Saying.{displaced};
+ghost use Rattle.server_model.specs.StatementResults.{displaced};
 ghost use Rattle.server_seen.specs.Written.{nothing, untouched, put_all, removed, stored, wrote, written_over};
-ghost use Rattle.server_seen.specs.Fitting.{IsWritten};
+ghost use Rattle.server_seen.specs.FittingChanges.{IsWritten};
 
 use crate::keys::KeySet;
-use crate::meeting::{rows_clashing, rows_met};
 use crate::merge::merged;
+use crate::met_rows::{rows_clashing, rows_met};
 use crate::moves::lay_over;
 use base_values::gho_schema::{Schema, key_of};
 use base_values::{Change, Duplicate, Key, Keys, Row, Rows, Sequence};

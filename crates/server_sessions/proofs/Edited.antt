@@ -3,7 +3,7 @@ use Rattle.std.proofs.Common.{◌≡◌, ℕ, ◌==◌, Bool, List, [], ◌∷�
 use Rattle.std.specs.List.{slice_set}
 use Rattle.server_model.specs.declared.session.Session.{Session}
 use Rattle.server_model.specs.declared.session.HeldName.{HeldName}
-use Rattle.server_model.specs.Serving.{exclusive, locking}
+use Rattle.server_model.specs.PlainServer.{exclusive, locking}
 use Rattle.server_model.specs.States.{with_session, session_of}
 use Rattle.server_sessions.proofs.SessionLocks.Places.{first_place, some_place, none_place}
 

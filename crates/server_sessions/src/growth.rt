@@ -1,7 +1,7 @@
 //! What one session is granted, whole or not at all.
 
 ghost use Rattle.std.specs.Prelude.{◌≡◌, ◌++◌, map, take, true, OnOk, OnErr};
-ghost use Rattle.server_model.specs.Serving.{holding, shared};
+ghost use Rattle.server_model.specs.PlainServer.{holding, shared};
 
 use base_values::{Events, Names, Sequence};
 use server_model::{Need, Session};

@@ -2,7 +2,7 @@
 
 ghost use Rattle.std.specs.Prelude.{◌≡◌, ◌==◌, ◌++◌, [], ◌∷◌, not, filter, OnOk, OnErr};
 ghost use Rattle.server_model.specs.States.{new_session, session_of, with_session, writes_of};
-ghost use Rattle.server_model.specs.Serving.{at_rest, counting, holding, locking, unlocking};
+ghost use Rattle.server_model.specs.PlainServer.{at_rest, counting, holding, locking, unlocking};
 
 use crate::growth::grow;
 use crate::lookup::place_of;

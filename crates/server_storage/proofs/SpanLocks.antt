@@ -4,8 +4,8 @@ use Rattle.std.specs.Option.{option_map}
 use Rattle.base_values.specs.declared.event.RowEvent.{RowEvent}
 use Rattle.base_values.specs.declared.span.Span.{Span}
 use Rattle.table_store.specs.Databases.{TableRows, Database, find_table}
-use Rattle.server_model.specs.Jobs.{after_events}
-use Rattle.server_model.specs.Locking.{span_needs}
+use Rattle.server_model.specs.Operations.{after_events}
+use Rattle.server_model.specs.Blockers.{span_needs}
 use Rattle.server_transaction.specs.Events.{changes_in}
 use Rattle.server_transaction.proofs.Views.{changed, found_changed}
 

@@ -13,5 +13,5 @@ pub mod server_store;
 
 pub use definitions::{create_table, drop_table, rename_tables};
 pub use ending::{commit_txn, roll_back_txn};
-pub use lookup::{say_seen, span_locks, statement_locks, txn_seen};
+pub use lookup::{execute_seen, span_locks, statement_locks, txn_seen};
 pub use making_room::make_ready;

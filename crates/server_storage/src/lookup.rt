@@ -1,12 +1,12 @@
 //! What a session sees: the committed tables with what its open transaction wrote.
 
 ghost use Rattle.std.specs.Prelude.{◌≡◌, false, [], List, IfOk, IfSome};
-ghost use Rattle.base_values.specs.GhoSchema.Clustering.{clustered_place};
+ghost use Rattle.base_values.specs.GhoSchema.ClusteredKey.{clustered_place};
 ghost use Rattle.base_values.specs.declared.event.RowEvent.{RowEvent};
 ghost use Rattle.table_store.specs.Databases.{StoredTable, database, find_table};
-ghost use Rattle.server_model.specs.Jobs.{after_events, row_needs, says};
-ghost use Rattle.server_model.specs.Locking.{span_lock, span_needs};
-ghost use Rattle.server_model.specs.Needing.{lock_on};
+ghost use Rattle.server_model.specs.Operations.{after_events, row_needs, statement_result};
+ghost use Rattle.server_model.specs.Blockers.{span_lock, span_needs};
+ghost use Rattle.server_model.specs.Needs.{lock_on};
 ghost use Rattle.server_transaction.specs.Premises.{HasSchema, IsOf, events_ready};
 ghost use Rattle.server_storage.specs.OpenTxns.Open.{written_of};
 ghost use Rattle.server_storage.specs.KeptTxns.Kept.{IsKept};
@@ -17,7 +17,7 @@ use base_values::gho_schema::{Schema, clustered_place};
 use base_values::{Duplicate, Name, Sequence, Span};
 use server_locks::row_locks::{Lock, LockSet};
 use server_transaction::server_data::ReadyResult;
-use server_transaction::{Txn, Writes, say, statement_needs};
+use server_transaction::{Txn, Writes, execute, statement_needs};
 use std::alloc::{AllocError, Global};
 use table_store::paged_tables::Tables;
 
@@ -37,7 +37,7 @@ pub fn txn_seen<'a>(txns: &'a [OpenTxn], session: u32, unwritten: &'a Txn) -> &'
 }
 
 /// What the session's statement says of the tables as the session sees them, and what it writes.
-pub fn say_seen(
+pub fn execute_seen(
     alloc: Global,
     tables: &Tables,
     txns: &[OpenTxn],
@@ -45,13 +45,13 @@ pub fn say_seen(
     statement: &Statement,
 ) -> Result<ReadyResult<Option<Writes>>, AllocError>
     requires { IsKept tables.now txns.now }
-    ensures says { IfOk result (λ told. told.result ≡ says (after_events (database tables.now) (written_of session txns.now)) statement.now) }
-    ensures events { IfOk result (λ told. events_ready told.writes ≡ told.result.events) }
-    ensures schema { IfOk result (λ told. IfSome told.writes (λ one. HasSchema (database tables.now) one.schema)) }
+    ensures statement_result { IfOk result (λ executed. executed.result ≡ statement_result (after_events (database tables.now) (written_of session txns.now)) statement.now) }
+    ensures events { IfOk result (λ executed. events_ready executed.writes ≡ executed.result.events) }
+    ensures schema { IfOk result (λ executed. IfSome executed.writes (λ one. HasSchema (database tables.now) one.schema)) }
 {
     let unwritten = Txn::new(alloc);
     let txn = txn_seen(txns, session, &unwritten);
-    say(alloc, tables, txn, statement)
+    execute(alloc, tables, txn, statement)
 }
 
 /// The row locks that the session's statement needs.

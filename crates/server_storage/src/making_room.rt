@@ -107,18 +107,18 @@ pub fn make_ready(
     tables: &mut Tables,
     txns: &mut Vec<OpenTxn>,
     session: u32,
-    told: ReadyResult<Option<Writes>>,
+    executed: ReadyResult<Option<Writes>>,
 ) -> Result<ReadyResult<Option<Writes>>, AllocError>
     requires kept { IsKept tables.old txns.old.items }
-    requires events { events_ready told.writes ≡ told.result.events }
-    requires has { IfSome told.writes (λ one. HasSchema (database tables.old) one.schema) }
-    ensures result { IfOk result (λ ready. ready.result ≡ told.result) }
+    requires events { events_ready executed.writes ≡ executed.result.events }
+    requires has { IfSome executed.writes (λ one. HasSchema (database tables.old) one.schema) }
+    ensures result { IfOk result (λ ready. ready.result ≡ executed.result) }
     ensures events { IfOk result (λ ready. events_ready ready.writes ≡ ready.result.events) }
     ensures ready { IfOk result (λ ready. AreReady tables.new txns.new.items session ready.writes) }
     ensures kept { IsKeptOn tables.new txns.old.items txns.new.items }
     ensures committed { database tables.new ≡ database tables.old }
 {
-    let ReadyResult { result, writes } = told;
+    let ReadyResult { result, writes } = executed;
     let writes = ready_writes(alloc, tables, txns, session, writes)?;
     Ok(ReadyResult { result, writes })
 }

@@ -8,7 +8,7 @@ use Rattle.table_store.proofs.Orders.{Row}
 use Rattle.table_store.proofs.ChangedTables.{new_put}
 use Rattle.table_store.proofs.NamedTables.{no_change, none_after}
 use Rattle.server_model.specs.Rows.{stands, change_rows}
-use Rattle.server_model.specs.Jobs.{change_table}
+use Rattle.server_model.specs.Operations.{change_table}
 use Rattle.server_model.proofs.LockedRows.OneRow.{same_removal}
 
 -- two changes that do the same to the one table of the name
@@ -23,7 +23,7 @@ same_first name f g table found tables false named differ is same rest = ap (λ 
 
 pub same_change : (name : List ℕ) (f g : TableRows → TableRows) (found : TableRows) (tables : Database) → NamesDiffer tables → find_table name tables ≡ Some found → f found ≡ g found → with_change name f tables ≡ with_change name g tables
 same_change name f g found [] differ is same = refl
-same_change name f g found (table ∷ tables) differ is same = same_first name f g table found tables (is_named name table) refl differ is same (λ behind. same_change name f g found tables differ.1 behind same)
+same_change name f g found (table ∷ tables) differ is same = same_first name f g table found tables (is_named name table) refl differ is same (λ following. same_change name f g found tables differ.1 following same)
 
 -- a change behind a change
 twice_here : (name : List ℕ) (f g : TableRows → TableRows) (table : TableRows) (b : Bool) → is_named name table ≡ b → ((t : TableRows) → (f t).schema.name ≡ t.schema.name) → cond (is_named name (cond b (f table) table)) (g (cond b (f table) table)) (cond b (f table) table) ≡ cond b (g (f table)) table

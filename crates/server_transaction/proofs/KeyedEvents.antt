@@ -8,7 +8,7 @@ use Rattle.base_values.specs.declared.gho_schema.schema.Schema.{Schema}
 use Rattle.base_values.specs.GhoSchema.Rows.{key_places}
 use Rattle.base_values.specs.declared.event.Change.{Change}
 use Rattle.table_store.specs.Databases.{TableRows, Database, find_table, with_change}
-use Rattle.server_model.specs.Jobs.{change_table}
+use Rattle.server_model.specs.Operations.{change_table}
 use Rattle.server_model.proofs.LockedRows.Tests.{are_same}
 use Rattle.server_model.proofs.LockedRows.Finding.{change_if, found_after}
 use Rattle.server_seen.specs.Stored.{StoredWrites}

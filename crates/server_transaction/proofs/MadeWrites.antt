@@ -4,7 +4,7 @@ use Rattle.base_values.specs.declared.gho_schema.schema.Schema.{Schema}
 use Rattle.base_values.specs.GhoSchema.Rows.{key_places}
 use Rattle.base_values.specs.declared.event.Change.{Change}
 use Rattle.table_store.proofs.Orders.{Row}
-use Rattle.server_model.specs.Jobs.{events_of}
+use Rattle.server_model.specs.Operations.{events_of}
 use Rattle.server_seen.specs.Written.{Written, nothing, wrote_all}
 use Rattle.server_transaction.specs.declared.keyed.KeyedEvent.{KeyedEvent}
 use Rattle.server_transaction.specs.Events.{keyed}

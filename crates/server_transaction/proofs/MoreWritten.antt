@@ -8,7 +8,7 @@ use Rattle.base_values.specs.declared.gho_schema.schema.Schema.{Schema}
 use Rattle.base_values.specs.GhoSchema.Rows.{key_places}
 use Rattle.base_values.specs.declared.event.Change.{Change}
 use Rattle.base_values.specs.declared.event.RowEvent.{RowEvent}
-use Rattle.server_model.specs.Jobs.{events_of}
+use Rattle.server_model.specs.Operations.{events_of}
 use Rattle.server_model.proofs.LockedRows.Tests.{are_same}
 use Rattle.server_seen.specs.Stored.{StoredWrites}
 use Rattle.server_transaction.specs.declared.keyed.KeyedEvent.{KeyedEvent}
@@ -59,9 +59,9 @@ keyed_still own tables now writes one false is are keyed_is = subst (IsKeyed one
 
 all_keyed : (own : List ℕ) (tables now : List StoredWrites) (writes : StoredWrites) (events : List KeyedEvent) → IsMore own tables now writes → AllByRecursion (λ one. IsKeyed one (find_writes one.event.table tables)) events
     → (more : List KeyedEvent) → AllByRecursion (λ one. IsKeyed one (find_writes one.event.table now)) more → AllByRecursion (λ one. IsKeyed one (find_writes one.event.table now)) (events ++ more)
-all_keyed own tables now writes [] are were more behind = behind
-all_keyed own tables now writes (one ∷ events) are were more behind =
-    (keyed_still own tables now writes one (bytes_eq own one.event.table) refl are were.0, all_keyed own tables now writes events are were.1 more behind)
+all_keyed own tables now writes [] are were more following = following
+all_keyed own tables now writes (one ∷ events) are were more following =
+    (keyed_still own tables now writes one (bytes_eq own one.event.table) refl are were.0, all_keyed own tables now writes events are were.1 more following)
 
 new_keyed : (own : List ℕ) (tables now : List StoredWrites) (writes : StoredWrites) (changes : List Change) → IsMore own tables now writes → AllByRecursion (λ one. IsKeyed one (find_writes one.event.table now)) (map (keyed (key_places writes.schema)) (events_of own changes))
 new_keyed own tables now writes [] are = tt

@@ -5,7 +5,7 @@ use Rattle.base_values.specs.declared.event.Change.{Change}
 use Rattle.table_store.proofs.Orders.{Row}
 use Rattle.server_model.specs.Rows.{change_rows, change_all}
 use Rattle.server_seen.specs.Written.{Written, nothing, seen, wrote_all, written_over}
-use Rattle.server_seen.specs.Fitting.{AllFit}
+use Rattle.server_seen.specs.FittingChanges.{AllFit}
 use Rattle.server_seen.proofs.SeenChanges.{is_nothing, is_wrote_all, is_over, changes_seen, later_over}
 use Rattle.server_model.proofs.LockedRows.WellFormed.{change_all-append}
 use Rattle.server_transaction.specs.Shown.{Represents}

@@ -12,10 +12,10 @@ use Rattle.table_store.specs.Databases.{TableRows, Database, find_table}
 use Rattle.base_script.specs.declared.statement.Statement.{Statement}
 use Rattle.server_model.specs.declared.work.StatementResult.{StatementResult}
 use Rattle.server_model.specs.Answers.{refuses}
-use Rattle.server_model.specs.Checking.{work_of}
-use Rattle.server_model.specs.Needing.{needs}
-use Rattle.server_model.specs.Saying.{tells}
-use Rattle.server_model.specs.Jobs.{table_of, job_of, result_of, result_in, needs_in, job_says, job_needs, says, row_needs, after_events}
+use Rattle.server_model.specs.Checks.{work_of}
+use Rattle.server_model.specs.Needs.{needs}
+use Rattle.server_model.specs.StatementResults.{tells}
+use Rattle.server_model.specs.Operations.{table_of, operation_of, result_of, result_in, needs_in, operation_result, operation_needs, statement_result, row_needs, after_events}
 use Rattle.server_model.specs.LockedRows.Covering.{IsWellFormedTable}
 use Rattle.server_seen.specs.Written.{Written, nothing, wrote_all}
 use Rattle.server_seen.specs.Stored.{StoredWrites}
@@ -31,18 +31,18 @@ use Rattle.server_transaction.proofs.SeenViews.{own_name, through, IsSeen, is_se
 -- the statement reads its table so
 pub record IsRead (tables : Database) (events : List RowEvent) (statement : Statement) (table : TableRows) (written : Written) : Type 0 where
   pub well_formed : IsWellFormedTable (through written table)
-  pub said : result_of table.schema.name (tells table.schema (through written table).rows (work_of table.schema statement)) ≡ says (after_events tables events) statement
+  pub said : result_of table.schema.name (tells table.schema (through written table).rows (work_of table.schema statement)) ≡ statement_result (after_events tables events) statement
   pub needed : needs table.schema (through written table).rows (work_of table.schema statement) ≡ row_needs (after_events tables events) statement
   pub has : HasSchema tables table.schema
 
-said_in : (tables : Database) (statement : Statement) (name : List ℕ) (table : TableRows) → find_table (table_of statement) tables ≡ Some table → name ≡ table_of statement → result_of name (tells table.schema table.rows (work_of table.schema statement)) ≡ says tables statement
-unfolding job_says
+said_in : (tables : Database) (statement : Statement) (name : List ℕ) (table : TableRows) → find_table (table_of statement) tables ≡ Some table → name ≡ table_of statement → result_of name (tells table.schema table.rows (work_of table.schema statement)) ≡ statement_result tables statement
+unfolding operation_result
 said_in tables statement name table found own =
-    ap (λ (n : List ℕ). result_of n (tells table.schema table.rows (work_of table.schema statement))) own ∙ sym (ap (result_in (job_of statement)) found)
+    ap (λ (n : List ℕ). result_of n (tells table.schema table.rows (work_of table.schema statement))) own ∙ sym (ap (result_in (operation_of statement)) found)
 
 needed_in : (tables : Database) (statement : Statement) (table : TableRows) → find_table (table_of statement) tables ≡ Some table → needs table.schema table.rows (work_of table.schema statement) ≡ row_needs tables statement
-unfolding job_needs
-needed_in tables statement table found = sym (ap (needs_in (job_of statement)) found)
+unfolding operation_needs
+needed_in tables statement table found = sym (ap (needs_in (operation_of statement)) found)
 
 read_by : (tables : Database) (events : List RowEvent) (statement : Statement) (table : TableRows) (written : Written) → find_table (table_of statement) tables ≡ Some table → IsSeen tables events (table_of statement) written table → IsRead tables events statement table written
 read_by tables events statement table written found seen_so =
@@ -95,13 +95,13 @@ missing_then : (tables : Database) (events : List RowEvent) (statement : Stateme
 missing_then tables events statement name own none =
     found_changed (table_of statement) events tables ∙ ap (option_map (changed (changes_in (table_of statement) events))) (sym (none ∙ ap (λ (n : List ℕ). find_table n tables) own))
 
-pub missing_says : (tables : Database) (events : List RowEvent) (statement : Statement) (name : List ℕ) → name ≡ table_of statement → None ≡ find_table name tables → let result : StatementResult = record { answer = refuses ER_NO_SUCH_TABLE; events = [] } in result ≡ says (after_events tables events) statement
-unfolding job_says
-missing_says tables events statement name own none = sym (ap (result_in (job_of statement)) (missing_then tables events statement name own none))
+pub missing_says : (tables : Database) (events : List RowEvent) (statement : Statement) (name : List ℕ) → name ≡ table_of statement → None ≡ find_table name tables → let result : StatementResult = record { answer = refuses ER_NO_SUCH_TABLE; events = [] } in result ≡ statement_result (after_events tables events) statement
+unfolding operation_result
+missing_says tables events statement name own none = sym (ap (result_in (operation_of statement)) (missing_then tables events statement name own none))
 
 pub missing_needs : (tables : Database) (events : List RowEvent) (statement : Statement) (name : List ℕ) → name ≡ table_of statement → None ≡ find_table name tables → [] ≡ row_needs (after_events tables events) statement
-unfolding job_needs
-missing_needs tables events statement name own none = sym (ap (needs_in (job_of statement)) (missing_then tables events statement name own none))
+unfolding operation_needs
+missing_needs tables events statement name own none = sym (ap (needs_in (operation_of statement)) (missing_then tables events statement name own none))
 
 -- what is written has the schema of a table that stands
 pub has_schema : (tables : Database) (schema : Schema) → HasSchema tables schema → (writes : Option TableChanges) → IfSome writes (λ one. one.schema ≡ schema) → IfSome writes (λ one. HasSchema tables one.schema)

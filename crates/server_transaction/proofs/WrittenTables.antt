@@ -27,7 +27,7 @@ found_there name tables place table is within at = find_at (named name) tables �
 
 -- no table is found where the place is behind all
 pub none_there : (name : List ℕ) (tables : List StoredWrites) (place : ℕ) → place ≡ position_or_len (named name) tables → length tables ≤ place → find_writes name tables ≡ None
-none_there name tables place is behind = find_at (named name) tables ∙ ap (slice_get tables) (sym is) ∙ slice_get_past tables place behind
+none_there name tables place is following = find_at (named name) tables ∙ ap (slice_get tables) (sym is) ∙ slice_get_past tables place following
 
 -- a table that is found has the name
 named_first : (name : List ℕ) (first table : StoredWrites) (tables : List StoredWrites) (b : Bool) → named name first ≡ b → cond b (Some first) (find_writes name tables) ≡ Some table → (find_writes name tables ≡ Some table → named name table ≡ true) → named name table ≡ true
@@ -114,8 +114,8 @@ laid_there later tables place old now is within at same still written_is =
     }
 
 pub laid_after : (later : StoredWrites) (tables : List StoredWrites) (place : ℕ) → place ≡ position_or_len (named later.schema.name) tables → length tables ≤ place → IsWrittenTo later tables (tables ++ later ∷ [])
-laid_after later tables place is behind =
-    let none : find_writes later.schema.name tables ≡ None = none_there later.schema.name tables place is behind in
+laid_after later tables place is following =
+    let none : find_writes later.schema.name tables ≡ None = none_there later.schema.name tables place is following in
     record {
       writes = later;
       more = written_after later.schema.name tables later none refl;
@@ -126,7 +126,7 @@ laid_after later tables place is behind =
 
 -- there is room for one table more where nothing was written to the table
 pub room_after : (room : ℕ) (later : StoredWrites) (tables : List StoredWrites) (place : ℕ) → place ≡ position_or_len (named later.schema.name) tables → length tables ≤ place → HasRoomIn later.written (find_writes later.schema.name tables) room → 1 ≤ room
-room_after room later tables place is behind has = subst (λ (o : Option StoredWrites). HasRoomIn later.written o room) (none_there later.schema.name tables place is behind) has
+room_after room later tables place is following has = subst (λ (o : Option StoredWrites). HasRoomIn later.written o room) (none_there later.schema.name tables place is following) has
 
 -- only the room of a table changes
 pub plain_there : (tables : List StoredWrites) (place : ℕ) (old now : StoredWrites) → old ≡ get_or tables place old → now.schema ≡ old.schema → now.written ≡ old.written → map plain (set tables place now) ≡ map plain tables
@@ -140,6 +140,6 @@ room_there (Ok done) name tables n room place old now is within at same has = su
 room_there (Err fault) name tables n room place old now is within at same has = tt
 
 pub room_one : {E : Type 0} (result : Result (Unit {0}) E) (name : List ℕ) (tables now : List StoredWrites) (n room place : ℕ) → place ≡ position_or_len (named name) tables → length tables ≤ place → now ≡ tables → OnOk result (1 ≤ room) → OnOk result (HasRoomFor n (find_writes name now) room)
-room_one (Ok done) name tables now n room place is behind same has =
-    subst (λ (o : Option StoredWrites). HasRoomFor n o room) (sym (ap (find_writes name) same ∙ none_there name tables place is behind)) has
-room_one (Err fault) name tables now n room place is behind same has = tt
+room_one (Ok done) name tables now n room place is following same has =
+    subst (λ (o : Option StoredWrites). HasRoomFor n o room) (sym (ap (find_writes name) same ∙ none_there name tables place is following)) has
+room_one (Err fault) name tables now n room place is following same has = tt

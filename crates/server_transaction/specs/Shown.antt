@@ -8,7 +8,7 @@ use Rattle.base_values.specs.GhoSchema.Tables.{Ascends}
 use Rattle.base_values.specs.declared.event.Change.{Change}
 use Rattle.server_model.specs.Rows.{change_all}
 use Rattle.server_seen.specs.Written.{Written, seen}
-use Rattle.server_seen.specs.Fitting.{AllFit, IsWritten}
+use Rattle.server_seen.specs.FittingChanges.{AllFit, IsWritten}
 use Rattle.server_seen.specs.Stored.{StoredWrites}
 
 -- *Represents*: on all rows that the changes fit, what was written shows the changed rows.

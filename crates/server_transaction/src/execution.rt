@@ -4,10 +4,10 @@ ghost use Rattle.std.specs.Prelude.{◌≡◌, [], Some, None, IfOk, IfSome};
 ghost use Rattle.base_values.specs.GhoSchema.Rows.{key_places};
 ghost use Rattle.table_store.specs.Databases.{database};
 ghost use Rattle.server_model.specs.Answers.{refuses};
-ghost use Rattle.server_model.specs.Checking.{work_of};
-ghost use Rattle.server_model.specs.Needing.{needs};
-ghost use Rattle.server_model.specs.Jobs.{table_of, events_of, result_of, says, row_needs, after_events};
-ghost use Rattle.server_model.specs.Saying.{tells};
+ghost use Rattle.server_model.specs.Checks.{work_of};
+ghost use Rattle.server_model.specs.Needs.{needs};
+ghost use Rattle.server_model.specs.Operations.{table_of, events_of, result_of, statement_result, row_needs, after_events};
+ghost use Rattle.server_model.specs.StatementResults.{tells};
 ghost use Rattle.server_model.specs.LockedRows.Covering.{IsWellFormedTable, IsSound};
 ghost use Rattle.server_transaction.specs.Premises.{HasSchema, IsOf, events_ready};
 ghost use Rattle.server_seen.specs.Written.{seen};
@@ -65,17 +65,17 @@ pub fn tell(
 ) -> Result<ReadyResult<Option<Writes>>, AllocError>
     requires well_formed { IsWellFormedTable seen.now }
     requires sound { IsSound seen.now.schema.columns work.now }
-    ensures says { IfOk result (λ told. told.result ≡ result_of seen.now.schema.name (tells seen.now.schema seen.now.rows work.now)) }
-    ensures events { IfOk result (λ told. events_ready told.writes ≡ told.result.events) }
-    ensures schema { IfOk result (λ told. IfSome told.writes (λ one. one.schema ≡ seen.now.schema)) }
+    ensures statement_result { IfOk result (λ executed. executed.result ≡ result_of seen.now.schema.name (tells seen.now.schema seen.now.rows work.now)) }
+    ensures events { IfOk result (λ executed. events_ready executed.writes ≡ executed.result.events) }
+    ensures schema { IfOk result (λ executed. IfSome executed.writes (λ one. one.schema ≡ seen.now.schema)) }
 {
     let schema = seen.schema();
-    let told = tells(alloc, seen, work)?;
-    let writes = writes_of(alloc, schema, told.changes.as_slice())?;
-    let events = events_of(alloc, &schema.name, told.changes)?;
+    let executed = tells(alloc, seen, work)?;
+    let writes = writes_of(alloc, schema, executed.changes.as_slice())?;
+    let events = events_of(alloc, &schema.name, executed.changes)?;
     Ok(ReadyResult {
         result: StatementResult {
-            answer: told.answer,
+            answer: executed.answer,
             events,
         },
         writes,
@@ -91,9 +91,9 @@ fn say_of(
 ) -> Result<ReadyResult<Option<Writes>>, AllocError>
     requires schema { written.now.schema ≡ table.now.table.schema }
     requires well_formed { IsWellFormedTable (record { schema = table.now.table.schema; rows = seen (key_places table.now.table.schema) written.now.written table.now.table.rows }) }
-    ensures says { IfOk result (λ told. told.result ≡ result_of table.now.table.schema.name (tells table.now.table.schema (seen (key_places table.now.table.schema) written.now.written table.now.table.rows) (work_of table.now.table.schema statement.now))) }
-    ensures events { IfOk result (λ told. events_ready told.writes ≡ told.result.events) }
-    ensures schema { IfOk result (λ told. IfSome told.writes (λ one. one.schema ≡ table.now.table.schema)) }
+    ensures statement_result { IfOk result (λ executed. executed.result ≡ result_of table.now.table.schema.name (tells table.now.table.schema (seen (key_places table.now.table.schema) written.now.written table.now.table.rows) (work_of table.now.table.schema statement.now))) }
+    ensures events { IfOk result (λ executed. events_ready executed.writes ≡ executed.result.events) }
+    ensures schema { IfOk result (λ executed. IfSome executed.writes (λ one. one.schema ≡ table.now.table.schema)) }
 {
     let work = work_of(alloc, table.schema(), statement)?;
     tell(alloc, &SeenTable::new(table, written), &work)
@@ -115,7 +115,7 @@ fn needs_of(
 
 /// What is said where the table doesn't exist.
 pub fn missing(alloc: Global) -> ReadyResult<Option<Writes>>
-    ensures says { result.result ≡ record { answer = refuses ER_NO_SUCH_TABLE; events = [] } }
+    ensures statement_result { result.result ≡ record { answer = refuses ER_NO_SUCH_TABLE; events = [] } }
     ensures writes { result.writes ≡ None }
 {
     ReadyResult {
@@ -128,16 +128,16 @@ pub fn missing(alloc: Global) -> ReadyResult<Option<Writes>>
 }
 
 /// What the session's statement says, and what it writes, made ready.
-pub fn say(
+pub fn execute(
     alloc: Global,
     tables: &Tables,
     txn: &Txn,
     statement: &Statement,
 ) -> Result<ReadyResult<Option<Writes>>, AllocError>
     requires { IsOf (database tables.now) txn.now }
-    ensures says { IfOk result (λ told. told.result ≡ says (after_events (database tables.now) txn.now.events) statement.now) }
-    ensures events { IfOk result (λ told. events_ready told.writes ≡ told.result.events) }
-    ensures schema { IfOk result (λ told. IfSome told.writes (λ one. HasSchema (database tables.now) one.schema)) }
+    ensures statement_result { IfOk result (λ executed. executed.result ≡ statement_result (after_events (database tables.now) txn.now.events) statement.now) }
+    ensures events { IfOk result (λ executed. events_ready executed.writes ≡ executed.result.events) }
+    ensures schema { IfOk result (λ executed. IfSome executed.writes (λ one. HasSchema (database tables.now) one.schema)) }
 {
     let name = table_of(statement);
     let Some(table) = tables.find(name) else {

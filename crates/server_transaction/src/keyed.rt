@@ -3,7 +3,7 @@
 ghost use Rattle.std.specs.Prelude.{◌≡◌, ◌≤◌, ◌-◌, ◌++◌, length, map, vec_len, vec_capacity, IfOk, OnOk};
 ghost use Rattle.std.specs.Option.{option_map};
 ghost use Rattle.base_values.specs.GhoSchema.Rows.{key_of};
-ghost use Rattle.server_model.specs.Jobs.{events_of};
+ghost use Rattle.server_model.specs.Operations.{events_of};
 ghost use Rattle.server_transaction.specs.Events.{gone_row, keyed};
 
 use base_values::gho_schema::key_of;

@@ -3,4 +3,4 @@
 mod copies;
 mod work;
 
-pub use copies::{copy_needs, say_copy};
+pub use copies::{copy_needs, execute_copy};

@@ -10,9 +10,9 @@ use Rattle.base_values.specs.SchemaRules.Results.{◌>>=◌}
 use Rattle.sql_grammar.specs.Tokens.{is_keyword, same_sign}
 use Rattle.sql_change.specs.declared.code.AlterCode.{AlterCode}
 use Rattle.sql_change.specs.declared.code.AlterCode.TheVariants as refusals
-use Rattle.sql_alter.specs.Adding.{add_at, change_at, modify_at}
+use Rattle.sql_alter.specs.Additions.{add_at, change_at, modify_at}
 use Rattle.sql_alter.specs.Pieces.{Read, in_alter}
-use Rattle.sql_alter.specs.Removing.{drop_at, rename_at}
+use Rattle.sql_alter.specs.Removals.{drop_at, rename_at}
 
 -- A clause begins with one of five words. One that begins with another isn't taken, and one without any word is a mistake.
 unfoldable pub clause_at : List Token → Read Clause

@@ -50,7 +50,7 @@ after_at words = do
 
 -- FIRST, or AFTER and a column, or nothing
 abbrev pub column_position_of : List Token → Option (List Token) → Option (List Token) → Read ColumnPosition
-column_position_of words (Some rest) behind = Ok (First, rest)
+column_position_of words (Some rest) following = Ok (First, rest)
 column_position_of words None (Some rest) = after_at rest
 column_position_of words None None = Ok (Unsaid, words)
 

@@ -1,6 +1,6 @@
-pub mod Adding
+pub mod Additions
 pub mod Clauses
 pub mod Column
 pub mod Pieces
-pub mod Reading
-pub mod Removing
+pub mod AlterText
+pub mod Removals

@@ -1,7 +1,7 @@
 //! Clauses that write a column or an index: ADD, CHANGE and MODIFY.
 
 ghost use Rattle.base_values.specs.Faults.{Answers};
-ghost use Rattle.sql_alter.specs.Adding.{add_column_at, add_index_at, add_at, change_at, modify_at};
+ghost use Rattle.sql_alter.specs.Additions.{add_column_at, add_index_at, add_at, change_at, modify_at};
 
 use crate::column::{column_position_at, new_column_at};
 use crate::pieces::{after_column, is_index_word, is_out_of_scope, key_at, keyword_at, name_at};
@@ -11,7 +11,7 @@ use sql_change::{AlterCode, AlterFault};
 use sql_grammar::{KeyText, Token};
 use std::alloc::Global;
 
-#[tactic(auto, unfolding(crate::specs::Adding::add_column_at))]
+#[tactic(auto, unfolding(crate::specs::Additions::add_column_at))]
 fn add_column_at(alloc: Global, words: &[Token]) -> Result<(Clause, &[Token]), AlterFault>
     ensures { Answers (λ clause. (clause.0, clause.1.now)) result (add_column_at words.now) }
 {
@@ -26,7 +26,7 @@ fn add_column_at(alloc: Global, words: &[Token]) -> Result<(Clause, &[Token]), A
     ))
 }
 
-#[tactic(auto, unfolding(crate::specs::Adding::add_index_at))]
+#[tactic(auto, unfolding(crate::specs::Additions::add_index_at))]
 fn add_index_at(alloc: Global, words: &[Token]) -> Result<(Clause, &[Token]), AlterFault>
     ensures { Answers (λ clause. (clause.0, clause.1.now)) result (add_index_at words.now) }
 {
@@ -36,7 +36,7 @@ fn add_index_at(alloc: Global, words: &[Token]) -> Result<(Clause, &[Token]), Al
 }
 
 /// The clause whose ADD comes before these words, and what follows it.
-#[tactic(auto, unfolding(crate::specs::Adding::add_at))]
+#[tactic(auto, unfolding(crate::specs::Additions::add_at))]
 pub fn add_at(alloc: Global, words: &[Token]) -> Result<(Clause, &[Token]), AlterFault>
     ensures { Answers (λ clause. (clause.0, clause.1.now)) result (add_at words.now) }
 {
@@ -60,7 +60,7 @@ pub fn add_at(alloc: Global, words: &[Token]) -> Result<(Clause, &[Token]), Alte
 }
 
 /// The clause whose CHANGE comes before these words, and what follows it.
-#[tactic(auto, unfolding(crate::specs::Adding::change_at))]
+#[tactic(auto, unfolding(crate::specs::Additions::change_at))]
 pub fn change_at(alloc: Global, words: &[Token]) -> Result<(Clause, &[Token]), AlterFault>
     ensures { Answers (λ clause. (clause.0, clause.1.now)) result (change_at words.now) }
 {
@@ -78,7 +78,7 @@ pub fn change_at(alloc: Global, words: &[Token]) -> Result<(Clause, &[Token]), A
 }
 
 /// The clause whose MODIFY comes before these words, and what follows it.
-#[tactic(auto, unfolding(crate::specs::Adding::modify_at))]
+#[tactic(auto, unfolding(crate::specs::Additions::modify_at))]
 pub fn modify_at(alloc: Global, words: &[Token]) -> Result<(Clause, &[Token]), AlterFault>
     ensures { Answers (λ clause. (clause.0, clause.1.now)) result (modify_at words.now) }
 {

@@ -47,10 +47,10 @@ fn list_at(alloc: Global, words: &[Token]) -> Result<(Clauses, &[Token]), AlterF
     let mut clauses = Sequence::new(alloc);
     let mut rest = words;
     for _ in 0..words.len() {
-        let (clause, behind) = clause_at(alloc, rest)?;
+        let (clause, following) = clause_at(alloc, rest)?;
         clauses.push(clause)?;
-        match after_sign(",", behind) {
-            None => return Ok((clauses, behind)),
+        match after_sign(",", following) {
+            None => return Ok((clauses, following)),
             Some(next) => rest = next,
         }
     }
@@ -73,11 +73,11 @@ fn after_table<'a>(
     alloc: Global,
     table: &Name,
     words: &'a [Token],
-    behind: &'a [Token],
+    following: &'a [Token],
 ) -> Result<&'a [Token], AlterFault>
-    ensures { Answers (λ rest. rest.now) result (after_table table.now words.now (after_keyword (codes "TABLE") behind.now)) }
+    ensures { Answers (λ rest. rest.now) result (after_table table.now words.now (after_keyword (codes "TABLE") following.now)) }
 {
-    match after_keyword("TABLE", behind) {
+    match after_keyword("TABLE", following) {
         None => Ok(words),
         Some(rest) => {
             let (name, rest) = name_at(alloc, rest)?;
@@ -101,6 +101,6 @@ pub fn front_at<'a>(
 {
     match after_keyword("ALTER", words) {
         None => Ok(words),
-        Some(behind) => after_table(alloc, table, words, behind),
+        Some(following) => after_table(alloc, table, words, following),
     }
 }

@@ -41,9 +41,9 @@ fn new_attributes_at(alloc: Global, words: &[Token]) -> Result<(Attributes, &[To
     for _ in 0..words.len() {
         match new_attribute_at(alloc, rest)? {
             None => return Ok((attributes, rest)),
-            Some((attribute, behind)) => {
+            Some((attribute, following)) => {
                 attributes = attributes.with(attribute);
-                rest = behind;
+                rest = following;
             }
         }
     }

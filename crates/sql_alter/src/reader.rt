@@ -1,7 +1,7 @@
 //! The reader of ALTER TABLE.
 
 ghost use Rattle.base_values.specs.Faults.{Answers};
-ghost use Rattle.sql_alter.specs.Reading.{alter_at};
+ghost use Rattle.sql_alter.specs.AlterText.{alter_at};
 
 use crate::clauses::{clauses_at, front_at};
 use base_values::Name;

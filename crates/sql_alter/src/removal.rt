@@ -1,7 +1,7 @@
 //! Clauses that take something away or give it another name: DROP and RENAME.
 
 ghost use Rattle.base_values.specs.Faults.{Answers};
-ghost use Rattle.sql_alter.specs.Removing.{drop_column_at, drop_index_at, drop_at, rename_column_at, rename_at};
+ghost use Rattle.sql_alter.specs.Removals.{drop_column_at, drop_index_at, drop_at, rename_column_at, rename_at};
 
 use crate::pieces::{after_column, is_index_word, is_out_of_scope, keyword_at, name_at};
 use base_values::row_conversion::Clause;
@@ -9,7 +9,7 @@ use sql_change::{AlterCode, AlterFault};
 use sql_grammar::Token;
 use std::alloc::Global;
 
-#[tactic(auto, unfolding(crate::specs::Removing::drop_column_at))]
+#[tactic(auto, unfolding(crate::specs::Removals::drop_column_at))]
 fn drop_column_at(alloc: Global, words: &[Token]) -> Result<(Clause, &[Token]), AlterFault>
     ensures { Answers (λ clause. (clause.0, clause.1.now)) result (drop_column_at words.now) }
 {
@@ -17,7 +17,7 @@ fn drop_column_at(alloc: Global, words: &[Token]) -> Result<(Clause, &[Token]), 
     Ok((Clause::Drop(name), rest))
 }
 
-#[tactic(auto, unfolding(crate::specs::Removing::drop_index_at))]
+#[tactic(auto, unfolding(crate::specs::Removals::drop_index_at))]
 fn drop_index_at(alloc: Global, words: &[Token]) -> Result<(Clause, &[Token]), AlterFault>
     ensures { Answers (λ clause. (clause.0, clause.1.now)) result (drop_index_at words.now) }
 {
@@ -26,7 +26,7 @@ fn drop_index_at(alloc: Global, words: &[Token]) -> Result<(Clause, &[Token]), A
 }
 
 /// The clause whose DROP comes before these words, and what follows it.
-#[tactic(auto, unfolding(crate::specs::Removing::drop_at))]
+#[tactic(auto, unfolding(crate::specs::Removals::drop_at))]
 pub fn drop_at(alloc: Global, words: &[Token]) -> Result<(Clause, &[Token]), AlterFault>
     ensures { Answers (λ clause. (clause.0, clause.1.now)) result (drop_at words.now) }
 {
@@ -47,7 +47,7 @@ pub fn drop_at(alloc: Global, words: &[Token]) -> Result<(Clause, &[Token]), Alt
     }
 }
 
-#[tactic(auto, unfolding(crate::specs::Removing::rename_column_at))]
+#[tactic(auto, unfolding(crate::specs::Removals::rename_column_at))]
 fn rename_column_at(alloc: Global, words: &[Token]) -> Result<(Clause, &[Token]), AlterFault>
     ensures { Answers (λ clause. (clause.0, clause.1.now)) result (rename_column_at words.now) }
 {
@@ -58,7 +58,7 @@ fn rename_column_at(alloc: Global, words: &[Token]) -> Result<(Clause, &[Token])
 }
 
 /// The clause whose RENAME comes before these words, and what follows it.
-#[tactic(auto, unfolding(crate::specs::Removing::rename_at))]
+#[tactic(auto, unfolding(crate::specs::Removals::rename_at))]
 pub fn rename_at(alloc: Global, words: &[Token]) -> Result<(Clause, &[Token]), AlterFault>
     ensures { Answers (λ clause. (clause.0, clause.1.now)) result (rename_at words.now) }
 {

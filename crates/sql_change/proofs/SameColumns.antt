@@ -3,7 +3,7 @@ use Rattle.std.proofs.Common.{◌≡◌, ◌≢◌, ℕ, suc, ◌+◌, ◌<◌, 
 use Rattle.std.specs.List.{slice_get}
 use Rattle.std.proofs.Math.Bool.{and-false}
 use Rattle.std.proofs.lemmas.List.{drop_more, drop_all}
-use Rattle.sql_change.specs.Altering.{is_origin, same_columns}
+use Rattle.sql_change.specs.AlteredSchema.{is_origin, same_columns}
 
 -- keys of different lengths have different columns
 pub lengths_differ : (origins : List (Option ℕ)) (places old : List ℕ) → length places ≢ length old → same_columns origins places old ≡ false

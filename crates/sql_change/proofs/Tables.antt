@@ -15,7 +15,7 @@ use Rattle.base_values.specs.declared.row_conversion.clause.NewColumn.{NewColumn
 use Rattle.base_values.specs.declared.row_conversion.clause.ColumnPosition.{ColumnPosition}
 use Rattle.base_values.specs.declared.row_conversion.clause.ColumnPosition.TheVariants.{Unsaid, First, After}
 use Rattle.base_values.specs.SchemaRules.Results.{◌>>=◌}
-use Rattle.base_values.specs.GhoSchema.Clustering.{clustered_place}
+use Rattle.base_values.specs.GhoSchema.ClusteredKey.{clustered_place}
 use Rattle.base_values.specs.SchemaRules.Reasons.{first_reason}
 use Rattle.base_values.specs.SchemaRules.Defaults.{defaults_fit}
 use Rattle.base_values.specs.SchemaRules.Valid.{IsKey, IsValid}
@@ -23,13 +23,13 @@ use Rattle.base_values.specs.SchemaRules.Limits.{is_column_name}
 use Rattle.sql_change.specs.declared.code.AlterCode.{AlterCode}
 use Rattle.sql_change.specs.declared.code.AlterCode.TheVariants as codes
 use Rattle.sql_change.specs.declared.places.PlaceChange.TheVariants.{Added, Dropped, Moved}
-use Rattle.sql_change.specs.declared.so_far.Standing.{Standing}
-use Rattle.sql_change.specs.Altering.{step}
-use Rattle.sql_change.specs.Changing.{add_reasons, added, dropped_at, dropped, rename_reasons, with_name, renamed_in, renamed_at, renamed, change_reasons, changed_nullable, changed_in, is_unapproved, unless_unapproved, changed_column, changed_at, changed}
-use Rattle.sql_change.specs.Columns.{column_place, has_column, beside, found_at, column_named, is_in_keys, is_column_position, behind, column_position_place, column_of, fitting}
-use Rattle.sql_change.specs.Indexing.{index_name, index_reasons, index_of, with_index, indexed_as, indexed, index_place, is_clustered, without_unique, without_index, unindexed_at, unindexed}
+use Rattle.sql_change.specs.declared.so_far.AlteredSoFar.{AlteredSoFar}
+use Rattle.sql_change.specs.AlteredSchema.{step}
+use Rattle.sql_change.specs.ClauseResults.{add_reasons, added, dropped_at, dropped, rename_reasons, with_name, renamed_in, renamed_at, renamed, change_reasons, changed_nullable, changed_in, is_unapproved, unless_unapproved, changed_column, changed_at, changed}
+use Rattle.sql_change.specs.Columns.{column_place, has_column, beside, found_at, column_named, is_in_keys, is_column_position, following, column_position_place, column_of, fitting}
+use Rattle.sql_change.specs.IndexClauses.{index_name, index_reasons, index_of, with_index, indexed_as, indexed, index_place, is_clustered, without_unique, without_index, unindexed_at, unindexed}
 use Rattle.sql_change.specs.Places.{keys_after, indexes_after, ArePlaces}
-use Rattle.sql_change.specs.Standing.{places_from, start, with_columns, put_in, taken_out, origin_at, moved_to, Stands}
+use Rattle.sql_change.specs.AlteredSoFar.{places_from, start, with_columns, put_in, taken_out, origin_at, moved_to, Stands}
 use Rattle.base_values.proofs.SchemaRules.Lists.{All-filter_map, All-append, All-remove, position-within}
 use Rattle.sql_change.proofs.KeyPlaces.{keys_after-within, indexes_after-within}
 use Rattle.base_values.proofs.SchemaRules.Steps.{bind_ok, unless_ok, none_first, ok_is, let_through, kept_out}
@@ -52,19 +52,19 @@ pub column_named-within : (columns : List Column) (name : List ℕ) (found : ℕ
 unfolding column_named
 column_named-within columns name found e = found_at-within columns (column_place columns name) found (column_place-within columns name) e
 
-behind-within : (count : ℕ) (o : Option ℕ) → ((place : ℕ) → o ≡ Some place → place < count) → behind o ≤ count
-behind-within count (Some place) within = let lt : place < count = within place refl in omega arith
-behind-within count None within = omega arith
+following-within : (count : ℕ) (o : Option ℕ) → ((place : ℕ) → o ≡ Some place → place < count) → following o ≤ count
+following-within count (Some place) within = let lt : place < count = within place refl in omega arith
+following-within count None within = omega arith
 
 pub column_position_place-within : (columns : List Column) (column_position : ColumnPosition) (place : ℕ) → place ≤ length columns → column_position_place columns column_position place ≤ length columns
 unfolding column_position_place
 column_position_place-within columns Unsaid place le = le
 column_position_place-within columns First place le = omega arith
-column_position_place-within columns (After name) place le = behind-within (length columns) (column_place columns name) (column_place-within columns name)
+column_position_place-within columns (After name) place le = following-within (length columns) (column_place columns name) (column_place-within columns name)
 
 -- ---- the changes
 
-put_in-stands : (standing : Standing) (at : ℕ) (column : Column) → Stands standing → length standing.schema.columns < 64 → at ≤ length standing.schema.columns → Stands (put_in standing at column)
+put_in-stands : (standing : AlteredSoFar) (at : ℕ) (column : Column) → Stands standing → length standing.schema.columns < 64 → at ≤ length standing.schema.columns → Stands (put_in standing at column)
 unfolding put_in with_columns
 put_in-stands standing at column stands few le =
     let count = length standing.schema.columns in
@@ -77,7 +77,7 @@ put_in-stands standing at column stands few le =
       indexes = subst (λ (n : ℕ). ArePlaces n (indexes_after (Added at) standing.schema.indexes)) (sym columns) (indexes_after-within (Added at) count standing.schema.indexes tt stands.indexes);
     }
 
-taken_out-stands : (standing : Standing) (at : ℕ) → Stands standing → at < length standing.schema.columns → Stands (taken_out standing at)
+taken_out-stands : (standing : AlteredSoFar) (at : ℕ) → Stands standing → at < length standing.schema.columns → Stands (taken_out standing at)
 unfolding taken_out with_columns
 taken_out-stands standing at stands lt =
     let count = length standing.schema.columns in
@@ -91,7 +91,7 @@ taken_out-stands standing at stands lt =
       indexes = subst (λ (n : ℕ). ArePlaces n (indexes_after (Dropped at) standing.schema.indexes)) less (indexes_after-within (Dropped at) count standing.schema.indexes lt stands.indexes);
     }
 
-moved_to-stands : (standing : Standing) (from to : ℕ) (column : Column) → Stands standing → from < length standing.schema.columns → to < length standing.schema.columns → Stands (moved_to standing from to column)
+moved_to-stands : (standing : AlteredSoFar) (from to : ℕ) (column : Column) → Stands standing → from < length standing.schema.columns → to < length standing.schema.columns → Stands (moved_to standing from to column)
 unfolding moved_to with_columns
 moved_to-stands standing from to column stands lt within =
     let count = length standing.schema.columns in
@@ -107,7 +107,7 @@ moved_to-stands standing from to column stands lt within =
       indexes = subst (λ (n : ℕ). ArePlaces n (indexes_after (Moved from to) standing.schema.indexes)) same (indexes_after-within (Moved from to) count standing.schema.indexes (lt, within) stands.indexes);
     }
 
-renamed_in-stands : (standing : Standing) (place : ℕ) (column : Column) → Stands standing → Stands (renamed_in standing place column)
+renamed_in-stands : (standing : AlteredSoFar) (place : ℕ) (column : Column) → Stands standing → Stands (renamed_in standing place column)
 unfolding renamed_in
 renamed_in-stands standing place column stands =
     let same : length standing.schema.columns ≡ length (slice_set standing.schema.columns place column) = sym (length-set standing.schema.columns place column) in
@@ -120,7 +120,7 @@ renamed_in-stands standing place column stands =
 
 -- ---- the clauses
 
-pub fitting-is : (standing next : Standing) → fitting standing ≡ Ok next → standing ≡ next
+pub fitting-is : (standing next : AlteredSoFar) → fitting standing ≡ Ok next → standing ≡ next
 fitting-is standing next e = (let_through (defaults_fit standing.schema.columns) standing next codes.Default e).1
 
 pub few_enough : (columns : List Column) (written : NewColumn) (column_position : ColumnPosition) → first_reason (add_reasons columns written column_position) ≡ None → length columns < 64
@@ -131,7 +131,7 @@ few_enough columns written column_position none =
     let here = none_first limit codes.Scope [] third.1 in
     leb-false 64 (length columns) ((or_parts (leb 64 (length columns)) (not (is_column_name written.name)) here.0).0)
 
-added-stands : (standing next : Standing) (written : NewColumn) (column_position : ColumnPosition) → Stands standing → added standing written column_position ≡ Ok next → Stands next
+added-stands : (standing next : AlteredSoFar) (written : NewColumn) (column_position : ColumnPosition) → Stands standing → added standing written column_position ≡ Ok next → Stands next
 unfolding added
 added-stands standing next written column_position stands e =
     let columns = standing.schema.columns in
@@ -140,22 +140,22 @@ added-stands standing next written column_position stands e =
     let made = bind_ok (column_of None written (unwrap_or written.nullable true)) (λ column. fitting (put_in standing place column)) next let_in.1 in
     subst Stands (fitting-is (put_in standing place made.0) next made.2) (put_in-stands standing place made.0 stands (few_enough columns written column_position let_in.0) (column_position_place-within columns column_position (length columns) (omega arith)))
 
-dropped_at-stands : (standing next : Standing) (found : Option (ℕ × Column)) → ((f : ℕ × Column) → found ≡ Some f → f.0 < length standing.schema.columns) → Stands standing → dropped_at standing found ≡ Ok next → Stands next
+dropped_at-stands : (standing next : AlteredSoFar) (found : Option (ℕ × Column)) → ((f : ℕ × Column) → found ≡ Some f → f.0 < length standing.schema.columns) → Stands standing → dropped_at standing found ≡ Ok next → Stands next
 dropped_at-stands standing next None within stands e = absurd cc
 dropped_at-stands standing next (Some found) within stands e =
     subst Stands (kept_out (is_in_keys standing.schema.uniques found.0) (taken_out standing found.0) next codes.KeyColumnDropped e).1 (taken_out-stands standing found.0 stands (within found refl))
 
-renamed_at-stands : (approve : Bool) (standing next : Standing) (new : List ℕ) (found : Option (ℕ × Column)) → Stands standing → renamed_at approve standing new found ≡ Ok next → Stands next
+renamed_at-stands : (approve : Bool) (standing next : AlteredSoFar) (new : List ℕ) (found : Option (ℕ × Column)) → Stands standing → renamed_at approve standing new found ≡ Ok next → Stands next
 renamed_at-stands approve standing next new None stands e = absurd cc
 renamed_at-stands approve standing next new (Some found) stands e =
     let let_in = unless_ok (first_reason (rename_reasons approve standing.schema.columns found.0 found.1.name new)) (Ok (renamed_in standing found.0 (with_name found.1 new))) next e in
     subst Stands (ok_is {C = AlterCode} (renamed_in standing found.0 (with_name found.1 new)) next let_in.1) (renamed_in-stands standing found.0 (with_name found.1 new) stands)
 
-pub approved-is : (b : Bool) (standing next : Standing) → unless_unapproved b standing ≡ Ok next → standing ≡ next
+pub approved-is : (b : Bool) (standing next : AlteredSoFar) → unless_unapproved b standing ≡ Ok next → standing ≡ next
 approved-is true standing next e = absurd cc
 approved-is false standing next e = cc
 
-changed_at-stands : (approve : Bool) (standing next : Standing) (written : NewColumn) (column_position : ColumnPosition) (found : Option (ℕ × Column)) → ((f : ℕ × Column) → found ≡ Some f → f.0 < length standing.schema.columns) → Stands standing
+changed_at-stands : (approve : Bool) (standing next : AlteredSoFar) (written : NewColumn) (column_position : ColumnPosition) (found : Option (ℕ × Column)) → ((f : ℕ × Column) → found ≡ Some f → f.0 < length standing.schema.columns) → Stands standing
     → changed_at approve standing written column_position found ≡ Ok next → Stands next
 changed_at-stands approve standing next written column_position None within stands e = absurd cc
 changed_at-stands approve standing next written column_position (Some found) within stands e =
@@ -175,7 +175,7 @@ anything : (names : List (List ℕ)) → AllByRecursion (λ (n : List ℕ). Unit
 anything [] = tt
 anything (name ∷ names) = (tt, anything names)
 
-indexed_as-stands : (standing next : Standing) (names : List (List ℕ)) (name : List ℕ) → Stands standing → indexed_as standing names name ≡ Ok next → Stands next
+indexed_as-stands : (standing next : AlteredSoFar) (names : List (List ℕ)) (name : List ℕ) → Stands standing → indexed_as standing names name ≡ Ok next → Stands next
 indexed_as-stands standing next names name stands e =
     let columns = standing.schema.columns in
     let index = index_of standing.schema names name in
@@ -188,7 +188,7 @@ indexed_as-stands standing next names name stands e =
       indexes = All-append (λ (i : Index). AllByRecursion (λ place. place < length columns) i.places) standing.schema.indexes (index ∷ []) stands.indexes (places, tt);
     })
 
-unindexed_at-stands : (standing next : Standing) (unique index : Option ℕ) → Stands standing → unindexed_at standing unique index ≡ Ok next → Stands next
+unindexed_at-stands : (standing next : AlteredSoFar) (unique index : Option ℕ) → Stands standing → unindexed_at standing unique index ≡ Ok next → Stands next
 unindexed_at-stands standing next (Some place) index stands e =
     subst Stands (kept_out (is_clustered (clustered_place standing.schema) place) (without_unique standing place) next codes.ClusteredKeyChange e).1 (record {
       few = stands.few;
@@ -205,7 +205,7 @@ unindexed_at-stands standing next None (Some place) stands e =
     })
 unindexed_at-stands standing next None None stands e = absurd cc
 
-pub step-stands : (approve : Bool) (standing next : Standing) (clause : Clause) → Stands standing → step approve standing clause ≡ Ok next → Stands next
+pub step-stands : (approve : Bool) (standing next : AlteredSoFar) (clause : Clause) → Stands standing → step approve standing clause ≡ Ok next → Stands next
 unfolding step dropped renamed changed indexed unindexed
 step-stands approve standing next (Add column column_position) stands e = added-stands standing next column column_position stands e
 step-stands approve standing next (Drop name) stands e = dropped_at-stands standing next (column_named standing.schema.columns name) (column_named-within standing.schema.columns name) stands e

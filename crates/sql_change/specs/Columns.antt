@@ -14,7 +14,7 @@ use Rattle.base_values.specs.SchemaRules.Results.{◌>>=◌}
 use Rattle.base_values.specs.SchemaRules.Defaults.{stored_default, defaults_fit, default_or}
 use Rattle.sql_change.specs.declared.code.AlterCode.{AlterCode}
 use Rattle.sql_change.specs.declared.code.AlterCode.TheVariants as codes
-use Rattle.sql_change.specs.declared.so_far.Standing.{Standing}
+use Rattle.sql_change.specs.declared.so_far.AlteredSoFar.{AlteredSoFar}
 
 -- ---- names
 
@@ -60,15 +60,15 @@ is_column_position columns First = true
 is_column_position columns (After name) = has_column columns name
 
 -- the place after one; in front where there is none
-abbrev pub behind : Option ℕ → ℕ
-behind (Some place) = place + 1
-behind None = 0
+abbrev pub following : Option ℕ → ℕ
+following (Some place) = place + 1
+following None = 0
 
 -- where a column is put among the others; where nothing is said, at this place
 unfoldable pub column_position_place : List Column → ColumnPosition → ℕ → ℕ
 column_position_place columns Unsaid place = place
 column_position_place columns First place = 0
-column_position_place columns (After name) place = behind (column_place columns name)
+column_position_place columns (After name) place = following (column_place columns name)
 
 -- ---- defaults
 
@@ -90,7 +90,7 @@ column_of origin written nullable = do
   unless_lacking (lacks_default origin nullable default) (record { name = written.name; kind = written.kind; nullable = nullable; default = default })
 
 -- the defaults of a table fit together
-abbrev pub fitting : Standing → Result Standing AlterCode
+abbrev pub fitting : AlteredSoFar → Result AlteredSoFar AlterCode
 fitting standing = if defaults_fit standing.schema.columns then Ok standing else Err codes.Default
 
 -- ---- conversions

@@ -1,7 +1,7 @@
-pub mod Altering
-pub mod Changing
+pub mod AlteredSchema
+pub mod ClauseResults
 pub mod Codes
 pub mod Columns
-pub mod Indexing
+pub mod IndexClauses
 pub mod Places
-pub mod Standing
+pub mod AlteredSoFar

@@ -2,13 +2,13 @@
 
 ghost use Rattle.std.specs.Prelude.{◌≡◌};
 ghost use Rattle.base_values.specs.SchemaRules.Reasons.{first_reason};
-ghost use Rattle.sql_change.specs.Changing.{add_reasons, added};
+ghost use Rattle.sql_change.specs.ClauseResults.{add_reasons, added};
 ghost use Rattle.base_values.specs.Faults.{Answers};
-ghost use Rattle.sql_change.specs.Standing.{Stands};
+ghost use Rattle.sql_change.specs.AlteredSoFar.{Stands};
 
 use crate::code::{AlterCode, AlterFault};
 use crate::columns::{column_of, column_position_place, fitting, has_column, is_column_position};
-use crate::so_far::Standing;
+use crate::so_far::AlteredSoFar;
 use base_values::gho_schema::Column;
 use base_values::row_conversion::{ColumnPosition, NewColumn};
 use base_values::schema_rules::is_column_name;
@@ -35,13 +35,13 @@ fn add_reason(
 }
 
 /// The table with a column more.
-#[tactic(auto, unfolding(crate::specs::Changing::added))]
+#[tactic(auto, unfolding(crate::specs::ClauseResults::added))]
 pub fn added(
     alloc: Global,
-    standing: &Standing,
+    standing: &AlteredSoFar,
     written: &NewColumn,
     column_position: &ColumnPosition,
-) -> Result<Standing, AlterFault>
+) -> Result<AlteredSoFar, AlterFault>
     requires { Stands standing.now }
     ensures { Answers (λ standing. standing) result (added standing.now written.now column_position.now) }
 {

@@ -4,9 +4,9 @@ ghost use Rattle.std.specs.Prelude.{◌≡◌, option_map, IfOk};
 ghost use Rattle.std.specs.List.{slice_get};
 ghost use Rattle.base_values.specs.SchemaRules.Reasons.{first_reason};
 ghost use Rattle.base_values.specs.SchemaRules.Valid.{IsValid};
-ghost use Rattle.sql_change.specs.Altering.{step, steps, is_origin, same_columns, keeps_key, result_reasons, result_of, altered};
+ghost use Rattle.sql_change.specs.AlteredSchema.{step, steps, is_origin, same_columns, keeps_key, result_reasons, result_of, altered};
 ghost use Rattle.base_values.specs.Faults.{Answers};
-ghost use Rattle.sql_change.specs.Standing.{start, Stands};
+ghost use Rattle.sql_change.specs.AlteredSoFar.{start, Stands};
 
 use crate::additions::added;
 use crate::changes::changed;
@@ -15,18 +15,18 @@ use crate::drops::dropped;
 use crate::index::{indexed, unindexed};
 use crate::mapping::map_of;
 use crate::renames::renamed;
-use crate::so_far::Standing;
+use crate::so_far::AlteredSoFar;
 use base_values::gho_schema::{Index, Schema, are_not_null, clustered_key};
 use base_values::row_conversion::{Clause, Clauses, ColumnMap};
 use std::alloc::Global;
 
-#[tactic(auto, unfolding(crate::specs::Altering::step))]
+#[tactic(auto, unfolding(crate::specs::AlteredSchema::step))]
 fn step(
     alloc: Global,
     approve: bool,
-    standing: &Standing,
+    standing: &AlteredSoFar,
     clause: &Clause,
-) -> Result<Standing, AlterFault>
+) -> Result<AlteredSoFar, AlterFault>
     requires { Stands standing.now }
     ensures { Answers (λ standing. standing) result (step approve standing.now clause.now) }
 {
@@ -50,9 +50,9 @@ fn step(
 fn steps(
     alloc: Global,
     approve: bool,
-    start: Standing,
+    start: AlteredSoFar,
     clauses: &[Clause],
-) -> Result<Standing, AlterFault>
+) -> Result<AlteredSoFar, AlterFault>
     requires { Stands start }
     ensures said { Answers (λ standing. standing) result (steps approve start clauses.now) }
     ensures stands { IfOk result Stands }
@@ -88,7 +88,7 @@ fn same_columns(origins: &[Option<usize>], places: &[usize], old: &[usize]) -> b
     true
 }
 
-fn keeps_key(standing: &Standing, old: Option<&Index>, new: Option<&Index>) -> bool
+fn keeps_key(standing: &AlteredSoFar, old: Option<&Index>, new: Option<&Index>) -> bool
     ensures { result ≡ keeps_key standing.now (option_map (λ index. index.now) old.entry) (option_map (λ index. index.now) new.entry) }
 {
     match (old, new) {
@@ -101,7 +101,7 @@ fn keeps_key(standing: &Standing, old: Option<&Index>, new: Option<&Index>) -> b
     }
 }
 
-fn result_reason(old: &Schema, standing: &Standing) -> Option<AlterCode>
+fn result_reason(old: &Schema, standing: &AlteredSoFar) -> Option<AlterCode>
     ensures { result ≡ first_reason (result_reasons old.now standing.now) }
 {
     let schema = &standing.schema;
@@ -117,7 +117,7 @@ fn result_reason(old: &Schema, standing: &Standing) -> Option<AlterCode>
 fn result_of(
     alloc: Global,
     old: &Schema,
-    standing: Standing,
+    standing: AlteredSoFar,
 ) -> Result<(Schema, ColumnMap), AlterFault>
     requires { Stands standing }
     ensures { Answers (λ new. new) result (result_of old.now standing) }
@@ -134,7 +134,7 @@ fn result_of(
 
 /// The schema that the clauses leave, and where the values of its columns come from. With `approve` columns may get
 /// other names.
-#[tactic(auto, unfolding(crate::specs::Altering::altered))]
+#[tactic(auto, unfolding(crate::specs::AlteredSchema::altered))]
 pub fn altered(
     alloc: Global,
     schema: &Schema,
@@ -144,7 +144,7 @@ pub fn altered(
     requires { IsValid schema.now }
     ensures { Answers (λ new. new) result (altered approve schema.now clauses.now) }
 {
-    let start = Standing::start(alloc, schema)?;
+    let start = AlteredSoFar::start(alloc, schema)?;
     let standing = steps(alloc, approve, start, clauses.as_slice())?;
     result_of(alloc, schema, standing)
 }

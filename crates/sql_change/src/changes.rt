@@ -2,9 +2,9 @@
 
 ghost use Rattle.std.specs.Prelude.{◌≡◌, ◌<◌, length, IfOk};
 ghost use Rattle.base_values.specs.SchemaRules.Reasons.{first_reason};
-ghost use Rattle.sql_change.specs.Changing.{change_reasons, changed_nullable, changed_in, unless_unapproved, changed_column, changed};
+ghost use Rattle.sql_change.specs.ClauseResults.{change_reasons, changed_nullable, changed_in, unless_unapproved, changed_column, changed};
 ghost use Rattle.base_values.specs.Faults.{Answers};
-ghost use Rattle.sql_change.specs.Standing.{Stands};
+ghost use Rattle.sql_change.specs.AlteredSoFar.{Stands};
 
 use crate::code::{AlterCode, AlterFault};
 use crate::columns::{
@@ -13,7 +13,7 @@ use crate::columns::{
 };
 use crate::conversions::{is_conversion, is_key_conversion};
 use crate::renames::is_unapproved;
-use crate::so_far::{Standing, origin_at, removed};
+use crate::so_far::{AlteredSoFar, origin_at, removed};
 use base_values::gho_schema::{Column, Schema};
 use base_values::row_conversion::{ColumnPosition, NewColumn};
 use base_values::schema_rules::is_column_name;
@@ -57,11 +57,11 @@ fn changed_nullable(schema: &Schema, place: usize, written: &NewColumn) -> bool
 
 fn changed_in(
     alloc: Global,
-    standing: &Standing,
+    standing: &AlteredSoFar,
     place: usize,
     column_position: &ColumnPosition,
     column: Column,
-) -> Result<Standing, AllocError>
+) -> Result<AlteredSoFar, AllocError>
     requires stands { Stands standing.now }
     requires within { place < length standing.now.schema.columns }
     ensures { IfOk result (λ changed. changed ≡ changed_in standing.now place column_position.now column) }
@@ -71,7 +71,10 @@ fn changed_in(
     standing.moved_to(alloc, place, to, column)
 }
 
-fn unless_unapproved(is_unapproved: bool, standing: Standing) -> Result<Standing, AlterFault>
+fn unless_unapproved(
+    is_unapproved: bool,
+    standing: AlteredSoFar,
+) -> Result<AlteredSoFar, AlterFault>
     ensures { Answers (λ standing. standing) result (unless_unapproved is_unapproved standing) }
 {
     if is_unapproved {
@@ -84,12 +87,12 @@ fn unless_unapproved(is_unapproved: bool, standing: Standing) -> Result<Standing
 fn changed_column(
     alloc: Global,
     approve: bool,
-    standing: &Standing,
+    standing: &AlteredSoFar,
     place: usize,
     column: &Column,
     written: &NewColumn,
     column_position: &ColumnPosition,
-) -> Result<Standing, AlterFault>
+) -> Result<AlteredSoFar, AlterFault>
     requires stands { Stands standing.now }
     requires within { place < length standing.now.schema.columns }
     ensures { Answers (λ standing. standing) result (changed_column approve standing.now place column.now written.now column_position.now) }
@@ -102,15 +105,15 @@ fn changed_column(
 }
 
 /// The table with a column as it is written now.
-#[tactic(auto, unfolding(crate::specs::Changing::changed))]
+#[tactic(auto, unfolding(crate::specs::ClauseResults::changed))]
 pub fn changed(
     alloc: Global,
     approve: bool,
-    standing: &Standing,
+    standing: &AlteredSoFar,
     old: &Name,
     written: &NewColumn,
     column_position: &ColumnPosition,
-) -> Result<Standing, AlterFault>
+) -> Result<AlteredSoFar, AlterFault>
     requires { Stands standing.now }
     ensures { Answers (λ standing. standing) result (changed approve standing.now old.now written.now column_position.now) }
 {

@@ -5,7 +5,7 @@ ghost use Rattle.base_values.specs.Faults.{Answers};
 ghost use Rattle.sql_change.specs.Columns.{column_place, has_column, column_named, has_place, is_in_keys, is_in_primary, is_column_position, column_position_place, lacks_default, column_of, fitting};
 
 use crate::code::{AlterCode, AlterFault};
-use crate::so_far::Standing;
+use crate::so_far::AlteredSoFar;
 use base_values::gho_schema::{Column, Index, same_name};
 use base_values::row_conversion::{ColumnPosition, NewColumn};
 use base_values::schema_rules::{defaults_fit, stored_default};
@@ -131,7 +131,7 @@ pub fn column_of(
 }
 
 /// The table, where its defaults fit together.
-pub fn fitting(standing: Standing) -> Result<Standing, AlterFault>
+pub fn fitting(standing: AlteredSoFar) -> Result<AlteredSoFar, AlterFault>
     ensures { Answers (λ standing. standing) result (fitting standing) }
 {
     if defaults_fit(standing.schema.columns.as_slice()) {

@@ -5,11 +5,11 @@ ghost use Rattle.std.specs.List.{filter_map, list_all};
 ghost use Rattle.base_values.specs.SchemaRules.Reasons.{first_reason};
 ghost use Rattle.base_values.specs.Faults.{Answers};
 ghost use Rattle.sql_change.specs.Columns.{column_place, has_column};
-ghost use Rattle.sql_change.specs.Indexing.{key_names, first_column, index_name, are_columns, index_reasons, index_of, with_index, indexed_as, indexed, is_named, index_place, is_clustered, without_unique, without_index, unindexed};
+ghost use Rattle.sql_change.specs.IndexClauses.{key_names, first_column, index_name, are_columns, index_reasons, index_of, with_index, indexed_as, indexed, is_named, index_place, is_clustered, without_unique, without_index, unindexed};
 
 use crate::code::{AlterCode, AlterFault};
 use crate::columns::{column_named, column_place, has_column};
-use crate::so_far::{Standing, copied, removed};
+use crate::so_far::{AlteredSoFar, copied, removed};
 use base_values::gho_schema::{Column, Index, Indexes, Places, Schema, clustered_place, same_name};
 use base_values::schema_rules::{free_name, is_among};
 use base_values::{Duplicate, Name, Names, Sequence};
@@ -35,7 +35,7 @@ fn push_names(names: &mut Names, indexes: &[Index]) -> Result<(), AllocError>
     Ok(())
 }
 
-#[tactic(auto, unfolding(crate::specs::Indexing::key_names))]
+#[tactic(auto, unfolding(crate::specs::IndexClauses::key_names))]
 fn key_names(alloc: Global, schema: &Schema) -> Result<Names, AllocError>
     ensures { IfOk result (λ names. names ≡ key_names schema.now) }
 {
@@ -45,7 +45,7 @@ fn key_names(alloc: Global, schema: &Schema) -> Result<Names, AllocError>
     Ok(names)
 }
 
-#[tactic(auto, unfolding(crate::specs::Indexing::first_column))]
+#[tactic(auto, unfolding(crate::specs::IndexClauses::first_column))]
 fn first_column(alloc: Global, columns: &[Column], names: &[Name]) -> Result<Name, AllocError>
     ensures { IfOk result (λ name. name ≡ first_column columns.now names.now) }
 {
@@ -129,14 +129,14 @@ fn places_of(alloc: Global, columns: &[Column], names: &[Name]) -> Result<Places
 
 fn with_keys(
     alloc: Global,
-    standing: &Standing,
+    standing: &AlteredSoFar,
     uniques: Indexes,
     indexes: Indexes,
-) -> Result<Standing, AllocError>
+) -> Result<AlteredSoFar, AllocError>
     ensures { IfOk result (λ new. new ≡ record standing.now { schema = record standing.now.schema { uniques = uniques; indexes = indexes } }) }
 {
     let schema = &standing.schema;
-    Ok(Standing {
+    Ok(AlteredSoFar {
         schema: Schema {
             name: schema.name.copy()?,
             columns: schema.columns.copy()?,
@@ -148,7 +148,11 @@ fn with_keys(
     })
 }
 
-fn with_index(alloc: Global, standing: &Standing, index: Index) -> Result<Standing, AllocError>
+fn with_index(
+    alloc: Global,
+    standing: &AlteredSoFar,
+    index: Index,
+) -> Result<AlteredSoFar, AllocError>
     ensures { IfOk result (λ new. new ≡ with_index standing.now index) }
 {
     let mut indexes = standing.schema.indexes.copy()?;
@@ -158,10 +162,10 @@ fn with_index(alloc: Global, standing: &Standing, index: Index) -> Result<Standi
 
 fn indexed_as(
     alloc: Global,
-    standing: &Standing,
+    standing: &AlteredSoFar,
     names: &[Name],
     name: Name,
-) -> Result<Standing, AlterFault>
+) -> Result<AlteredSoFar, AlterFault>
     ensures { Answers (λ standing. standing) result (indexed_as standing.now names.now name) }
 {
     match index_reason(alloc, &standing.schema, names, &name)? {
@@ -178,13 +182,13 @@ fn indexed_as(
 }
 
 /// The table with an index more.
-#[tactic(auto, unfolding(crate::specs::Indexing::indexed))]
+#[tactic(auto, unfolding(crate::specs::IndexClauses::indexed))]
 pub fn indexed(
     alloc: Global,
-    standing: &Standing,
+    standing: &AlteredSoFar,
     written: &Option<Name>,
     names: &[Name],
-) -> Result<Standing, AlterFault>
+) -> Result<AlteredSoFar, AlterFault>
     ensures { Answers (λ standing. standing) result (indexed standing.now written.now names.now) }
 {
     let name = index_name(alloc, &standing.schema, names, written)?;
@@ -200,7 +204,7 @@ fn is_named(name: &Name, own: &Option<Name>) -> bool
     }
 }
 
-#[tactic(auto, unfolding(crate::specs::Indexing::index_place))]
+#[tactic(auto, unfolding(crate::specs::IndexClauses::index_place))]
 fn index_place(indexes: &[Index], name: &Name) -> Option<usize>
     ensures place { result ≡ index_place indexes.now name.now }
     ensures within { IfSome result (λ place. place < length indexes.now) }
@@ -218,8 +222,12 @@ fn is_clustered(clustered: Option<usize>, place: usize) -> bool
 }
 
 /// The table without a key or an index.
-#[tactic(auto, unfolding(crate::specs::Indexing::unindexed))]
-pub fn unindexed(alloc: Global, standing: &Standing, name: &Name) -> Result<Standing, AlterFault>
+#[tactic(auto, unfolding(crate::specs::IndexClauses::unindexed))]
+pub fn unindexed(
+    alloc: Global,
+    standing: &AlteredSoFar,
+    name: &Name,
+) -> Result<AlteredSoFar, AlterFault>
     ensures { Answers (λ standing. standing) result (unindexed standing.now name.now) }
 {
     let schema = &standing.schema;

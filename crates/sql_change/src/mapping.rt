@@ -1,7 +1,7 @@
 //! Where the values of the new columns come from.
 
 ghost use Rattle.std.specs.Prelude.{◌≡◌, IfOk, ◌≤◌, length};
-ghost use Rattle.sql_change.specs.Altering.{source_of, map_of};
+ghost use Rattle.sql_change.specs.AlteredSchema.{source_of, map_of};
 
 use base_values::gho_schema::Column;
 use base_values::row_conversion::{ColumnMap, MapColumn, Origin};
@@ -19,7 +19,7 @@ fn source_of(origin: Option<usize>, default: &Option<Value>) -> Result<Origin, A
 }
 
 /// Where the values of each column come from.
-#[tactic(auto, unfolding(crate::specs::Altering::map_of))]
+#[tactic(auto, unfolding(crate::specs::AlteredSchema::map_of))]
 pub fn map_of(
     alloc: Global,
     columns: &[Column],

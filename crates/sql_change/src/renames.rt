@@ -2,13 +2,13 @@
 
 ghost use Rattle.std.specs.Prelude.{◌≡◌, ◌<◌, ◌≤◌, length, slice_set, IfOk};
 ghost use Rattle.base_values.specs.SchemaRules.Reasons.{first_reason};
-ghost use Rattle.sql_change.specs.Changing.{is_unapproved, rename_reasons, with_name, renamed_in, renamed};
+ghost use Rattle.sql_change.specs.ClauseResults.{is_unapproved, rename_reasons, with_name, renamed_in, renamed};
 ghost use Rattle.base_values.specs.Faults.{Answers};
-ghost use Rattle.sql_change.specs.Standing.{Stands};
+ghost use Rattle.sql_change.specs.AlteredSoFar.{Stands};
 
 use crate::code::{AlterCode, AlterFault};
 use crate::columns::{column_named, has_column};
-use crate::so_far::{Standing, copied, removed};
+use crate::so_far::{AlteredSoFar, copied, removed};
 use base_values::gho_schema::{Column, Columns, Schema, same_name};
 use base_values::schema_rules::is_column_name;
 use base_values::{Duplicate, Name, Sequence};
@@ -63,18 +63,18 @@ fn replaced(columns: Columns, place: usize, column: Column) -> Columns
     Sequence::from_vec(columns)
 }
 
-#[tactic(auto, unfolding(crate::specs::Changing::renamed_in))]
+#[tactic(auto, unfolding(crate::specs::ClauseResults::renamed_in))]
 fn renamed_in(
     alloc: Global,
-    standing: &Standing,
+    standing: &AlteredSoFar,
     place: usize,
     column: Column,
-) -> Result<Standing, AllocError>
+) -> Result<AlteredSoFar, AllocError>
     requires { place < length standing.now.schema.columns }
     ensures { IfOk result (λ renamed. renamed ≡ renamed_in standing.now place column) }
 {
     let schema = &standing.schema;
-    Ok(Standing {
+    Ok(AlteredSoFar {
         schema: Schema {
             name: schema.name.copy()?,
             columns: replaced(schema.columns.copy()?, place, column),
@@ -87,14 +87,14 @@ fn renamed_in(
 }
 
 /// The table with another name for a column.
-#[tactic(auto, unfolding(crate::specs::Changing::renamed))]
+#[tactic(auto, unfolding(crate::specs::ClauseResults::renamed))]
 pub fn renamed(
     alloc: Global,
     approve: bool,
-    standing: &Standing,
+    standing: &AlteredSoFar,
     old: &Name,
     new: &Name,
-) -> Result<Standing, AlterFault>
+) -> Result<AlteredSoFar, AlterFault>
     requires { Stands standing.now }
     ensures { Answers (λ standing. standing) result (renamed approve standing.now old.now new.now) }
 {

@@ -3,7 +3,7 @@
 ghost use Rattle.std.specs.Prelude.{◌≡◌, ◌≤◌, ◌<◌, length, IfOk};
 ghost use Rattle.std.specs.List.{insert, remove, slice_get};
 ghost use Rattle.sql_change.specs.Places.{ArePlaces};
-ghost use Rattle.sql_change.specs.Standing.{places_from, with_columns, origin_of};
+ghost use Rattle.sql_change.specs.AlteredSoFar.{places_from, with_columns, origin_of};
 
 use crate::places::{PlaceChange, indexes_after, keys_after};
 use base_values::gho_schema::{Column, Columns, Schema};
@@ -12,7 +12,7 @@ use std::alloc::{AllocError, Global};
 
 /// The schema that the clauses so far leave, and where its columns' values come from.
 #[derive(Drop)]
-pub struct Standing {
+pub struct AlteredSoFar {
     /// The schema that the clauses so far leave.
     pub schema: Schema,
     /// The old place of each column; none for one that was added.
@@ -22,7 +22,7 @@ pub struct Standing {
 /// Old places of columns, or none, in order.
 pub type Origins = Sequence<Option<usize>>;
 
-#[tactic(auto, unfolding(crate::specs::Standing::places_from))]
+#[tactic(auto, unfolding(crate::specs::AlteredSoFar::places_from))]
 fn old_places(alloc: Global, columns: &[Column]) -> Result<Origins, AllocError>
     ensures { IfOk result (λ origins. origins ≡ places_from 0 columns.now) }
 {
@@ -35,7 +35,7 @@ fn old_places(alloc: Global, columns: &[Column]) -> Result<Origins, AllocError>
     Ok(origins)
 }
 
-#[tactic(auto, unfolding(crate::specs::Standing::with_columns))]
+#[tactic(auto, unfolding(crate::specs::AlteredSoFar::with_columns))]
 fn with_columns(
     alloc: Global,
     change: PlaceChange,
@@ -96,56 +96,61 @@ pub(crate) fn origin_at(origins: &[Option<usize>], place: usize) -> Option<usize
     }
 }
 
-impl Standing {
+impl AlteredSoFar {
     ghost use Rattle.std.specs.Prelude.{◌≡◌, ◌≤◌, ◌<◌, length, IfOk};
-    ghost use Rattle.sql_change.specs.Standing.{start, put_in, taken_out, moved_to, Stands};
+    ghost use Rattle.sql_change.specs.AlteredSoFar.{start, put_in, taken_out, moved_to, Stands};
 
     /// The table before the first clause.
-    pub fn start(alloc: Global, schema: &Schema) -> Result<Standing, AllocError>
+    pub fn start(alloc: Global, schema: &Schema) -> Result<AlteredSoFar, AllocError>
         ensures { IfOk result (λ standing. standing ≡ start schema.now) }
     {
         let schema = schema.copy()?;
         let origins = old_places(alloc, schema.columns.as_slice())?;
-        Ok(Standing { schema, origins })
+        Ok(AlteredSoFar { schema, origins })
     }
 
     /// The table with an added column at this place.
-    #[tactic(auto, unfolding(crate::specs::Standing::put_in))]
-    pub fn put_in(&self, alloc: Global, at: usize, column: Column) -> Result<Standing, AllocError>
+    #[tactic(auto, unfolding(crate::specs::AlteredSoFar::put_in))]
+    pub fn put_in(
+        &self,
+        alloc: Global,
+        at: usize,
+        column: Column,
+    ) -> Result<AlteredSoFar, AllocError>
         requires stands { Stands self.now }
         requires within { at ≤ length self.now.schema.columns }
         ensures { IfOk result (λ standing. standing ≡ put_in self.now at column) }
     {
         let columns = inserted(self.schema.columns.copy()?, at, column)?;
-        Ok(Standing {
+        Ok(AlteredSoFar {
             schema: with_columns(alloc, PlaceChange::Added(at), &self.schema, columns)?,
             origins: inserted(copied(alloc, self.origins.as_slice())?, at, None)?,
         })
     }
 
     /// The table without the column at this place.
-    #[tactic(auto, unfolding(crate::specs::Standing::taken_out))]
-    pub fn taken_out(&self, alloc: Global, at: usize) -> Result<Standing, AllocError>
+    #[tactic(auto, unfolding(crate::specs::AlteredSoFar::taken_out))]
+    pub fn taken_out(&self, alloc: Global, at: usize) -> Result<AlteredSoFar, AllocError>
         requires stands { Stands self.now }
         requires within { at < length self.now.schema.columns }
         ensures { IfOk result (λ standing. standing ≡ taken_out self.now at) }
     {
         let columns = removed(self.schema.columns.copy()?, at);
-        Ok(Standing {
+        Ok(AlteredSoFar {
             schema: with_columns(alloc, PlaceChange::Dropped(at), &self.schema, columns)?,
             origins: removed(copied(alloc, self.origins.as_slice())?, at),
         })
     }
 
     /// The table with this column, which has the values of the one at the first place, at the second.
-    #[tactic(auto, unfolding(crate::specs::Standing::moved_to))]
+    #[tactic(auto, unfolding(crate::specs::AlteredSoFar::moved_to))]
     pub fn moved_to(
         &self,
         alloc: Global,
         from: usize,
         to: usize,
         column: Column,
-    ) -> Result<Standing, AllocError>
+    ) -> Result<AlteredSoFar, AllocError>
         requires stands { Stands self.now }
         requires from { from < length self.now.schema.columns }
         requires to { to < length self.now.schema.columns }
@@ -156,7 +161,7 @@ impl Standing {
         let origin = origin_at(self.origins.as_slice(), from);
         let origins = removed(copied(alloc, self.origins.as_slice())?, from);
         let change = PlaceChange::Moved { from, to };
-        Ok(Standing {
+        Ok(AlteredSoFar {
             schema: with_columns(alloc, change, &self.schema, columns)?,
             origins: inserted(origins, to, origin)?,
         })

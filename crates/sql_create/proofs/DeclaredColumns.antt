@@ -9,7 +9,7 @@ use Rattle.base_values.specs.declared.fault.Fault.TheVariants as faults
 use Rattle.base_values.specs.SchemaRules.Results.{◌>>=◌}
 use Rattle.base_values.specs.Faults.{Refuses}
 use Rattle.sql_create.specs.declared.written.WrittenColumn.{WrittenColumn}
-use Rattle.sql_create.specs.Declaring.{declared_column, declared_columns}
+use Rattle.sql_create.specs.DeclaredSchema.{declared_column, declared_columns}
 
 -- the columns so far, and those that are still declared
 abbrev pub with_front : List Column → Result (List Column) SchemaCode → Result (List Column) SchemaCode

@@ -9,7 +9,7 @@ use Rattle.base_values.specs.SchemaRules.Limits.{is_column_name, is_table_name, 
 use Rattle.sql_create.specs.declared.parts.Parts.{Parts}
 use Rattle.base_values.specs.SchemaRules.Reasons.{Reasons, first_reason}
 use Rattle.base_values.specs.ToolNames.{is_tool_name}
-use Rattle.sql_create.specs.Declaring.{size_reasons}
+use Rattle.sql_create.specs.DeclaredSchema.{size_reasons}
 
 none_first : (holds : Bool) (code : SchemaCode) (others : Reasons SchemaCode) → first_reason ((holds, code) ∷ others) ≡ None → (holds ≡ false) × (first_reason others ≡ None)
 none_first true code others e = absurd cc

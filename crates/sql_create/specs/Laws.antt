@@ -2,7 +2,7 @@
 use Rattle.std.specs.Prelude.{◌≡◌, ℕ, List, Ok}
 use Rattle.base_values.specs.declared.gho_schema.schema.Schema.{Schema}
 use Rattle.base_values.specs.SchemaRules.Valid.{IsValid}
-use Rattle.sql_create.specs.Reading.{schema_at}
+use Rattle.sql_create.specs.CreateText.{schema_at}
 
 -- Every schema that is read is valid.
 abbrev pub ReadSchemasAreValid : Type 0

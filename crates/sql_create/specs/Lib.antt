@@ -1,8 +1,8 @@
 pub mod Columns
-pub mod Declaring
+pub mod DeclaredSchema
 pub mod Keys
 pub mod Laws
 pub mod Options
 pub mod Parts
-pub mod Reading
+pub mod CreateText
 pub mod Written

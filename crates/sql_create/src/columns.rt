@@ -70,9 +70,9 @@ fn column_attributes_at(
     for _ in 0..words.len() {
         match column_attribute_at(alloc, rest)? {
             None => return Ok((attributes, rest)),
-            Some((attribute, behind)) => {
+            Some((attribute, following)) => {
                 attributes = attributes.with(attribute);
-                rest = behind;
+                rest = following;
             }
         }
     }

@@ -4,7 +4,7 @@ ghost use Rattle.std.specs.Prelude.{◌≡◌, ◌+◌, ◌++◌, not, ◌&&◌,
 ghost use Rattle.std.specs.List.{list_all, list_any};
 ghost use Rattle.base_values.specs.Faults.{Answers};
 ghost use Rattle.base_values.specs.SchemaRules.Reasons.{first_reason};
-ghost use Rattle.sql_create.specs.Declaring.{column_names, size_reasons, are_known, name_reasons, nullable_of, declared_column, declared_columns, key_index, primary_index, schema_of, clustered, built, declared_parts, declared};
+ghost use Rattle.sql_create.specs.DeclaredSchema.{column_names, size_reasons, are_known, name_reasons, nullable_of, declared_column, declared_columns, key_index, primary_index, schema_of, clustered, built, declared_parts, declared};
 ghost use Rattle.base_values.specs.SchemaRules.Names.{is_among};
 ghost use Rattle.base_values.specs.SchemaRules.Limits.{is_column_name};
 
@@ -145,7 +145,7 @@ fn nullable_of(primaries: &[Names], column: &WrittenColumn) -> bool
     !is_primary(primaries, &column.name) && column.attributes.plain.nullable.unwrap_or(true)
 }
 
-#[tactic(auto, unfolding(crate::specs::Declaring::declared_column))]
+#[tactic(auto, unfolding(crate::specs::DeclaredSchema::declared_column))]
 fn declared_column(
     alloc: Global,
     primaries: &[Names],
@@ -234,7 +234,7 @@ fn plain_indexes(alloc: Global, names: &[Name], keys: &[WrittenKey]) -> Result<I
     Ok(indexes)
 }
 
-#[tactic(auto, unfolding(crate::specs::Declaring::schema_of))]
+#[tactic(auto, unfolding(crate::specs::DeclaredSchema::schema_of))]
 fn schema_of(
     alloc: Global,
     name: Name,
@@ -323,7 +323,7 @@ fn declared_parts(
 }
 
 /// The schema that the table declares, as one of a plan that migrates the table of this name.
-#[tactic(auto, unfolding(crate::specs::Declaring::declared))]
+#[tactic(auto, unfolding(crate::specs::DeclaredSchema::declared))]
 pub fn declared(alloc: Global, migrated: &str, table: WrittenTable) -> Result<Schema, SchemaFault>
     ensures { Answers (λ schema. schema) result (declared migrated.now table) }
 {

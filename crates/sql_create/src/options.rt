@@ -123,9 +123,9 @@ pub fn options_at(alloc: Global, words: &[Token]) -> Result<(Chars, &[Token]), S
     for _ in 0..words.len() {
         match option_at(alloc, rest)? {
             None => return Ok((comment, rest)),
-            Some((option, behind)) => {
+            Some((option, following)) => {
                 comment = with_option(comment, option);
-                rest = behind;
+                rest = following;
             }
         }
     }

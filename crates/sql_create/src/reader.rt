@@ -1,7 +1,7 @@
 //! The reader of CREATE TABLE.
 
 ghost use Rattle.base_values.specs.Faults.{Answers};
-ghost use Rattle.sql_create.specs.Reading.{schema_at};
+ghost use Rattle.sql_create.specs.CreateText.{schema_at};
 
 use crate::declarations::declared;
 use crate::table::written;
@@ -10,7 +10,7 @@ use sql_grammar::SchemaFault;
 use std::alloc::Global;
 
 /// Reads the text of CREATE TABLE of a plan that migrates the table of this name.
-#[tactic(auto, unfolding(crate::specs::Reading::schema_at))]
+#[tactic(auto, unfolding(crate::specs::CreateText::schema_at))]
 pub fn read_schema(alloc: Global, text: &str, migrated: &str) -> Result<Schema, SchemaFault>
     ensures { Answers (λ schema. schema) result (schema_at migrated.now text.now) }
 {

@@ -85,10 +85,10 @@ fn items_at(alloc: Global, words: &[Token]) -> Result<(Items, &[Token]), SchemaF
     let mut items = Sequence::new(alloc);
     let mut rest = words;
     for _ in 0..words.len() {
-        let (item, behind) = item_at(alloc, rest)?;
+        let (item, following) = item_at(alloc, rest)?;
         items.push(item)?;
-        match after_sign(",", behind) {
-            None => return Ok((items, behind)),
+        match after_sign(",", following) {
+            None => return Ok((items, following)),
             Some(next) => rest = next,
         }
     }

@@ -11,9 +11,9 @@ use Rattle.sql_words.specs.declared.word.WordClass.TheVariants as class
 use Rattle.sql_words.specs.Characters.{is_white, is_name_start, is_quote, is_sign}
 use Rattle.sql_words.specs.Quoted.{length_of, text_inside, name_inside}
 use Rattle.sql_words.specs.Front.{line_length, begins_comment, bytes_length, bytes_or_name, name_length, quoted, most_digits, sign_width, digit_count, begins_number, sign_length, front_at}
-use Rattle.sql_words.specs.Reading.{Reading, with_word, words_after, words_of}
+use Rattle.sql_words.specs.Readings.{Reading, with_word, words_after, words_of}
 use Rattle.sql_words.proofs.Ends.{front_cuts}
-use Rattle.sql_words.proofs.Behind.{words_after-gap, words_after-found, words_after-fault, words_after-end, length-drop-cuts}
+use Rattle.sql_words.proofs.Following.{words_after-gap, words_after-found, words_after-fault, words_after-end, length-drop-cuts}
 
 -- a fault of a text stands at this place
 abbrev pub StandsAt : ℕ → WordFault → Type 0
@@ -52,16 +52,16 @@ front_here place bytes =
     (Here-cond place (is_sign first) _ _ (Here-ok place (Found class.Sign (sign_length bytes))) (Here-err place (Odd place) refl)))))))
 
 -- a fault that is met behind so many characters' bytes of a rest that begins at this place
-pub record Behind (place : ℕ) (rest : List ℕ) (fault : WordFault) : Type 0 where
+pub record Following (place : ℕ) (rest : List ℕ) (fault : WordFault) : Type 0 where
   pub bytes : ℕ
   pub stands : StandsAt (place + bytes) fault
   pub boundary : IsCharBoundary rest bytes
 
 abbrev AllAfter : ℕ → List ℕ → Result (List Reading) WordFault → Type 0
-AllAfter place rest read = (fault : WordFault) → read ≡ Err fault → Behind place rest fault
+AllAfter place rest read = (fault : WordFault) → read ≡ Err fault → Following place rest fault
 
-Behind-further : (place n : ℕ) (rest : List ℕ) (fault : WordFault) → IsCharBoundary rest n → Behind (place + n) (drop n rest) fault → Behind place rest fault
-Behind-further place n rest fault boundary b = record {
+Following-further : (place n : ℕ) (rest : List ℕ) (fault : WordFault) → IsCharBoundary rest n → Following (place + n) (drop n rest) fault → Following place rest fault
+Following-further place n rest fault boundary b = record {
   bytes = n + b.bytes;
   stands = subst (λ at. StandsAt at fault) (omega arith) b.stands;
   boundary = IsCharBoundary-from_rest rest n b.bytes boundary.0 b.boundary;
@@ -79,11 +79,11 @@ module _ (fuel : ℕ) (shorter : (place : ℕ) (rest : List ℕ) → length rest
   on_front place rest (Ok (Gap n)) le any utf8 e fault h =
       let cuts = front_cuts place rest utf8 any (Gap n) e in
       let less = length-drop-cuts rest n cuts in
-      Behind-further place n rest fault cuts.boundary (shorter (place + n) (drop n rest) (omega arith) (IsUtf8-drop rest n utf8 cuts.boundary) fault (sym (words_after-gap place n rest any cuts.some e) ∙ h))
+      Following-further place n rest fault cuts.boundary (shorter (place + n) (drop n rest) (omega arith) (IsUtf8-drop rest n utf8 cuts.boundary) fault (sym (words_after-gap place n rest any cuts.some e) ∙ h))
   on_front place rest (Ok (Found class n)) le any utf8 e fault h =
       let cuts = front_cuts place rest utf8 any (Found class n) e in
       let less = length-drop-cuts rest n cuts in
-      Behind-further place n rest fault cuts.boundary (shorter (place + n) (drop n rest) (omega arith) (IsUtf8-drop rest n utf8 cuts.boundary) fault (with_word-fault _ _ fault (sym (words_after-found place n class rest any cuts.some e) ∙ h)))
+      Following-further place n rest fault cuts.boundary (shorter (place + n) (drop n rest) (omega arith) (IsUtf8-drop rest n utf8 cuts.boundary) fault (with_word-fault _ _ fault (sym (words_after-found place n class rest any cuts.some e) ∙ h)))
 
 all_after : (fuel place : ℕ) (rest : List ℕ) → length rest < fuel → IsUtf8 rest → AllAfter place rest (words_after 0 place rest)
 all_after zero place rest lt utf8 = absurd (omega arith)

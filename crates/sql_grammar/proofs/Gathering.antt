@@ -7,11 +7,11 @@ use Rattle.sql_grammar.specs.Listed.{gathered}
 use Rattle.base_values.specs.Faults.{Refuses}
 
 module _ {S X C : Type 0} (item : List Token → Result (Option (X × List Token)) C) (add : S → X → S) (so_far : S) (most i : ℕ) (words : List Token) (total : Result (S × List Token) C) where
-  pub one_more : (x : X) (behind : List Token) → i < most → item words ≡ Ok (Some (x, behind)) → gathered item add (most - i) so_far words ≡ total → gathered item add (most - (i + 1)) (add so_far x) behind ≡ total
+  pub one_more : (x : X) (following : List Token) → i < most → item words ≡ Ok (Some (x, following)) → gathered item add (most - i) so_far words ≡ total → gathered item add (most - (i + 1)) (add so_far x) following ≡ total
   unfolding gathered
-  one_more x behind lt read e =
+  one_more x following lt read e =
       let k : most - i ≡ suc (most - (i + 1)) = omega arith in
-      let step : gathered item add (most - i) so_far words ≡ gathered item add (most - (i + 1)) (add so_far x) behind = rw (k, read) refl in
+      let step : gathered item add (most - i) so_far words ≡ gathered item add (most - (i + 1)) (add so_far x) following = rw (k, read) refl in
       sym step ∙ e
 
   pub no_more : i < most → item words ≡ Ok None → gathered item add (most - i) so_far words ≡ total → total ≡ Ok (so_far, words)

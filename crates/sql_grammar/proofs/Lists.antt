@@ -17,20 +17,20 @@ regroup {A} front one (Ok x) = ap (λ (items : List A). Ok (items, x.1)) (simp a
 regroup front one (Err code) = refl
 
 module _ {A C : Type 0} (item : List Token → Result (A × List Token) C) (ended : C) (front : List A) (most i : ℕ) (words : List Token) (total : Result (List A × List Token) C) where
-  pub goes_on : (one : A) (behind next : List Token) → i < most → item words ≡ Ok (one, behind) → after_sign (codes ",") behind ≡ Some next
+  pub goes_on : (one : A) (following next : List Token) → i < most → item words ≡ Ok (one, following) → after_sign (codes ",") following ≡ Some next
       → with_front front (listed item ended (most - i) words) ≡ total → with_front (front ++ one ∷ []) (listed item ended (most - (i + 1)) next) ≡ total
   unfolding listed
-  goes_on one behind next lt read comma so_far =
+  goes_on one following next lt read comma so_far =
       let k : most - i ≡ suc (most - (i + 1)) = omega arith in
       let step : with_front front (listed item ended (most - i) words) ≡ with_front (front ++ one ∷ []) (listed item ended (most - (i + 1)) next) = rw (k, read, comma) (regroup front one (listed item ended (most - (i + 1)) next)) in
       sym step ∙ so_far
 
-  pub is_last : (one : A) (behind : List Token) → i < most → item words ≡ Ok (one, behind) → after_sign (codes ",") behind ≡ None
-      → with_front front (listed item ended (most - i) words) ≡ total → total ≡ Ok (front ++ one ∷ [], behind)
+  pub is_last : (one : A) (following : List Token) → i < most → item words ≡ Ok (one, following) → after_sign (codes ",") following ≡ None
+      → with_front front (listed item ended (most - i) words) ≡ total → total ≡ Ok (front ++ one ∷ [], following)
   unfolding listed
-  is_last one behind lt read comma so_far =
+  is_last one following lt read comma so_far =
       let k : most - i ≡ suc (most - (i + 1)) = omega arith in
-      let step : with_front front (listed item ended (most - i) words) ≡ Ok (front ++ one ∷ [], behind) = rw (k, read, comma) refl in
+      let step : with_front front (listed item ended (most - i) words) ≡ Ok (front ++ one ∷ [], following) = rw (k, read, comma) refl in
       sym so_far ∙ step
 
   pub is_refused : (code : C) → i < most → item words ≡ Err code → with_front front (listed item ended (most - i) words) ≡ total → total ≡ Err code

@@ -3,7 +3,7 @@ use Rattle.std.specs.Prelude.{codes, ℕ, ℤ, List, Option, Some, None, if◌th
 use Rattle.std.specs.Option.{option_map}
 use Rattle.sql_words.specs.declared.word.WordClass.{WordClass}
 use Rattle.sql_words.specs.declared.word.WordClass.TheVariants as class
-use Rattle.sql_words.specs.Meaning.{number_value, written_text, written_bytes}
+use Rattle.sql_words.specs.Meanings.{number_value, written_text, written_bytes}
 use Rattle.base_values.specs.GhoSchema.Names.{same_name}
 use Rattle.sql_grammar.specs.declared.literals.LiteralRef.{LiteralRef}
 use Rattle.sql_grammar.specs.declared.literals.LiteralRef.TheVariants as refs

@@ -4,7 +4,7 @@ use Rattle.base_values.specs.declared.value.Value.{Value}
 use Rattle.base_values.specs.declared.value.Value.TheVariants.{Null}
 use Rattle.sql_words.specs.declared.word.WordClass.{WordClass}
 use Rattle.sql_words.specs.declared.word.WordClass.TheVariants as class
-use Rattle.sql_words.specs.Meaning.{name_of, text_value, number_value}
+use Rattle.sql_words.specs.Meanings.{name_of, text_value, number_value}
 use Rattle.sql_grammar.specs.WordValues.ReadBack.{word_value}
 use Rattle.sql_grammar.specs.declared.code.SchemaCode.{SchemaCode}
 use Rattle.sql_grammar.specs.declared.token.Token.{Token}

@@ -5,7 +5,7 @@ use Rattle.sql_words.specs.declared.word.WordClass.{WordClass}
 use Rattle.sql_words.specs.declared.word.WordClass.TheVariants.{Name, Quoted, Number, Text, Bytes, Sign}
 use Rattle.sql_words.specs.declared.word.WordFault.{WordFault}
 use Rattle.sql_words.specs.declared.word.WordFault.TheVariants.{Unclosed, Odd, TooLong, Memory}
-use Rattle.sql_words.specs.Reading.{Reading, words_of}
+use Rattle.sql_words.specs.Readings.{Reading, words_of}
 use Rattle.base_values.specs.GhoSchema.Names.{same_name}
 use Rattle.sql_grammar.specs.declared.token.Token.{Token}
 use Rattle.sql_grammar.specs.declared.tokens.TextWords.{TextWords}

@@ -51,10 +51,10 @@ pub fn names_at(alloc: Global, words: &[Token]) -> Result<(Names, &[Token]), Sch
     let mut rest = words;
     // Each name takes a word, so there are no more names than words: that bounds the loop, and the definition likewise.
     for _ in 0..words.len() {
-        let (name, behind) = name_at(alloc, rest)?;
+        let (name, following) = name_at(alloc, rest)?;
         names.push(name)?;
-        match after_sign(",", behind) {
-            None => return Ok((names, behind)),
+        match after_sign(",", following) {
+            None => return Ok((names, following)),
             Some(next) => rest = next,
         }
     }

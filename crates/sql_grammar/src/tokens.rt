@@ -2,7 +2,7 @@
 
 ghost use Rattle.std.specs.Prelude.{◌≡◌, Ok, Err, IfOk, map, take};
 ghost use Rattle.std.specs.Str.{IsCharBoundary};
-ghost use Rattle.sql_words.specs.Reading.{views, words_of};
+ghost use Rattle.sql_words.specs.Readings.{views, words_of};
 ghost use Rattle.sql_grammar.specs.Tokens.{token_of, words_or_none, cut_at, text_words};
 
 use crate::token::Token;

@@ -1,7 +1,7 @@
 //! The text of a schema.
 
 ghost use Rattle.std.specs.Prelude.{◌≡◌, ◌++◌, map, IfOk, OnOk, OnErr};
-ghost use Rattle.sql_show.specs.Printing.{quoted, integer_name, printed_kind, printed_default, column_line, column_name, key_names, key_columns, unique_line, index_line, lines_of, joined, printed_comment, printed_schema};
+ghost use Rattle.sql_show.specs.SchemaText.{quoted, integer_name, printed_kind, printed_default, column_line, column_name, key_names, key_columns, unique_line, index_line, lines_of, joined, printed_comment, printed_schema};
 
 use base_values::gho_schema::{Column, Index, Schema};
 use base_values::{Chars, Duplicate, Kind, Sequence, Text, Value, print_value};
@@ -27,7 +27,7 @@ fn integer_name(bytes: u8) -> &'static str
     }
 }
 
-#[tactic(auto, unfolding(crate::specs::Printing::printed_kind))]
+#[tactic(auto, unfolding(crate::specs::SchemaText::printed_kind))]
 fn push_kind(into: &mut Text, kind: Kind) -> Result<(), AllocError>
     ensures { OnOk result (into.new ≡ into.old ++ printed_kind kind) }
 {
@@ -61,7 +61,7 @@ fn push_default(into: &mut Text, default: &Option<Value>) -> Result<(), AllocErr
     }
 }
 
-#[tactic(auto, unfolding(crate::specs::Printing::column_line))]
+#[tactic(auto, unfolding(crate::specs::SchemaText::column_line))]
 fn column_line(alloc: Global, column: &Column) -> Result<Text, AllocError>
     ensures { IfOk result (λ line. line ≡ column_line column.now) }
 {
@@ -83,7 +83,7 @@ fn push_column_name(into: &mut Text, columns: &[Column], place: usize) -> Result
     }
 }
 
-#[tactic(auto, unfolding(crate::specs::Printing::key_names))]
+#[tactic(auto, unfolding(crate::specs::SchemaText::key_names))]
 fn push_key_names(into: &mut Text, columns: &[Column], places: &[usize]) -> Result<(), AllocError>
     ensures { OnOk result (into.new ≡ into.old ++ key_names columns.now places.now) }
 {
@@ -98,7 +98,7 @@ fn push_key_names(into: &mut Text, columns: &[Column], places: &[usize]) -> Resu
     Ok(())
 }
 
-#[tactic(auto, unfolding(crate::specs::Printing::key_columns))]
+#[tactic(auto, unfolding(crate::specs::SchemaText::key_columns))]
 fn push_key_columns(into: &mut Text, columns: &[Column], places: &[usize]) -> Result<(), AllocError>
     ensures { OnOk result (into.new ≡ into.old ++ key_columns columns.now places.now) }
 {
@@ -107,7 +107,7 @@ fn push_key_columns(into: &mut Text, columns: &[Column], places: &[usize]) -> Re
     into.push_str(")")
 }
 
-#[tactic(auto, unfolding(crate::specs::Printing::unique_line))]
+#[tactic(auto, unfolding(crate::specs::SchemaText::unique_line))]
 fn unique_line(alloc: Global, columns: &[Column], index: &Index) -> Result<Text, AllocError>
     ensures { IfOk result (λ line. line ≡ unique_line columns.now index.now) }
 {
@@ -124,7 +124,7 @@ fn unique_line(alloc: Global, columns: &[Column], index: &Index) -> Result<Text,
     Ok(line)
 }
 
-#[tactic(auto, unfolding(crate::specs::Printing::index_line))]
+#[tactic(auto, unfolding(crate::specs::SchemaText::index_line))]
 fn index_line(alloc: Global, columns: &[Column], index: &Index) -> Result<Text, AllocError>
     ensures { IfOk result (λ line. line ≡ index_line columns.now index.now) }
 {
@@ -186,7 +186,7 @@ fn lines_of(alloc: Global, schema: &Schema) -> Result<Sequence<Text>, AllocError
     Ok(lines)
 }
 
-#[tactic(auto, unfolding(crate::specs::Printing::joined))]
+#[tactic(auto, unfolding(crate::specs::SchemaText::joined))]
 fn push_joined(into: &mut Text, lines: &[Text]) -> Result<(), AllocError>
     ensures { OnOk result (into.new ≡ into.old ++ joined lines.now) }
 {
@@ -212,7 +212,7 @@ fn push_comment(into: &mut Text, comment: &Chars) -> Result<(), AllocError>
     print_value(&Value::Text(comment.copy()?), into)
 }
 
-#[tactic(auto, unfolding(crate::specs::Printing::printed_schema))]
+#[tactic(auto, unfolding(crate::specs::SchemaText::printed_schema))]
 fn text_of(alloc: Global, schema: &Schema) -> Result<Text, AllocError>
     ensures { IfOk result (λ text. text ≡ printed_schema schema.now) }
 {

@@ -64,9 +64,9 @@ fn more_equalities_at(
     for _ in 0..words.len() {
         match and_equality_at(alloc, rest)? {
             None => return Ok((all, rest)),
-            Some((set, behind)) => {
+            Some((set, following)) => {
                 all.push(set)?;
-                rest = behind;
+                rest = following;
             }
         }
     }
@@ -174,8 +174,8 @@ fn comparisons_at(alloc: Global, words: &[Token]) -> Result<(Condition, &[Token]
     let (first, rest) = comparison_at(alloc, words)?;
     match after_keyword("AND", rest) {
         None => Ok((Condition::Range(one(alloc, first)?), rest)),
-        Some(behind) => {
-            let (second, rest) = comparison_at(alloc, behind)?;
+        Some(following) => {
+            let (second, rest) = comparison_at(alloc, following)?;
             both_of(alloc, first, second, rest)
         }
     }

@@ -28,10 +28,10 @@ fn literals_at(alloc: Global, words: &[Token]) -> Result<(Row, &[Token]), Statem
     let mut values = Sequence::new(alloc);
     let mut rest = words;
     for _ in 0..words.len() {
-        let (value, behind) = literal_at(alloc, rest)?;
+        let (value, following) = literal_at(alloc, rest)?;
         values.push(value)?;
-        match after_sign(",", behind) {
-            None => return Ok((values, behind)),
+        match after_sign(",", following) {
+            None => return Ok((values, following)),
             Some(next) => rest = next,
         }
     }
@@ -56,10 +56,10 @@ pub fn sets_at(alloc: Global, words: &[Token]) -> Result<(Sets, &[Token]), State
     let mut sets = Sequence::new(alloc);
     let mut rest = words;
     for _ in 0..words.len() {
-        let (set, behind) = set_at(alloc, rest)?;
+        let (set, following) = set_at(alloc, rest)?;
         sets.push(set)?;
-        match after_sign(",", behind) {
-            None => return Ok((sets, behind)),
+        match after_sign(",", following) {
+            None => return Ok((sets, following)),
             Some(next) => rest = next,
         }
     }

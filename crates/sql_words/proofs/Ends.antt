@@ -19,7 +19,7 @@ use Rattle.sql_words.specs.declared.front.Front.TheVariants.{Gap, Found}
 use Rattle.sql_words.specs.Characters.{is_white, is_line_end, is_name_start, is_name_byte, is_quote, is_angle, is_sign, begins_with}
 use Rattle.sql_words.specs.Quoted.{length_of, value_of, text_inside, bytes_inside, name_inside}
 use Rattle.sql_words.specs.Front.{size_of, line_length, begins_comment, begins_bytes, bytes_length, bytes_or_name, name_length, quoted, begins_number, digit_count, sign_width, number, sign_length, front_at}
-use Rattle.sql_words.specs.Meaning.{is_all, is_quoted_name, is_text, is_bytes}
+use Rattle.sql_words.specs.Meanings.{is_all, is_quoted_name, is_text, is_bytes}
 use Rattle.sql_words.proofs.Inside.{further, step, text_length-step, is_pair, bytes_length-pair, bytes_length-end}
 
 -- the first n bytes are at least one, and end between two characters

@@ -1,6 +1,6 @@
 pub mod Inside
 pub mod Ends
-pub mod Behind
+pub mod Following
 pub mod Values
 pub mod Numbers
 pub mod Slices

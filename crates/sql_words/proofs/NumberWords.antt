@@ -17,8 +17,8 @@ use Rattle.sql_words.specs.declared.front.Front.{Front}
 use Rattle.sql_words.specs.declared.front.Front.TheVariants.{Found}
 use Rattle.sql_words.specs.Characters.{is_white, is_name_start}
 use Rattle.sql_words.specs.Front.{begins_number, sign_width, digit_count, most_digits, number, front_at}
-use Rattle.sql_words.specs.Reading.{words_of}
-use Rattle.sql_words.specs.Meaning.{is_number, number_value, signed, AreDigits}
+use Rattle.sql_words.specs.Readings.{words_of}
+use Rattle.sql_words.specs.Meanings.{is_number, number_value, signed, AreDigits}
 use Rattle.sql_words.proofs.Numbers.{IsNumber, number_parts, count_whole, number_digits}
 use Rattle.sql_words.proofs.Reprinted.{words_of-one}
 

@@ -11,7 +11,7 @@ use Rattle.std.proofs.lemmas.Bool.{eqb-true, eqb-false, leb-true}
 use Rattle.std.proofs.lemmas.List.{length-drop, get_or-drop}
 use Rattle.std.proofs.lemmas.Result.{Ok-from_Ok_iff}
 use Rattle.sql_words.specs.Front.{begins_number, sign_width, digit_count, most_digits}
-use Rattle.sql_words.specs.Meaning.{is_number, signed, AreDigits}
+use Rattle.sql_words.specs.Meanings.{is_number, signed, AreDigits}
 
 pub own : IsNumeralModel (λ ds. all_ascii_digits ds ≡ true) (digits_value 10)
 own = numerals_by_value _ tells_all_ascii_digits

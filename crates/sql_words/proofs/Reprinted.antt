@@ -13,11 +13,11 @@ use Rattle.sql_words.specs.declared.front.Front.TheVariants.{Found}
 use Rattle.sql_words.specs.Characters.{begins_with}
 use Rattle.sql_words.specs.Quoted.{length_of, and_then, escaped, text_inside, bytes_inside}
 use Rattle.sql_words.specs.Front.{quoted, bytes_or_name, name_length, front_at}
-use Rattle.sql_words.specs.Reading.{with_word, words_after, words_of}
-use Rattle.sql_words.specs.Meaning.{text_value, bytes_value}
+use Rattle.sql_words.specs.Readings.{with_word, words_after, words_of}
+use Rattle.sql_words.specs.Meanings.{text_value, bytes_value}
 use Rattle.sql_words.specs.Printed.{spelled, printed_text, hex_pair, printed_bytes}
 use Rattle.sql_words.proofs.Inside.{text_inside-step, is_pair, bytes_inside-pair, bytes_inside-end}
-use Rattle.sql_words.proofs.Behind.{words_after-found, words_after-end}
+use Rattle.sql_words.proofs.Following.{words_after-found, words_after-end}
 
 -- a word that stands at the front of what follows it
 pub words_after-append : (kind : WordClass) (place : ℕ) (word rest : List ℕ) → 0 < length word → front_at place (word ++ rest) ≡ Ok (Found kind (length word))

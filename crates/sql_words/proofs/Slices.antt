@@ -7,7 +7,7 @@ use Rattle.sql_words.specs.declared.word.WordFault.{WordFault}
 use Rattle.sql_words.specs.declared.front.Front.{Front}
 use Rattle.sql_words.specs.declared.front.Front.TheVariants.{Gap, Found}
 use Rattle.sql_words.specs.Front.{front_at}
-use Rattle.sql_words.specs.Reading.{Reading, StandIn, with_word, read_on, words_after, words_of}
+use Rattle.sql_words.specs.Readings.{Reading, StandIn, with_word, read_on, words_after, words_of}
 
 -- the words that are read, if any, stand in the text from here on
 abbrev Reads : List ℕ → ℕ → Result (List Reading) WordFault → Type 0

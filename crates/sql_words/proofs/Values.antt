@@ -103,11 +103,11 @@ not_backslash : (quote b : ℕ) → is_plain quote b ≡ true → nat_eq b 92 �
 not_backslash quote b h = grind (arith, nat_tests, h)
 
 value-run-by : (quote b : ℕ) (rest : List ℕ) (t : Bool) → is_plain quote b ≡ t → value_inside quote rest ≡ in_front (take (prefix_len (is_plain quote) rest) rest) (value_inside quote (drop (prefix_len (is_plain quote) rest) rest)) → value_inside quote (b ∷ rest) ≡ in_front (take (prefix_len (is_plain quote) (b ∷ rest)) (b ∷ rest)) (value_inside quote (drop (prefix_len (is_plain quote) (b ∷ rest)) (b ∷ rest)))
-value-run-by quote b rest true t behind =
+value-run-by quote b rest true t following =
     let n = prefix_len (is_plain quote) rest in
     let more : prefix_len (is_plain quote) (b ∷ rest) ≡ suc n = rw t (omega arith) in
-    rw more (value-plain quote b rest (not_quote quote b t) (not_backslash quote b t) ∙ ap (in_front (b ∷ [])) behind ∙ in_front-in_front (b ∷ []) (take n rest) (value_inside quote (drop n rest)))
-value-run-by quote b rest false t behind =
+    rw more (value-plain quote b rest (not_quote quote b t) (not_backslash quote b t) ∙ ap (in_front (b ∷ [])) following ∙ in_front-in_front (b ∷ []) (take n rest) (value_inside quote (drop n rest)))
+value-run-by quote b rest false t following =
     let none : prefix_len (is_plain quote) (b ∷ rest) ≡ 0 = rw t refl in
     rw none (sym (in_front-nil (value_inside quote (b ∷ rest))))
 

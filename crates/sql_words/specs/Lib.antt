@@ -1,6 +1,6 @@
 pub mod Characters
 pub mod Quoted
 pub mod Front
-pub mod Reading
-pub mod Meaning
+pub mod Readings
+pub mod Meanings
 pub mod Printed

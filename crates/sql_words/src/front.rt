@@ -5,7 +5,7 @@ ghost use Rattle.std.specs.Option.{ForSome};
 ghost use Rattle.std.specs.List.{prefix_len};
 ghost use Rattle.std.specs.Char.{is_ascii_digit};
 ghost use Rattle.sql_words.specs.Front.{line_length, begins_comment, begins_bytes, bytes_length, bytes_or_name, name_length, quoted, begins_number, digit_count, sign_width, number, sign_length, front_at};
-ghost use Rattle.sql_words.specs.Meaning.{is_number};
+ghost use Rattle.sql_words.specs.Meanings.{is_number};
 
 use crate::characters::{
     is_angle, is_name_byte, is_name_start, is_plus_or_minus, is_quote, is_sign, is_white,

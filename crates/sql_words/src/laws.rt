@@ -9,8 +9,8 @@ ghost use Rattle.sql_words.specs.declared.word.WordClass.TheVariants.{Text, Byte
 ghost use Rattle.sql_words.specs.declared.front.Front.TheVariants.{Found};
 ghost use Rattle.sql_words.specs.Characters.{begins_with};
 ghost use Rattle.sql_words.specs.Front.{front_at};
-ghost use Rattle.sql_words.specs.Reading.{with_word, words_after, words_of};
-ghost use Rattle.sql_words.specs.Meaning.{text_value, bytes_value, number_value, AreDigits};
+ghost use Rattle.sql_words.specs.Readings.{with_word, words_after, words_of};
+ghost use Rattle.sql_words.specs.Meanings.{text_value, bytes_value, number_value, AreDigits};
 ghost use Rattle.sql_words.specs.Printed.{printed_text, printed_bytes};
 
 /// What is at the front is the first word, and the others are those of what follows it.

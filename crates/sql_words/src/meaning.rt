@@ -5,7 +5,7 @@ ghost use Rattle.std.specs.List.{prefix_len};
 ghost use Rattle.std.specs.String.{string_bytes};
 ghost use Rattle.sql_words.specs.Characters.{is_quote, is_plain};
 ghost use Rattle.sql_words.specs.Quoted.{value_of, escaped, text_inside, bytes_inside};
-ghost use Rattle.sql_words.specs.Meaning.{is_all, is_quoted_name, quoted_name, is_text, written_text, is_bytes, written_bytes};
+ghost use Rattle.sql_words.specs.Meanings.{is_all, is_quoted_name, quoted_name, is_text, written_text, is_bytes, written_bytes};
 
 use crate::characters::{hex_digit, is_plain, is_quote};
 use crate::front::{begins_bytes, is_number};
@@ -16,7 +16,7 @@ use std::alloc::{AllocError, Global};
 impl<'a> Word<'a> {
     ghost use Rattle.std.specs.Prelude.{◌≡◌, IfOk, option_map};
     ghost use Rattle.std.specs.String.{string_bytes};
-    ghost use Rattle.sql_words.specs.Meaning.{name_of, text_value, written_text, bytes_value, written_bytes, number_value};
+    ghost use Rattle.sql_words.specs.Meanings.{name_of, text_value, written_text, bytes_value, written_bytes, number_value};
 
     /// The name that the word is, without its backquotes, or None where it is no name.
     pub fn name(&self) -> Option<&'a str>

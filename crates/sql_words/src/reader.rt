@@ -1,7 +1,7 @@
 //! The words of a text.
 
 ghost use Rattle.std.specs.Prelude.{◌≡◌, IfOk, IfErr, Ok};
-ghost use Rattle.sql_words.specs.Reading.{views, words_of, IsFaultOf, StandIn};
+ghost use Rattle.sql_words.specs.Readings.{views, words_of, IsFaultOf, StandIn};
 
 use crate::front::{Front, front_at};
 use crate::word::{Word, WordFault, Words};

@@ -39,7 +39,7 @@ pub struct Words<'a> {
 
 impl<'a> Model for Words<'a> {
     ghost use Rattle.std.specs.Prelude.{List};
-    ghost use Rattle.sql_words.specs.Reading.{Reading, views};
+    ghost use Rattle.sql_words.specs.Readings.{Reading, views};
 
     ghost Value = { List Reading };
 
@@ -48,7 +48,7 @@ impl<'a> Model for Words<'a> {
 
 impl<'a> Words<'a> {
     ghost use Rattle.std.specs.Prelude.{◌≡◌, ◌==◌, length, slice_get, option_map};
-    ghost use Rattle.sql_words.specs.Reading.{view, views};
+    ghost use Rattle.sql_words.specs.Readings.{view, views};
 
     pub(crate) fn from_vec(items: Vec<Word<'a>>) -> Self
         ensures { result ≡ views items.entry.items }

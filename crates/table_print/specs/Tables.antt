@@ -2,7 +2,7 @@
 use Rattle.std.specs.Prelude.{codes, ℕ, List, [], ◌∷◌, ◌++◌}
 use Rattle.std.specs.List.{flat_map}
 use Rattle.base_values.specs.declared.value.Value.{Value}
-use Rattle.base_values.specs.Printing.{printed_row}
+use Rattle.base_values.specs.Literals.{printed_row}
 use Rattle.base_values.specs.declared.gho_schema.schema.Schema.{Schema}
 use Rattle.base_values.specs.declared.gho_schema.schema.Column.{Column}
 

@@ -2,7 +2,7 @@
 use Rattle.std.proofs.Common.{◌≡◌, ℕ, Bool, true, false, List, [], ◌∷◌, find, filter, cond, Option, Some, None, Ordering, Less, Equal, Greater, refl, ap, ◌∙◌}
 use Rattle.std.specs.Ordering.{is_eq, match_ordering, ordering_reverse}
 use Rattle.std.specs.List.{AllByRecursion}
-use Rattle.base_values.specs.Comparing.{compare_keys}
+use Rattle.base_values.specs.KeyOrder.{compare_keys}
 use Rattle.base_values.proofs.Orders.{keys_total}
 use Rattle.base_values.specs.GhoSchema.Rows.{key_of, with_row}
 use Rattle.base_values.specs.GhoSchema.Tables.{Ascends}

@@ -60,7 +60,7 @@ each_stays : (name : List ℕ) (change : TableRows → TableRows) (tables : Data
 each_stays name change [] stays differ are = tt
 each_stays name change (table ∷ tables) stays differ are =
     each_first name change table tables (is_named name table) refl differ.0 stays are
-    (λ (behind : (t : TableRows) → find_table name tables ≡ Some t → IsTable t.schema t.rows → IsTable (change t).schema (change t).rows). each_stays name change tables behind differ.1 are.1)
+    (λ (following : (t : TableRows) → find_table name tables ≡ Some t → IsTable t.schema t.rows → IsTable (change t).schema (change t).rows). each_stays name change tables following differ.1 are.1)
 
 pub change_keeps : (name : List ℕ) (change : TableRows → TableRows) (tables : Database) → ((t : TableRows) → (change t).schema.name ≡ t.schema.name)
     → ((t : TableRows) → find_table name tables ≡ Some t → IsTable t.schema t.rows → IsTable (change t).schema (change t).rows) → IsDatabase tables → IsDatabase (with_change name change tables)

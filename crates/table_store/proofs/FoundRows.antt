@@ -4,7 +4,7 @@ use Rattle.std.proofs.lemmas.Option.{slice_get_within}
 use Rattle.std.specs.Option.{option_and_then}
 use Rattle.std.specs.Ordering.{is_eq, is_gt, match_ordering}
 use Rattle.std.specs.List.{list_any, AllByRecursion, prefix_len, slice_get}
-use Rattle.base_values.specs.Comparing.{compare_keys}
+use Rattle.base_values.specs.KeyOrder.{compare_keys}
 use Rattle.base_values.specs.GhoSchema.Rows.{key_of, has_key, put, with_row}
 use Rattle.base_values.specs.GhoSchema.Tables.{Ascends}
 use Rattle.table_store.specs.RowLists.{is_at, comes_before, without_key, StandsAt}
@@ -131,8 +131,8 @@ stands_at places key rows n row ascends is there passes =
 
 -- a row that has no row's key is put among the rows
 none_has : (b others : Bool) (row : Row) (rest : Option Row) → cond b (Some row) rest ≡ None → (rest ≡ None → others ≡ false) → (b || others) ≡ false
-none_has true others row rest none behind = absurd cc
-none_has false others row rest none behind = behind none
+none_has true others row rest none following = absurd cc
+none_has false others row rest none following = following none
 
 has_none : (places : List ℕ) (key : Row) (rows : List Row) → find (is_at places key) rows ≡ None → has_key places rows key ≡ false
 unfolding has_key

@@ -122,7 +122,7 @@ taken_named name tables after n old named out names values = (
 -- ---- another name, in the schema and where the table is kept
 
 pub record Renames (was now : NamedValues StoredTable) (n : ℕ) (name had had_key : List ℕ) : Type 0 where
-  pub told : IfSome (slice_get was.values n) (λ s. (had ≡ s.table.schema.name) × (now.values ≡ slice_set was.values n (name_stored name s)))
+  pub reported : IfSome (slice_get was.values n) (λ s. (had ≡ s.table.schema.name) × (now.values ≡ slice_set was.values n (name_stored name s)))
   pub same : had_key ≡ had
   pub named : now.names ≡ table_names now.values
 
@@ -138,7 +138,7 @@ renames was kept n old new key name had had_key named same key_at names values a
     let one : had_key ≡ old.table.schema.name = same_Some _ _ both in
     let is : new ≡ name_stored name old = same_stored new.table (name_table name old.table) new.spare old.spare table spare in
     record {
-      told = rw here (had_is, ap (λ (ts : List StoredTable). set ts n new) values ∙ ap (λ (s : StoredTable). set was.values n s) is);
+      reported = rw here (had_is, ap (λ (ts : List StoredTable). set ts n new) values ∙ ap (λ (s : StoredTable). set was.values n s) is);
       same = one ∙ sym had_is;
       named = names ∙ ap (λ ns. set ns n key) named ∙ ap (λ (ts : List StoredTable). set (table_names ts) n key) (sym values) ∙ ap (set (table_names kept.values) n) (same ∙ sym (ap (λ (t : TableRows). t.schema.name) table)) ∙ sym (map-set (λ (t : StoredTable). t.table.schema.name) kept.values n new);
     }

@@ -87,14 +87,14 @@ write_first name change stored old new tables true named none at is others =
     let same : stored ≡ old = cc in
     rw (no_change name change (database tables) (none_after name stored.table (database tables) named none)) (ap (λ (t : TableRows). t ∷ database tables) (is ∙ ap (λ (s : StoredTable). change s.table) (sym same)))
 write_first name change stored old new tables false named none at is others =
-    let behind : slice_get tables (before name tables) ≡ Some old = rw (one-add (before name tables)) at at in
-    rw (one-add (before name tables)) (ap (λ (ts : Database). stored.table ∷ ts) (others behind))
+    let following : slice_get tables (before name tables) ≡ Some old = rw (one-add (before name tables)) at at in
+    rw (one-add (before name tables)) (ap (λ (ts : Database). stored.table ∷ ts) (others following))
 
 pub written : (name : List ℕ) (change : TableRows → TableRows) (tables : List StoredTable) (old new : StoredTable) → NamesDiffer (database tables) → slice_get tables (before name tables) ≡ Some old → new.table ≡ change old.table
     → database (set tables (before name tables) new) ≡ with_change name change (database tables)
 written name change [] old new differ at is = absurd cc
 written name change (stored ∷ tables) old new differ at is =
-    write_first name change stored old new tables (is_named name stored.table) refl differ.0 at is (λ (behind : slice_get tables (before name tables) ≡ Some old). written name change tables old new differ.1 behind is)
+    write_first name change stored old new tables (is_named name stored.table) refl differ.0 at is (λ (following : slice_get tables (before name tables) ≡ Some old). written name change tables old new differ.1 following is)
 
 -- the room of the table that is written
 room_first : (name : List ℕ) (stored old new : StoredTable) (tables : List StoredTable) (b : Bool) → is_named name stored.table ≡ b → is_named name new.table ≡ true
@@ -103,13 +103,13 @@ room_first : (name : List ℕ) (stored old new : StoredTable) (tables : List Sto
     → find_stored name (set (stored ∷ tables) (cond (not b) (1 + before name tables) 0) new) ≡ Some new
 room_first name stored old new tables true named is at others = rw is refl
 room_first name stored old new tables false named is at others =
-    let behind : slice_get tables (before name tables) ≡ Some old = rw (one-add (before name tables)) at at in
-    rw (one-add (before name tables), named) (others behind)
+    let following : slice_get tables (before name tables) ≡ Some old = rw (one-add (before name tables)) at at in
+    rw (one-add (before name tables), named) (others following)
 
 pub found_written : (name : List ℕ) (tables : List StoredTable) (old new : StoredTable) → is_named name new.table ≡ true → slice_get tables (before name tables) ≡ Some old → find_stored name (set tables (before name tables) new) ≡ Some new
 found_written name [] old new is at = absurd cc
 found_written name (stored ∷ tables) old new is at =
-    room_first name stored old new tables (is_named name stored.table) refl is at (λ (behind : slice_get tables (before name tables) ≡ Some old). found_written name tables old new is behind)
+    room_first name stored old new tables (is_named name stored.table) refl is at (λ (following : slice_get tables (before name tables) ≡ Some old). found_written name tables old new is following)
 
 -- the other tables
 rest_first : (name : List ℕ) (stored old new : StoredTable) (tables : List StoredTable) (b : Bool) → is_named name stored.table ≡ b → is_named name new.table ≡ true
@@ -118,13 +118,13 @@ rest_first : (name : List ℕ) (stored old new : StoredTable) (tables : List Sto
     → others name (set (stored ∷ tables) (cond (not b) (1 + before name tables) 0) new) ≡ cond (not b) (stored ∷ others name tables) (others name tables)
 rest_first name stored old new tables true named is at rest = rw is refl
 rest_first name stored old new tables false named is at rest =
-    let behind : slice_get tables (before name tables) ≡ Some old = rw (one-add (before name tables)) at at in
-    rw (one-add (before name tables), named) (ap (λ (ts : List StoredTable). stored ∷ ts) (rest behind))
+    let following : slice_get tables (before name tables) ≡ Some old = rw (one-add (before name tables)) at at in
+    rw (one-add (before name tables), named) (ap (λ (ts : List StoredTable). stored ∷ ts) (rest following))
 
 pub others_written : (name : List ℕ) (tables : List StoredTable) (old new : StoredTable) → is_named name new.table ≡ true → slice_get tables (before name tables) ≡ Some old → others name (set tables (before name tables) new) ≡ others name tables
 others_written name [] old new is at = absurd cc
 others_written name (stored ∷ tables) old new is at =
-    rest_first name stored old new tables (is_named name stored.table) refl is at (λ (behind : slice_get tables (before name tables) ≡ Some old). others_written name tables old new is behind)
+    rest_first name stored old new tables (is_named name stored.table) refl is at (λ (following : slice_get tables (before name tables) ≡ Some old). others_written name tables old new is following)
 
 -- a change that keeps names
 same_has : (name : List ℕ) (change : TableRows → TableRows) (tables : Database) → ((t : TableRows) → (change t).schema.name ≡ t.schema.name) → has_table name (map change tables) ≡ has_table name tables
@@ -150,7 +150,7 @@ named_first name stored old tables false named at rest = rest (rw (one-add (befo
 
 named_at : (name : List ℕ) (tables : List StoredTable) (old : StoredTable) → slice_get tables (before name tables) ≡ Some old → is_named name old.table ≡ true
 named_at name [] old at = absurd cc
-named_at name (stored ∷ tables) old at = named_first name stored old tables (is_named name stored.table) refl at (λ (behind : slice_get tables (before name tables) ≡ Some old). named_at name tables old behind)
+named_at name (stored ∷ tables) old at = named_first name stored old tables (is_named name stored.table) refl at (λ (following : slice_get tables (before name tables) ≡ Some old). named_at name tables old following)
 
 -- what is known once a changed table is written at the place of the name
 pub record Wrote (name : List ℕ) (change : TableRows → TableRows) (tables : List StoredTable) (n : ℕ) (new : StoredTable) : Type 0 where
@@ -246,13 +246,13 @@ taken_first : (name : List ℕ) (stored old : StoredTable) (tables : List Stored
     → cond (not b) (stored ∷ others name tables) (others name tables) ≡ remove (stored ∷ tables) (cond (not b) (1 + before name tables) 0)
 taken_first name stored old tables true named none at rest = none_named name tables (none_after name stored.table (database tables) named none)
 taken_first name stored old tables false named none at rest =
-    let behind : slice_get tables (before name tables) ≡ Some old = rw (one-add (before name tables)) at at in
-    rw (one-add (before name tables)) (ap (λ (ts : List StoredTable). stored ∷ ts) (rest behind))
+    let following : slice_get tables (before name tables) ≡ Some old = rw (one-add (before name tables)) at at in
+    rw (one-add (before name tables)) (ap (λ (ts : List StoredTable). stored ∷ ts) (rest following))
 
 taken : (name : List ℕ) (tables : List StoredTable) (old : StoredTable) → NamesDiffer (database tables) → slice_get tables (before name tables) ≡ Some old → others name tables ≡ remove tables (before name tables)
 taken name [] old differ at = absurd cc
 taken name (stored ∷ tables) old differ at =
-    taken_first name stored old tables (is_named name stored.table) refl differ.0 at (λ (behind : slice_get tables (before name tables) ≡ Some old). taken name tables old differ.1 behind)
+    taken_first name stored old tables (is_named name stored.table) refl differ.0 at (λ (following : slice_get tables (before name tables) ≡ Some old). taken name tables old differ.1 following)
 
 kept_has : (name : List ℕ) (b : Bool) (stored : StoredTable) (tables : List StoredTable) → is_named name stored.table ≡ false → has_table name (database tables) ≡ false → has_table name (database (cond b (stored ∷ tables) tables)) ≡ false
 kept_has name true stored tables named none = rw named none

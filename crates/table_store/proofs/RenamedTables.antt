@@ -25,8 +25,8 @@ renamed_have name old new (table ∷ tables) none apart =
 
 differ_first : (b : Bool) (old new : List ℕ) (table : TableRows) (tables : Database) → is_named old table ≡ b → is_named new table ≡ false → has_table new tables ≡ false → has_table table.schema.name tables ≡ false
     → has_table (cond b (name_table new table) table).schema.name (with_name old new tables) ≡ false
-differ_first true old new table tables is apart none behind = rw (no_change old (name_table new) tables (none_after old table tables is behind)) none
-differ_first false old new table tables is apart none behind = renamed_have table.schema.name old new tables behind (other_way table.schema.name new _ apart refl)
+differ_first true old new table tables is apart none following = rw (no_change old (name_table new) tables (none_after old table tables is following)) none
+differ_first false old new table tables is apart none following = renamed_have table.schema.name old new tables following (other_way table.schema.name new _ apart refl)
 
 renamed_differ : (old new : List ℕ) (tables : Database) → NamesDiffer tables → has_table new tables ≡ false → NamesDiffer (with_name old new tables)
 renamed_differ old new [] differ none = tt
@@ -64,9 +64,9 @@ at_set tables n new lt =
 
 undo : (tables : List StoredTable) (n : ℕ) (s : StoredTable) (name had : List ℕ) (again : List StoredTable) (dropped : List ℕ) → n < length tables → slice_get tables n ≡ Some s → had ≡ s.table.schema.name
     → IfSome (slice_get (set tables n (name_stored name s)) n) (λ x. (dropped ≡ x.table.schema.name) × (again ≡ set (set tables n (name_stored name s)) n (name_stored had x))) → again ≡ tables
-undo tables n s name had again dropped lt at is told =
+undo tables n s name had again dropped lt at is reported =
     let now : slice_get (set tables n (name_stored name s)) n ≡ Some (name_stored name s) = at_set tables n (name_stored name s) lt in
-    let parts = rw now at told in
+    let parts = rw now at reported in
     parts.1 ∙ set-set tables n (name_stored name s) (name_stored had (name_stored name s))
     ∙ ap (λ (h : List ℕ). set tables n (name_stored h s)) is
     ∙ ap (λ (x : StoredTable). set tables n x) (sym (get_or_from_slice_get tables n s s at))
@@ -74,10 +74,10 @@ undo tables n s name had again dropped lt at is told =
 
 pub renamed : (old new name : List ℕ) (tables : List StoredTable) (n : ℕ) (had : List ℕ) (after : List StoredTable) → NamesDiffer (database tables) → n ≡ before old tables → has_table old (database tables) ≡ true
     → has_table new (database tables) ≡ false → name ≡ new → IfSome (slice_get tables n) (λ s. (had ≡ s.table.schema.name) × (after ≡ set tables n (name_stored name s))) → Renamed old new tables n had after
-renamed old new name tables n had after differ is has none same told =
+renamed old new name tables n had after differ is has none same reported =
     let at = there old tables n is has in
     let s = at.0 in
-    let parts = rw at.1 at told in
+    let parts = rw at.1 at reported in
     let lt : n < length tables = slice_get_within tables n s at.1 in
     let first : slice_get tables (before old tables) ≡ Some s = ap (λ (k : ℕ). slice_get tables k) (sym is) ∙ at.1 in
     let to : after ≡ set tables (before old tables) (name_stored new s) = parts.1 ∙ ap (λ (k : ℕ). set tables k (name_stored name s)) is ∙ ap (λ (x : List ℕ). set tables (before old tables) (name_stored x s)) same in
@@ -125,9 +125,9 @@ at_place (t ∷ tables) n lt = (get_or (t ∷ tables) n t, slice_get-get_or (t �
 -- no table has the name that was taken from one
 pub free_again : (old new had : List ℕ) (tables after : List StoredTable) (n : ℕ) (P : StoredTable → Type 0) → n ≡ before old tables → n < length tables → has_table old (database tables) ≡ true → has_table new (database tables) ≡ false
     → IfSome (slice_get tables n) (λ s. (had ≡ s.table.schema.name) × P s) → database after ≡ with_name old new (database tables) → has_table had (database after) ≡ false
-free_again old new had tables after n P is lt has none told changed =
+free_again old new had tables after n P is lt has none reported changed =
     let at = at_place tables n lt in
-    let parts = rw at.1 at told in
+    let parts = rw at.1 at reported in
     let same : had ≡ old = parts.0 ∙ first_named old tables n at.0 is at.1 in
     let apart : bytes_eq new old ≡ false = differs (bytes_eq new old) old new (database tables) refl has none in
     rw (same, changed) (gone old new (database tables) apart)

@@ -3,7 +3,7 @@ use Rattle.std.proofs.Common.{◌≡◌, ℕ, Bool, true, false, not, List, [], 
 use Rattle.std.specs.Ordering.{is_eq, is_gt, match_ordering, ordering_reverse}
 use Rattle.std.specs.List.{AllByRecursion}
 use Rattle.std.proofs.lemmas.Cmp.{tied_itself}
-use Rattle.base_values.specs.Comparing.{compare_keys}
+use Rattle.base_values.specs.KeyOrder.{compare_keys}
 use Rattle.base_values.proofs.Orders.{keys_total, tied_keys}
 use Rattle.base_values.specs.GhoSchema.Rows.{key_of, with_row}
 use Rattle.base_values.specs.GhoSchema.Tables.{Ascends}
@@ -109,17 +109,17 @@ in_front test places row first rows true is before ascends =
 in_front test places row first rows false is before ascends =
     sym (goes_first places row (filter test rows) (all-filter (λ other. is_gt (compare_keys (key_of places row) (key_of places other)) ≡ false) test rows (before_after places row first rows before ascends.0)))
 
-behind : (test : Row → Bool) (places : List ℕ) (row first : Row) (rest placed : List Row) (b : Bool) → compare_keys (key_of places row) (key_of places first) ≡ Greater → placed ≡ with_row places row rest → cond b (first ∷ placed) placed ≡ with_row places row (cond b (first ∷ rest) rest)
+following : (test : Row → Bool) (places : List ℕ) (row first : Row) (rest placed : List Row) (b : Bool) → compare_keys (key_of places row) (key_of places first) ≡ Greater → placed ≡ with_row places row rest → cond b (first ∷ placed) placed ≡ with_row places row (cond b (first ∷ rest) rest)
 unfolding with_row
-behind test places row first rest placed true greater is = rw greater (ap (λ (rs : List Row). first ∷ rs) is)
-behind test places row first rest placed false greater is = is
+following test places row first rest placed true greater is = rw greater (ap (λ (rs : List Row). first ∷ rs) is)
+following test places row first rest placed false greater is = is
 
 in_here : (test : Row → Bool) (places : List ℕ) (row first : Row) (rows : List Row) (o : Ordering) → compare_keys (key_of places row) (key_of places first) ≡ o → Ascends places (first ∷ rows) → test row ≡ true
     → filter test (with_row places row rows) ≡ with_row places row (filter test rows)
     → filter test (match_ordering o (row ∷ first ∷ rows) (row ∷ first ∷ rows) (first ∷ with_row places row rows)) ≡ with_row places row (filter test (first ∷ rows))
 in_here test places row first rows Less is ascends passes others = rw passes (in_front test places row first rows (test first) refl (rw is refl) ascends)
 in_here test places row first rows Equal is ascends passes others = rw passes (in_front test places row first rows (test first) refl (rw is refl) ascends)
-in_here test places row first rows Greater is ascends passes others = behind test places row first (filter test rows) (filter test (with_row places row rows)) (test first) is others
+in_here test places row first rows Greater is ascends passes others = following test places row first (filter test rows) (filter test (with_row places row rows)) (test first) is others
 
 pub filter_in : (test : Row → Bool) (places : List ℕ) (row : Row) (rows : List Row) → Ascends places rows → test row ≡ true → filter test (with_row places row rows) ≡ with_row places row (filter test rows)
 unfolding with_row

@@ -5,14 +5,14 @@ use Rattle.std.specs.List.{AllByRecursion, slice_get}
 use Rattle.std.proofs.lemmas.Bool.{or_parts}
 use Rattle.base_values.specs.declared.value.Value.{Value}
 use Rattle.base_values.specs.declared.value.Value.TheVariants.{Null, Num, Text, Blob}
-use Rattle.base_values.specs.Comparing.{compare_keys}
+use Rattle.base_values.specs.KeyOrder.{compare_keys}
 use Rattle.base_values.specs.Laws.{StoresNullWhereNullable}
-use Rattle.base_values.specs.Storing.{stores}
+use Rattle.base_values.specs.StoredValues.{stores}
 use Rattle.base_values.proofs.Orders.{keys_total, tied_keys}
 use Rattle.base_values.specs.declared.gho_schema.schema.Schema.{Schema}
 use Rattle.base_values.specs.declared.gho_schema.schema.Column.{Column}
 use Rattle.base_values.specs.declared.gho_schema.schema.Index.{Index}
-use Rattle.base_values.specs.GhoSchema.Clustering.{is_not_null, clustered_place, unique_at}
+use Rattle.base_values.specs.GhoSchema.ClusteredKey.{is_not_null, clustered_place, unique_at}
 use Rattle.base_values.specs.GhoSchema.Rows.{key_of, key_places, places_of, with_row}
 use Rattle.base_values.specs.GhoSchema.Tables.{IsRow, no_null, clash, Apart, IsTable}
 use Rattle.base_values.proofs.GhoSchema.Orders.{all-with_row}
@@ -88,7 +88,7 @@ none_clash uniques row (first ∷ rows) none =
 
 -- a column that may not be null stores no null
 no_null_here : StoresNullWhereNullable → (column : Column) (v : Value) → stores v column.kind column.nullable ≡ Ok v → not column.nullable ≡ true → no_null (v ∷ []) ≡ true
-no_null_here where_nullable column Null fits not_null = let told = (where_nullable Null column.kind column.nullable fits).1 in absurd (cc (ap not told))
+no_null_here where_nullable column Null fits not_null = let reported = (where_nullable Null column.kind column.nullable fits).1 in absurd (cc (ap not reported))
 no_null_here where_nullable column (Num n) fits not_null = refl
 no_null_here where_nullable column (Text text) fits not_null = refl
 no_null_here where_nullable column (Blob blob) fits not_null = refl

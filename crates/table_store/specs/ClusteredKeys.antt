@@ -3,7 +3,7 @@ use Rattle.std.specs.Prelude.{◌≡◌, ◌<◌, true, [], ◌∷◌, length}
 use Rattle.std.specs.List.{AllByRecursion, slice_get}
 use Rattle.base_values.specs.declared.gho_schema.schema.Schema.{Schema}
 use Rattle.base_values.specs.declared.gho_schema.schema.Index.{Index}
-use Rattle.base_values.specs.GhoSchema.Clustering.{is_not_null}
+use Rattle.base_values.specs.GhoSchema.ClusteredKey.{is_not_null}
 use Rattle.base_values.specs.GhoSchema.Rows.{key_places}
 
 -- The schema has a clustered key: the key has columns, and none of them may be null (MySQL's manual, "Clustered and

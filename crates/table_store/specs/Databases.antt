@@ -13,7 +13,7 @@ use Rattle.base_values.specs.declared.mysql_errors.TheConstants.{ER_TABLE_EXISTS
 use Rattle.table_store.specs.RowLists.{is_at, is_besides, without_key}
 use Rattle.table_store.specs.declared.renames.Pair.{Pair}
 use Rattle.table_store.specs.declared.renames.NotRenamed.{NotRenamed}
-use Rattle.table_store.specs.declared.renames.NotRenamed.TheVariants.{Stands, Missing}
+use Rattle.table_store.specs.declared.renames.NotRenamed.TheVariants.{Exists, Missing}
 
 -- a table: its schema, and its rows in order of the clustered key
 pub record TableRows : Type 0 where
@@ -98,12 +98,12 @@ with_name old new tables = with_change old (name_table new) tables
 unfoldable pub rename_tables : List Pair → Database → Result Database NotRenamed
 rename_tables [] tables = Ok tables
 rename_tables (pair ∷ pairs) tables =
-    if has_table pair.new tables then Err Stands
+    if has_table pair.new tables then Err Exists
     else (if has_table pair.old tables then rename_tables pairs (with_name pair.old pair.new tables) else Err Missing)
 
 -- the number of a refusal (MySQL's manual, "Server Error Message Reference")
 abbrev pub rename_number : NotRenamed → ℕ
-rename_number Stands = ER_TABLE_EXISTS_ERROR
+rename_number Exists = ER_TABLE_EXISTS_ERROR
 rename_number Missing = ER_NO_SUCH_TABLE
 
 -- what contracts see of a stored table: besides, for how many more rows it has room

@@ -3,7 +3,7 @@ use Rattle.std.specs.Prelude.{◌≡◌, ℕ, Bool, true, false, List, Some, Non
 use Rattle.std.specs.Ordering.{is_eq}
 use Rattle.std.specs.Str.{bytes_eq}
 use Rattle.base_values.specs.declared.value.Value.{Value}
-use Rattle.base_values.specs.Comparing.{compare_keys}
+use Rattle.base_values.specs.KeyOrder.{compare_keys}
 use Rattle.base_values.specs.declared.gho_schema.schema.Schema.{Schema}
 use Rattle.base_values.specs.GhoSchema.Rows.{key_of, key_places, with_row}
 use Rattle.base_values.specs.GhoSchema.Tables.{IsRow, Ascends, IsTable}
@@ -71,7 +71,7 @@ ChangesKeepDatabases =
     → IsDatabase tables → IsDatabase (with_change name change tables)
 
 -- A table is found exactly where one has the name, and in a database as it is stored.
-abbrev pub FoundWhereItStands : Type 0
-FoundWhereItStands =
+abbrev pub FoundWhereItIs : Type 0
+FoundWhereItIs =
     ((name : List ℕ) (tables : Database) → is_some (find_table name tables) ≡ has_table name tables)
     × ((name : List ℕ) (tables : List StoredTable) → option_map (λ (s : StoredTable). s.table) (find_stored name tables) ≡ find_table name (database tables))

@@ -1,2 +1,2 @@
 pub mod NameMaps
-pub mod Lending
+pub mod Loans

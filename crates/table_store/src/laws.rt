@@ -1,6 +1,6 @@
 //! What holds of all rows, tables and databases: each function's contract is a law.
 
-ghost use Rattle.table_store.specs.Laws.{PutKeepsTables, RemoveKeepsTables, PutIsFound, RemovedIsGone, PutAmongSome, TestsCommute, PutsCommute, PutAndRemoveUndo, NewRowsArePut, ChangesAreFound, ChangesKeepDatabases, FoundWhereItStands};
+ghost use Rattle.table_store.specs.Laws.{PutKeepsTables, RemoveKeepsTables, PutIsFound, RemovedIsGone, PutAmongSome, TestsCommute, PutsCommute, PutAndRemoveUndo, NewRowsArePut, ChangesAreFound, ChangesKeepDatabases, FoundWhereItIs};
 
 use base_values::laws::nulls_are_stored_where_nullable;
 
@@ -62,6 +62,6 @@ pub fn changes_keep_databases()
 {}
 
 /// A table is found exactly where one has the name.
-pub fn found_where_it_stands()
-    ensures { FoundWhereItStands }
+pub fn found_where_it_is()
+    ensures { FoundWhereItIs }
 {}

@@ -2,7 +2,7 @@
 
 ghost use Rattle.std.specs.Prelude.{◌≡◌, ◌≤◌, length, not, filter};
 ghost use Rattle.std.specs.List.{prefix_len};
-ghost use Rattle.base_values.specs.Comparing.{compare_keys};
+ghost use Rattle.base_values.specs.KeyOrder.{compare_keys};
 ghost use Rattle.base_values.specs.Spans.{above, below, has};
 ghost use Rattle.base_values.specs.GhoSchema.Rows.{key_of};
 ghost use Rattle.base_values.specs.GhoSchema.Tables.{Ascends};

@@ -33,7 +33,7 @@ impl Duplicate for Pair {
 pub enum NotRenamed {
     /// At its pair, a table of the new name exists already.
     #[error("a table of the new name stands already")]
-    Stands,
+    Exists,
     /// At its pair, no table of the old name exists.
     #[error("no table of the old name stands")]
     Missing,
@@ -47,7 +47,7 @@ impl NotRenamed {
         ensures { result ≡ rename_number self }
     {
         match self {
-            NotRenamed::Stands => ER_TABLE_EXISTS_ERROR,
+            NotRenamed::Exists => ER_TABLE_EXISTS_ERROR,
             NotRenamed::Missing => ER_NO_SUCH_TABLE,
         }
     }

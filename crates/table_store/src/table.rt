@@ -45,7 +45,7 @@ impl Model for Table {
 }
 
 /// Whether the clustered key is the only unique key.
-#[tactic(auto, unfolding(base_values::specs::GhoSchema::Clustering::clustered_among))]
+#[tactic(auto, unfolding(base_values::specs::GhoSchema::ClusteredKey::clustered_among))]
 fn is_only_key(schema: &Schema) -> bool
     ensures { result ≡ true → IsOnlyKey schema.now }
 {

@@ -18,7 +18,7 @@ use thiserror::Error;
 pub enum AddFault {
     /// A table of its name exists already: MySQL's `ER_TABLE_EXISTS_ERROR`.
     #[error("a table of this name stands already")]
-    Stands,
+    Exists,
     /// There is no memory for one more table.
     #[error("out of memory")]
     Memory,
@@ -122,12 +122,12 @@ impl Tables {
     /// Adds a table after the others.
     pub fn add(&mut self, table: Table) -> Result<(), AddFault>
         ensures ok { OnOk result (self.new ≡ self.old ++ table ∷ []) }
-        ensures stands { result ≡ Err AddFault.Stands → has_table table.table.schema.name (database self.old) ≡ true }
-        ensures there { has_table table.table.schema.name (database self.old) ≡ true → result ≡ Err AddFault.Stands }
+        ensures stands { result ≡ Err AddFault.Exists → has_table table.table.schema.name (database self.old) ≡ true }
+        ensures there { has_table table.table.schema.name (database self.old) ≡ true → result ≡ Err AddFault.Exists }
         ensures err { OnErr result (self.new ≡ self.old) }
     {
         if self.stands(&table.schema().name) {
-            return Err(AddFault::Stands);
+            return Err(AddFault::Exists);
         }
         add_new(&mut self.tables, table)?;
         Ok(())

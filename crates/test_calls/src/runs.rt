@@ -8,14 +8,14 @@ use std::{fs, io};
 use test_lines::{CallFault, Line};
 
 /// What the line's call answers, or that it could not be read.
-fn told_answer(alloc: Global, line: &Line<'_>) -> Result<Text, AllocError> {
+fn reported_answer(alloc: Global, line: &Line<'_>) -> Result<Text, AllocError> {
     match answer(alloc, line.call, line.input.as_str()) {
         Ok(answer) => Ok(answer),
         Err(CallFault::Memory) => Err(AllocError),
         Err(CallFault::Unread) => {
-            let mut told = Text::new(alloc);
-            told.push_str("unread")?;
-            Ok(told)
+            let mut output = Text::new(alloc);
+            output.push_str("unread")?;
+            Ok(output)
         }
     }
 }
@@ -28,7 +28,7 @@ fn is_as_expected<R: Print + AllocGlobal>(rt: &R, text: &str) -> io::Result<bool
             Ok(false)
         }
         Some(line) => {
-            let answer = told_answer(rt.alloc(), &line)?;
+            let answer = reported_answer(rt.alloc(), &line)?;
             let expected = answer.as_str() == line.answer.as_str();
             if !expected {
                 println!(rt; "{text}\n    answers {}", answer.as_str())?;

@@ -2,11 +2,11 @@
 
 ghost use Rattle.std.specs.Prelude.{◌≡◌, map, IfOk};
 ghost use Rattle.proof_plans.specs.ReadPlans.Laws.{WasRead};
-ghost use Rattle.test_histories.specs.Histories.{alone_in_order, history_step_of};
+ghost use Rattle.test_histories.specs.Histories.{serial_run, history_step_of};
 ghost use Rattle.test_histories.specs.JournalPasts.Walks.{item_as};
 
 use crate::clients::push_clients;
-use crate::execution::{Said, says};
+use crate::execution::{Said, statement_result};
 use crate::history::{has_alter, push_history};
 use crate::replies::are_the_same;
 use crate::tables::push_tables;
@@ -114,15 +114,19 @@ fn is_given(
     Ok(
         got_these(walked.items.as_slice(), ran.replies.as_slice())
             && go_on_with_these(walked.clients.as_slice(), open.as_slice())
-            && says(report, &said),
+            && statement_result(report, &said),
     )
 }
 
 /// What happened gives alone, from the plan's opening tables on; none where the ALTER can't be done.
 #[tactic(auto, using(crate::proofs::Read::read_valid, crate::proofs::Read::read_clauses))]
-fn run_alone(alloc: Global, plan: &Plan, items: &[PastItem]) -> Result<Option<InOrder>, AllocError>
+fn run_reference(
+    alloc: Global,
+    plan: &Plan,
+    items: &[PastItem],
+) -> Result<Option<InOrder>, AllocError>
     requires { WasRead plan.now }
-    ensures { IfOk result (λ ran. ran ≡ alone_in_order plan.now plan.now.tables (map history_step_of (map item_as items.now))) }
+    ensures { IfOk result (λ ran. ran ≡ serial_run plan.now plan.now.tables (map history_step_of (map item_as items.now))) }
 {
     let history_steps = history_steps_of(alloc, items)?;
     let opening = plain_tables(alloc, plan.tables())?;
@@ -134,14 +138,14 @@ fn is_so(alloc: Global, plan: &Plan, journal: &Journal, report: &str) -> Result<
     requires { WasRead plan.now }
 {
     let walked = walk(alloc, plan, journal.as_slice())?;
-    match run_alone(alloc, plan, walked.items.as_slice())? {
+    match run_reference(alloc, plan, walked.items.as_slice())? {
         Some(ran) => is_given(alloc, plan, &walked, &ran, report),
         None => Ok(false),
     }
 }
 
 /// Whether one at a time gives what a run of the plan of these bytes gave, which had this journal and the report of these bytes.
-pub fn is_as_alone(
+pub fn agrees_with_reference(
     alloc: Global,
     bytes: &[u8],
     journal: &Journal,

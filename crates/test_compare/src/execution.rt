@@ -45,7 +45,7 @@ fn is_tail(lines: &str, said: &Said) -> bool {
 }
 
 /// Whether the report says this.
-pub(crate) fn says(report: &str, said: &Said) -> bool {
+pub(crate) fn statement_result(report: &str, said: &Said) -> bool {
     let Some((verdict, rest)) = report.split_once('\n') else {
         return false;
     };

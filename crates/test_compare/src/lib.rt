@@ -14,4 +14,4 @@ mod history;
 mod replies;
 mod tables;
 
-pub use comparison::is_as_alone;
+pub use comparison::agrees_with_reference;

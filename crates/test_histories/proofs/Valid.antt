@@ -7,7 +7,7 @@ use Rattle.base_values.specs.declared.gho_schema.schema.Schema.{Schema}
 use Rattle.base_values.specs.RowConversion.ConvertedRows.{converted_rows}
 use Rattle.base_values.specs.declared.row_conversion.clause.Clause.{Clause}
 use Rattle.proof_schemas.specs.Alters.Laws.{AlteredSchemasAreValid, IsClause}
-use Rattle.sql_change.specs.Altering.{altered}
+use Rattle.sql_change.specs.AlteredSchema.{altered}
 use Rattle.sql_change.specs.declared.code.AlterCode.{AlterCode}
 use Rattle.base_values.specs.declared.event.RowEvent.{RowEvent}
 use Rattle.table_store.proofs.Orders.{Row}
@@ -16,10 +16,10 @@ use Rattle.base_values.specs.SchemaRules.Valid.{IsValid}
 use Rattle.base_values.proofs.SchemaRules.Steps.{some_is}
 use Rattle.server_model.specs.LockedRows.Databases.{WhereFound}
 use Rattle.server_model.specs.Alone.{Ran, alone, lines_run, nothing_ran, outcome_if, stays}
-use Rattle.server_model.specs.Jobs.{after_events, change_table}
+use Rattle.server_model.specs.Operations.{after_events, change_table}
 use Rattle.server_model.specs.declared.transaction.TxnLine.{TxnLine}
 use Rattle.plan_data.specs.PlanData.{PlanData}
-use Rattle.tool_program.specs.JournalWords.Altering.{Altered, altered_by, altered_table, imaged, plan_altered_table}
+use Rattle.tool_program.specs.JournalWords.AlteredTables.{Altered, altered_by, altered_table, imaged, plan_altered_table}
 use Rattle.tool_program.specs.JournalWords.Serials.{altered_database, altered_in}
 use Rattle.test_histories.specs.Histories.{AreValid}
 

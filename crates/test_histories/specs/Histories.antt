@@ -21,15 +21,15 @@ with_replies front None = None
 with_replies front (Some later) = Some (record { replies = front ++ later.replies; tables = later.tables })
 
 -- *A history alone*: a list of replies a transaction, and the tables that are left; none where the ALTER can't be done.
-unfoldable pub alone_in_order : PlanData → Database → List HistoryStep → Option InOrder
-alone_in_order plan tables [] = Some (record { replies = []; tables = tables })
-alone_in_order plan tables (Txn lines ∷ history_steps) = with_replies ((alone tables lines).replies ∷ []) (alone_in_order plan (alone tables lines).tables history_steps)
-alone_in_order plan tables (Alter ∷ history_steps) = option_and_then (λ after. alone_in_order plan after history_steps) (altered_database plan tables)
+unfoldable pub serial_run : PlanData → Database → List HistoryStep → Option InOrder
+serial_run plan tables [] = Some (record { replies = []; tables = tables })
+serial_run plan tables (Txn lines ∷ history_steps) = with_replies ((alone tables lines).replies ∷ []) (serial_run plan (alone tables lines).tables history_steps)
+serial_run plan tables (Alter ∷ history_steps) = option_and_then (λ after. serial_run plan after history_steps) (altered_database plan tables)
 
 -- what becomes of a run that came so far, where this is still to happen
 abbrev pub goes_on : PlanData → List HistoryStep → Option InOrder → Option InOrder
 goes_on plan history_steps None = None
-goes_on plan history_steps (Some so_far) = with_replies so_far.replies (alone_in_order plan so_far.tables history_steps)
+goes_on plan history_steps (Some so_far) = with_replies so_far.replies (serial_run plan so_far.tables history_steps)
 
 -- each table's schema is valid
 abbrev pub AreValid : Database → Type 0

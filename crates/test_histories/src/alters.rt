@@ -5,7 +5,7 @@ ghost use Rattle.base_values.specs.RowConversion.ConvertedRows.{converted_rows};
 ghost use Rattle.table_store.specs.Databases.{is_named, with_change};
 ghost use Rattle.server_model.specs.LockedRows.Databases.{WhereFound};
 ghost use Rattle.base_values.specs.SchemaRules.Valid.{IsValid};
-ghost use Rattle.tool_program.specs.JournalWords.Altering.{imaged, altered_table, plan_altered_table};
+ghost use Rattle.tool_program.specs.JournalWords.AlteredTables.{imaged, altered_table, plan_altered_table};
 ghost use Rattle.tool_program.specs.JournalWords.Serials.{altered_in, altered_database};
 ghost use Rattle.test_histories.specs.Histories.{AreValid};
 
@@ -53,7 +53,7 @@ fn imaged(
 }
 
 /// What the plan's ALTER makes of a table.
-#[tactic(auto, unfolding(tool_program::specs::JournalWords::Altering::altered_table))]
+#[tactic(auto, unfolding(tool_program::specs::JournalWords::AlteredTables::altered_table))]
 fn altered_table(
     alloc: Global,
     plan: &Plan,

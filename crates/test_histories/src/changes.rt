@@ -2,7 +2,7 @@
 
 ghost use Rattle.std.specs.Prelude.{◌≡◌, if◌then◌else◌, IfOk};
 ghost use Rattle.table_store.specs.Databases.{is_named, with_change};
-ghost use Rattle.server_model.specs.Jobs.{change_table, after_events};
+ghost use Rattle.server_model.specs.Operations.{change_table, after_events};
 
 use base_values::{Change, Duplicate, Name, RowEvent, Sequence};
 use std::alloc::{AllocError, Global};
@@ -41,7 +41,7 @@ fn after_event(
 }
 
 /// The tables after events, one by one.
-#[tactic(auto, unfolding(server_model::specs::Jobs::after_events))]
+#[tactic(auto, unfolding(server_model::specs::Operations::after_events))]
 pub fn after_events(
     alloc: Global,
     tables: &PlainTables,

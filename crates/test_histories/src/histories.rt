@@ -6,7 +6,7 @@ ghost use Rattle.server_model.specs.Alone.{alone};
 ghost use Rattle.tool_program.specs.JournalWords.Serials.{altered_database};
 ghost use Rattle.std.specs.List.{AllByRecursion};
 ghost use Rattle.proof_schemas.specs.Alters.Laws.{IsClause};
-ghost use Rattle.test_histories.specs.Histories.{with_replies, alone_in_order, goes_on, AreValid, IfValid};
+ghost use Rattle.test_histories.specs.Histories.{with_replies, serial_run, goes_on, AreValid, IfValid};
 ghost use Rattle.test_histories.specs.declared.histories.HistoryStep.{HistoryStep};
 
 use crate::alters::altered_database;
@@ -72,7 +72,7 @@ fn step(
 ) -> Result<Option<InOrder>, AllocError>
     requires valid { AreValid so_far.tables }
     requires clauses { AllByRecursion IsClause plan.now.alter }
-    ensures goes { IfOk result (λ next. (rest : List HistoryStep) → goes_on plan.now rest next ≡ with_replies so_far.replies (alone_in_order plan.now so_far.tables (history_step.now ∷ rest))) }
+    ensures goes { IfOk result (λ next. (rest : List HistoryStep) → goes_on plan.now rest next ≡ with_replies so_far.replies (serial_run plan.now so_far.tables (history_step.now ∷ rest))) }
     ensures valid { IfOk result IfValid }
 {
     match history_step {
@@ -91,7 +91,7 @@ pub fn run_in_order(
 ) -> Result<Option<InOrder>, AllocError>
     requires valid { AreValid tables }
     requires clauses { AllByRecursion IsClause plan.now.alter }
-    ensures { IfOk result (λ left. left ≡ alone_in_order plan.now tables history_steps.now) }
+    ensures { IfOk result (λ left. left ≡ serial_run plan.now tables history_steps.now) }
 {
     let mut so_far = InOrder {
         replies: Sequence::new(alloc),

@@ -15,4 +15,4 @@ mod runs;
 
 pub use histories::{HistoryStep, InOrder, run_in_order};
 pub use leftovers::tables_left;
-pub use runs::{AloneTxn, alone};
+pub use runs::{ReferenceTxn, alone};

@@ -8,7 +8,7 @@ use base_values::mysql_errors::ER_LOCK_WAIT_TIMEOUT;
 use base_values::{Events, Sequence};
 use server_model::{Answer, Mark, Reply, StatementResult, TxnLine};
 use std::alloc::{AllocError, Global};
-use test_model::{PlainTable, says};
+use test_model::{PlainTable, statement_result};
 
 /// What a client sees of an answer; nothing where it isn't one of a client's.
 fn reply_of(answer: Answer) -> Option<Reply>
@@ -40,7 +40,7 @@ fn line_says(
     ensures { IfOk result (λ said. said ≡ line_says tables.now word.now) }
 {
     match word {
-        ScriptWord::Do(statement) => says(alloc, tables, statement),
+        ScriptWord::Do(statement) => statement_result(alloc, tables, statement),
         ScriptWord::Begin | ScriptWord::Commit | ScriptWord::Rollback => Ok(StatementResult {
             answer: Answer::Ok(0),
             events: Sequence::new(alloc),

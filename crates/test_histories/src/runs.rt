@@ -20,7 +20,7 @@ struct Ran {
 
 /// What became of a transaction alone.
 #[derive(Drop)]
-pub struct AloneTxn {
+pub struct ReferenceTxn {
     /// The replies, in order.
     pub replies: Replies,
     /// The tables that are left.
@@ -66,7 +66,11 @@ fn lines_run(alloc: Global, tables: &PlainTables, lines: &[TxnLine]) -> Result<R
 
 /// A transaction alone on a database.
 #[tactic(auto, unfolding(server_model::specs::Alone::alone))]
-pub fn alone(alloc: Global, tables: &PlainTables, lines: &[TxnLine]) -> Result<AloneTxn, AllocError>
+pub fn alone(
+    alloc: Global,
+    tables: &PlainTables,
+    lines: &[TxnLine],
+) -> Result<ReferenceTxn, AllocError>
     ensures replies { IfOk result (λ txn. txn.replies ≡ (alone tables.now lines.now).replies) }
     ensures tables { IfOk result (λ txn. txn.tables ≡ (alone tables.now lines.now).tables) }
 {
@@ -76,7 +80,7 @@ pub fn alone(alloc: Global, tables: &PlainTables, lines: &[TxnLine]) -> Result<A
     } else {
         tables.copy()?
     };
-    Ok(AloneTxn {
+    Ok(ReferenceTxn {
         replies: ran.replies,
         tables,
     })

@@ -5,19 +5,19 @@ use base_values::{Row, Text, print_row};
 use std::alloc::AllocError;
 
 /// Says a row, or that there is none.
-pub fn say_row(told: &mut Text, row: Option<&Row>) -> Result<(), AllocError> {
+pub fn say_row(output: &mut Text, row: Option<&Row>) -> Result<(), AllocError> {
     match row {
         Some(row) => {
-            say(told, "")?;
-            print_row(row.as_slice(), told)
+            say(output, "")?;
+            print_row(row.as_slice(), output)
         }
-        None => say(told, "none"),
+        None => say(output, "none"),
     }
 }
 
 /// Says where two answers differ.
-pub fn say_difference(told: &mut Text, same: bool) -> Result<(), AllocError> {
-    told.push_str(if same { "" } else { " or not" })
+pub fn say_difference(output: &mut Text, same: bool) -> Result<(), AllocError> {
+    output.push_str(if same { "" } else { " or not" })
 }
 
 /// Whether both are the same row, or neither is there.
@@ -31,10 +31,10 @@ pub fn are_same(paged: Option<&Row>, listed: Option<&Row>) -> bool {
 
 /// Says the row that both found, or that there is none.
 pub fn say_found(
-    told: &mut Text,
+    output: &mut Text,
     paged: Option<&Row>,
     listed: Option<&Row>,
 ) -> Result<(), AllocError> {
-    say_row(told, paged)?;
-    say_difference(told, are_same(paged, listed))
+    say_row(output, paged)?;
+    say_difference(output, are_same(paged, listed))
 }

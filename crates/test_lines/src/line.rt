@@ -44,10 +44,10 @@ impl<'a> Line<'a> {
 fn push_times(into: &mut Text, times: u32, piece: &str) -> Result<(), AllocError> {
     for number in 0..times {
         match piece.split_once('#') {
-            Some((before, behind)) => {
+            Some((before, following)) => {
                 into.push_str(before)?;
                 into.push_number(i128::from(number))?;
-                into.push_str(behind)?;
+                into.push_str(following)?;
             }
             None => into.push_str(piece)?,
         }

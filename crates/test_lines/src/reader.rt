@@ -27,11 +27,11 @@ impl<T: Drop> From<AllocFailed<T>> for CallFault {
 }
 
 /// Adds a piece to an answer, with a semicolon before it where there are others.
-pub fn say(told: &mut Text, piece: &str) -> Result<(), AllocError> {
-    if !told.as_str().is_empty() {
-        told.push_str("; ")?;
+pub fn say(output: &mut Text, piece: &str) -> Result<(), AllocError> {
+    if !output.as_str().is_empty() {
+        output.push_str("; ")?;
     }
-    told.push_str(piece)
+    output.push_str(piece)
 }
 
 /// The text of a word.

@@ -10,8 +10,8 @@ use Rattle.base_values.specs.declared.mysql_errors.TheConstants.{ER_DUP_ENTRY}
 use Rattle.server_model.specs.declared.answer.Answer.{Answer}
 use Rattle.server_model.specs.Answers.{refuses}
 use Rattle.server_model.specs.Rows.{same_row, change_rows}
-use Rattle.server_model.specs.Saying.{with_sets, clashes_besides, change_first, updates}
-use Rattle.test_model.specs.Updating.{changes_after}
+use Rattle.server_model.specs.StatementResults.{with_sets, clashes_besides, change_first, updates}
+use Rattle.test_model.specs.RowUpdates.{changes_after}
 
 after_first : (front : List Change) (change : Change) (others : Result (List Change) Answer) → changes_after (front ++ change ∷ []) others ≡ changes_after front (change_first change others)
 after_first front change (Ok others) = ap (λ (cs : List Change). Ok cs) (append_assoc front (change ∷ []) others)

@@ -1,2 +1,2 @@
 pub mod AnswerAndChanges
-pub mod Updating
+pub mod RowUpdates

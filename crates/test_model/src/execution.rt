@@ -1,7 +1,7 @@
 //! What a statement says of a database.
 
 ghost use Rattle.std.specs.Prelude.{◌≡◌, [], ◌∷◌, ◌++◌, IfOk, OnOk, option_copied};
-ghost use Rattle.server_model.specs.Jobs.{table_of, job_of, events_of, result_of, result_in, says};
+ghost use Rattle.server_model.specs.Operations.{table_of, operation_of, events_of, result_of, result_in, statement_result};
 ghost use Rattle.test_model.specs.AnswerAndChanges.{as_result};
 
 use crate::plain::{PlainTable, find_table};
@@ -48,13 +48,13 @@ fn events_of(alloc: Global, table: &Name, changes: Changes) -> Result<Events, Al
 fn result_of(
     alloc: Global,
     table: &Name,
-    told: AnswerAndChanges,
+    executed: AnswerAndChanges,
 ) -> Result<StatementResult, AllocError>
-    ensures { IfOk result (λ said. said ≡ result_of table.now (as_result told)) }
+    ensures { IfOk result (λ said. said ≡ result_of table.now (as_result executed)) }
 {
-    let events = events_of(alloc, table, told.changes)?;
+    let events = events_of(alloc, table, executed.changes)?;
     Ok(StatementResult {
-        answer: told.answer,
+        answer: executed.answer,
         events,
     })
 }
@@ -65,7 +65,7 @@ fn says_in(
     statement: &Statement,
     table: Option<&PlainTable>,
 ) -> Result<StatementResult, AllocError>
-    ensures { IfOk result (λ said. said ≡ result_in (job_of statement.now) (option_copied table.entry)) }
+    ensures { IfOk result (λ said. said ≡ result_in (operation_of statement.now) (option_copied table.entry)) }
 {
     let Some(table) = table else {
         return Ok(StatementResult {
@@ -74,18 +74,18 @@ fn says_in(
         });
     };
     let work = work_of(alloc, &table.schema, statement)?;
-    let told = tells(alloc, table, &work)?;
-    result_of(alloc, table_of(statement), told)
+    let executed = tells(alloc, table, &work)?;
+    result_of(alloc, table_of(statement), executed)
 }
 
 /// What a statement says of the tables.
-#[tactic(auto, unfolding(server_model::specs::Jobs::job_says))]
-pub fn says(
+#[tactic(auto, unfolding(server_model::specs::Operations::operation_result))]
+pub fn statement_result(
     alloc: Global,
     tables: &[PlainTable],
     statement: &Statement,
 ) -> Result<StatementResult, AllocError>
-    ensures { IfOk result (λ said. said ≡ says tables.now statement.now) }
+    ensures { IfOk result (λ said. said ≡ statement_result tables.now statement.now) }
 {
     let table = find_table(table_of(statement), tables);
     says_in(alloc, statement, table)

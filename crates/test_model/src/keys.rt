@@ -2,7 +2,7 @@
 
 ghost use Rattle.std.specs.Prelude.{◌≡◌, ◌&&◌, Some, IfOk, option_copied, slice_get};
 ghost use Rattle.std.specs.Ordering.{is_eq};
-ghost use Rattle.base_values.specs.Comparing.{compare_keys};
+ghost use Rattle.base_values.specs.KeyOrder.{compare_keys};
 ghost use Rattle.base_values.specs.Spans.{above, below};
 ghost use Rattle.base_values.specs.GhoSchema.Rows.{key_of};
 ghost use Rattle.base_values.specs.GhoSchema.Tables.{no_null, clash};

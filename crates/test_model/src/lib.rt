@@ -5,13 +5,13 @@
 
 mod execution;
 mod keys;
-mod meeting;
+mod met_rows;
 mod plain;
 mod results;
 mod rows;
 mod selection;
 mod updates;
 
-pub use execution::says;
+pub use execution::statement_result;
 pub use plain::{PlainTable, PlainTables, find_table, is_named, plain_tables};
 pub use rows::change_rows;

@@ -4,10 +4,10 @@ ghost use Rattle.std.specs.Prelude.{◌≡◌, ◌+◌, ◌∷◌, [], ◌++◌,
 ghost use Rattle.base_values.specs.declared.event.Change.TheVariants as changes;
 ghost use Rattle.server_model.specs.declared.answer.Answer.TheVariants as answers;
 ghost use Rattle.server_model.specs.declared.work.Work.TheVariants as works;
-ghost use Rattle.server_model.specs.Saying.{only, tells};
+ghost use Rattle.server_model.specs.StatementResults.{only, tells};
 ghost use Rattle.test_model.specs.AnswerAndChanges.{as_result};
 
-use crate::meeting::{clashes, displaced, rows_met};
+use crate::met_rows::{clashes, displaced, rows_met};
 use crate::plain::PlainTable;
 use crate::selection::selected;
 use crate::updates::updated;
@@ -52,7 +52,7 @@ fn deletes(alloc: Global, rows: &[Row]) -> Result<Changes, AllocError>
 
 /// A row is written that clashes with none.
 fn one_written(alloc: Global, row: &Row) -> Result<AnswerAndChanges, AllocError>
-    ensures { IfOk result (λ told. as_result told ≡ record { answer = answers.Ok 1; changes = changes.Write row.now ∷ [] }) }
+    ensures { IfOk result (λ executed. as_result executed ≡ record { answer = answers.Ok 1; changes = changes.Write row.now ∷ [] }) }
 {
     let mut changes = Sequence::new(alloc);
     changes.push(Change::Write(row.copy()?))?;
@@ -63,9 +63,9 @@ fn one_written(alloc: Global, row: &Row) -> Result<AnswerAndChanges, AllocError>
 }
 
 /// What an INSERT says: `ER_DUP_ENTRY` where its row clashes with one.
-#[tactic(auto, unfolding(server_model::specs::Saying::tells))]
+#[tactic(auto, unfolding(server_model::specs::StatementResults::tells))]
 fn insert(alloc: Global, table: &PlainTable, row: &Row) -> Result<AnswerAndChanges, AllocError>
-    ensures { IfOk result (λ told. as_result told ≡ tells table.now.schema table.now.rows (works.Insert row.now)) }
+    ensures { IfOk result (λ executed. as_result executed ≡ tells table.now.schema table.now.rows (works.Insert row.now)) }
 {
     if clashes(alloc, &table.schema, row, table.rows.as_slice())? {
         return Ok(only(alloc, refuses(ER_DUP_ENTRY)));
@@ -74,9 +74,9 @@ fn insert(alloc: Global, table: &PlainTable, row: &Row) -> Result<AnswerAndChang
 }
 
 /// What an INSERT IGNORE says: nothing is done where its row clashes with one.
-#[tactic(auto, unfolding(server_model::specs::Saying::tells))]
+#[tactic(auto, unfolding(server_model::specs::StatementResults::tells))]
 fn copy(alloc: Global, table: &PlainTable, row: &Row) -> Result<AnswerAndChanges, AllocError>
-    ensures { IfOk result (λ told. as_result told ≡ tells table.now.schema table.now.rows (works.Copy row.now)) }
+    ensures { IfOk result (λ executed. as_result executed ≡ tells table.now.schema table.now.rows (works.Copy row.now)) }
 {
     if clashes(alloc, &table.schema, row, table.rows.as_slice())? {
         return Ok(only(alloc, Answer::Ok(0)));
@@ -86,7 +86,7 @@ fn copy(alloc: Global, table: &PlainTable, row: &Row) -> Result<AnswerAndChanges
 
 /// These rows are removed, counted with the row that is written.
 fn one_replaced(alloc: Global, displaced: &[Row], row: &Row) -> Result<AnswerAndChanges, AllocError>
-    ensures { IfOk result (λ told. as_result told ≡ record { answer = answers.Ok (1 + length displaced.now); changes = map changes.Delete displaced.now ++ changes.Write row.now ∷ [] }) }
+    ensures { IfOk result (λ executed. as_result executed ≡ record { answer = answers.Ok (1 + length displaced.now); changes = map changes.Delete displaced.now ++ changes.Write row.now ∷ [] }) }
 {
     let mut changes = deletes(alloc, displaced)?;
     changes.push(Change::Write(row.copy()?))?;
@@ -97,18 +97,18 @@ fn one_replaced(alloc: Global, displaced: &[Row], row: &Row) -> Result<AnswerAnd
 }
 
 /// What a REPLACE says: the rows that clash with its row are removed, and counted with it.
-#[tactic(auto, unfolding(server_model::specs::Saying::tells))]
+#[tactic(auto, unfolding(server_model::specs::StatementResults::tells))]
 fn replace(alloc: Global, table: &PlainTable, row: &Row) -> Result<AnswerAndChanges, AllocError>
-    ensures { IfOk result (λ told. as_result told ≡ tells table.now.schema table.now.rows (works.Replace row.now)) }
+    ensures { IfOk result (λ executed. as_result executed ≡ tells table.now.schema table.now.rows (works.Replace row.now)) }
 {
     let displaced = displaced(alloc, &table.schema, row, table.rows.as_slice())?;
     one_replaced(alloc, displaced.as_slice(), row)
 }
 
 /// What a DELETE says: the rows that it reaches are removed.
-#[tactic(auto, unfolding(server_model::specs::Saying::tells))]
+#[tactic(auto, unfolding(server_model::specs::StatementResults::tells))]
 fn delete(alloc: Global, table: &PlainTable, reach: &Reach) -> Result<AnswerAndChanges, AllocError>
-    ensures { IfOk result (λ told. as_result told ≡ tells table.now.schema table.now.rows (works.Delete reach.now)) }
+    ensures { IfOk result (λ executed. as_result executed ≡ tells table.now.schema table.now.rows (works.Delete reach.now)) }
 {
     let met = rows_met(alloc, &table.schema, reach, table.rows.as_slice())?;
     let changes = deletes(alloc, met.as_slice())?;
@@ -119,23 +119,23 @@ fn delete(alloc: Global, table: &PlainTable, reach: &Reach) -> Result<AnswerAndC
 }
 
 /// What a SELECT says.
-#[tactic(auto, unfolding(server_model::specs::Saying::tells))]
+#[tactic(auto, unfolding(server_model::specs::StatementResults::tells))]
 fn select(
     alloc: Global,
     table: &PlainTable,
     reach: &Reach,
     selection: &Selection,
 ) -> Result<AnswerAndChanges, AllocError>
-    ensures { IfOk result (λ told. as_result told ≡ tells table.now.schema table.now.rows (works.Select reach.now selection.now)) }
+    ensures { IfOk result (λ executed. as_result executed ≡ tells table.now.schema table.now.rows (works.Select reach.now selection.now)) }
 {
     let met = rows_met(alloc, &table.schema, reach, table.rows.as_slice())?;
     Ok(only(alloc, selected(alloc, selection, met)?))
 }
 
 /// What a statement's work says of its table.
-#[tactic(auto, unfolding(server_model::specs::Saying::tells))]
+#[tactic(auto, unfolding(server_model::specs::StatementResults::tells))]
 pub fn tells(alloc: Global, table: &PlainTable, work: &Work) -> Result<AnswerAndChanges, AllocError>
-    ensures { IfOk result (λ told. as_result told ≡ tells table.now.schema table.now.rows work.now) }
+    ensures { IfOk result (λ executed. as_result executed ≡ tells table.now.schema table.now.rows work.now) }
 {
     match work {
         Work::Refuse(refusal) => Ok(only(alloc, refusal.copy()?)),

@@ -3,7 +3,7 @@
 ghost use Rattle.std.specs.Prelude.{◌≡◌, [], ◌∷◌, pos, map, option_to_list, slice_get, option_copied, IfOk, OnOk, ◌++◌};
 ghost use Rattle.std.specs.List.{flat_map};
 ghost use Rattle.base_values.specs.declared.value.Value.TheVariants.{Num};
-ghost use Rattle.server_model.specs.Saying.{selected};
+ghost use Rattle.server_model.specs.StatementResults.{selected};
 
 use base_values::{Duplicate, Row, Rows, Sequence, Value};
 use server_model::{Answer, Selection};

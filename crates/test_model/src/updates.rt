@@ -5,11 +5,11 @@ ghost use Rattle.base_values.specs.declared.value.Value.{Value};
 ghost use Rattle.base_values.specs.GhoSchema.Rows.{key_places};
 ghost use Rattle.base_values.specs.declared.event.Change.TheVariants as changes;
 ghost use Rattle.server_model.specs.Rows.{rows_met, change_rows};
-ghost use Rattle.server_model.specs.Saying.{with_sets, updates, result_or_refusal, updated};
+ghost use Rattle.server_model.specs.StatementResults.{with_sets, updates, result_or_refusal, updated};
 ghost use Rattle.test_model.specs.AnswerAndChanges.{as_result};
-ghost use Rattle.test_model.specs.Updating.{changes_after, goes_on};
+ghost use Rattle.test_model.specs.RowUpdates.{changes_after, goes_on};
 
-use crate::meeting::{clashes_besides, rows_met};
+use crate::met_rows::{clashes_besides, rows_met};
 use crate::plain::PlainTable;
 use crate::results::{AnswerAndChanges, Changes, only};
 use crate::rows::change_rows;
@@ -32,7 +32,7 @@ fn set_or(set: &Option<Value>, value: &Value) -> Result<Value, AllocError>
 }
 
 /// Adds copies of the row's values, with its columns set to these, where there are such.
-#[tactic(auto, using(server_model::proofs::LockedRows::Sets::with_sets_more, crate::proofs::Sets::with_no_sets), unfolding(server_model::specs::Saying::with_sets))]
+#[tactic(auto, using(server_model::proofs::LockedRows::Sets::with_sets_more, crate::proofs::Sets::with_no_sets), unfolding(server_model::specs::StatementResults::with_sets))]
 fn push_with_sets(into: &mut Row, sets: &[Option<Value>], row: &[Value]) -> Result<(), AllocError>
     ensures { OnOk result (into.new ≡ into.old ++ with_sets sets.now row.now) }
 {
@@ -161,7 +161,7 @@ fn updated_of(
     sets: &Result<ColumnSets, UnfitAt>,
     met: &[Row],
 ) -> Result<AnswerAndChanges, AllocError>
-    ensures { IfOk result (λ told. as_result told ≡ updated table.now.schema sets.now met.now table.now.rows) }
+    ensures { IfOk result (λ executed. as_result executed ≡ updated table.now.schema sets.now met.now table.now.rows) }
 {
     match sets {
         Ok(sets) => {
@@ -185,7 +185,7 @@ pub fn updated(
     reach: &Reach,
     sets: &Result<ColumnSets, UnfitAt>,
 ) -> Result<AnswerAndChanges, AllocError>
-    ensures { IfOk result (λ told. as_result told ≡ updated table.now.schema sets.now (rows_met table.now.schema reach.now table.now.rows) table.now.rows) }
+    ensures { IfOk result (λ executed. as_result executed ≡ updated table.now.schema sets.now (rows_met table.now.schema reach.now table.now.rows) table.now.rows) }
 {
     let met = rows_met(alloc, &table.schema, reach, table.rows.as_slice())?;
     updated_of(alloc, table, sets, met.as_slice())

@@ -2,7 +2,7 @@
 //! transaction at a time gives.
 #![tactic(auto)]
 
-mod as_alone;
+mod as_reference;
 mod losses;
 mod orders;
 mod runs;

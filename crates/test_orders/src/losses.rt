@@ -1,6 +1,6 @@
 //! Single losses of sessions.
 
-use crate::as_alone::turns_as_alone;
+use crate::as_reference::turns_of_reference;
 use base_script::Actor;
 use std::alloc::{AllocError, Global};
 use std::io;
@@ -14,7 +14,7 @@ const ACTORS: [&str; 6] = ["insp", "copy", "apply", "lock", "ren", "c1"];
 #[derive(Clone, Copy)]
 struct Count {
     losses: u64,
-    as_alone: u64,
+    as_reference: u64,
 }
 
 /// The word of an actor of the plan.
@@ -36,14 +36,14 @@ fn turns_of(actor: Actor, turns: &[Turn]) -> usize {
 }
 
 /// Whether the run of a plan with a loss is as one at a time.
-fn is_lost_as_alone(
+fn is_lost_as_reference(
     alloc: Global,
     program: &Program,
     plan: &str,
     loss: &str,
 ) -> Result<bool, AllocError> {
     let faults = format!(in alloc; "faults = [\"{loss}\"]")?;
-    Ok(turns_as_alone(alloc, program, faults.as_str(), plan)?.is_some())
+    Ok(turns_of_reference(alloc, program, faults.as_str(), plan)?.is_some())
 }
 
 /// Runs a plan with a loss, and counts it.
@@ -55,8 +55,8 @@ fn run_loss<R: Print + AllocGlobal>(
     count: &mut Count,
 ) -> io::Result<()> {
     count.losses = count.losses.saturating_add(1);
-    if is_lost_as_alone(rt.alloc(), program, plan, loss)? {
-        count.as_alone = count.as_alone.saturating_add(1);
+    if is_lost_as_reference(rt.alloc(), program, plan, loss)? {
+        count.as_reference = count.as_reference.saturating_add(1);
         Ok(())
     } else {
         println!(rt; "loss {loss} is not")
@@ -127,7 +127,7 @@ fn run_losses<R: Print + AllocGlobal>(
 ) -> io::Result<Count> {
     let mut count = Count {
         losses: 0,
-        as_alone: 0,
+        as_reference: 0,
     };
     run_turn_losses(rt, program, plan, turns, &mut count)?;
     for place in 0..turns.len() {
@@ -143,12 +143,12 @@ pub fn run_with_losses<R: Print + AllocGlobal>(
     name: &str,
     plan: &str,
 ) -> io::Result<()> {
-    let Some(turns) = turns_as_alone(rt.alloc(), program, "# No session is lost.", plan)? else {
+    let Some(turns) = turns_of_reference(rt.alloc(), program, "# No session is lost.", plan)? else {
         return println!(rt; "{name} itself is not");
     };
     let count = run_losses(rt, program, plan, turns.as_slice())?;
     println!(rt;
         "{name}: {} of {} losses are as one at a time",
-        count.as_alone, count.losses
+        count.as_reference, count.losses
     )
 }

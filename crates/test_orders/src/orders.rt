@@ -2,7 +2,7 @@
 
 ghost use Rattle.std.specs.Prelude.{◌<◌};
 
-use crate::as_alone::turns_as_alone;
+use crate::as_reference::turns_of_reference;
 use std::alloc::{AllocError, Global};
 use std::io;
 use test_program::Program;
@@ -84,7 +84,7 @@ fn turns_in_order(
     number: u64,
 ) -> Result<Option<Turns>, AllocError> {
     let line = order_line(alloc, number)?;
-    turns_as_alone(alloc, program, line.as_str(), plan)
+    turns_of_reference(alloc, program, line.as_str(), plan)
 }
 
 /// Keeps the turns that are unlike all of the earlier ones; whether they are.

@@ -1,6 +1,6 @@
 //! Runs by worker threads, and replays in the orders that they print.
 
-use crate::as_alone::is_run_as_alone;
+use crate::as_reference::is_reference_run;
 use std::alloc::{AllocError, Global};
 use std::io;
 use test_program::{Meeting, Program, Ran, SOUND, run, run_between};
@@ -45,7 +45,7 @@ fn is_reported(
 /// Whether a run of a plan is as one at a time, and has the report of its replay in the order that it prints.
 fn has_replay(alloc: Global, program: &Program, plan: &str, ran: &Ran) -> Result<bool, AllocError> {
     let printed = ran.printed();
-    if !is_run_as_alone(alloc, plan.as_bytes(), ran)? {
+    if !is_reference_run(alloc, plan.as_bytes(), ran)? {
         return Ok(false);
     }
     match order_in(str::from_utf8(printed).unwrap_or("")) {

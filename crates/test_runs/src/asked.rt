@@ -1,6 +1,6 @@
 //! What is asked of a case.
 
-use crate::altered::{is_plan_told, is_report_told, is_run_as_alone};
+use crate::altered::{is_plan_reported, is_reference_run, is_report_reported};
 use crate::edges::{end_at_sinks, end_at_sources};
 use crate::lines::has_lines;
 use std::alloc::{AllocError, Global};
@@ -28,15 +28,15 @@ fn is_written(alloc: Global, case: &Case<'_>, ran: &Ran) -> Result<bool, AllocEr
 }
 
 /// Whether a run took no turns, or one at a time gives what it printed.
-fn is_alone_where_run(alloc: Global, plan: &[u8], ran: &Ran) -> Result<bool, AllocError> {
-    Ok(ran.ended.journal.is_empty() || is_run_as_alone(alloc, plan, ran)?)
+fn is_reference_where_run(alloc: Global, plan: &[u8], ran: &Ran) -> Result<bool, AllocError> {
+    Ok(ran.ended.journal.is_empty() || is_reference_run(alloc, plan, ran)?)
 }
 
 /// Whether a case prints what is in it, with the status that it names, and what one at a time gives.
 fn is_printed(alloc: Global, program: &Program, case: &Case<'_>) -> Result<bool, AllocError> {
     let plan = case.plan.as_slice();
     let ran = run(alloc, program, case.words, plan)?;
-    Ok(is_written(alloc, case, &ran)? && is_alone_where_run(alloc, plan, &ran)?)
+    Ok(is_written(alloc, case, &ran)? && is_reference_where_run(alloc, plan, &ran)?)
 }
 
 /// Whether a case is as expected.
@@ -49,8 +49,8 @@ pub(crate) fn is_as_expected(
     let is_so = match asked {
         Asked::Prints => is_printed(alloc, program, case)?,
         Asked::HasLines => has_lines(alloc, program, case)?,
-        Asked::TellsReport => is_report_told(alloc, program, case)?,
-        Asked::TellsPlan => is_plan_told(alloc, program, case)?,
+        Asked::TellsReport => is_report_reported(alloc, program, case)?,
+        Asked::TellsPlan => is_plan_reported(alloc, program, case)?,
         Asked::EndsAtEdges => {
             is_printed(alloc, program, case)?
                 && end_at_sources(alloc, program, case)?

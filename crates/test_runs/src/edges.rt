@@ -22,8 +22,8 @@ fn ends_at_source(
         edges,
         &Meeting::new(0),
     )?;
-    let is_told = ran.printed() == b"read fault\n".as_slice();
-    Ok(ran.ended.status == 4 && ran.source.faults() == 1 && is_told)
+    let is_reported = ran.printed() == b"read fault\n".as_slice();
+    Ok(ran.ended.status == 4 && ran.source.faults() == 1 && is_reported)
 }
 
 /// Whether a sink that fails after `fail_at` bytes ends the call with the write fault, and holds just those bytes.

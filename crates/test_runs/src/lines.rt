@@ -1,17 +1,17 @@
 //! Runs whose reports have some lines.
 
 use std::alloc::{AllocError, Global};
-use test_compare::is_as_alone;
+use test_compare::agrees_with_reference;
 use test_program::{Case, Program, run};
 
 /// Whether these lines are among those of a report, in their order.
 fn stand_among(lines: &str, report: &str) -> bool {
-    let mut wanted = lines.lines();
-    let mut next = wanted.next();
+    let mut expected = lines.lines();
+    let mut next = expected.next();
     for line in report.lines() {
         if let Some(sought) = next {
             if sought == line {
-                next = wanted.next();
+                next = expected.next();
             }
         }
     }
@@ -26,7 +26,7 @@ pub(crate) fn has_lines(
 ) -> Result<bool, AllocError> {
     let plan = case.plan.as_slice();
     let ran = run(alloc, program, case.words, plan)?;
-    let is_same = is_as_alone(alloc, plan, &ran.ended.journal, ran.printed())?;
+    let is_same = agrees_with_reference(alloc, plan, &ran.ended.journal, ran.printed())?;
     match (
         str::from_utf8(case.prints.as_slice()),
         str::from_utf8(ran.printed()),

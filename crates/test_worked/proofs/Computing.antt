@@ -17,13 +17,13 @@ use Rattle.server_model.specs.declared.outcome.Verdict.{Verdict}
 use Rattle.server_model.specs.declared.session.Limits.{Limits}
 use Rattle.server_model.specs.Entries.{request_in}
 use Rattle.server_model.specs.States.{State, opened}
-use Rattle.server_model.specs.Serving.{serves, given_at}
+use Rattle.server_model.specs.PlainServer.{serves, given_at}
 use Rattle.server_model.specs.Alone.{alone}
 use Rattle.plan_data.specs.PlanData.{PlanData}
 use Rattle.tool_program.specs.JournalWords.Journals.{opening, opens, after_entry, heard, missed, may_lose, state_at}
 use Rattle.tool_program.specs.JournalWords.Sessions.{live_session, sessions_named}
 use Rattle.tool_program.specs.JournalWords.Clients.{client_asks}
-use Rattle.tool_program.specs.JournalWords.Keeping.{side_due, cut_due, words_of}
+use Rattle.tool_program.specs.JournalWords.KeptPlans.{side_due, cut_due, words_of}
 use Rattle.tool_program.specs.JournalWords.Histories.{HistoryItem, Txn, Alter, NumberedReply, history, replies_of}
 use Rattle.tool_program.specs.JournalWords.Serials.{tables_left, altered_database}
 use Rattle.tool_program.specs.JournalWords.Bounds.{bound}
@@ -32,38 +32,38 @@ use Rattle.tool_program.specs.Programs.{tool_asks, commands}
 use Rattle.tool_program.specs.Verdicts.{verdict_of, is_over}
 use Rattle.tool_program.specs.Online.{writes_own, names_own, is_small, excludes_well, guards_well, holds_back}
 use Rattle.tool_program.specs.Orders.{Queue, chosen, queue_after, actor_of, words_in, WorkerTurn, Paired, worker_actor}
-use Rattle.base_values.specs.Comparing as x0
+use Rattle.base_values.specs.KeyOrder as x0
 use Rattle.base_values.specs.Spans as x1
-use Rattle.base_values.specs.Storing as x2
-use Rattle.base_values.specs.GhoSchema.Clustering as x3
+use Rattle.base_values.specs.StoredValues as x2
+use Rattle.base_values.specs.GhoSchema.ClusteredKey as x3
 use Rattle.base_values.specs.GhoSchema.Names as x4
 use Rattle.base_values.specs.GhoSchema.Rows as x5
 use Rattle.base_values.specs.RowConversion.ConvertedRows as x6
-use Rattle.sql_change.specs.Altering as x7
-use Rattle.sql_change.specs.Changing as x8
+use Rattle.sql_change.specs.AlteredSchema as x7
+use Rattle.sql_change.specs.ClauseResults as x8
 use Rattle.sql_change.specs.Columns as x9
-use Rattle.sql_change.specs.Indexing as x10
+use Rattle.sql_change.specs.IndexClauses as x10
 use Rattle.sql_change.specs.Places as x11
-use Rattle.sql_change.specs.Standing as x12
-use Rattle.server_locks.specs.RowLocks.Granting as x13
-use Rattle.server_locks.specs.MetadataLocks.Granting as x14
+use Rattle.sql_change.specs.AlteredSoFar as x12
+use Rattle.server_locks.specs.RowLocks.Grants as x13
+use Rattle.server_locks.specs.MetadataLocks.Grants as x14
 use Rattle.table_store.specs.Databases as x15
-use Rattle.sql_create.specs.Declaring as x16
+use Rattle.sql_create.specs.DeclaredSchema as x16
 use Rattle.base_values.specs.SchemaRules.Defaults as x17
 use Rattle.sql_create.specs.Keys as x18
 use Rattle.base_values.specs.SchemaRules.Names as xn
 use Rattle.base_values.specs.SchemaRules.Limits as x19
 use Rattle.sql_create.specs.Written as x20
 use Rattle.server_model.specs.Alone as x21
-use Rattle.server_model.specs.Checking as x22
+use Rattle.server_model.specs.Checks as x22
 use Rattle.server_model.specs.Chunks as x23
 use Rattle.server_model.specs.Entries as x24
-use Rattle.server_model.specs.Jobs as x25
-use Rattle.server_model.specs.Needing as x26
+use Rattle.server_model.specs.Operations as x25
+use Rattle.server_model.specs.Needs as x26
 use Rattle.server_model.specs.Rows as x27
-use Rattle.server_model.specs.Saying as x28
-use Rattle.server_model.specs.Serving as x29
-use Rattle.server_model.specs.Showing as x30
+use Rattle.server_model.specs.StatementResults as x28
+use Rattle.server_model.specs.PlainServer as x29
+use Rattle.server_model.specs.Listings as x30
 use Rattle.server_model.specs.States as x31
 use Rattle.tool_changelog.specs.Hints as x32
 use Rattle.base_values.specs.ToolNames as x33
@@ -72,12 +72,12 @@ use Rattle.tool_program.specs.ChunkCopier.Copiers as x35
 use Rattle.tool_program.specs.EventApplier.Appliers as x36
 use Rattle.tool_program.specs.CutoverCore.Attempts as x37
 use Rattle.tool_program.specs.CutoverCore.CutOvers as x38
-use Rattle.tool_program.specs.JournalWords.Altering as x39
+use Rattle.tool_program.specs.JournalWords.AlteredTables as x39
 use Rattle.tool_program.specs.JournalWords.Bounds as x40
 use Rattle.tool_program.specs.JournalWords.Clients as x41
 use Rattle.tool_program.specs.JournalWords.Histories as x42
 use Rattle.tool_program.specs.JournalWords.Journals as x43
-use Rattle.tool_program.specs.JournalWords.Keeping as x44
+use Rattle.tool_program.specs.JournalWords.KeptPlans as x44
 use Rattle.plan_data.specs.PlanData as x45
 use Rattle.tool_program.specs.JournalWords.Serials as x46
 use Rattle.tool_program.specs.JournalWords.Sessions as x47
@@ -247,41 +247,41 @@ pub record WorkedFacts : Type 0 where
   pub bound : ℕ
   pub replies : List (List (ℕ × ℕ × Option Reply))
 
-pub record IsWorked (plan : PlanData) (journal : List Entry) (told : WorkedFacts) : Type 0 where
+pub record IsWorked (plan : PlanData) (journal : List Entry) (reported : WorkedFacts) : Type 0 where
   pub asks : asked_in plan (start plan) [] journal ≡ asked_there journal
   pub sessions : sessions_in [] journal ≡ true
   pub answers : answered_in (opening plan) journal ≡ answered_there journal
   pub sides : sides_in journal ≡ true
   pub struck : struck_in plan [] journal ≡ struck_there journal
-  pub verdict : verdict_of plan journal ≡ told.verdict
-  pub ended : map named (history plan journal) ≡ told.ended
+  pub verdict : verdict_of plan journal ≡ reported.verdict
+  pub ended : map named (history plan journal) ≡ reported.ended
   pub order : order_in plan (record { words = words_in plan; round = [] }) [] journal ≡ actors_there journal
-  pub left : tables_left plan (state_at plan journal).tables ≡ told.left
-  pub serial : serial_in plan (Some (tables_left plan plan.tables)) (history plan journal) ≡ Some told.left
-  pub alone : replies_in plan (Some (tables_left plan plan.tables)) (history plan journal) ≡ told.alone
-  pub over : over_in plan (start plan) journal ≡ told.over
+  pub left : tables_left plan (state_at plan journal).tables ≡ reported.left
+  pub serial : serial_in plan (Some (tables_left plan plan.tables)) (history plan journal) ≡ Some reported.left
+  pub alone : replies_in plan (Some (tables_left plan plan.tables)) (history plan journal) ≡ reported.alone
+  pub over : over_in plan (start plan) journal ≡ reported.over
   pub online : online_in plan (start plan) [] journal ≡ true
-  pub bounded : bound plan ≡ told.bound
-  pub replies : replies_from plan journal 1 plan.clients ≡ told.replies
+  pub bounded : bound plan ≡ reported.bound
+  pub replies : replies_from plan journal 1 plan.clients ≡ reported.replies
 
 -- of a run by workers
-pub record WorkersTold : Type 0 where
+pub record WorkersReported : Type 0 where
   pub verdict : Verdict
   pub ended : List (Option (ℕ × ℕ))
   pub left : Database
   pub replies : List (List (ℕ × ℕ × Option Reply))
 
-pub record IsWorkedBy (count : ℕ) (turns : List WorkerTurn) (plan : PlanData) (journal : List Entry) (told : WorkersTold) : Type 0 where
+pub record IsWorkedBy (count : ℕ) (turns : List WorkerTurn) (plan : PlanData) (journal : List Entry) (reported : WorkersReported) : Type 0 where
   pub asks : asked_in plan (start plan) [] journal ≡ asked_there journal
   pub sessions : sessions_in [] journal ≡ true
   pub answers : answered_in (opening plan) journal ≡ answered_there journal
   pub sides : sides_in journal ≡ true
   pub struck : struck_in plan [] journal ≡ struck_there journal
-  pub verdict : verdict_of plan journal ≡ told.verdict
-  pub ended : map named (history plan journal) ≡ told.ended
+  pub verdict : verdict_of plan journal ≡ reported.verdict
+  pub ended : map named (history plan journal) ≡ reported.ended
   pub order : workers_in plan count [] turns journal ≡ actors_there journal
-  pub left : tables_left plan (state_at plan journal).tables ≡ told.left
-  pub replies : replies_from plan journal 1 plan.clients ≡ told.replies
+  pub left : tables_left plan (state_at plan journal).tables ≡ reported.left
+  pub replies : replies_from plan journal 1 plan.clients ≡ reported.replies
 
 -- of requests to a server with these limits and tables
 pub record IsServed (limits : Limits) (tables : Database) (entries : List Entry) : Type 0 where
@@ -290,5 +290,5 @@ pub record IsServed (limits : Limits) (tables : Database) (entries : List Entry)
 
 -- *Computing*: what a proof by computing opens, which is every definition.
 unfoldable pub computing : Bool
-unfolding xf.digits x0.compare_values x1.has x1.meets x2.half x2.text_number x2.character_count x2.in_range x2.text_within x2.bytes_within x2.stores x2.seeks x2.fits x3.clustered_among x4.same_name x5.key_of x5.has_key x5.with_row x6.converted_row_from x6.converted_rows x7.step x7.steps x7.same_columns x7.map_of x7.altered x8.added x8.dropped x8.renamed_in x8.renamed x8.changed x9.column_place x9.column_named x9.is_in_keys x9.is_in_primary x9.column_position_place x9.column_of x10.key_names x10.first_column x10.indexed x10.index_place x10.unindexed x11.place_after x11.index_after x12.places_from x12.with_columns x12.put_in x12.taken_out x12.moved_to x13.conflict x13.refusal x13.blocker_of_lock x13.blocker_of_set x14.holds x14.least_holder x14.least_waiter x14.place_of x14.blocker_of_name x14.blocker_of_names x14.holder_of x15.rename_tables x16.declared_column x16.declared_columns x16.schema_of x16.declared x17.defaults_fit xn.is_among xn.differ_from xn.place_of xn.places_of xn.spelled xn.numbered xn.first_free xn.first_column x18.named_keys x19.is_name_length x20.primary_item_at x20.after_key_word x20.item_at x20.items_at x20.table_at x20.written x21.lines_run x21.alone x22.places_named x22.are_distinct x22.beside x22.row_from x22.new_row x22.wanted_each x22.reach_equal x22.reach_range x22.reach_of x22.sets_from x22.work_of x23.chunk_end x23.span_keys x24.answer_at x25.job_says x25.job_needs x25.after_events x26.points_from x26.needs x27.lies_under x27.stands x27.change_rows x27.change_all x28.with_sets x28.updates x28.tells x29.done x29.calls x29.polls x29.loses x30.read_from x30.events_read x30.tables_shown x30.distinct x30.waits_shown x31.with_session x31.unread x32.hint_row x33.ghost_name x33.log_name x33.old_name x34.sentry_comment x34.sentry_schema x34.log_schema x35.next x35.took x35.progress x36.planned x36.next x36.took x36.progress x37.next x38.took x38.applier_turn x38.reverted x38.progress x39.altered_table x40.measures x40.bound_of x41.client_at x41.client_asks x41.all_over x42.request_waiting x42.history x42.replies_of x43.opens_if x43.state_after x43.inner_answer x44.words_of x44.cut_among x44.struck_among x45.new_schema x45.new_map x46.altered_database x46.tables_left x47.live_session x47.sessions_named x48.waited_for x49.copied_at x50.clients_from x50.actors x50.words_in x50.first_ready x50.chosen x50.queue_at x50.next_actor x50.owned_from x50.behind x50.last_taken x50.worker_actor x51.given x52.took x52.moment x53.has_ended x53.verdict_of
+unfolding xf.digits x0.compare_values x1.has x1.meets x2.half x2.text_number x2.character_count x2.in_range x2.text_within x2.bytes_within x2.stores x2.seeks x2.fits x3.clustered_among x4.same_name x5.key_of x5.has_key x5.with_row x6.converted_row_from x6.converted_rows x7.step x7.steps x7.same_columns x7.map_of x7.altered x8.added x8.dropped x8.renamed_in x8.renamed x8.changed x9.column_place x9.column_named x9.is_in_keys x9.is_in_primary x9.column_position_place x9.column_of x10.key_names x10.first_column x10.indexed x10.index_place x10.unindexed x11.place_after x11.index_after x12.places_from x12.with_columns x12.put_in x12.taken_out x12.moved_to x13.conflict x13.refusal x13.blocker_of_lock x13.blocker_of_set x14.holds x14.least_holder x14.least_waiter x14.place_of x14.blocker_of_name x14.blocker_of_names x14.holder_of x15.rename_tables x16.declared_column x16.declared_columns x16.schema_of x16.declared x17.defaults_fit xn.is_among xn.differ_from xn.place_of xn.places_of xn.spelled xn.numbered xn.first_free xn.first_column x18.named_keys x19.is_name_length x20.primary_item_at x20.after_key_word x20.item_at x20.items_at x20.table_at x20.written x21.lines_run x21.alone x22.places_named x22.are_distinct x22.beside x22.row_from x22.new_row x22.wanted_each x22.reach_equal x22.reach_range x22.reach_of x22.sets_from x22.work_of x23.chunk_end x23.span_keys x24.answer_at x25.operation_result x25.operation_needs x25.after_events x26.points_from x26.needs x27.lies_under x27.stands x27.change_rows x27.change_all x28.with_sets x28.updates x28.tells x29.done x29.calls x29.polls x29.loses x30.read_from x30.events_read x30.tables_shown x30.distinct x30.waits_shown x31.with_session x31.unread x32.hint_row x33.ghost_name x33.log_name x33.old_name x34.sentry_comment x34.sentry_schema x34.log_schema x35.next x35.took x35.progress x36.planned x36.next x36.took x36.progress x37.next x38.took x38.applier_turn x38.reverted x38.progress x39.altered_table x40.measures x40.bound_of x41.client_at x41.client_asks x41.all_over x42.request_waiting x42.history x42.replies_of x43.opens_if x43.state_after x43.inner_answer x44.words_of x44.cut_among x44.struck_among x45.new_schema x45.new_map x46.altered_database x46.tables_left x47.live_session x47.sessions_named x48.waited_for x49.copied_at x50.clients_from x50.actors x50.words_in x50.first_ready x50.chosen x50.queue_at x50.next_actor x50.owned_from x50.following x50.last_taken x50.worker_actor x51.given x52.took x52.moment x53.has_ended x53.verdict_of
 computing = true

@@ -89,8 +89,8 @@ journal_101 =
     ∷ record { actor = Insp; session = 1; asked = Call (requests.Drop (codes "_t_ghc")); side = None; answer = answers.Ok 0; missed = None }
     ∷ []
 
-abbrev told_101 : WorkedFacts
-told_101 =
+abbrev reported_101 : WorkedFacts
+reported_101 =
     record {
       verdict = verdicts.Done;
       ended = (Some (1, 1) ∷ Some (1, 2) ∷ Some (1, 3) ∷ None ∷ []);
@@ -101,7 +101,7 @@ told_101 =
       replies = (((1, 1, (Some (replies.Rows (((Num (pos 1)) ∷ []) ∷ [])))) ∷ (2, 1, (Some (replies.Ok 0))) ∷ (3, 1, (Some (replies.Ok 0))) ∷ (3, 2, (Some (replies.Ok 1))) ∷ (3, 3, (Some (replies.Ok 0))) ∷ [])) ∷ ([]) ∷ [];
     }
 
-worked_101 : IsWorked plan_101 journal_101 told_101
+worked_101 : IsWorked plan_101 journal_101 reported_101
 unfolding computing
 worked_101 = record { asks = refl; sessions = refl; answers = refl; sides = refl; struck = refl; verdict = refl; ended = refl; order = refl; left = refl; serial = refl; alone = refl; over = refl; online = refl; bounded = refl; replies = refl }
 
@@ -175,8 +175,8 @@ journal_102 =
     ∷ record { actor = Insp; session = 5; asked = Call (requests.Drop (codes "_t_ghc")); side = None; answer = answers.Ok 0; missed = None }
     ∷ []
 
-abbrev told_102 : WorkedFacts
-told_102 =
+abbrev reported_102 : WorkedFacts
+reported_102 =
     record {
       verdict = verdicts.Done;
       ended = (Some (1, 1) ∷ Some (1, 2) ∷ Some (1, 3) ∷ Some (1, 4) ∷ Some (1, 5) ∷ Some (1, 6) ∷ Some (1, 7) ∷ Some (1, 8) ∷ Some (1, 9) ∷ Some (2, 1) ∷ Some (2, 2) ∷ Some (2, 3) ∷ Some (2, 4) ∷ Some (2, 5) ∷ Some (2, 6) ∷ Some (2, 7) ∷ None ∷ []);
@@ -187,7 +187,7 @@ told_102 =
       replies = (((1, 1, (Some (replies.Ok 0))) ∷ (2, 1, (Some (replies.Ok 0))) ∷ (3, 1, (Some (replies.Ok 1))) ∷ (4, 1, (Some (replies.Error 1062))) ∷ (5, 1, (Some (replies.Ok 1))) ∷ (6, 1, (Some (replies.Ok 2))) ∷ (7, 1, (Some (replies.Ok 0))) ∷ (8, 1, (Some (replies.Error 1062))) ∷ (9, 1, (Some (replies.Ok 0))) ∷ [])) ∷ (((1, 1, (Some (replies.Ok 1))) ∷ (2, 1, (Some (replies.Ok 0))) ∷ (2, 2, (Some (replies.Ok 1))) ∷ (2, 3, (Some (replies.Ok 1))) ∷ (2, 4, (Some (replies.Ok 0))) ∷ (3, 1, (Some (replies.Ok 0))) ∷ (4, 1, (Some (replies.Ok 0))) ∷ (4, 2, (Some (replies.Ok 0))) ∷ (4, 3, (Some (replies.Ok 1))) ∷ (4, 4, (Some (replies.Ok 0))) ∷ (5, 1, (Some (replies.Ok 0))) ∷ (6, 1, (Some (replies.Ok 1))) ∷ (7, 1, (Some (replies.Ok 0))) ∷ [])) ∷ [];
     }
 
-worked_102 : IsWorked plan_102 journal_102 told_102
+worked_102 : IsWorked plan_102 journal_102 reported_102
 unfolding computing
 worked_102 = record { asks = refl; sessions = refl; answers = refl; sides = refl; struck = refl; verdict = refl; ended = refl; order = refl; left = refl; serial = refl; alone = refl; over = refl; online = refl; bounded = refl; replies = refl }
 
@@ -255,8 +255,8 @@ journal_103 =
     ∷ record { actor = Insp; session = 3; asked = Call (requests.Drop (codes "_t_ghc")); side = None; answer = answers.Ok 0; missed = None }
     ∷ []
 
-abbrev told_103 : WorkedFacts
-told_103 =
+abbrev reported_103 : WorkedFacts
+reported_103 =
     record {
       verdict = verdicts.Done;
       ended = (Some (1, 1) ∷ Some (1, 2) ∷ Some (2, 1) ∷ Some (1, 3) ∷ None ∷ []);
@@ -267,7 +267,7 @@ told_103 =
       replies = (((1, 1, (Some (replies.Rows []))) ∷ (2, 1, (Some (replies.Ok 2))) ∷ (3, 1, (Some (replies.Ok 0))) ∷ (3, 2, (Some (replies.Ok 0))) ∷ (3, 3, (Some (replies.Rows []))) ∷ (3, 4, (Some (replies.Ok 0))) ∷ (3, 5, (Some (replies.Ok 0))) ∷ [])) ∷ (((1, 1, (Some (replies.Ok 0))) ∷ (1, 2, (Some (replies.Ok 0))) ∷ (1, 3, (Some (replies.Ok 0))) ∷ (1, 4, (Some (replies.Error 1062))) ∷ (1, 5, (Some (replies.Ok 0))) ∷ [])) ∷ [];
     }
 
-worked_103 : IsWorked plan_103 journal_103 told_103
+worked_103 : IsWorked plan_103 journal_103 reported_103
 unfolding computing
 worked_103 = record { asks = refl; sessions = refl; answers = refl; sides = refl; struck = refl; verdict = refl; ended = refl; order = refl; left = refl; serial = refl; alone = refl; over = refl; online = refl; bounded = refl; replies = refl }
 
@@ -309,8 +309,8 @@ journal_104 =
     ∷ record { actor = Insp; session = 1; asked = Call (requests.Drop (codes "_t_del")); side = None; answer = answers.Ok 0; missed = None }
     ∷ []
 
-abbrev told_104 : WorkedFacts
-told_104 =
+abbrev reported_104 : WorkedFacts
+reported_104 =
     record {
       verdict = verdicts.Done;
       ended = (None ∷ []);
@@ -321,7 +321,7 @@ told_104 =
       replies = ([]) ∷ [];
     }
 
-worked_104 : IsWorked plan_104 journal_104 told_104
+worked_104 : IsWorked plan_104 journal_104 reported_104
 unfolding computing
 worked_104 = record { asks = refl; sessions = refl; answers = refl; sides = refl; struck = refl; verdict = refl; ended = refl; order = refl; left = refl; serial = refl; alone = refl; over = refl; online = refl; bounded = refl; replies = refl }
 
@@ -369,8 +369,8 @@ journal_105 =
     ∷ record { actor = (Client 2); session = 3; asked = Call requests.Rollback; side = None; answer = answers.Ok 0; missed = None }
     ∷ []
 
-abbrev told_105 : WorkedFacts
-told_105 =
+abbrev reported_105 : WorkedFacts
+reported_105 =
     record {
       verdict = verdicts.Reverted (causes.Panic 23);
       ended = (Some (3, 1) ∷ Some (2, 1) ∷ Some (2, 2) ∷ Some (2, 3) ∷ Some (2, 4) ∷ Some (2, 5) ∷ Some (2, 6) ∷ []);
@@ -381,7 +381,7 @@ told_105 =
       replies = ([]) ∷ (((1, 1, (Some (replies.Rows []))) ∷ (2, 1, (Some (replies.Ok 0))) ∷ (3, 1, (Some (replies.Ok 0))) ∷ (3, 2, (Some (replies.Ok 0))) ∷ (4, 1, (Some (replies.Ok 0))) ∷ (5, 1, (Some (replies.Rows (((Num (pos 0)) ∷ []) ∷ [])))) ∷ (6, 1, (Some (replies.Ok 0))) ∷ (6, 2, (Some (replies.Ok 1))) ∷ (6, 3, (Some (replies.Ok 1))) ∷ (6, 4, (Some (replies.Ok 0))) ∷ [])) ∷ (((1, 1, (Some (replies.Ok 0))) ∷ (1, 2, (Some (replies.Ok 0))) ∷ (1, 3, (Some (replies.Ok 0))) ∷ [])) ∷ [];
     }
 
-worked_105 : IsWorked plan_105 journal_105 told_105
+worked_105 : IsWorked plan_105 journal_105 reported_105
 unfolding computing
 worked_105 = record { asks = refl; sessions = refl; answers = refl; sides = refl; struck = refl; verdict = refl; ended = refl; order = refl; left = refl; serial = refl; alone = refl; over = refl; online = refl; bounded = refl; replies = refl }
 
@@ -435,8 +435,8 @@ journal_106 =
     ∷ record { actor = Insp; session = 1; asked = Call (requests.Drop (codes "_t_ghc")); side = None; answer = answers.Ok 0; missed = None }
     ∷ []
 
-abbrev told_106 : WorkedFacts
-told_106 =
+abbrev reported_106 : WorkedFacts
+reported_106 =
     record {
       verdict = verdicts.Done;
       ended = (Some (1, 1) ∷ Some (1, 2) ∷ None ∷ []);
@@ -447,7 +447,7 @@ told_106 =
       replies = (((1, 1, (Some (replies.Ok 0))) ∷ (1, 2, (Some (replies.Ok 0))) ∷ (2, 1, (Some (replies.Ok 0))) ∷ (2, 2, (Some (replies.Ok 0))) ∷ (2, 3, (Some (replies.Ok 0))) ∷ [])) ∷ [];
     }
 
-worked_106 : IsWorked plan_106 journal_106 told_106
+worked_106 : IsWorked plan_106 journal_106 reported_106
 unfolding computing
 worked_106 = record { asks = refl; sessions = refl; answers = refl; sides = refl; struck = refl; verdict = refl; ended = refl; order = refl; left = refl; serial = refl; alone = refl; over = refl; online = refl; bounded = refl; replies = refl }
 
@@ -516,8 +516,8 @@ journal_108 =
     ∷ record { actor = Insp; session = 1; asked = Call (requests.Drop (codes "_t_ghc")); side = None; answer = answers.Ok 0; missed = None }
     ∷ []
 
-abbrev told_108 : WorkedFacts
-told_108 =
+abbrev reported_108 : WorkedFacts
+reported_108 =
     record {
       verdict = verdicts.Done;
       ended = (Some (1, 1) ∷ Some (1, 2) ∷ Some (1, 3) ∷ Some (1, 4) ∷ Some (1, 5) ∷ Some (1, 6) ∷ Some (1, 7) ∷ Some (1, 8) ∷ Some (1, 9) ∷ Some (1, 10) ∷ None ∷ []);
@@ -528,7 +528,7 @@ told_108 =
       replies = (((1, 1, (Some (replies.Ok 1))) ∷ (2, 1, (Some (replies.Ok 0))) ∷ (3, 1, (Some (replies.Error 1062))) ∷ (4, 1, (Some (replies.Ok 1))) ∷ (5, 1, (Some (replies.Ok 0))) ∷ (6, 1, (Some (replies.Ok 1))) ∷ (7, 1, (Some (replies.Ok 0))) ∷ (8, 1, (Some (replies.Ok 0))) ∷ (8, 2, (Some (replies.Error 1205))) ∷ (9, 1, (Some (replies.Ok 0))) ∷ (9, 2, (Some (replies.Ok 0))) ∷ (9, 3, (Some (replies.Ok 0))) ∷ (9, 4, (Some (replies.Ok 0))) ∷ (10, 1, (Some (replies.Ok 0))) ∷ [])) ∷ [];
     }
 
-worked_108 : IsWorked plan_108 journal_108 told_108
+worked_108 : IsWorked plan_108 journal_108 reported_108
 unfolding computing
 worked_108 = record { asks = refl; sessions = refl; answers = refl; sides = refl; struck = refl; verdict = refl; ended = refl; order = refl; left = refl; serial = refl; alone = refl; over = refl; online = refl; bounded = refl; replies = refl }
 
@@ -590,8 +590,8 @@ journal_111 =
     ∷ record { actor = Insp; session = 1; asked = Call (requests.Drop (codes "_t_del")); side = None; answer = answers.Ok 0; missed = None }
     ∷ []
 
-abbrev told_111 : WorkedFacts
-told_111 =
+abbrev reported_111 : WorkedFacts
+reported_111 =
     record {
       verdict = verdicts.Reverted (causes.Panic 44);
       ended = (Some (2, 1) ∷ Some (2, 2) ∷ Some (1, 1) ∷ Some (1, 2) ∷ Some (1, 3) ∷ Some (1, 4) ∷ []);
@@ -602,6 +602,6 @@ told_111 =
       replies = (((1, 1, (Some (replies.Error 1062))) ∷ (2, 1, (Some (replies.Error 1062))) ∷ (3, 1, (Some (replies.Error 1062))) ∷ (4, 1, (Some (replies.Error 1205))) ∷ [])) ∷ (((1, 1, (Some (replies.Ok 2))) ∷ (2, 1, (Some (replies.Ok 0))) ∷ [])) ∷ [];
     }
 
-worked_111 : IsWorked plan_111 journal_111 told_111
+worked_111 : IsWorked plan_111 journal_111 reported_111
 unfolding computing
 worked_111 = record { asks = refl; sessions = refl; answers = refl; sides = refl; struck = refl; verdict = refl; ended = refl; order = refl; left = refl; serial = refl; alone = refl; over = refl; online = refl; bounded = refl; replies = refl }

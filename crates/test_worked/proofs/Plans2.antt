@@ -88,8 +88,8 @@ journal_112 =
     ∷ record { actor = Insp; session = 1; asked = Call (requests.Drop (codes "_t_ghc")); side = None; answer = answers.Ok 0; missed = None }
     ∷ []
 
-abbrev told_112 : WorkedFacts
-told_112 =
+abbrev reported_112 : WorkedFacts
+reported_112 =
     record {
       verdict = verdicts.Done;
       ended = (None ∷ []);
@@ -100,7 +100,7 @@ told_112 =
       replies = ([]) ∷ [];
     }
 
-worked_112 : IsWorked plan_112 journal_112 told_112
+worked_112 : IsWorked plan_112 journal_112 reported_112
 unfolding computing
 worked_112 = record { asks = refl; sessions = refl; answers = refl; sides = refl; struck = refl; verdict = refl; ended = refl; order = refl; left = refl; serial = refl; alone = refl; over = refl; online = refl; bounded = refl; replies = refl }
 
@@ -145,8 +145,8 @@ journal_115 =
     ∷ record { actor = Insp; session = 1; asked = Call (requests.Drop (codes "_t_ghc")); side = None; answer = answers.Ok 0; missed = None }
     ∷ []
 
-abbrev told_115 : WorkedFacts
-told_115 =
+abbrev reported_115 : WorkedFacts
+reported_115 =
     record {
       verdict = verdicts.Done;
       ended = (None ∷ []);
@@ -157,7 +157,7 @@ told_115 =
       replies = [];
     }
 
-worked_115 : IsWorked plan_115 journal_115 told_115
+worked_115 : IsWorked plan_115 journal_115 reported_115
 unfolding computing
 worked_115 = record { asks = refl; sessions = refl; answers = refl; sides = refl; struck = refl; verdict = refl; ended = refl; order = refl; left = refl; serial = refl; alone = refl; over = refl; online = refl; bounded = refl; replies = refl }
 
@@ -209,8 +209,8 @@ journal_116 =
     ∷ record { actor = Copy; session = 5; asked = Call requests.Rollback; side = None; answer = answers.Ok 0; missed = None }
     ∷ []
 
-abbrev told_116 : WorkedFacts
-told_116 =
+abbrev reported_116 : WorkedFacts
+reported_116 =
     record {
       verdict = verdicts.Reverted (causes.Unfit 36 ((Num (pos 6)) ∷ []) (codes "m0") 1048);
       ended = (Some (1, 1) ∷ Some (3, 1) ∷ Some (1, 2) ∷ Some (3, 2) ∷ Some (1, 3) ∷ Some (1, 4) ∷ Some (3, 3) ∷ []);
@@ -221,7 +221,7 @@ told_116 =
       replies = (((1, 1, (Some (replies.Ok 1))) ∷ (2, 1, (Some (replies.Error 1136))) ∷ (3, 1, (Some (replies.Ok 0))) ∷ (3, 2, (Some (replies.Error 1364))) ∷ (3, 3, (Some (replies.Ok 0))) ∷ (4, 1, (Some (replies.Ok 0))) ∷ [])) ∷ ([]) ∷ (((1, 1, (Some (replies.Ok 1))) ∷ (2, 1, (Some (replies.Rows (((Num (pos 0)) ∷ []) ∷ [])))) ∷ (3, 1, (Some (replies.Ok 0))) ∷ (3, 2, (Some (replies.Ok 0))) ∷ (3, 3, (Some (replies.Ok 1))) ∷ (3, 4, (Some (replies.Rows []))) ∷ (3, 5, (Some (replies.Ok 0))) ∷ [])) ∷ [];
     }
 
-worked_116 : IsWorked plan_116 journal_116 told_116
+worked_116 : IsWorked plan_116 journal_116 reported_116
 unfolding computing
 worked_116 = record { asks = refl; sessions = refl; answers = refl; sides = refl; struck = refl; verdict = refl; ended = refl; order = refl; left = refl; serial = refl; alone = refl; over = refl; online = refl; bounded = refl; replies = refl }
 
@@ -289,8 +289,8 @@ journal_119 =
     ∷ record { actor = Insp; session = 12; asked = Call (requests.Drop (codes "_t_ghc")); side = None; answer = answers.Ok 0; missed = None }
     ∷ []
 
-abbrev told_119 : WorkedFacts
-told_119 =
+abbrev reported_119 : WorkedFacts
+reported_119 =
     record {
       verdict = verdicts.Done;
       ended = (Some (1, 1) ∷ Some (1, 2) ∷ Some (1, 3) ∷ None ∷ []);
@@ -301,7 +301,7 @@ told_119 =
       replies = (((1, 1, (Some (replies.Ok 0))) ∷ (2, 1, (Some (replies.Ok 1))) ∷ (3, 1, (Some (replies.Ok 0))) ∷ (3, 2, (Some (replies.Ok 0))) ∷ [])) ∷ [];
     }
 
-worked_119 : IsWorked plan_119 journal_119 told_119
+worked_119 : IsWorked plan_119 journal_119 reported_119
 unfolding computing
 worked_119 = record { asks = refl; sessions = refl; answers = refl; sides = refl; struck = refl; verdict = refl; ended = refl; order = refl; left = refl; serial = refl; alone = refl; over = refl; online = refl; bounded = refl; replies = refl }
 
@@ -365,8 +365,8 @@ journal_122 =
     ∷ record { actor = Insp; session = 1; asked = Call (requests.Drop (codes "_t_ghc")); side = None; answer = answers.Ok 0; missed = None }
     ∷ []
 
-abbrev told_122 : WorkedFacts
-told_122 =
+abbrev reported_122 : WorkedFacts
+reported_122 =
     record {
       verdict = verdicts.Done;
       ended = (Some (2, 1) ∷ Some (2, 2) ∷ Some (1, 1) ∷ Some (1, 2) ∷ Some (3, 1) ∷ Some (3, 2) ∷ None ∷ []);
@@ -377,7 +377,7 @@ told_122 =
       replies = (((1, 1, (Some (replies.Error 1366))) ∷ (2, 1, (Some (replies.Ok 0))) ∷ (2, 2, (Some (replies.Ok 1))) ∷ (2, 3, (Some (replies.Rows []))) ∷ (2, 4, (Some (replies.Ok 0))) ∷ (2, 5, (Some (replies.Ok 0))) ∷ [])) ∷ (((1, 1, (Some (replies.Ok 0))) ∷ (2, 1, (Some (replies.Ok 0))) ∷ (2, 2, (Some (replies.Ok 0))) ∷ [])) ∷ (((1, 1, (Some (replies.Ok 0))) ∷ (1, 2, (Some (replies.Ok 1))) ∷ (1, 3, (Some (replies.Ok 0))) ∷ (2, 1, (Some (replies.Ok 0))) ∷ (2, 2, (Some (replies.Ok 1))) ∷ (2, 3, (Some (replies.Rows (((Num (pos 7)) ∷ []) ∷ [])))) ∷ (2, 4, (Some (replies.Ok 0))) ∷ [])) ∷ [];
     }
 
-worked_122 : IsWorked plan_122 journal_122 told_122
+worked_122 : IsWorked plan_122 journal_122 reported_122
 unfolding computing
 worked_122 = record { asks = refl; sessions = refl; answers = refl; sides = refl; struck = refl; verdict = refl; ended = refl; order = refl; left = refl; serial = refl; alone = refl; over = refl; online = refl; bounded = refl; replies = refl }
 
@@ -436,8 +436,8 @@ journal_129 =
     ∷ record { actor = Insp; session = 1; asked = Call (requests.Drop (codes "_t_ghc")); side = None; answer = answers.Ok 0; missed = None }
     ∷ []
 
-abbrev told_129 : WorkedFacts
-told_129 =
+abbrev reported_129 : WorkedFacts
+reported_129 =
     record {
       verdict = verdicts.Done;
       ended = (Some (1, 1) ∷ Some (1, 2) ∷ Some (1, 3) ∷ None ∷ []);
@@ -448,7 +448,7 @@ told_129 =
       replies = (((1, 1, (Some (replies.Ok 0))) ∷ (2, 1, (Some (replies.Ok 0))) ∷ (3, 1, (Some (replies.Ok 0))) ∷ (3, 2, (Some (replies.Rows []))) ∷ (3, 3, (Some (replies.Ok 0))) ∷ (3, 4, (Some (replies.Ok 1))) ∷ (3, 5, (Some (replies.Ok 0))) ∷ [])) ∷ [];
     }
 
-worked_129 : IsWorked plan_129 journal_129 told_129
+worked_129 : IsWorked plan_129 journal_129 reported_129
 unfolding computing
 worked_129 = record { asks = refl; sessions = refl; answers = refl; sides = refl; struck = refl; verdict = refl; ended = refl; order = refl; left = refl; serial = refl; alone = refl; over = refl; online = refl; bounded = refl; replies = refl }
 
@@ -480,8 +480,8 @@ journal_142 =
     ∷ record { actor = Copy; session = 3; asked = Cut; side = None; answer = answers.Lost; missed = None }
     ∷ []
 
-abbrev told_142 : WorkedFacts
-told_142 =
+abbrev reported_142 : WorkedFacts
+reported_142 =
     record {
       verdict = verdicts.Reverted (causes.Spent (tasks.Chunk 2) (17 ∷ []));
       ended = (Some (2, 1) ∷ []);
@@ -492,7 +492,7 @@ told_142 =
       replies = ([]) ∷ (((1, 1, (Some (replies.Ok 0))) ∷ (1, 2, (Some (replies.Ok 1))) ∷ (1, 3, (Some (replies.Ok 0))) ∷ [])) ∷ [];
     }
 
-worked_142 : IsWorked plan_142 journal_142 told_142
+worked_142 : IsWorked plan_142 journal_142 reported_142
 unfolding computing
 worked_142 = record { asks = refl; sessions = refl; answers = refl; sides = refl; struck = refl; verdict = refl; ended = refl; order = refl; left = refl; serial = refl; alone = refl; over = refl; online = refl; bounded = refl; replies = refl }
 
@@ -525,8 +525,8 @@ journal_145 =
     ∷ record { actor = (Client 2); session = 3; asked = Call requests.Rollback; side = None; answer = answers.Ok 0; missed = None }
     ∷ []
 
-abbrev told_145 : WorkedFacts
-told_145 =
+abbrev reported_145 : WorkedFacts
+reported_145 =
     record {
       verdict = verdicts.Reverted (causes.Panic 11);
       ended = (Some (1, 1) ∷ Some (1, 2) ∷ Some (2, 1) ∷ Some (2, 2) ∷ Some (2, 3) ∷ Some (2, 4) ∷ []);
@@ -537,6 +537,6 @@ told_145 =
       replies = (((1, 1, (Some (replies.Ok 0))) ∷ (2, 1, (Some (replies.Rows (((Num (pos 4)) ∷ []) ∷ [])))) ∷ [])) ∷ (((1, 1, (Some (replies.Error 1062))) ∷ (2, 1, (Some (replies.Ok 2))) ∷ (3, 1, (Some (replies.Ok 2))) ∷ (4, 1, (Some (replies.Ok 0))) ∷ (4, 2, (Some (replies.Error 1062))) ∷ (4, 3, (Some (replies.Ok 0))) ∷ [])) ∷ [];
     }
 
-worked_145 : IsWorked plan_145 journal_145 told_145
+worked_145 : IsWorked plan_145 journal_145 reported_145
 unfolding computing
 worked_145 = record { asks = refl; sessions = refl; answers = refl; sides = refl; struck = refl; verdict = refl; ended = refl; order = refl; left = refl; serial = refl; alone = refl; over = refl; online = refl; bounded = refl; replies = refl }

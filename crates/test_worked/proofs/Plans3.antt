@@ -75,8 +75,8 @@ journal_157 =
     ∷ record { actor = Insp; session = 1; asked = Call requests.ShowTables; side = None; answer = answers.Tables (record { name = codes "_t_ghc"; comment = [] } ∷ record { name = codes "_t_gho"; comment = [] } ∷ record { name = codes "t"; comment = [] } ∷ record { name = codes "u"; comment = codes "x" } ∷ []); missed = None }
     ∷ []
 
-abbrev told_157 : WorkedFacts
-told_157 =
+abbrev reported_157 : WorkedFacts
+reported_157 =
     record {
       verdict = verdicts.Reverted (causes.Spent tasks.CutOver (23 ∷ 33 ∷ []));
       ended = (Some (1, 1) ∷ []);
@@ -87,7 +87,7 @@ told_157 =
       replies = (((1, 1, (Some (replies.Ok 0))) ∷ [])) ∷ [];
     }
 
-worked_157 : IsWorked plan_157 journal_157 told_157
+worked_157 : IsWorked plan_157 journal_157 reported_157
 unfolding computing
 worked_157 = record { asks = refl; sessions = refl; answers = refl; sides = refl; struck = refl; verdict = refl; ended = refl; order = refl; left = refl; serial = refl; alone = refl; over = refl; online = refl; bounded = refl; replies = refl }
 
@@ -126,8 +126,8 @@ journal_159 =
     ∷ record { actor = Copy; session = 6; asked = Call requests.Rollback; side = None; answer = answers.Ok 0; missed = None }
     ∷ []
 
-abbrev told_159 : WorkedFacts
-told_159 =
+abbrev reported_159 : WorkedFacts
+reported_159 =
     record {
       verdict = verdicts.Reverted (causes.Unfit 23 ((Blob (53 ∷ [])) ∷ []) (codes "v") 1048);
       ended = (Some (1, 1) ∷ Some (1, 2) ∷ Some (1, 3) ∷ Some (3, 1) ∷ Some (4, 1) ∷ Some (2, 1) ∷ Some (1, 4) ∷ []);
@@ -138,7 +138,7 @@ told_159 =
       replies = (((1, 1, (Some (replies.Ok 1))) ∷ (2, 1, (Some (replies.Error 1062))) ∷ (3, 1, (Some (replies.Rows (((Num (pos 0)) ∷ []) ∷ [])))) ∷ (4, 1, (Some (replies.Error 1062))) ∷ [])) ∷ (((1, 1, (Some (replies.Ok 0))) ∷ [])) ∷ (((1, 1, (Some (replies.Error 1062))) ∷ [])) ∷ (((1, 1, (Some (replies.Error 1062))) ∷ [])) ∷ [];
     }
 
-worked_159 : IsWorked plan_159 journal_159 told_159
+worked_159 : IsWorked plan_159 journal_159 reported_159
 unfolding computing
 worked_159 = record { asks = refl; sessions = refl; answers = refl; sides = refl; struck = refl; verdict = refl; ended = refl; order = refl; left = refl; serial = refl; alone = refl; over = refl; online = refl; bounded = refl; replies = refl }
 
@@ -191,8 +191,8 @@ journal_161 =
     ∷ record { actor = Copy; session = 2; asked = Call requests.Rollback; side = None; answer = answers.Ok 0; missed = None }
     ∷ []
 
-abbrev told_161 : WorkedFacts
-told_161 =
+abbrev reported_161 : WorkedFacts
+reported_161 =
     record {
       verdict = verdicts.Reverted (causes.Panic 36);
       ended = [];
@@ -203,7 +203,7 @@ told_161 =
       replies = [];
     }
 
-worked_161 : IsWorked plan_161 journal_161 told_161
+worked_161 : IsWorked plan_161 journal_161 reported_161
 unfolding computing
 worked_161 = record { asks = refl; sessions = refl; answers = refl; sides = refl; struck = refl; verdict = refl; ended = refl; order = refl; left = refl; serial = refl; alone = refl; over = refl; online = refl; bounded = refl; replies = refl }
 
@@ -261,8 +261,8 @@ journal_170 =
     ∷ record { actor = Copy; session = 5; asked = Call requests.Rollback; side = None; answer = answers.Ok 0; missed = None }
     ∷ []
 
-abbrev told_170 : WorkedFacts
-told_170 =
+abbrev reported_170 : WorkedFacts
+reported_170 =
     record {
       verdict = verdicts.Reverted (causes.Panic 42);
       ended = (Some (1, 1) ∷ Some (1, 2) ∷ Some (1, 3) ∷ Some (1, 4) ∷ []);
@@ -273,7 +273,7 @@ told_170 =
       replies = (((1, 1, (Some (replies.Ok 0))) ∷ (2, 1, (Some (replies.Ok 1))) ∷ (3, 1, (Some (replies.Error 1062))) ∷ (4, 1, (Some (replies.Ok 0))) ∷ (4, 2, (Some (replies.Error 1062))) ∷ (4, 3, (Some (replies.Ok 1))) ∷ (4, 4, (Some (replies.Ok 0))) ∷ [])) ∷ [];
     }
 
-worked_170 : IsWorked plan_170 journal_170 told_170
+worked_170 : IsWorked plan_170 journal_170 reported_170
 unfolding computing
 worked_170 = record { asks = refl; sessions = refl; answers = refl; sides = refl; struck = refl; verdict = refl; ended = refl; order = refl; left = refl; serial = refl; alone = refl; over = refl; online = refl; bounded = refl; replies = refl }
 
@@ -330,8 +330,8 @@ journal_171 =
     ∷ record { actor = Insp; session = 3; asked = Call (requests.Drop (codes "_t_del")); side = None; answer = answers.Ok 0; missed = None }
     ∷ []
 
-abbrev told_171 : WorkedFacts
-told_171 =
+abbrev reported_171 : WorkedFacts
+reported_171 =
     record {
       verdict = verdicts.Reverted (causes.Spent tasks.CutOver (39 ∷ []));
       ended = (Some (2, 1) ∷ Some (2, 2) ∷ Some (1, 1) ∷ Some (1, 2) ∷ Some (1, 3) ∷ Some (1, 4) ∷ Some (1, 5) ∷ Some (1, 6) ∷ []);
@@ -342,7 +342,7 @@ told_171 =
       replies = (((1, 1, (Some (replies.Ok 0))) ∷ (1, 2, (Some (replies.Ok 0))) ∷ (1, 3, (Some (replies.Ok 0))) ∷ (2, 1, (Some (replies.Ok 0))) ∷ (3, 1, (Some (replies.Ok 0))) ∷ (3, 2, (Some (replies.Error 1366))) ∷ (3, 3, (Some (replies.Ok 1))) ∷ (3, 4, (Some (replies.Ok 0))) ∷ (4, 1, (Some (replies.Ok 0))) ∷ (5, 1, (Some (replies.Rows (((Num (pos 7)) ∷ []) ∷ [])))) ∷ (6, 1, (Some (replies.Ok 1))) ∷ [])) ∷ (((1, 1, (Some (replies.Ok 1))) ∷ (2, 1, (Some (replies.Ok 1))) ∷ [])) ∷ ([]) ∷ [];
     }
 
-worked_171 : IsWorked plan_171 journal_171 told_171
+worked_171 : IsWorked plan_171 journal_171 reported_171
 unfolding computing
 worked_171 = record { asks = refl; sessions = refl; answers = refl; sides = refl; struck = refl; verdict = refl; ended = refl; order = refl; left = refl; serial = refl; alone = refl; over = refl; online = refl; bounded = refl; replies = refl }
 
@@ -386,8 +386,8 @@ journal_178 =
     ∷ record { actor = (Client 1); session = 4; asked = Call (requests.Do (statements.Replace (codes "t") None ((Num (pos 3)) ∷ (Num (pos 5)) ∷ (Num (pos 3)) ∷ []))); side = None; answer = answers.Refused 1136 None; missed = None }
     ∷ []
 
-abbrev told_178 : WorkedFacts
-told_178 =
+abbrev reported_178 : WorkedFacts
+reported_178 =
     record {
       verdict = verdicts.Done;
       ended = (Some (1, 1) ∷ Some (1, 2) ∷ Some (2, 1) ∷ None ∷ Some (1, 3) ∷ Some (2, 2) ∷ Some (1, 4) ∷ Some (1, 5) ∷ Some (1, 6) ∷ []);
@@ -398,7 +398,7 @@ told_178 =
       replies = (((1, 1, (Some (replies.Error 1205))) ∷ (2, 1, (Some (replies.Error 1205))) ∷ (3, 1, (Some (replies.Error 1136))) ∷ (4, 1, (Some (replies.Error 1136))) ∷ (5, 1, (Some (replies.Error 1054))) ∷ (6, 1, (Some (replies.Error 1136))) ∷ [])) ∷ (((1, 1, (Some (replies.Ok 0))) ∷ (1, 2, (Some (replies.Error 1205))) ∷ (2, 1, (Some (replies.Rows []))) ∷ [])) ∷ [];
     }
 
-worked_178 : IsWorked plan_178 journal_178 told_178
+worked_178 : IsWorked plan_178 journal_178 reported_178
 unfolding computing
 worked_178 = record { asks = refl; sessions = refl; answers = refl; sides = refl; struck = refl; verdict = refl; ended = refl; order = refl; left = refl; serial = refl; alone = refl; over = refl; online = refl; bounded = refl; replies = refl }
 
@@ -467,8 +467,8 @@ journal_182 =
     ∷ record { actor = Insp; session = 1; asked = Call requests.ShowTables; side = None; answer = answers.Tables (record { name = codes "_t_ghc"; comment = [] } ∷ record { name = codes "_t_gho"; comment = codes "x" } ∷ record { name = codes "t"; comment = codes "x" } ∷ record { name = codes "u"; comment = [] } ∷ []); missed = None }
     ∷ []
 
-abbrev told_182 : WorkedFacts
-told_182 =
+abbrev reported_182 : WorkedFacts
+reported_182 =
     record {
       verdict = verdicts.Reverted (causes.Spent tasks.CutOver (32 ∷ 42 ∷ 52 ∷ []));
       ended = (Some (1, 1) ∷ Some (1, 2) ∷ []);
@@ -479,7 +479,7 @@ told_182 =
       replies = (((1, 1, (Some (replies.Ok 0))) ∷ (1, 2, (Some (replies.Error 1264))) ∷ (1, 3, (Some (replies.Ok 0))) ∷ (2, 1, (Some (replies.Error 1062))) ∷ [])) ∷ [];
     }
 
-worked_182 : IsWorked plan_182 journal_182 told_182
+worked_182 : IsWorked plan_182 journal_182 reported_182
 unfolding computing
 worked_182 = record { asks = refl; sessions = refl; answers = refl; sides = refl; struck = refl; verdict = refl; ended = refl; order = refl; left = refl; serial = refl; alone = refl; over = refl; online = refl; bounded = refl; replies = refl }
 
@@ -543,8 +543,8 @@ journal_185 =
     ∷ record { actor = Insp; session = 2; asked = Call (requests.Drop (codes "_t_del")); side = None; answer = answers.Ok 0; missed = None }
     ∷ []
 
-abbrev told_185 : WorkedFacts
-told_185 =
+abbrev reported_185 : WorkedFacts
+reported_185 =
     record {
       verdict = verdicts.Done;
       ended = (Some (2, 1) ∷ Some (2, 2) ∷ Some (2, 3) ∷ Some (1, 1) ∷ Some (1, 2) ∷ Some (1, 3) ∷ Some (1, 4) ∷ None ∷ []);
@@ -555,6 +555,6 @@ told_185 =
       replies = (((1, 1, (Some (replies.Ok 0))) ∷ (1, 2, (Some (replies.Error 1062))) ∷ (1, 3, (Some (replies.Ok 0))) ∷ (2, 1, (Some (replies.Ok 1))) ∷ (3, 1, (Some (replies.Error 1062))) ∷ (4, 1, (Some (replies.Rows (((Num (pos 1)) ∷ []) ∷ [])))) ∷ [])) ∷ (((1, 1, (Some (replies.Ok 1))) ∷ (2, 1, (Some (replies.Ok 1))) ∷ (3, 1, (Some (replies.Rows (((Num (pos 1)) ∷ []) ∷ [])))) ∷ [])) ∷ [];
     }
 
-worked_185 : IsWorked plan_185 journal_185 told_185
+worked_185 : IsWorked plan_185 journal_185 reported_185
 unfolding computing
 worked_185 = record { asks = refl; sessions = refl; answers = refl; sides = refl; struck = refl; verdict = refl; ended = refl; order = refl; left = refl; serial = refl; alone = refl; over = refl; online = refl; bounded = refl; replies = refl }

@@ -54,8 +54,8 @@ journal_187 =
     ∷ record { actor = (Client 2); session = 1; asked = Call requests.Commit; side = None; answer = answers.Ok 0; missed = None }
     ∷ []
 
-abbrev told_187 : WorkedFacts
-told_187 =
+abbrev reported_187 : WorkedFacts
+reported_187 =
     record {
       verdict = verdicts.Reverted (causes.Panic 3);
       ended = (Some (2, 1) ∷ Some (2, 2) ∷ Some (1, 1) ∷ Some (2, 3) ∷ Some (3, 1) ∷ Some (2, 4) ∷ []);
@@ -66,7 +66,7 @@ told_187 =
       replies = (((1, 1, (Some (replies.Ok 1))) ∷ [])) ∷ (((1, 1, (Some (replies.Ok 0))) ∷ (2, 1, (Some (replies.Ok 1))) ∷ (3, 1, (Some (replies.Ok 0))) ∷ (3, 2, (Some (replies.Ok 0))) ∷ (3, 3, (Some (replies.Ok 0))) ∷ (4, 1, (Some (replies.Ok 0))) ∷ (4, 2, (Some (replies.Ok 0))) ∷ (4, 3, (Some (replies.Ok 0))) ∷ (4, 4, (Some (replies.Ok 0))) ∷ [])) ∷ (((1, 1, (Some (replies.Ok 1))) ∷ [])) ∷ [];
     }
 
-worked_187 : IsWorked plan_187 journal_187 told_187
+worked_187 : IsWorked plan_187 journal_187 reported_187
 unfolding computing
 worked_187 = record { asks = refl; sessions = refl; answers = refl; sides = refl; struck = refl; verdict = refl; ended = refl; order = refl; left = refl; serial = refl; alone = refl; over = refl; online = refl; bounded = refl; replies = refl }
 
@@ -116,8 +116,8 @@ journal_189 =
     ∷ record { actor = Apply; session = 5; asked = Call requests.Rollback; side = None; answer = answers.Ok 0; missed = None }
     ∷ []
 
-abbrev told_189 : WorkedFacts
-told_189 =
+abbrev reported_189 : WorkedFacts
+reported_189 =
     record {
       verdict = verdicts.Reverted (causes.Unfit 33 ((Blob (98 ∷ [])) ∷ []) (codes "v") 1048);
       ended = (Some (1, 1) ∷ Some (1, 2) ∷ Some (1, 3) ∷ Some (1, 4) ∷ Some (1, 5) ∷ Some (1, 6) ∷ Some (1, 7) ∷ []);
@@ -128,7 +128,7 @@ told_189 =
       replies = (((1, 1, (Some (replies.Rows (((Num (pos 0)) ∷ []) ∷ [])))) ∷ (2, 1, (Some (replies.Error 1062))) ∷ (3, 1, (Some (replies.Ok 0))) ∷ (4, 1, (Some (replies.Ok 2))) ∷ (5, 1, (Some (replies.Error 1062))) ∷ (6, 1, (Some (replies.Error 1062))) ∷ (7, 1, (Some (replies.Ok 0))) ∷ (7, 2, (Some (replies.Ok 1))) ∷ (7, 3, (Some (replies.Ok 0))) ∷ (7, 4, (Some (replies.Ok 0))) ∷ [])) ∷ [];
     }
 
-worked_189 : IsWorked plan_189 journal_189 told_189
+worked_189 : IsWorked plan_189 journal_189 reported_189
 unfolding computing
 worked_189 = record { asks = refl; sessions = refl; answers = refl; sides = refl; struck = refl; verdict = refl; ended = refl; order = refl; left = refl; serial = refl; alone = refl; over = refl; online = refl; bounded = refl; replies = refl }
 
@@ -193,8 +193,8 @@ journal_191 =
     ∷ record { actor = Insp; session = 6; asked = Call (requests.Drop (codes "_t_del")); side = None; answer = answers.Ok 0; missed = None }
     ∷ []
 
-abbrev told_191 : WorkedFacts
-told_191 =
+abbrev reported_191 : WorkedFacts
+reported_191 =
     record {
       verdict = verdicts.Done;
       ended = (Some (1, 1) ∷ Some (1, 2) ∷ Some (1, 3) ∷ Some (2, 1) ∷ Some (2, 2) ∷ Some (1, 4) ∷ Some (1, 5) ∷ Some (1, 6) ∷ None ∷ []);
@@ -205,7 +205,7 @@ told_191 =
       replies = (((1, 1, (Some (replies.Error 1062))) ∷ (2, 1, (Some (replies.Ok 1))) ∷ (3, 1, (Some (replies.Ok 0))) ∷ (3, 2, (Some (replies.Ok 0))) ∷ (4, 1, (Some (replies.Ok 2))) ∷ (5, 1, (Some (replies.Rows []))) ∷ (6, 1, (Some (replies.Rows []))) ∷ [])) ∷ (((1, 1, (Some (replies.Error 1062))) ∷ (2, 1, (Some (replies.Ok 1))) ∷ [])) ∷ [];
     }
 
-worked_191 : IsWorked plan_191 journal_191 told_191
+worked_191 : IsWorked plan_191 journal_191 reported_191
 unfolding computing
 worked_191 = record { asks = refl; sessions = refl; answers = refl; sides = refl; struck = refl; verdict = refl; ended = refl; order = refl; left = refl; serial = refl; alone = refl; over = refl; online = refl; bounded = refl; replies = refl }
 
@@ -255,8 +255,8 @@ journal_193 =
     ∷ record { actor = Insp; session = 1; asked = Call (requests.Drop (codes "_t_del")); side = None; answer = answers.Ok 0; missed = None }
     ∷ []
 
-abbrev told_193 : WorkedFacts
-told_193 =
+abbrev reported_193 : WorkedFacts
+reported_193 =
     record {
       verdict = verdicts.Reverted (causes.Panic 30);
       ended = (Some (2, 1) ∷ Some (3, 1) ∷ Some (1, 1) ∷ Some (1, 2) ∷ Some (1, 3) ∷ Some (2, 2) ∷ []);
@@ -267,7 +267,7 @@ told_193 =
       replies = (((1, 1, (Some (replies.Rows []))) ∷ (2, 1, (Some (replies.Rows ((Null ∷ []) ∷ [])))) ∷ (3, 1, None) ∷ [])) ∷ (((1, 1, (Some (replies.Ok 1))) ∷ (2, 1, (Some (replies.Ok 0))) ∷ (2, 2, (Some (replies.Ok 0))) ∷ (2, 3, (Some (replies.Ok 0))) ∷ (2, 4, (Some (replies.Ok 0))) ∷ [])) ∷ (((1, 1, (Some (replies.Ok 0))) ∷ (1, 2, (Some (replies.Ok 0))) ∷ (1, 3, (Some (replies.Ok 0))) ∷ [])) ∷ [];
     }
 
-worked_193 : IsWorked plan_193 journal_193 told_193
+worked_193 : IsWorked plan_193 journal_193 reported_193
 unfolding computing
 worked_193 = record { asks = refl; sessions = refl; answers = refl; sides = refl; struck = refl; verdict = refl; ended = refl; order = refl; left = refl; serial = refl; alone = refl; over = refl; online = refl; bounded = refl; replies = refl }
 
@@ -328,8 +328,8 @@ journal_204 =
     ∷ record { actor = Insp; session = 1; asked = Call (requests.Drop (codes "_t_del")); side = None; answer = answers.Ok 0; missed = None }
     ∷ []
 
-abbrev told_204 : WorkedFacts
-told_204 =
+abbrev reported_204 : WorkedFacts
+reported_204 =
     record {
       verdict = verdicts.Done;
       ended = (Some (1, 1) ∷ Some (1, 2) ∷ Some (1, 3) ∷ Some (3, 1) ∷ Some (1, 4) ∷ Some (2, 1) ∷ Some (3, 2) ∷ None ∷ []);
@@ -340,7 +340,7 @@ told_204 =
       replies = (((1, 1, (Some (replies.Ok 0))) ∷ (2, 1, (Some (replies.Ok 0))) ∷ (3, 1, (Some (replies.Ok 0))) ∷ (4, 1, (Some (replies.Ok 0))) ∷ (4, 2, (Some (replies.Ok 1))) ∷ (4, 3, (Some (replies.Ok 1))) ∷ (4, 4, (Some (replies.Ok 3))) ∷ (4, 5, (Some (replies.Ok 0))) ∷ [])) ∷ (((1, 1, (Some (replies.Ok 0))) ∷ (1, 2, (Some (replies.Error 1366))) ∷ (1, 3, None) ∷ [])) ∷ (((1, 1, (Some (replies.Ok 2))) ∷ (2, 1, (Some (replies.Error 1205))) ∷ [])) ∷ [];
     }
 
-worked_204 : IsWorked plan_204 journal_204 told_204
+worked_204 : IsWorked plan_204 journal_204 reported_204
 unfolding computing
 worked_204 = record { asks = refl; sessions = refl; answers = refl; sides = refl; struck = refl; verdict = refl; ended = refl; order = refl; left = refl; serial = refl; alone = refl; over = refl; online = refl; bounded = refl; replies = refl }
 
@@ -371,8 +371,8 @@ journal_207 =
     ∷ record { actor = Apply; session = 5; asked = Call requests.Rollback; side = None; answer = answers.Ok 0; missed = None }
     ∷ []
 
-abbrev told_207 : WorkedFacts
-told_207 =
+abbrev reported_207 : WorkedFacts
+reported_207 =
     record {
       verdict = verdicts.Reverted (causes.Unfit 14 ((Text (codes "5")) ∷ []) (codes "m0") 1048);
       ended = (Some (3, 1) ∷ Some (1, 1) ∷ Some (1, 2) ∷ Some (1, 3) ∷ Some (1, 4) ∷ Some (2, 1) ∷ Some (1, 5) ∷ []);
@@ -383,7 +383,7 @@ told_207 =
       replies = (((1, 1, (Some (replies.Ok 0))) ∷ (2, 1, (Some (replies.Ok 0))) ∷ (3, 1, (Some (replies.Ok 0))) ∷ (4, 1, (Some (replies.Ok 1))) ∷ (5, 1, (Some (replies.Ok 1))) ∷ [])) ∷ (((1, 1, (Some (replies.Ok 1))) ∷ [])) ∷ (((1, 1, (Some (replies.Rows (((Num (pos 0)) ∷ []) ∷ [])))) ∷ [])) ∷ [];
     }
 
-worked_207 : IsWorked plan_207 journal_207 told_207
+worked_207 : IsWorked plan_207 journal_207 reported_207
 unfolding computing
 worked_207 = record { asks = refl; sessions = refl; answers = refl; sides = refl; struck = refl; verdict = refl; ended = refl; order = refl; left = refl; serial = refl; alone = refl; over = refl; online = refl; bounded = refl; replies = refl }
 
@@ -413,8 +413,8 @@ journal_209 =
     ∷ record { actor = (Client 2); session = 2; asked = Call requests.Begin; side = (Some sides_at.Before); answer = answers.Lost; missed = None }
     ∷ []
 
-abbrev told_209 : WorkedFacts
-told_209 =
+abbrev reported_209 : WorkedFacts
+reported_209 =
     record {
       verdict = verdicts.Reverted (causes.Unfit 11 ((Num (pos 3)) ∷ []) (codes "v") 1264);
       ended = (Some (2, 1) ∷ Some (3, 1) ∷ Some (2, 2) ∷ Some (2, 3) ∷ []);
@@ -425,7 +425,7 @@ told_209 =
       replies = ([]) ∷ (((1, 1, (Some (replies.Ok 0))) ∷ (1, 2, (Some (replies.Ok 0))) ∷ (2, 1, (Some (replies.Ok 1))) ∷ (3, 1, None) ∷ [])) ∷ (((1, 1, None) ∷ [])) ∷ [];
     }
 
-worked_209 : IsWorked plan_209 journal_209 told_209
+worked_209 : IsWorked plan_209 journal_209 reported_209
 unfolding computing
 worked_209 = record { asks = refl; sessions = refl; answers = refl; sides = refl; struck = refl; verdict = refl; ended = refl; order = refl; left = refl; serial = refl; alone = refl; over = refl; online = refl; bounded = refl; replies = refl }
 
@@ -476,8 +476,8 @@ journal_222 =
     ∷ record { actor = Insp; session = 2; asked = Call requests.ShowTables; side = None; answer = answers.Tables (record { name = codes "_t_ghc"; comment = [] } ∷ record { name = codes "_t_gho"; comment = [] } ∷ record { name = codes "t"; comment = [] } ∷ []); missed = None }
     ∷ []
 
-abbrev told_222 : WorkedFacts
-told_222 =
+abbrev reported_222 : WorkedFacts
+reported_222 =
     record {
       verdict = verdicts.Reverted (causes.Spent tasks.CutOver (24 ∷ 34 ∷ []));
       ended = (Some (1, 1) ∷ []);
@@ -488,6 +488,6 @@ told_222 =
       replies = (((1, 1, (Some (replies.Ok 1))) ∷ [])) ∷ ([]) ∷ [];
     }
 
-worked_222 : IsWorked plan_222 journal_222 told_222
+worked_222 : IsWorked plan_222 journal_222 reported_222
 unfolding computing
 worked_222 = record { asks = refl; sessions = refl; answers = refl; sides = refl; struck = refl; verdict = refl; ended = refl; order = refl; left = refl; serial = refl; alone = refl; over = refl; online = refl; bounded = refl; replies = refl }

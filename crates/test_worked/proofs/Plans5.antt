@@ -48,8 +48,8 @@ journal_236 =
     ∷ record { actor = (Client 1); session = 3; asked = Call requests.Commit; side = None; answer = answers.Ok 0; missed = None }
     ∷ []
 
-abbrev told_236 : WorkedFacts
-told_236 =
+abbrev reported_236 : WorkedFacts
+reported_236 =
     record {
       verdict = verdicts.Reverted (causes.Spent tasks.Setup (4 ∷ []));
       ended = (Some (2, 1) ∷ Some (1, 1) ∷ Some (1, 2) ∷ []);
@@ -60,7 +60,7 @@ told_236 =
       replies = (((1, 1, (Some (replies.Ok 1))) ∷ (2, 1, (Some (replies.Ok 0))) ∷ (2, 2, (Some (replies.Rows (((Num (pos 0)) ∷ []) ∷ [])))) ∷ (2, 3, (Some (replies.Ok 0))) ∷ [])) ∷ (((1, 1, (Some (replies.Ok 0))) ∷ [])) ∷ [];
     }
 
-worked_236 : IsWorked plan_236 journal_236 told_236
+worked_236 : IsWorked plan_236 journal_236 reported_236
 unfolding computing
 worked_236 = record { asks = refl; sessions = refl; answers = refl; sides = refl; struck = refl; verdict = refl; ended = refl; order = refl; left = refl; serial = refl; alone = refl; over = refl; online = refl; bounded = refl; replies = refl }
 
@@ -106,8 +106,8 @@ journal_256 =
     ∷ record { actor = Copy; session = 5; asked = Call requests.Rollback; side = None; answer = answers.Ok 0; missed = None }
     ∷ []
 
-abbrev told_256 : WorkedFacts
-told_256 =
+abbrev reported_256 : WorkedFacts
+reported_256 =
     record {
       verdict = verdicts.Reverted (causes.Unfit 30 ((Text (codes "e")) ∷ (Num (pos 5)) ∷ []) (codes "v") 1048);
       ended = (Some (2, 1) ∷ Some (4, 1) ∷ Some (3, 1) ∷ Some (3, 2) ∷ []);
@@ -118,7 +118,7 @@ told_256 =
       replies = ([]) ∷ (((1, 1, (Some (replies.Ok 0))) ∷ [])) ∷ (((1, 1, (Some (replies.Ok 1))) ∷ (2, 1, (Some (replies.Ok 0))) ∷ [])) ∷ (((1, 1, (Some (replies.Ok 1))) ∷ [])) ∷ [];
     }
 
-worked_256 : IsWorked plan_256 journal_256 told_256
+worked_256 : IsWorked plan_256 journal_256 reported_256
 unfolding computing
 worked_256 = record { asks = refl; sessions = refl; answers = refl; sides = refl; struck = refl; verdict = refl; ended = refl; order = refl; left = refl; serial = refl; alone = refl; over = refl; online = refl; bounded = refl; replies = refl }
 
@@ -171,8 +171,8 @@ journal_263 =
     ∷ record { actor = Copy; session = 5; asked = Call requests.Rollback; side = None; answer = answers.Ok 0; missed = None }
     ∷ []
 
-abbrev told_263 : WorkedFacts
-told_263 =
+abbrev reported_263 : WorkedFacts
+reported_263 =
     record {
       verdict = verdicts.Reverted (causes.Panic 37);
       ended = (Some (1, 1) ∷ Some (1, 2) ∷ []);
@@ -183,7 +183,7 @@ told_263 =
       replies = (((1, 1, (Some (replies.Error 1136))) ∷ (2, 1, (Some (replies.Ok 1))) ∷ [])) ∷ [];
     }
 
-worked_263 : IsWorked plan_263 journal_263 told_263
+worked_263 : IsWorked plan_263 journal_263 reported_263
 unfolding computing
 worked_263 = record { asks = refl; sessions = refl; answers = refl; sides = refl; struck = refl; verdict = refl; ended = refl; order = refl; left = refl; serial = refl; alone = refl; over = refl; online = refl; bounded = refl; replies = refl }
 
@@ -220,8 +220,8 @@ journal_289 =
     ∷ record { actor = Insp; session = 1; asked = Call (requests.Drop (codes "_t_del")); side = None; answer = answers.Ok 0; missed = None }
     ∷ []
 
-abbrev told_289 : WorkedFacts
-told_289 =
+abbrev reported_289 : WorkedFacts
+reported_289 =
     record {
       verdict = verdicts.Reverted (causes.Spent tasks.CutOver (19 ∷ []));
       ended = (Some (1, 1) ∷ []);
@@ -232,7 +232,7 @@ told_289 =
       replies = (((1, 1, (Some (replies.Ok 0))) ∷ (1, 2, (Some (replies.Ok 0))) ∷ (1, 3, (Some (replies.Ok 0))) ∷ [])) ∷ [];
     }
 
-worked_289 : IsWorked plan_289 journal_289 told_289
+worked_289 : IsWorked plan_289 journal_289 reported_289
 unfolding computing
 worked_289 = record { asks = refl; sessions = refl; answers = refl; sides = refl; struck = refl; verdict = refl; ended = refl; order = refl; left = refl; serial = refl; alone = refl; over = refl; online = refl; bounded = refl; replies = refl }
 
@@ -297,8 +297,8 @@ journal_290 =
     ∷ record { actor = Insp; session = 3; asked = Call requests.ShowTables; side = None; answer = answers.Tables (record { name = codes "_t_ghc"; comment = [] } ∷ record { name = codes "_t_gho"; comment = [] } ∷ record { name = codes "t"; comment = [] } ∷ []); missed = None }
     ∷ []
 
-abbrev told_290 : WorkedFacts
-told_290 =
+abbrev reported_290 : WorkedFacts
+reported_290 =
     record {
       verdict = verdicts.Reverted (causes.Spent tasks.CutOver (38 ∷ 48 ∷ []));
       ended = (Some (4, 1) ∷ Some (4, 2) ∷ Some (2, 1) ∷ Some (4, 3) ∷ Some (3, 1) ∷ Some (4, 4) ∷ Some (4, 5) ∷ []);
@@ -309,7 +309,7 @@ told_290 =
       replies = ([]) ∷ (((1, 1, (Some (replies.Ok 1))) ∷ [])) ∷ (((1, 1, (Some (replies.Error 1366))) ∷ [])) ∷ (((1, 1, (Some (replies.Ok 1))) ∷ (2, 1, (Some (replies.Ok 0))) ∷ (2, 2, (Some (replies.Error 1062))) ∷ (2, 3, (Some (replies.Ok 0))) ∷ (2, 4, (Some (replies.Ok 0))) ∷ (3, 1, (Some (replies.Error 1136))) ∷ (4, 1, (Some (replies.Rows []))) ∷ (5, 1, (Some (replies.Ok 0))) ∷ (5, 2, (Some (replies.Ok 1))) ∷ (5, 3, (Some (replies.Error 1136))) ∷ (5, 4, (Some (replies.Ok 0))) ∷ [])) ∷ [];
     }
 
-worked_290 : IsWorked plan_290 journal_290 told_290
+worked_290 : IsWorked plan_290 journal_290 reported_290
 unfolding computing
 worked_290 = record { asks = refl; sessions = refl; answers = refl; sides = refl; struck = refl; verdict = refl; ended = refl; order = refl; left = refl; serial = refl; alone = refl; over = refl; online = refl; bounded = refl; replies = refl }
 
@@ -381,8 +381,8 @@ journal_308 =
     ∷ record { actor = Insp; session = 1; asked = Call (requests.Drop (codes "_t_ghc")); side = None; answer = answers.Ok 0; missed = None }
     ∷ []
 
-abbrev told_308 : WorkedFacts
-told_308 =
+abbrev reported_308 : WorkedFacts
+reported_308 =
     record {
       verdict = verdicts.Done;
       ended = (Some (2, 1) ∷ Some (2, 2) ∷ Some (2, 3) ∷ Some (1, 1) ∷ Some (1, 2) ∷ Some (2, 4) ∷ Some (2, 5) ∷ Some (2, 6) ∷ Some (1, 3) ∷ Some (1, 4) ∷ Some (1, 5) ∷ Some (1, 6) ∷ Some (1, 7) ∷ None ∷ []);
@@ -393,7 +393,7 @@ told_308 =
       replies = (((1, 1, (Some (replies.Ok 1))) ∷ (2, 1, (Some (replies.Ok 0))) ∷ (3, 1, (Some (replies.Ok 1))) ∷ (4, 1, (Some (replies.Error 1205))) ∷ (5, 1, (Some (replies.Ok 1))) ∷ (6, 1, (Some (replies.Error 1062))) ∷ (7, 1, (Some (replies.Ok 0))) ∷ [])) ∷ (((1, 1, (Some (replies.Ok 2))) ∷ (2, 1, (Some (replies.Ok 1))) ∷ (3, 1, (Some (replies.Ok 0))) ∷ (4, 1, (Some (replies.Ok 1))) ∷ (5, 1, (Some (replies.Ok 1))) ∷ (6, 1, (Some (replies.Ok 1))) ∷ [])) ∷ [];
     }
 
-worked_308 : IsWorked plan_308 journal_308 told_308
+worked_308 : IsWorked plan_308 journal_308 reported_308
 unfolding computing
 worked_308 = record { asks = refl; sessions = refl; answers = refl; sides = refl; struck = refl; verdict = refl; ended = refl; order = refl; left = refl; serial = refl; alone = refl; over = refl; online = refl; bounded = refl; replies = refl }
 
@@ -428,8 +428,8 @@ journal_315 =
     ∷ record { actor = Copy; session = 3; asked = Call requests.Commit; side = (Some sides_at.After); answer = answers.Lost; missed = (Some (answers.Ok 0)) }
     ∷ []
 
-abbrev told_315 : WorkedFacts
-told_315 =
+abbrev reported_315 : WorkedFacts
+reported_315 =
     record {
       verdict = verdicts.Reverted (causes.Spent (tasks.Chunk 1) (20 ∷ []));
       ended = (Some (1, 1) ∷ []);
@@ -440,7 +440,7 @@ told_315 =
       replies = (((1, 1, (Some (replies.Ok 0))) ∷ (1, 2, (Some (replies.Ok 0))) ∷ [])) ∷ [];
     }
 
-worked_315 : IsWorked plan_315 journal_315 told_315
+worked_315 : IsWorked plan_315 journal_315 reported_315
 unfolding computing
 worked_315 = record { asks = refl; sessions = refl; answers = refl; sides = refl; struck = refl; verdict = refl; ended = refl; order = refl; left = refl; serial = refl; alone = refl; over = refl; online = refl; bounded = refl; replies = refl }
 
@@ -471,8 +471,8 @@ journal_320 =
     ∷ record { actor = Insp; session = 1; asked = Call (requests.Drop (codes "_t_del")); side = None; answer = answers.Ok 0; missed = None }
     ∷ []
 
-abbrev told_320 : WorkedFacts
-told_320 =
+abbrev reported_320 : WorkedFacts
+reported_320 =
     record {
       verdict = verdicts.Reverted (causes.Spent tasks.CutOver (13 ∷ []));
       ended = (Some (1, 1) ∷ Some (1, 2) ∷ Some (1, 3) ∷ []);
@@ -483,6 +483,6 @@ told_320 =
       replies = (((1, 1, (Some (replies.Rows []))) ∷ (2, 1, (Some (replies.Ok 0))) ∷ (2, 2, (Some (replies.Ok 0))) ∷ (3, 1, (Some (replies.Ok 1))) ∷ [])) ∷ [];
     }
 
-worked_320 : IsWorked plan_320 journal_320 told_320
+worked_320 : IsWorked plan_320 journal_320 reported_320
 unfolding computing
 worked_320 = record { asks = refl; sessions = refl; answers = refl; sides = refl; struck = refl; verdict = refl; ended = refl; order = refl; left = refl; serial = refl; alone = refl; over = refl; online = refl; bounded = refl; replies = refl }

@@ -1,7 +1,7 @@
 -- The reports of worked plans, byte for byte.
 use Rattle.std.proofs.Common.{◌≡◌, ℕ, pos, Bool, true, List, [], ◌∷◌, refl, codes}
 use Rattle.base_values.specs.declared.value.Value.TheVariants.{Num}
-use Rattle.base_values.specs.Printing as y0
+use Rattle.base_values.specs.Literals as y0
 use Rattle.table_print.specs.Names as y1
 use Rattle.table_print.specs.Tables as y2
 use Rattle.server_model.specs.declared.entry.Entry.{Entry}

@@ -15,7 +15,7 @@ use Rattle.server_model.specs.declared.answer.Answer.TheVariants as answers
 use Rattle.server_model.specs.declared.entry.Asked.{Asked}
 use Rattle.server_model.specs.declared.entry.Asked.TheVariants.{Cut}
 use Rattle.tool_program.specs.JournalWords.Journals.{IsFaithful}
-use Rattle.tool_program.specs.JournalWords.Keeping.{KeepsPlan}
+use Rattle.tool_program.specs.JournalWords.KeptPlans.{KeepsPlan}
 use Rattle.tool_program.specs.JournalWords.Sessions.{KeepsSessions, NumbersSessions}
 use Rattle.tool_program.specs.Programs.{Follows}
 use Rattle.tool_program.specs.Orders.{ReplayOrder, IsReplay}
@@ -224,58 +224,58 @@ seated =
 away : Along (λ before entry. KeepsAway plan_101 before entry entry.actor) [] journal_101
 unfolding computing plans.client_names plans.client_tables plans.script_names
 away =
-    record { asks = tt; idle = refl; rests = tt; exchanges = λ told. tt }
-    ▸ record { asks = refl; idle = refl; rests = refl; exchanges = λ told. tt }
-    ▸ record { asks = (refl, empty_well_formed _ (record { some = grind (arith); not_null = (refl, tt) }) (tt, (tt, (tt, tt)))); idle = refl; rests = refl; exchanges = λ told. tt }
-    ▸ record { asks = (refl, empty_well_formed _ (record { some = grind (arith); not_null = (refl, tt) }) (refl, (tt, (refl, (refl, tt))))); idle = refl; rests = refl; exchanges = λ told. tt }
-    ▸ record { asks = tt; idle = refl; rests = tt; exchanges = λ told. tt }
-    ▸ record { asks = tt; idle = tt; rests = tt; exchanges = λ told. tt }
-    ▸ record { asks = tt; idle = tt; rests = tt; exchanges = λ told. tt }
-    ▸ record { asks = tt; idle = tt; rests = tt; exchanges = λ told. tt }
-    ▸ record { asks = tt; idle = tt; rests = tt; exchanges = λ told. tt }
-    ▸ record { asks = tt; idle = tt; rests = tt; exchanges = λ told. tt }
-    ▸ record { asks = tt; idle = tt; rests = tt; exchanges = λ told. tt }
-    ▸ record { asks = tt; idle = tt; rests = tt; exchanges = λ told. tt }
+    record { asks = tt; idle = refl; rests = tt; exchanges = λ reported. tt }
+    ▸ record { asks = refl; idle = refl; rests = refl; exchanges = λ reported. tt }
+    ▸ record { asks = (refl, empty_well_formed _ (record { some = grind (arith); not_null = (refl, tt) }) (tt, (tt, (tt, tt)))); idle = refl; rests = refl; exchanges = λ reported. tt }
+    ▸ record { asks = (refl, empty_well_formed _ (record { some = grind (arith); not_null = (refl, tt) }) (refl, (tt, (refl, (refl, tt))))); idle = refl; rests = refl; exchanges = λ reported. tt }
+    ▸ record { asks = tt; idle = refl; rests = tt; exchanges = λ reported. tt }
+    ▸ record { asks = tt; idle = tt; rests = tt; exchanges = λ reported. tt }
+    ▸ record { asks = tt; idle = tt; rests = tt; exchanges = λ reported. tt }
+    ▸ record { asks = tt; idle = tt; rests = tt; exchanges = λ reported. tt }
+    ▸ record { asks = tt; idle = tt; rests = tt; exchanges = λ reported. tt }
+    ▸ record { asks = tt; idle = tt; rests = tt; exchanges = λ reported. tt }
+    ▸ record { asks = tt; idle = tt; rests = tt; exchanges = λ reported. tt }
+    ▸ record { asks = tt; idle = tt; rests = tt; exchanges = λ reported. tt }
     ▸ tt
     ▸ tt
     ▸ tt
     ▸ tt
     ▸ tt
-    ▸ record { asks = tt; idle = refl; rests = tt; exchanges = λ told. tt }
-    ▸ record { asks = tt; idle = refl; rests = tt; exchanges = λ told. tt }
-    ▸ record { asks = tt; idle = refl; rests = tt; exchanges = λ told. tt }
-    ▸ record { asks = tt; idle = refl; rests = tt; exchanges = λ told. tt }
-    ▸ record { asks = refl; idle = refl; rests = tt; exchanges = λ told. tt }
-    ▸ record { asks = tt; idle = refl; rests = tt; exchanges = λ told. tt }
-    ▸ record { asks = tt; idle = refl; rests = tt; exchanges = λ told. tt }
-    ▸ record { asks = tt; idle = tt; rests = tt; exchanges = λ told. tt }
-    ▸ record { asks = tt; idle = tt; rests = tt; exchanges = λ told. tt }
-    ▸ record { asks = tt; idle = tt; rests = tt; exchanges = λ told. tt }
-    ▸ record { asks = tt; idle = tt; rests = tt; exchanges = λ told. tt }
-    ▸ record { asks = refl; idle = refl; rests = tt; exchanges = λ told. tt }
-    ▸ record { asks = tt; idle = refl; rests = tt; exchanges = λ told. tt }
-    ▸ record { asks = tt; idle = refl; rests = tt; exchanges = λ told. tt }
-    ▸ record { asks = tt; idle = refl; rests = tt; exchanges = λ told. tt }
-    ▸ record { asks = refl; idle = refl; rests = tt; exchanges = λ told. tt }
-    ▸ record { asks = tt; idle = refl; rests = tt; exchanges = λ told. tt }
-    ▸ record { asks = (refl, empty_well_formed _ (record { some = grind (arith); not_null = (refl, tt) }) (tt, tt)); idle = refl; rests = refl; exchanges = λ told. tt }
-    ▸ record { asks = tt; idle = refl; rests = tt; exchanges = λ told. tt }
-    ▸ record { asks = refl; idle = refl; rests = tt; exchanges = λ told. tt }
-    ▸ record { asks = tt; idle = refl; rests = tt; exchanges = λ told. tt }
-    ▸ record { asks = inr (refl, refl); idle = refl; rests = refl; exchanges = λ told. absurd (waits_no_ok _ told) }
-    ▸ record { asks = tt; idle = tt; rests = refl; exchanges = λ told. absurd (waits_no_ok _ told) }
-    ▸ record { asks = tt; idle = tt; rests = refl; exchanges = λ told. absurd (waits_no_ok _ told) }
-    ▸ record { asks = tt; idle = tt; rests = refl; exchanges = λ told. absurd (waits_no_ok _ told) }
-    ▸ record { asks = tt; idle = tt; rests = refl; exchanges = λ told. absurd (waits_no_ok _ told) }
-    ▸ record { asks = tt; idle = refl; rests = tt; exchanges = λ told. tt }
-    ▸ record { asks = refl; idle = refl; rests = refl; exchanges = λ told. tt }
-    ▸ record { asks = tt; idle = tt; rests = refl; exchanges = λ told. absurd (waits_no_ok _ told) }
-    ▸ record { asks = tt; idle = refl; rests = tt; exchanges = λ told. tt }
+    ▸ record { asks = tt; idle = refl; rests = tt; exchanges = λ reported. tt }
+    ▸ record { asks = tt; idle = refl; rests = tt; exchanges = λ reported. tt }
+    ▸ record { asks = tt; idle = refl; rests = tt; exchanges = λ reported. tt }
+    ▸ record { asks = tt; idle = refl; rests = tt; exchanges = λ reported. tt }
+    ▸ record { asks = refl; idle = refl; rests = tt; exchanges = λ reported. tt }
+    ▸ record { asks = tt; idle = refl; rests = tt; exchanges = λ reported. tt }
+    ▸ record { asks = tt; idle = refl; rests = tt; exchanges = λ reported. tt }
+    ▸ record { asks = tt; idle = tt; rests = tt; exchanges = λ reported. tt }
+    ▸ record { asks = tt; idle = tt; rests = tt; exchanges = λ reported. tt }
+    ▸ record { asks = tt; idle = tt; rests = tt; exchanges = λ reported. tt }
+    ▸ record { asks = tt; idle = tt; rests = tt; exchanges = λ reported. tt }
+    ▸ record { asks = refl; idle = refl; rests = tt; exchanges = λ reported. tt }
+    ▸ record { asks = tt; idle = refl; rests = tt; exchanges = λ reported. tt }
+    ▸ record { asks = tt; idle = refl; rests = tt; exchanges = λ reported. tt }
+    ▸ record { asks = tt; idle = refl; rests = tt; exchanges = λ reported. tt }
+    ▸ record { asks = refl; idle = refl; rests = tt; exchanges = λ reported. tt }
+    ▸ record { asks = tt; idle = refl; rests = tt; exchanges = λ reported. tt }
+    ▸ record { asks = (refl, empty_well_formed _ (record { some = grind (arith); not_null = (refl, tt) }) (tt, tt)); idle = refl; rests = refl; exchanges = λ reported. tt }
+    ▸ record { asks = tt; idle = refl; rests = tt; exchanges = λ reported. tt }
+    ▸ record { asks = refl; idle = refl; rests = tt; exchanges = λ reported. tt }
+    ▸ record { asks = tt; idle = refl; rests = tt; exchanges = λ reported. tt }
+    ▸ record { asks = inr (refl, refl); idle = refl; rests = refl; exchanges = λ reported. absurd (waits_no_ok _ reported) }
+    ▸ record { asks = tt; idle = tt; rests = refl; exchanges = λ reported. absurd (waits_no_ok _ reported) }
+    ▸ record { asks = tt; idle = tt; rests = refl; exchanges = λ reported. absurd (waits_no_ok _ reported) }
+    ▸ record { asks = tt; idle = tt; rests = refl; exchanges = λ reported. absurd (waits_no_ok _ reported) }
+    ▸ record { asks = tt; idle = tt; rests = refl; exchanges = λ reported. absurd (waits_no_ok _ reported) }
+    ▸ record { asks = tt; idle = refl; rests = tt; exchanges = λ reported. tt }
+    ▸ record { asks = refl; idle = refl; rests = refl; exchanges = λ reported. tt }
+    ▸ record { asks = tt; idle = tt; rests = refl; exchanges = λ reported. absurd (waits_no_ok _ reported) }
+    ▸ record { asks = tt; idle = refl; rests = tt; exchanges = λ reported. tt }
     ▸ record {
       asks = tt;
       idle = tt;
       rests = refl;
-      exchanges = λ told. exchange_alters (scene_of plan_101 []) _ _ refl (record {
+      exchanges = λ reported. exchange_alters (scene_of plan_101 []) _ _ refl (record {
         ghost = codes "_t_gho";
         kept = codes "_t_del";
         pairs_are = refl;
@@ -288,8 +288,8 @@ away =
         new = record { schema = record { name = codes "_t_gho"; columns = (record { name = codes "b"; kind = VarChar 4; nullable = true; default = (Some (Text (codes "n"))) } ∷ record { name = codes "id"; kind = Int 1 false; nullable = false; default = None } ∷ record { name = codes "m0"; kind = Int 4 false; nullable = true; default = (Some Null) } ∷ record { name = codes "v"; kind = Int 4 false; nullable = true; default = (Some Null) } ∷ []); uniques = (record { name = None; places = (1 ∷ []) } ∷ record { name = (Some (codes "u0")); places = (2 ∷ []) } ∷ []); indexes = []; comment = [] }; rows = (Text (codes "n") ∷ Num (pos 5) ∷ Num (pos 2) ∷ Num (pos 6) ∷ []) ∷ (Text (codes "n") ∷ Num (pos 7) ∷ Num (pos 6) ∷ Null ∷ []) ∷ [] };
       });
     }
-    ▸ record { asks = tt; idle = refl; rests = tt; exchanges = λ told. tt }
-    ▸ record { asks = refl; idle = refl; rests = refl; exchanges = λ told. tt }
+    ▸ record { asks = tt; idle = refl; rests = tt; exchanges = λ reported. tt }
+    ▸ record { asks = refl; idle = refl; rests = refl; exchanges = λ reported. tt }
     ▸ tt
 
 -- *The run is one of its plan*, and so its history is serial

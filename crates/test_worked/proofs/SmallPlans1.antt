@@ -66,8 +66,8 @@ journal_after_chunk =
     ∷ record { actor = Insp; session = 1; asked = Call (requests.Drop (codes "_t_ghc")); side = None; answer = answers.Ok 0; missed = None }
     ∷ []
 
-abbrev told_after_chunk : WorkedFacts
-told_after_chunk =
+abbrev reported_after_chunk : WorkedFacts
+reported_after_chunk =
     record {
       verdict = verdicts.Done;
       ended = (Some (1, 1) ∷ None ∷ []);
@@ -78,7 +78,7 @@ told_after_chunk =
       replies = (((1, 1, (Some (replies.Ok 1))) ∷ [])) ∷ [];
     }
 
-worked_after_chunk : IsWorked plan_after_chunk journal_after_chunk told_after_chunk
+worked_after_chunk : IsWorked plan_after_chunk journal_after_chunk reported_after_chunk
 unfolding computing
 worked_after_chunk = record { asks = refl; sessions = refl; answers = refl; sides = refl; struck = refl; verdict = refl; ended = refl; order = refl; left = refl; serial = refl; alone = refl; over = refl; online = refl; bounded = refl; replies = refl }
 
@@ -126,8 +126,8 @@ journal_displaced =
     ∷ record { actor = Insp; session = 1; asked = Call (requests.Drop (codes "_t_ghc")); side = None; answer = answers.Ok 0; missed = None }
     ∷ []
 
-abbrev told_displaced : WorkedFacts
-told_displaced =
+abbrev reported_displaced : WorkedFacts
+reported_displaced =
     record {
       verdict = verdicts.Done;
       ended = (Some (1, 1) ∷ Some (1, 2) ∷ Some (1, 3) ∷ None ∷ []);
@@ -138,7 +138,7 @@ told_displaced =
       replies = (((1, 1, (Some (replies.Ok 1))) ∷ (2, 1, (Some (replies.Ok 1))) ∷ (3, 1, (Some (replies.Ok 1))) ∷ [])) ∷ [];
     }
 
-worked_displaced : IsWorked plan_displaced journal_displaced told_displaced
+worked_displaced : IsWorked plan_displaced journal_displaced reported_displaced
 unfolding computing
 worked_displaced = record { asks = refl; sessions = refl; answers = refl; sides = refl; struck = refl; verdict = refl; ended = refl; order = refl; left = refl; serial = refl; alone = refl; over = refl; online = refl; bounded = refl; replies = refl }
 
@@ -188,8 +188,8 @@ journal_after_lock =
     ∷ record { actor = Insp; session = 1; asked = Call (requests.Drop (codes "_t_ghc")); side = None; answer = answers.Ok 0; missed = None }
     ∷ []
 
-abbrev told_after_lock : WorkedFacts
-told_after_lock =
+abbrev reported_after_lock : WorkedFacts
+reported_after_lock =
     record {
       verdict = verdicts.Done;
       ended = (Some (1, 1) ∷ None ∷ Some (2, 1) ∷ []);
@@ -200,7 +200,7 @@ told_after_lock =
       replies = (((1, 1, (Some (replies.Ok 0))) ∷ (1, 2, (Some (replies.Ok 1))) ∷ (1, 3, (Some (replies.Ok 0))) ∷ [])) ∷ (((1, 1, (Some (replies.Error 1136))) ∷ [])) ∷ [];
     }
 
-worked_after_lock : IsWorked plan_after_lock journal_after_lock told_after_lock
+worked_after_lock : IsWorked plan_after_lock journal_after_lock reported_after_lock
 unfolding computing
 worked_after_lock = record { asks = refl; sessions = refl; answers = refl; sides = refl; struck = refl; verdict = refl; ended = refl; order = refl; left = refl; serial = refl; alone = refl; over = refl; online = refl; bounded = refl; replies = refl }
 
@@ -242,8 +242,8 @@ journal_lost_lock =
     ∷ record { actor = Insp; session = 1; asked = Call (requests.Drop (codes "_t_ghc")); side = None; answer = answers.Ok 0; missed = None }
     ∷ []
 
-abbrev told_lost_lock : WorkedFacts
-told_lost_lock =
+abbrev reported_lost_lock : WorkedFacts
+reported_lost_lock =
     record {
       verdict = verdicts.Done;
       ended = (None ∷ []);
@@ -254,7 +254,7 @@ told_lost_lock =
       replies = [];
     }
 
-worked_lost_lock : IsWorked plan_lost_lock journal_lost_lock told_lost_lock
+worked_lost_lock : IsWorked plan_lost_lock journal_lost_lock reported_lost_lock
 unfolding computing
 worked_lost_lock = record { asks = refl; sessions = refl; answers = refl; sides = refl; struck = refl; verdict = refl; ended = refl; order = refl; left = refl; serial = refl; alone = refl; over = refl; online = refl; bounded = refl; replies = refl }
 
@@ -287,8 +287,8 @@ journal_lost_drop =
     ∷ record { actor = Insp; session = 1; asked = Call (requests.Drop (codes "_t_ghc")); side = None; answer = answers.Ok 0; missed = None }
     ∷ []
 
-abbrev told_lost_drop : WorkedFacts
-told_lost_drop =
+abbrev reported_lost_drop : WorkedFacts
+reported_lost_drop =
     record {
       verdict = verdicts.Done;
       ended = (None ∷ Some (1, 1) ∷ []);
@@ -299,7 +299,7 @@ told_lost_drop =
       replies = (((1, 1, (Some (replies.Ok 1))) ∷ [])) ∷ [];
     }
 
-worked_lost_drop : IsWorked plan_lost_drop journal_lost_drop told_lost_drop
+worked_lost_drop : IsWorked plan_lost_drop journal_lost_drop reported_lost_drop
 unfolding computing
 worked_lost_drop = record { asks = refl; sessions = refl; answers = refl; sides = refl; struck = refl; verdict = refl; ended = refl; order = refl; left = refl; serial = refl; alone = refl; over = refl; online = refl; bounded = refl; replies = refl }
 
@@ -328,8 +328,8 @@ journal_one_try =
     ∷ record { actor = Insp; session = 1; asked = Call (requests.Drop (codes "_t_del")); side = None; answer = answers.Ok 0; missed = None }
     ∷ []
 
-abbrev told_one_try : WorkedFacts
-told_one_try =
+abbrev reported_one_try : WorkedFacts
+reported_one_try =
     record {
       verdict = verdicts.Reverted (causes.Spent tasks.CutOver (11 ∷ []));
       ended = (Some (1, 1) ∷ []);
@@ -340,6 +340,6 @@ told_one_try =
       replies = (((1, 1, (Some (replies.Ok 0))) ∷ (1, 2, (Some (replies.Rows []))) ∷ (1, 3, (Some (replies.Ok 0))) ∷ [])) ∷ [];
     }
 
-worked_one_try : IsWorked plan_one_try journal_one_try told_one_try
+worked_one_try : IsWorked plan_one_try journal_one_try reported_one_try
 unfolding computing
 worked_one_try = record { asks = refl; sessions = refl; answers = refl; sides = refl; struck = refl; verdict = refl; ended = refl; order = refl; left = refl; serial = refl; alone = refl; over = refl; online = refl; bounded = refl; replies = refl }

@@ -55,8 +55,8 @@ journal_empty =
     ∷ record { actor = Insp; session = 1; asked = Call (requests.Drop (codes "_t_ghc")); side = None; answer = answers.Ok 0; missed = None }
     ∷ []
 
-abbrev told_empty : WorkedFacts
-told_empty =
+abbrev reported_empty : WorkedFacts
+reported_empty =
     record {
       verdict = verdicts.Done;
       ended = (None ∷ []);
@@ -67,7 +67,7 @@ told_empty =
       replies = [];
     }
 
-worked_empty : IsWorked plan_empty journal_empty told_empty
+worked_empty : IsWorked plan_empty journal_empty reported_empty
 unfolding computing
 worked_empty = record { asks = refl; sessions = refl; answers = refl; sides = refl; struck = refl; verdict = refl; ended = refl; order = refl; left = refl; serial = refl; alone = refl; over = refl; online = refl; bounded = refl; replies = refl }
 
@@ -91,8 +91,8 @@ journal_cut_text =
     ∷ record { actor = Copy; session = 2; asked = Call requests.Rollback; side = None; answer = answers.Ok 0; missed = None }
     ∷ []
 
-abbrev told_cut_text : WorkedFacts
-told_cut_text =
+abbrev reported_cut_text : WorkedFacts
+reported_cut_text =
     record {
       verdict = verdicts.Reverted (causes.Unfit 8 ((Num (pos 1)) ∷ []) (codes "c") 1406);
       ended = [];
@@ -103,7 +103,7 @@ told_cut_text =
       replies = [];
     }
 
-worked_cut_text : IsWorked plan_cut_text journal_cut_text told_cut_text
+worked_cut_text : IsWorked plan_cut_text journal_cut_text reported_cut_text
 unfolding computing
 worked_cut_text = record { asks = refl; sessions = refl; answers = refl; sides = refl; struck = refl; verdict = refl; ended = refl; order = refl; left = refl; serial = refl; alone = refl; over = refl; online = refl; bounded = refl; replies = refl }
 
@@ -149,8 +149,8 @@ journal_odd_chunks =
     ∷ record { actor = Insp; session = 1; asked = Call (requests.Drop (codes "_t_ghc")); side = None; answer = answers.Ok 0; missed = None }
     ∷ []
 
-abbrev told_odd_chunks : WorkedFacts
-told_odd_chunks =
+abbrev reported_odd_chunks : WorkedFacts
+reported_odd_chunks =
     record {
       verdict = verdicts.Done;
       ended = (None ∷ []);
@@ -161,7 +161,7 @@ told_odd_chunks =
       replies = [];
     }
 
-worked_odd_chunks : IsWorked plan_odd_chunks journal_odd_chunks told_odd_chunks
+worked_odd_chunks : IsWorked plan_odd_chunks journal_odd_chunks reported_odd_chunks
 unfolding computing
 worked_odd_chunks = record { asks = refl; sessions = refl; answers = refl; sides = refl; struck = refl; verdict = refl; ended = refl; order = refl; left = refl; serial = refl; alone = refl; over = refl; online = refl; bounded = refl; replies = refl }
 
@@ -203,8 +203,8 @@ journal_even_chunks =
     ∷ record { actor = Insp; session = 1; asked = Call (requests.Drop (codes "_t_ghc")); side = None; answer = answers.Ok 0; missed = None }
     ∷ []
 
-abbrev told_even_chunks : WorkedFacts
-told_even_chunks =
+abbrev reported_even_chunks : WorkedFacts
+reported_even_chunks =
     record {
       verdict = verdicts.Done;
       ended = (None ∷ []);
@@ -215,7 +215,7 @@ told_even_chunks =
       replies = [];
     }
 
-worked_even_chunks : IsWorked plan_even_chunks journal_even_chunks told_even_chunks
+worked_even_chunks : IsWorked plan_even_chunks journal_even_chunks reported_even_chunks
 unfolding computing
 worked_even_chunks = record { asks = refl; sessions = refl; answers = refl; sides = refl; struck = refl; verdict = refl; ended = refl; order = refl; left = refl; serial = refl; alone = refl; over = refl; online = refl; bounded = refl; replies = refl }
 
@@ -265,8 +265,8 @@ journal_moved_keys =
     ∷ record { actor = Insp; session = 1; asked = Call (requests.Drop (codes "_t_ghc")); side = None; answer = answers.Ok 0; missed = None }
     ∷ []
 
-abbrev told_moved_keys : WorkedFacts
-told_moved_keys =
+abbrev reported_moved_keys : WorkedFacts
+reported_moved_keys =
     record {
       verdict = verdicts.Done;
       ended = (Some (1, 1) ∷ Some (1, 2) ∷ None ∷ []);
@@ -277,7 +277,7 @@ told_moved_keys =
       replies = ((1, 1, (Some (replies.Ok 1))) ∷ (2, 1, (Some (replies.Ok 1))) ∷ []) ∷ [];
     }
 
-worked_moved_keys : IsWorked plan_moved_keys journal_moved_keys told_moved_keys
+worked_moved_keys : IsWorked plan_moved_keys journal_moved_keys reported_moved_keys
 unfolding computing
 worked_moved_keys = record { asks = refl; sessions = refl; answers = refl; sides = refl; struck = refl; verdict = refl; ended = refl; order = refl; left = refl; serial = refl; alone = refl; over = refl; online = refl; bounded = refl; replies = refl }
 
@@ -320,8 +320,8 @@ journal_above_range =
     ∷ record { actor = Insp; session = 1; asked = Call (requests.Drop (codes "_t_ghc")); side = None; answer = answers.Ok 0; missed = None }
     ∷ []
 
-abbrev told_above_range : WorkedFacts
-told_above_range =
+abbrev reported_above_range : WorkedFacts
+reported_above_range =
     record {
       verdict = verdicts.Done;
       ended = (Some (1, 1) ∷ Some (1, 2) ∷ None ∷ []);
@@ -332,7 +332,7 @@ told_above_range =
       replies = ((1, 1, (Some (replies.Ok 1))) ∷ (2, 1, (Some (replies.Ok 1))) ∷ []) ∷ [];
     }
 
-worked_above_range : IsWorked plan_above_range journal_above_range told_above_range
+worked_above_range : IsWorked plan_above_range journal_above_range reported_above_range
 unfolding computing
 worked_above_range = record { asks = refl; sessions = refl; answers = refl; sides = refl; struck = refl; verdict = refl; ended = refl; order = refl; left = refl; serial = refl; alone = refl; over = refl; online = refl; bounded = refl; replies = refl }
 
@@ -364,8 +364,8 @@ journal_lost_answer =
     ∷ record { actor = Insp; session = 1; asked = Call (requests.Drop (codes "_t_ghc")); side = None; answer = answers.Ok 0; missed = None }
     ∷ []
 
-abbrev told_lost_answer : WorkedFacts
-told_lost_answer =
+abbrev reported_lost_answer : WorkedFacts
+reported_lost_answer =
     record {
       verdict = verdicts.Done;
       ended = (None ∷ []);
@@ -376,7 +376,7 @@ told_lost_answer =
       replies = [];
     }
 
-worked_lost_answer : IsWorked plan_lost_answer journal_lost_answer told_lost_answer
+worked_lost_answer : IsWorked plan_lost_answer journal_lost_answer reported_lost_answer
 unfolding computing
 worked_lost_answer = record { asks = refl; sessions = refl; answers = refl; sides = refl; struck = refl; verdict = refl; ended = refl; order = refl; left = refl; serial = refl; alone = refl; over = refl; online = refl; bounded = refl; replies = refl }
 
@@ -417,8 +417,8 @@ journal_two_tries =
     ∷ record { actor = Insp; session = 1; asked = Call (requests.Drop (codes "_t_ghc")); side = None; answer = answers.Ok 0; missed = None }
     ∷ []
 
-abbrev told_two_tries : WorkedFacts
-told_two_tries =
+abbrev reported_two_tries : WorkedFacts
+reported_two_tries =
     record {
       verdict = verdicts.Done;
       ended = (Some (1, 1) ∷ None ∷ []);
@@ -429,7 +429,7 @@ told_two_tries =
       replies = ((1, 1, (Some (replies.Ok 0))) ∷ (1, 2, (Some (replies.Rows []))) ∷ (1, 3, (Some (replies.Ok 0))) ∷ []) ∷ [];
     }
 
-worked_two_tries : IsWorked plan_two_tries journal_two_tries told_two_tries
+worked_two_tries : IsWorked plan_two_tries journal_two_tries reported_two_tries
 unfolding computing
 worked_two_tries = record { asks = refl; sessions = refl; answers = refl; sides = refl; struck = refl; verdict = refl; ended = refl; order = refl; left = refl; serial = refl; alone = refl; over = refl; online = refl; bounded = refl; replies = refl }
 
@@ -445,8 +445,8 @@ journal_panic =
     record { actor = Op; session = 0; asked = Command commanded.Panic; side = None; answer = answers.Ok 0; missed = None }
     ∷ []
 
-abbrev told_panic : WorkedFacts
-told_panic =
+abbrev reported_panic : WorkedFacts
+reported_panic =
     record {
       verdict = verdicts.Reverted (causes.Panic 1);
       ended = [];
@@ -457,7 +457,7 @@ told_panic =
       replies = [];
     }
 
-worked_panic : IsWorked plan_panic journal_panic told_panic
+worked_panic : IsWorked plan_panic journal_panic reported_panic
 unfolding computing
 worked_panic = record { asks = refl; sessions = refl; answers = refl; sides = refl; struck = refl; verdict = refl; ended = refl; order = refl; left = refl; serial = refl; alone = refl; over = refl; online = refl; bounded = refl; replies = refl }
 
@@ -475,8 +475,8 @@ journal_three_turns =
     ∷ record { actor = Insp; session = 1; asked = Call (requests.Create (record { name = codes "_t_gho"; columns = (record { name = codes "id"; kind = Int 4 false; nullable = false; default = None } ∷ record { name = codes "b"; kind = Int 4 false; nullable = false; default = (Some (Num (pos 7))) } ∷ []); uniques = (record { name = None; places = (0 ∷ []) } ∷ []); indexes = []; comment = [] })); side = None; answer = answers.Ok 0; missed = None }
     ∷ []
 
-abbrev told_three_turns : WorkedFacts
-told_three_turns =
+abbrev reported_three_turns : WorkedFacts
+reported_three_turns =
     record {
       verdict = verdicts.Unfinished;
       ended = [];
@@ -487,6 +487,6 @@ told_three_turns =
       replies = [];
     }
 
-worked_three_turns : IsWorked plan_three_turns journal_three_turns told_three_turns
+worked_three_turns : IsWorked plan_three_turns journal_three_turns reported_three_turns
 unfolding computing
 worked_three_turns = record { asks = refl; sessions = refl; answers = refl; sides = refl; struck = refl; verdict = refl; ended = refl; order = refl; left = refl; serial = refl; alone = refl; over = refl; online = refl; bounded = refl; replies = refl }

@@ -28,7 +28,7 @@ use Rattle.server_model.specs.declared.outcome.Cause.TheVariants as causes
 use Rattle.server_model.specs.declared.outcome.Verdict.TheVariants as verdicts
 use Rattle.plan_data.specs.PlanData.{PlanData}
 use Rattle.tool_program.specs.Orders.{WorkerTurn}
-use Rattle.test_worked.proofs.Computing.{computing, WorkersTold, IsWorkedBy}
+use Rattle.test_worked.proofs.Computing.{computing, WorkersReported, IsWorkedBy}
 
 -- Plan 3004
 abbrev map_3004 : List MapColumn
@@ -82,8 +82,8 @@ journal_3004 =
 abbrev turns_3004 : List WorkerTurn
 turns_3004 = (record { worker = 1; actor = Insp } ∷ record { worker = 0; actor = (Client 1) } ∷ record { worker = 1; actor = Insp } ∷ record { worker = 2; actor = Insp } ∷ record { worker = 0; actor = (Client 1) } ∷ record { worker = 0; actor = (Client 1) } ∷ record { worker = 2; actor = Insp } ∷ record { worker = 0; actor = (Client 1) } ∷ record { worker = 1; actor = Insp } ∷ record { worker = 2; actor = Insp } ∷ record { worker = 0; actor = Insp } ∷ record { worker = 2; actor = Insp } ∷ record { worker = 0; actor = Insp } ∷ record { worker = 0; actor = Insp } ∷ record { worker = 0; actor = Insp } ∷ record { worker = 1; actor = Insp } ∷ record { worker = 1; actor = Copy } ∷ record { worker = 0; actor = Copy } ∷ record { worker = 0; actor = Copy } ∷ record { worker = 0; actor = Copy } ∷ record { worker = 2; actor = Copy } ∷ record { worker = 1; actor = Copy } ∷ record { worker = 0; actor = Copy } ∷ record { worker = 2; actor = Copy } ∷ record { worker = 0; actor = Copy } ∷ record { worker = 0; actor = Copy } ∷ record { worker = 2; actor = Lock } ∷ record { worker = 2; actor = Lock } ∷ record { worker = 2; actor = Insp } ∷ record { worker = 0; actor = Apply } ∷ record { worker = 2; actor = Ren } ∷ record { worker = 2; actor = Ren } ∷ record { worker = 1; actor = Insp } ∷ record { worker = 0; actor = Lock } ∷ record { worker = 0; actor = Lock } ∷ record { worker = 0; actor = Ren } ∷ record { worker = 2; actor = Insp } ∷ record { worker = 0; actor = Insp } ∷ [])
 
-abbrev told_3004 : WorkersTold
-told_3004 =
+abbrev reported_3004 : WorkersReported
+reported_3004 =
     record {
       verdict = verdicts.Done;
       ended = (Some (1, 1) ∷ Some (1, 2) ∷ Some (1, 3) ∷ Some (1, 4) ∷ None ∷ []);
@@ -91,7 +91,7 @@ told_3004 =
       replies = (((1, 1, (Some (replies.Ok 1))) ∷ (2, 1, (Some (replies.Rows (((Num (pos 0)) ∷ []) ∷ [])))) ∷ (3, 1, (Some (replies.Ok 1))) ∷ (4, 1, (Some (replies.Ok 1))) ∷ [])) ∷ [];
     }
 
-worked_3004 : IsWorkedBy 3 turns_3004 plan_3004 journal_3004 told_3004
+worked_3004 : IsWorkedBy 3 turns_3004 plan_3004 journal_3004 reported_3004
 unfolding computing
 worked_3004 = record { asks = refl; sessions = refl; answers = refl; sides = refl; struck = refl; verdict = refl; ended = refl; order = refl; left = refl; replies = refl }
 
@@ -155,8 +155,8 @@ journal_3005 =
 abbrev turns_3005 : List WorkerTurn
 turns_3005 = (record { worker = 1; actor = Insp } ∷ record { worker = 0; actor = (Client 1) } ∷ record { worker = 1; actor = (Client 2) } ∷ record { worker = 2; actor = (Client 3) } ∷ record { worker = 0; actor = (Client 1) } ∷ record { worker = 0; actor = (Client 1) } ∷ record { worker = 2; actor = (Client 3) } ∷ record { worker = 0; actor = (Client 1) } ∷ record { worker = 1; actor = Insp } ∷ record { worker = 2; actor = (Client 3) } ∷ record { worker = 0; actor = (Client 1) } ∷ record { worker = 2; actor = (Client 3) } ∷ record { worker = 0; actor = Insp } ∷ record { worker = 0; actor = Insp } ∷ record { worker = 0; actor = Insp } ∷ record { worker = 1; actor = (Client 2) } ∷ record { worker = 1; actor = Insp } ∷ record { worker = 0; actor = Copy } ∷ record { worker = 0; actor = Copy } ∷ record { worker = 0; actor = (Client 2) } ∷ record { worker = 2; actor = Copy } ∷ record { worker = 1; actor = (Client 2) } ∷ record { worker = 0; actor = Apply } ∷ record { worker = 2; actor = (Client 3) } ∷ record { worker = 0; actor = Apply } ∷ record { worker = 0; actor = Apply } ∷ record { worker = 2; actor = Copy } ∷ record { worker = 2; actor = (Client 3) } ∷ record { worker = 2; actor = Copy } ∷ record { worker = 0; actor = Apply } ∷ record { worker = 2; actor = Copy } ∷ record { worker = 2; actor = Copy } ∷ record { worker = 1; actor = (Client 2) } ∷ record { worker = 0; actor = Apply } ∷ record { worker = 0; actor = Apply } ∷ record { worker = 0; actor = Apply } ∷ record { worker = 2; actor = Copy } ∷ record { worker = 0; actor = Apply } ∷ record { worker = 1; actor = (Client 2) } ∷ record { worker = 1; actor = (Client 2) } ∷ record { worker = 0; actor = Apply } ∷ record { worker = 2; actor = Copy } ∷ record { worker = 0; actor = Apply } ∷ record { worker = 2; actor = Apply } ∷ record { worker = 1; actor = (Client 2) } ∷ record { worker = 2; actor = (Client 2) } ∷ [])
 
-abbrev told_3005 : WorkersTold
-told_3005 =
+abbrev reported_3005 : WorkersReported
+reported_3005 =
     record {
       verdict = verdicts.Reverted (causes.Unfit 37 ((Num (pos 5)) ∷ []) (codes "v") 1264);
       ended = (Some (1, 1) ∷ Some (2, 1) ∷ Some (3, 1) ∷ Some (1, 2) ∷ Some (2, 2) ∷ Some (2, 3) ∷ Some (3, 2) ∷ Some (2, 4) ∷ Some (2, 5) ∷ []);
@@ -164,7 +164,7 @@ told_3005 =
       replies = (((1, 1, (Some (replies.Rows (((Num (pos 2)) ∷ []) ∷ [])))) ∷ (2, 1, (Some (replies.Ok 0))) ∷ (2, 2, (Some (replies.Ok 1))) ∷ (2, 3, (Some (replies.Ok 0))) ∷ (2, 4, (Some (replies.Ok 0))) ∷ [])) ∷ (((1, 1, (Some (replies.Error 1062))) ∷ (2, 1, (Some (replies.Ok 0))) ∷ (2, 2, (Some (replies.Ok 0))) ∷ (3, 1, (Some (replies.Ok 1))) ∷ (4, 1, (Some (replies.Error 1205))) ∷ (5, 1, (Some (replies.Ok 0))) ∷ (5, 2, (Some (replies.Error 1062))) ∷ (5, 3, (Some (replies.Ok 0))) ∷ [])) ∷ (((1, 1, (Some (replies.Rows []))) ∷ (2, 1, (Some (replies.Ok 0))) ∷ (2, 2, (Some (replies.Rows []))) ∷ (2, 3, (Some (replies.Ok 1))) ∷ (2, 4, (Some (replies.Ok 3))) ∷ (2, 5, (Some (replies.Ok 0))) ∷ [])) ∷ [];
     }
 
-worked_3005 : IsWorkedBy 3 turns_3005 plan_3005 journal_3005 told_3005
+worked_3005 : IsWorkedBy 3 turns_3005 plan_3005 journal_3005 reported_3005
 unfolding computing
 worked_3005 = record { asks = refl; sessions = refl; answers = refl; sides = refl; struck = refl; verdict = refl; ended = refl; order = refl; left = refl; replies = refl }
 
@@ -205,8 +205,8 @@ journal_3006 =
 abbrev turns_3006 : List WorkerTurn
 turns_3006 = (record { worker = 1; actor = Insp } ∷ record { worker = 0; actor = Op } ∷ record { worker = 1; actor = Insp } ∷ record { worker = 2; actor = Insp } ∷ record { worker = 0; actor = (Client 1) } ∷ record { worker = 0; actor = (Client 1) } ∷ record { worker = 2; actor = Insp } ∷ record { worker = 0; actor = Insp } ∷ record { worker = 1; actor = Copy } ∷ record { worker = 2; actor = Copy } ∷ record { worker = 0; actor = Copy } ∷ record { worker = 2; actor = Copy } ∷ record { worker = 0; actor = Copy } ∷ record { worker = 0; actor = Copy } ∷ record { worker = 0; actor = Copy } ∷ record { worker = 1; actor = Copy } ∷ record { worker = 1; actor = Lock } ∷ record { worker = 0; actor = Lock } ∷ record { worker = 0; actor = Insp } ∷ record { worker = 0; actor = Apply } ∷ record { worker = 2; actor = Lock } ∷ record { worker = 1; actor = Insp } ∷ record { worker = 0; actor = Insp } ∷ [])
 
-abbrev told_3006 : WorkersTold
-told_3006 =
+abbrev reported_3006 : WorkersReported
+reported_3006 =
     record {
       verdict = verdicts.Reverted (causes.Spent (tasks.Batch 0) (20 ∷ []));
       ended = (Some (1, 1) ∷ []);
@@ -214,7 +214,7 @@ told_3006 =
       replies = (((1, 1, (Some (replies.Ok 0))) ∷ (1, 2, None) ∷ [])) ∷ [];
     }
 
-worked_3006 : IsWorkedBy 3 turns_3006 plan_3006 journal_3006 told_3006
+worked_3006 : IsWorkedBy 3 turns_3006 plan_3006 journal_3006 reported_3006
 unfolding computing
 worked_3006 = record { asks = refl; sessions = refl; answers = refl; sides = refl; struck = refl; verdict = refl; ended = refl; order = refl; left = refl; replies = refl }
 
@@ -268,8 +268,8 @@ journal_3012 =
 abbrev turns_3012 : List WorkerTurn
 turns_3012 = (record { worker = 1; actor = Insp } ∷ record { worker = 0; actor = (Client 1) } ∷ record { worker = 1; actor = Insp } ∷ record { worker = 2; actor = Insp } ∷ record { worker = 0; actor = (Client 1) } ∷ record { worker = 0; actor = (Client 1) } ∷ record { worker = 2; actor = Insp } ∷ record { worker = 0; actor = (Client 1) } ∷ record { worker = 1; actor = Insp } ∷ record { worker = 2; actor = Copy } ∷ record { worker = 0; actor = (Client 1) } ∷ record { worker = 2; actor = Copy } ∷ record { worker = 0; actor = Apply } ∷ record { worker = 0; actor = (Client 1) } ∷ record { worker = 0; actor = Apply } ∷ record { worker = 1; actor = Copy } ∷ record { worker = 1; actor = Copy } ∷ record { worker = 0; actor = Apply } ∷ record { worker = 0; actor = Apply } ∷ record { worker = 0; actor = Apply } ∷ record { worker = 2; actor = Lock } ∷ record { worker = 1; actor = Lock } ∷ record { worker = 0; actor = Insp } ∷ record { worker = 2; actor = Apply } ∷ record { worker = 0; actor = Ren } ∷ record { worker = 0; actor = Insp } ∷ record { worker = 2; actor = Ren } ∷ record { worker = 2; actor = Ren } ∷ record { worker = 2; actor = Ren } ∷ record { worker = 0; actor = Lock } ∷ record { worker = 2; actor = Ren } ∷ record { worker = 2; actor = Ren } ∷ record { worker = 1; actor = Lock } ∷ record { worker = 0; actor = Ren } ∷ record { worker = 0; actor = Insp } ∷ record { worker = 0; actor = Insp } ∷ [])
 
-abbrev told_3012 : WorkersTold
-told_3012 =
+abbrev reported_3012 : WorkersReported
+reported_3012 =
     record {
       verdict = verdicts.Done;
       ended = (Some (1, 1) ∷ Some (1, 2) ∷ Some (1, 3) ∷ Some (1, 4) ∷ Some (1, 5) ∷ Some (1, 6) ∷ None ∷ []);
@@ -277,7 +277,7 @@ told_3012 =
       replies = (((1, 1, (Some (replies.Ok 0))) ∷ (2, 1, (Some (replies.Ok 1))) ∷ (3, 1, (Some (replies.Ok 0))) ∷ (4, 1, (Some (replies.Ok 0))) ∷ (5, 1, (Some (replies.Ok 1))) ∷ (6, 1, (Some (replies.Error 1062))) ∷ [])) ∷ [];
     }
 
-worked_3012 : IsWorkedBy 3 turns_3012 plan_3012 journal_3012 told_3012
+worked_3012 : IsWorkedBy 3 turns_3012 plan_3012 journal_3012 reported_3012
 unfolding computing
 worked_3012 = record { asks = refl; sessions = refl; answers = refl; sides = refl; struck = refl; verdict = refl; ended = refl; order = refl; left = refl; replies = refl }
 
@@ -332,8 +332,8 @@ journal_3013 =
 abbrev turns_3013 : List WorkerTurn
 turns_3013 = (record { worker = 1; actor = Insp } ∷ record { worker = 0; actor = (Client 1) } ∷ record { worker = 1; actor = (Client 2) } ∷ record { worker = 2; actor = Insp } ∷ record { worker = 0; actor = (Client 1) } ∷ record { worker = 0; actor = (Client 1) } ∷ record { worker = 2; actor = Insp } ∷ record { worker = 0; actor = (Client 1) } ∷ record { worker = 1; actor = Insp } ∷ record { worker = 2; actor = Insp } ∷ record { worker = 0; actor = Copy } ∷ record { worker = 2; actor = Copy } ∷ record { worker = 0; actor = Copy } ∷ record { worker = 0; actor = Copy } ∷ record { worker = 0; actor = Copy } ∷ record { worker = 1; actor = Copy } ∷ record { worker = 1; actor = Copy } ∷ record { worker = 0; actor = Copy } ∷ record { worker = 0; actor = Copy } ∷ record { worker = 0; actor = Copy } ∷ record { worker = 2; actor = Lock } ∷ record { worker = 1; actor = Lock } ∷ record { worker = 0; actor = Insp } ∷ record { worker = 2; actor = Apply } ∷ record { worker = 0; actor = Ren } ∷ record { worker = 0; actor = Apply } ∷ record { worker = 2; actor = Ren } ∷ record { worker = 2; actor = Ren } ∷ record { worker = 2; actor = Ren } ∷ record { worker = 0; actor = Insp } ∷ record { worker = 2; actor = Ren } ∷ record { worker = 2; actor = Ren } ∷ record { worker = 1; actor = Lock } ∷ record { worker = 0; actor = Lock } ∷ record { worker = 0; actor = Ren } ∷ record { worker = 0; actor = Insp } ∷ record { worker = 2; actor = Insp } ∷ [])
 
-abbrev told_3013 : WorkersTold
-told_3013 =
+abbrev reported_3013 : WorkersReported
+reported_3013 =
     record {
       verdict = verdicts.Done;
       ended = (Some (1, 1) ∷ Some (2, 1) ∷ Some (1, 2) ∷ Some (1, 3) ∷ Some (1, 4) ∷ None ∷ []);
@@ -341,7 +341,7 @@ told_3013 =
       replies = (((1, 1, (Some (replies.Error 1062))) ∷ (2, 1, (Some (replies.Error 1062))) ∷ (3, 1, (Some (replies.Ok 2))) ∷ (4, 1, (Some (replies.Ok 2))) ∷ [])) ∷ (((1, 1, (Some (replies.Error 1062))) ∷ [])) ∷ [];
     }
 
-worked_3013 : IsWorkedBy 3 turns_3013 plan_3013 journal_3013 told_3013
+worked_3013 : IsWorkedBy 3 turns_3013 plan_3013 journal_3013 reported_3013
 unfolding computing
 worked_3013 = record { asks = refl; sessions = refl; answers = refl; sides = refl; struck = refl; verdict = refl; ended = refl; order = refl; left = refl; replies = refl }
 
@@ -387,8 +387,8 @@ journal_3014 =
 abbrev turns_3014 : List WorkerTurn
 turns_3014 = (record { worker = 1; actor = Insp } ∷ record { worker = 0; actor = (Client 1) } ∷ record { worker = 1; actor = Insp } ∷ record { worker = 2; actor = Insp } ∷ record { worker = 0; actor = (Client 1) } ∷ record { worker = 0; actor = (Client 1) } ∷ record { worker = 2; actor = Insp } ∷ record { worker = 0; actor = (Client 1) } ∷ record { worker = 1; actor = Insp } ∷ record { worker = 2; actor = Copy } ∷ record { worker = 0; actor = (Client 1) } ∷ record { worker = 2; actor = Copy } ∷ record { worker = 0; actor = (Client 1) } ∷ record { worker = 0; actor = Copy } ∷ record { worker = 0; actor = Copy } ∷ record { worker = 1; actor = Copy } ∷ record { worker = 1; actor = Lock } ∷ record { worker = 0; actor = Lock } ∷ record { worker = 0; actor = Insp } ∷ record { worker = 0; actor = Apply } ∷ record { worker = 2; actor = Ren } ∷ record { worker = 1; actor = Insp } ∷ record { worker = 0; actor = Lock } ∷ record { worker = 2; actor = Ren } ∷ record { worker = 0; actor = Lock } ∷ record { worker = 0; actor = Ren } ∷ record { worker = 2; actor = Insp } ∷ record { worker = 2; actor = Insp } ∷ [])
 
-abbrev told_3014 : WorkersTold
-told_3014 =
+abbrev reported_3014 : WorkersReported
+reported_3014 =
     record {
       verdict = verdicts.Done;
       ended = (Some (1, 1) ∷ Some (1, 2) ∷ Some (1, 3) ∷ Some (1, 4) ∷ Some (1, 5) ∷ Some (1, 6) ∷ None ∷ []);
@@ -396,6 +396,6 @@ told_3014 =
       replies = (((1, 1, (Some (replies.Ok 1))) ∷ (2, 1, (Some (replies.Ok 2))) ∷ (3, 1, (Some (replies.Error 1062))) ∷ (4, 1, (Some (replies.Ok 0))) ∷ (5, 1, (Some (replies.Error 1062))) ∷ (6, 1, (Some (replies.Ok 0))) ∷ [])) ∷ [];
     }
 
-worked_3014 : IsWorkedBy 3 turns_3014 plan_3014 journal_3014 told_3014
+worked_3014 : IsWorkedBy 3 turns_3014 plan_3014 journal_3014 reported_3014
 unfolding computing
 worked_3014 = record { asks = refl; sessions = refl; answers = refl; sides = refl; struck = refl; verdict = refl; ended = refl; order = refl; left = refl; replies = refl }

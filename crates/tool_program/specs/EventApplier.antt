@@ -1,3 +1,3 @@
 -- The applier: it applies what was logged of a table to the table that replaces it, batch by batch.
 pub mod Appliers
-pub mod Planning
+pub mod BatchPlans

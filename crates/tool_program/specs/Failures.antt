@@ -4,7 +4,7 @@ use Rattle.std.specs.Prelude.{◌≡◌, ◌≢◌, ℕ, zero, suc, ◌+◌, ◌
 use Rattle.std.specs.List.{slice_get, AllByRecursion}
 use Rattle.base_values.specs.declared.value.Value.{Value}
 use Rattle.base_values.specs.declared.unfit.Unfit.{Unfit}
-use Rattle.base_values.specs.Storing.{error_number}
+use Rattle.base_values.specs.StoredValues.{error_number}
 use Rattle.base_values.specs.GhoSchema.Rows.{key_of, key_places}
 use Rattle.base_values.specs.RowConversion.ConvertedRows.{converted_row}
 use Rattle.table_store.specs.Databases.{TableRows, find_table, row_at_key}
@@ -26,7 +26,7 @@ use Rattle.tool_program.specs.declared.cutover_core.cutover.Phase.{Phase}
 use Rattle.tool_program.specs.declared.cutover_core.cutover.Phase.TheVariants.{Attempting}
 use Rattle.tool_program.specs.declared.cutover_core.cutover.Stage.TheVariants.{Draining}
 use Rattle.tool_program.specs.CutoverCore.CutOvers.{is_wait, may_succeed, is_resting}
-use Rattle.tool_program.specs.Tools.{Course, SettingUp, Migrating, Moment, moment}
+use Rattle.tool_program.specs.Tools.{ToolPhase, SettingUp, Migrating, Moment, moment}
 use Rattle.tool_program.specs.Verdicts.{new_column_name}
 
 -- the actors whose calls the task consists of
@@ -41,12 +41,12 @@ is_actor_of task actor = false
 
 -- the task is the one at hand: a chunk by its number, a batch by its position; an attempt that may yet succeed, or the one that
 -- this very turn begins
-abbrev pub is_at : Task → Course → Bool
+abbrev pub is_at : Task → ToolPhase → Bool
 is_at tasks.Setup (SettingUp setup tries) = true
 is_at (tasks.Chunk number) (Migrating work) = work.copier.number == number
 is_at (tasks.Batch position) (Migrating work) = work.applier.position == position
 is_at tasks.CutOver (Migrating work) = may_succeed work.cutover.phase || is_resting work.cutover.phase
-is_at task course = false
+is_at task tool_phase = false
 
 -- the turn's entry, and the moment before it
 pub record IsTurn (plan : PlanData) (journal : List Entry) (turn : ℕ) (entry : Entry) (before : Moment) : Type 0 where
@@ -82,12 +82,12 @@ abbrev pub turns_in : Phase → Option ℕ
 turns_in (Attempting (Draining turns)) = Some turns
 turns_in phase = None
 
-abbrev pub drained_for : Course → Option ℕ
+abbrev pub drained_for : ToolPhase → Option ℕ
 drained_for (SettingUp setup tries) = None
 drained_for (Migrating work) = turns_in work.cutover.phase
 
 -- the attempt whose hint row the applier's position has passed last, and how many attempts were begun
-abbrev pub has_passed : Course → Bool
+abbrev pub has_passed : ToolPhase → Bool
 has_passed (SettingUp setup tries) = false
 has_passed (Migrating work) = work.applier.hint == work.cutover.attempts
 
@@ -97,9 +97,9 @@ pub record IsUndrained (plan : PlanData) (journal : List Entry) (turn : ℕ) (en
   pub actor : entry.actor ≡ Apply
   pub called : entry.asked ≢ Cut
   pub turns : ℕ
-  pub drained : drained_for before.tool.course ≡ Some turns
+  pub drained : drained_for before.tool.tool_phase ≡ Some turns
   pub last : turns + 1 ≡ plan.options.drain_limit
-  pub behind : has_passed (moment plan (take turn journal)).tool.course ≡ false
+  pub following : has_passed (moment plan (take turn journal)).tool.tool_phase ≡ false
 
 abbrev pub IsBad : PlanData → List Entry → ℕ → Entry → Moment → Type 0
 IsBad plan journal turn entry before = IsLost entry before ⊎ IsWaited plan journal turn entry
@@ -109,7 +109,7 @@ pub record IsFailedTry (plan : PlanData) (journal : List Entry) (task : Task) (t
   pub entry : Entry
   pub before : Moment
   pub is : IsTurn plan journal turn entry before
-  pub at : is_at task before.tool.course ≡ true
+  pub at : is_at task before.tool.tool_phase ≡ true
   pub why : ((is_actor_of task entry.actor ≡ true) × IsBad plan journal turn entry before) ⊎ ((task ≡ tasks.CutOver) × IsUndrained plan journal turn entry before)
 
 -- *Panic*: it was commanded in this turn
@@ -131,13 +131,13 @@ abbrev pub row_in : Option TableRows → List Value → Option (List Value)
 row_in None key = None
 row_in (Some table) key = row_at_key table key
 
-abbrev pub applied_row : List Entry → Course → Option (List Value)
+abbrev pub applied_row : List Entry → ToolPhase → Option (List Value)
 applied_row journal (SettingUp setup tries) = None
 applied_row journal (Migrating work) = Some (appliers.row_done (appliers.doing_at journal work.applier work.applier.step))
 
 abbrev pub concerned : PlanData → List Entry → Moment → Actor → List Value → Option (List Value)
 concerned plan earlier before Copy key = row_in (find_table plan.table before.server.tables) key
-concerned plan earlier before Apply key = applied_row earlier before.tool.course
+concerned plan earlier before Apply key = applied_row earlier before.tool.tool_phase
 concerned plan earlier before actor key = None
 
 -- *Unfit*: in this turn a value was refused with this number for this column, and the row of this key can't be converted there

@@ -16,13 +16,13 @@ use Rattle.server_model.specs.declared.entry.Asked.{Asked}
 use Rattle.server_model.specs.declared.entry.Asked.TheVariants.{Call, Command}
 use Rattle.server_model.specs.declared.entry.Entry.{Entry}
 use Rattle.server_model.specs.Entries.{request_in}
-use Rattle.server_model.specs.Jobs.{table_of}
+use Rattle.server_model.specs.Operations.{table_of}
 use Rattle.server_model.specs.States.{names_in, is_exclusive, tables_named}
 use Rattle.plan_data.specs.PlanData.{PlanData}
 use Rattle.base_values.specs.ToolNames.{ghost_name, log_name, is_tool_name}
 use Rattle.tool_program.specs.CutoverCore.CutOvers.{stands, may_succeed}
 use Rattle.tool_program.specs.Operators.{is_throttled}
-use Rattle.tool_program.specs.Tools.{Course, SettingUp, Migrating, Moment, moment}
+use Rattle.tool_program.specs.Tools.{ToolPhase, SettingUp, Migrating, Moment, moment}
 use Rattle.tool_program.specs.Programs.{unread_in}
 
 -- a table that the tool writes rows of: the new one and the changelog
@@ -79,26 +79,26 @@ may_exclude Ren (requests.Rename pairs) = true
 may_exclude actor request = false
 
 -- an attempt at the cut-over runs, and may still succeed
-abbrev pub attempt_goes_on : Course → Bool
+abbrev pub attempt_goes_on : ToolPhase → Bool
 attempt_goes_on (SettingUp setup tries) = false
 attempt_goes_on (Migrating work) = may_succeed work.cutover.phase
 
 -- the migrated table is asked for exclusively by these two alone, inside an attempt
 abbrev pub excludes_well : PlanData → Moment → Actor → Request → Bool
 excludes_well plan now actor request =
-    if list_any (bytes_eq plan.table) (asked_exclusively request) then may_exclude actor request && attempt_goes_on now.tool.course else true
+    if list_any (bytes_eq plan.table) (asked_exclusively request) then may_exclude actor request && attempt_goes_on now.tool.tool_phase else true
 
 -- the copy is done and few events are unread
-abbrev pub is_near : PlanData → Moment → Course → Bool
+abbrev pub is_near : PlanData → Moment → ToolPhase → Bool
 is_near plan now (SettingUp setup tries) = false
 is_near plan now (Migrating work) = work.copier.is_copied && nat_le (unread_in now.server work) plan.options.max_backlog
 
 -- the sentry is made only then
 abbrev pub guards_well : PlanData → Moment → Actor → Request → Bool
-guards_well plan now Lock (requests.Create schema) = is_near plan now now.tool.course
+guards_well plan now Lock (requests.Create schema) = is_near plan now now.tool.tool_phase
 guards_well plan now actor request = true
 
-abbrev pub attempt_stands : Course → Bool
+abbrev pub attempt_stands : ToolPhase → Bool
 attempt_stands (SettingUp setup tries) = false
 attempt_stands (Migrating work) = stands work.cutover.phase
 
@@ -106,7 +106,7 @@ attempt_stands (Migrating work) = stands work.cutover.phase
 abbrev pub is_throttleable : Moment → Actor → Request → Bool
 is_throttleable now Copy (requests.ChunkEnd table low top size) = true
 is_throttleable now Lock (requests.Create schema) = true
-is_throttleable now Apply (requests.ReadLog position limit tables) = not (attempt_stands now.tool.course)
+is_throttleable now Apply (requests.ReadLog position limit tables) = not (attempt_stands now.tool.tool_phase)
 is_throttleable now actor request = false
 
 abbrev pub holds_back : PlanData → Moment → Actor → Request → Bool

@@ -6,7 +6,7 @@ use Rattle.base_script.specs.declared.operator.OperatorWord.TheVariants.{Throttl
 use Rattle.server_model.specs.States.{State, load}
 use Rattle.plan_data.specs.PlanData.{PlanData}
 use Rattle.plan_data.specs.declared.options.Options.{Options}
-use Rattle.tool_program.specs.JournalWords.Keeping.{words_of}
+use Rattle.tool_program.specs.JournalWords.KeptPlans.{words_of}
 
 pub record Operator : Type 0 where
   -- how many of its commands were taken, each unit of a wait as one

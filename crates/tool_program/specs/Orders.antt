@@ -13,7 +13,7 @@ use Rattle.server_model.specs.declared.entry.Entry.{Entry}
 use Rattle.server_model.specs.Entries.{same_actor, is_cut}
 use Rattle.plan_data.specs.PlanData.{PlanData}
 use Rattle.tool_program.specs.JournalWords.Journals.{IsFaithful}
-use Rattle.tool_program.specs.JournalWords.Keeping.{KeepsPlan}
+use Rattle.tool_program.specs.JournalWords.KeptPlans.{KeepsPlan}
 use Rattle.tool_program.specs.JournalWords.Sessions.{NumbersSessions}
 use Rattle.tool_program.specs.Programs.{given, Follows}
 
@@ -59,16 +59,16 @@ pub record Choice : Type 0 where
 -- the first ready one of actors, with those after it
 pub record Found : Type 0 where
   pub actor : Actor
-  pub behind : List Actor
+  pub following : List Actor
 
 unfoldable pub first_ready : (Actor → Bool) → List Actor → Option Found
 first_ready ready [] = None
-first_ready ready (actor ∷ others) = if ready actor then Some (record { actor = actor; behind = others }) else first_ready ready others
+first_ready ready (actor ∷ others) = if ready actor then Some (record { actor = actor; following = others }) else first_ready ready others
 
 -- from the next pass, once none is ready in this one
 abbrev pub from_pass : Option Found → Option Choice
 from_pass None = None
-from_pass (Some found) = Some (record { actor = found.actor; queue = record { words = []; round = found.behind } })
+from_pass (Some found) = Some (record { actor = found.actor; queue = record { words = []; round = found.following } })
 
 abbrev pub from_round : (Actor → Bool) → List Actor → Option Found → Option Choice
 from_round ready all None = from_pass (first_ready ready all)
@@ -76,7 +76,7 @@ from_round ready all (Some found) = from_pass (Some found)
 
 abbrev pub from_words : (Actor → Bool) → List Actor → Queue → Option Found → Option Choice
 from_words ready all queue None = from_round ready all (first_ready ready queue.round)
-from_words ready all queue (Some found) = Some (record { actor = found.actor; queue = record { words = found.behind; round = queue.round } })
+from_words ready all queue (Some found) = Some (record { actor = found.actor; queue = record { words = found.following; round = queue.round } })
 
 -- the next actor: that of the first word whose actor is ready; else the first ready one of the pass, else of the next pass
 unfoldable pub chosen : PlanData → List Entry → Queue → Option Choice
@@ -145,13 +145,13 @@ abbrev pub is_among : Actor → List Actor → Bool
 is_among actor others = list_any (same_actor actor) others
 
 -- the actors after this one
-unfoldable pub behind : Actor → List Actor → List Actor
-behind actor [] = []
-behind actor (first ∷ others) = if same_actor first actor then others else behind actor others
+unfoldable pub following : Actor → List Actor → List Actor
+following actor [] = []
+following actor (first ∷ others) = if same_actor first actor then others else following actor others
 
 abbrev pub after_last : Option Actor → List Actor → List Actor
 after_last None all = []
-after_last (Some actor) all = behind actor all
+after_last (Some actor) all = following actor all
 
 -- a turn with its entry
 abbrev pub Paired : Type 0

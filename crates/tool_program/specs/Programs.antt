@@ -16,7 +16,7 @@ use Rattle.plan_data.specs.PlanData.{PlanData}
 use Rattle.base_values.specs.ToolNames.{log_name}
 use Rattle.tool_program.specs.JournalWords.Sessions.{live_session, IsInSession}
 use Rattle.tool_program.specs.JournalWords.Clients.{client_asks}
-use Rattle.tool_program.specs.JournalWords.Keeping.{words_of}
+use Rattle.tool_program.specs.JournalWords.KeptPlans.{words_of}
 use Rattle.tool_program.specs.ChunkCopier.Copiers as copiers
 use Rattle.tool_program.specs.EventApplier.Appliers as appliers
 use Rattle.tool_program.specs.declared.cutover_core.cutover.Role.TheVariants.{Inspector, Locker, Renamer}
@@ -24,7 +24,7 @@ use Rattle.tool_program.specs.CutoverCore.Attempts as cutovers
 use Rattle.tool_program.specs.CutoverCore.CutOvers.{stands, is_done, is_resting}
 use Rattle.tool_program.specs.Setups.{setup_call}
 use Rattle.tool_program.specs.Operators.{is_throttled, is_postponed}
-use Rattle.tool_program.specs.Tools.{Work, Course, SettingUp, Migrating, Tool, Moment, is_reverting, moment}
+use Rattle.tool_program.specs.Tools.{Work, ToolPhase, SettingUp, Migrating, Tool, Moment, is_reverting, moment}
 
 -- WHO IS ASKED TO DO WHAT
 
@@ -73,7 +73,7 @@ lock_call plan state tool work =
     if is_resting work.cutover.phase && not (may_begin plan state tool work) then None else cutovers.next Locker work.cutover
 
 -- the tool's call for an actor that doesn't wait
-abbrev pub tool_call : PlanData → State → List Entry → Tool → Course → Actor → Option Request
+abbrev pub tool_call : PlanData → State → List Entry → Tool → ToolPhase → Actor → Option Request
 tool_call plan state journal tool (SettingUp setup tries) Insp = if is_reverting tool.reason then None else setup_call plan setup
 tool_call plan state journal tool (Migrating work) Insp = cutovers.next Inspector work.cutover
 tool_call plan state journal tool (Migrating work) Copy =
@@ -82,7 +82,7 @@ tool_call plan state journal tool (Migrating work) Apply =
     if is_reverting tool.reason then rolls_back state (live_session journal Apply) else apply_call plan state journal tool work
 tool_call plan state journal tool (Migrating work) Lock = lock_call plan state tool work
 tool_call plan state journal tool (Migrating work) Ren = cutovers.next Renamer work.cutover
-tool_call plan state journal tool course actor = None
+tool_call plan state journal tool tool_phase actor = None
 
 abbrev pub calls : Option Request → Option Asked
 calls None = None
@@ -95,7 +95,7 @@ commands (Some word) = Some (Command word)
 -- what an actor of the tool asks: an actor that waits polls
 abbrev pub tool_asks : PlanData → List Entry → Moment → Actor → Option Asked
 tool_asks plan journal now actor =
-    if waits now.server (live_session journal actor) then Some Poll else calls (tool_call plan now.server journal now.tool now.tool.course actor)
+    if waits now.server (live_session journal actor) then Some Poll else calls (tool_call plan now.server journal now.tool now.tool.tool_phase actor)
 
 -- *Given*: what an actor asks next; none where it isn't ready.
 unfoldable pub given : PlanData → List Entry → Actor → Option Asked

@@ -50,9 +50,9 @@ pub record Work : Type 0 where
   pub attempt_tries : List ℕ
 
 -- the setup with the turns at which it failed, or the work after it
-pub data Course : Type 0 where
-  SettingUp : Setup → List ℕ → Course
-  Migrating : Work → Course
+pub data ToolPhase : Type 0 where
+  SettingUp : Setup → List ℕ → ToolPhase
+  Migrating : Work → ToolPhase
 
 -- why all is reverted
 pub data Reason : Type 0 where
@@ -67,12 +67,12 @@ pub data Reason : Type 0 where
 pub record Tool : Type 0 where
   pub turns : ℕ
   pub operator : Operator
-  pub course : Course
+  pub tool_phase : ToolPhase
   -- the first ground of a revert
   pub reason : Option Reason
 
 abbrev pub new_tool : PlanData → Tool
-new_tool plan = record { turns = 0; operator = new_operator plan.options; course = SettingUp Listing []; reason = None }
+new_tool plan = record { turns = 0; operator = new_operator plan.options; tool_phase = SettingUp Listing []; reason = None }
 
 -- REVERTING
 
@@ -81,18 +81,18 @@ abbrev pub first_reason : Option Reason → Reason → Option Reason
 first_reason None reason = Some reason
 first_reason (Some first) reason = Some first
 
-abbrev pub stopped : Course → Course
+abbrev pub stopped : ToolPhase → ToolPhase
 stopped (SettingUp setup tries) = SettingUp setup tries
 stopped (Migrating work) = Migrating (record work { cutover = cutovers.reverted work.cutover })
 
 -- the RENAME was done, as the tool knows
-abbrev pub is_renamed : Course → Bool
+abbrev pub is_renamed : ToolPhase → Bool
 is_renamed (SettingUp setup tries) = false
 is_renamed (Migrating work) = is_done work.cutover.phase
 
 -- all is reverted from here on, unless the RENAME was done
 abbrev pub reverts : Reason → Tool → Tool
-reverts reason tool = if is_renamed tool.course then tool else record tool { reason = first_reason tool.reason reason; course = stopped tool.course }
+reverts reason tool = if is_renamed tool.tool_phase then tool else record tool { reason = first_reason tool.reason reason; tool_phase = stopped tool.tool_phase }
 
 -- a task failed in these turns: with the last try all is reverted
 abbrev pub spends : PlanData → Task → List ℕ → Tool → Tool
@@ -105,7 +105,7 @@ is_reverting (Some reason) = true
 -- WHAT AN ANSWER CHANGES
 
 abbrev pub working : Work → Tool → Tool
-working work tool = record tool { course = Migrating work }
+working work tool = record tool { tool_phase = Migrating work }
 
 -- the copier's answer
 abbrev pub copy_after : PlanData → Work → Progress → Copier → Tool → Tool
@@ -147,7 +147,7 @@ abbrev pub cutover_took : PlanData → Role → Answer → Work → Tool → Too
 cutover_took plan role answer work tool = cutover_after plan (cutovers.took role work.cutover answer) work tool
 
 -- after each turn of the applier but a loss between calls
-abbrev pub drains : PlanData → Course → Tool → Tool
+abbrev pub drains : PlanData → ToolPhase → Tool → Tool
 drains plan (SettingUp setup tries) tool = tool
 drains plan (Migrating work) tool = cutover_after plan (cutovers.applier_turn work.applier.hint work.cutover) work tool
 
@@ -167,34 +167,34 @@ new_work plan size position range =
       attempt_tries = [];
     }
 
-abbrev pub course_of : PlanData → ℕ → Setup → List ℕ → Course
-course_of plan size (Ready position range) tries = Migrating (new_work plan size position range)
-course_of plan size setup tries = SettingUp setup tries
+abbrev pub tool_phase_of : PlanData → ℕ → Setup → List ℕ → ToolPhase
+tool_phase_of plan size (Ready position range) tries = Migrating (new_work plan size position range)
+tool_phase_of plan size setup tries = SettingUp setup tries
 
 abbrev pub setup_took : PlanData → Setup → List ℕ → Answer → Tool → Tool
 setup_took plan setup tries answer tool =
     if is_bad answer
-    then spends plan tasks.Setup (tries ++ tool.turns ∷ []) (record tool { course = SettingUp Listing (tries ++ tool.turns ∷ []) })
-    else record tool { course = course_of plan tool.operator.size (setup_after plan.table setup answer) tries }
+    then spends plan tasks.Setup (tries ++ tool.turns ∷ []) (record tool { tool_phase = SettingUp Listing (tries ++ tool.turns ∷ []) })
+    else record tool { tool_phase = tool_phase_of plan tool.operator.size (setup_after plan.table setup answer) tries }
 
 -- a session of the tool was answered; the copier and the applier take nothing more in a revert
-abbrev pub actor_took : PlanData → Actor → Answer → Course → Tool → Tool
+abbrev pub actor_took : PlanData → Actor → Answer → ToolPhase → Tool → Tool
 actor_took plan Insp answer (SettingUp setup tries) tool = if is_reverting tool.reason then tool else setup_took plan setup tries answer tool
 actor_took plan Insp answer (Migrating work) tool = cutover_took plan Inspector answer work tool
 actor_took plan Copy answer (Migrating work) tool = if is_reverting tool.reason then tool else copy_took plan answer work tool
 actor_took plan Apply answer (Migrating work) tool = if is_reverting tool.reason then tool else apply_took plan answer work tool
 actor_took plan Lock answer (Migrating work) tool = cutover_took plan Locker answer work tool
 actor_took plan Ren answer (Migrating work) tool = cutover_took plan Renamer answer work tool
-actor_took plan actor answer course tool = tool
+actor_took plan actor answer tool_phase tool = tool
 
 -- the applier's turn counts for the drain
 abbrev pub turn_counts : PlanData → Actor → Tool → Tool
-turn_counts plan Apply tool = drains plan tool.course tool
+turn_counts plan Apply tool = drains plan tool.tool_phase tool
 turn_counts plan actor tool = tool
 
-abbrev pub resizes : OperatorWord → Course → Course
+abbrev pub resizes : OperatorWord → ToolPhase → ToolPhase
 resizes (ChunkSize size) (Migrating work) = Migrating (record work { copier = resized size work.copier })
-resizes word course = course
+resizes word tool_phase = tool_phase
 
 abbrev pub panics : OperatorWord → Tool → Tool
 panics Panic tool = reverts (Panicked tool.turns) tool
@@ -202,13 +202,13 @@ panics word tool = tool
 
 -- the operator's command
 abbrev pub command_took : OperatorWord → Tool → Tool
-command_took word tool = panics word (record tool { operator = commanded word tool.operator; course = resizes word tool.course })
+command_took word tool = panics word (record tool { operator = commanded word tool.operator; tool_phase = resizes word tool.tool_phase })
 
 -- what the turn changes, by what was asked: a loss between calls is a failed try where the session had work
 abbrev pub asked_took : PlanData → State → Entry → Asked → Tool → Tool
 asked_took plan state entry (Command word) tool = command_took word tool
-asked_took plan state entry Cut tool = if has_work state entry.session then actor_took plan entry.actor answers.Lost tool.course tool else tool
-asked_took plan state entry asked tool = turn_counts plan entry.actor (actor_took plan entry.actor entry.answer tool.course tool)
+asked_took plan state entry Cut tool = if has_work state entry.session then actor_took plan entry.actor answers.Lost tool.tool_phase tool else tool
+asked_took plan state entry asked tool = turn_counts plan entry.actor (actor_took plan entry.actor entry.answer tool.tool_phase tool)
 
 -- *Took*: how far the tool is after one turn more; the server was in this state before it
 unfoldable pub took : PlanData → State → Tool → Entry → Tool

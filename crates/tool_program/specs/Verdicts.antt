@@ -16,39 +16,39 @@ use Rattle.tool_program.specs.ChunkCopier.Copiers as copiers
 use Rattle.tool_program.specs.EventApplier.Appliers as appliers
 use Rattle.tool_program.specs.CutoverCore.CutOvers.{stands}
 use Rattle.tool_program.specs.CutoverCore.CutOvers as cutovers
-use Rattle.tool_program.specs.Tools.{Course, SettingUp, Migrating, Reason, CopyUnfit, ApplyUnfit, Spent, Panicked, Tool, Moment, is_renamed, is_reverting, moment}
+use Rattle.tool_program.specs.Tools.{ToolPhase, SettingUp, Migrating, Reason, CopyUnfit, ApplyUnfit, Spent, Panicked, Tool, Moment, is_renamed, is_reverting, moment}
 
 -- no attempt is under way
-abbrev pub is_calm : Course → Bool
+abbrev pub is_calm : ToolPhase → Bool
 is_calm (SettingUp setup tries) = true
 is_calm (Migrating work) = not (stands work.cutover.phase)
 
-abbrev pub is_finished : Course → Bool
+abbrev pub is_finished : ToolPhase → Bool
 is_finished (SettingUp setup tries) = false
 is_finished (Migrating work) = cutovers.is_finished work.cutover.phase
 
 -- the tool is over: all is cleared up after the RENAME; or all is reverted, with no attempt, no wait and no transaction
 abbrev pub is_over : Moment → Bool
 is_over now =
-    if is_renamed now.tool.course then is_finished now.tool.course
-    else is_reverting now.tool.reason && is_calm now.tool.course && not (is_tool_busy now.server)
+    if is_renamed now.tool.tool_phase then is_finished now.tool.tool_phase
+    else is_reverting now.tool.reason && is_calm now.tool.tool_phase && not (is_tool_busy now.server)
 
 -- the name of the new column at this place
 abbrev pub new_column_name : PlanData → ℕ → List ℕ
 new_column_name plan place = appliers.name_at (new_schema plan).columns place
 
 -- the key of the row that didn't fit
-abbrev pub copy_key : List Entry → Course → List Value
+abbrev pub copy_key : List Entry → ToolPhase → List Value
 copy_key journal (SettingUp setup tries) = []
 copy_key journal (Migrating work) = copiers.unfit_key journal work.copier
 
-abbrev pub apply_key : PlanData → List Entry → Course → List Value
+abbrev pub apply_key : PlanData → List Entry → ToolPhase → List Value
 apply_key plan journal (SettingUp setup tries) = []
 apply_key plan journal (Migrating work) = appliers.unfit_key journal (key_places (old_schema plan)) work.applier
 
 abbrev pub cause_of : PlanData → List Entry → Tool → Reason → Cause
-cause_of plan journal tool (CopyUnfit turn place number) = causes.Unfit turn (copy_key journal tool.course) (new_column_name plan place) number
-cause_of plan journal tool (ApplyUnfit turn place number) = causes.Unfit turn (apply_key plan journal tool.course) (new_column_name plan place) number
+cause_of plan journal tool (CopyUnfit turn place number) = causes.Unfit turn (copy_key journal tool.tool_phase) (new_column_name plan place) number
+cause_of plan journal tool (ApplyUnfit turn place number) = causes.Unfit turn (apply_key plan journal tool.tool_phase) (new_column_name plan place) number
 cause_of plan journal tool (Spent task turns) = causes.Spent task turns
 cause_of plan journal tool (Panicked turn) = causes.Panic turn
 

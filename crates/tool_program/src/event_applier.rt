@@ -2,9 +2,9 @@
 
 mod answers;
 mod applier;
+mod batch_plan;
 mod calls;
 mod keys;
-mod planning;
 mod statements;
 
 pub use applier::{Applier, ApplyStep, Batch, Part};

@@ -1,13 +1,13 @@
 //! What the tool asks next.
 
 ghost use Rattle.std.specs.Prelude.{◌≡◌, slice_get, None, if◌then◌else◌, IfOk};
-ghost use Rattle.tool_program.specs.JournalWords.Keeping.{words_of};
+ghost use Rattle.tool_program.specs.JournalWords.KeptPlans.{words_of};
 ghost use Rattle.tool_program.specs.JournalWords.Sessions.{live_session};
 ghost use Rattle.tool_program.specs.Programs.{rolls_back, copy_call, apply_call, lock_call, tool_call, calls, commands, tool_asks};
 ghost use Rattle.tool_program.specs.Setups.{setup_call};
 ghost use Rattle.tool_program.specs.Tools.{is_reverting};
 ghost use Rattle.tool_program.specs.ToolSetup.Meanings.{setup_of};
-ghost use Rattle.tool_state.specs.ToolState.Meanings.{work_of, course_of, tool_of};
+ghost use Rattle.tool_state.specs.ToolState.Meanings.{work_of, tool_phase_of, tool_of};
 ghost use Rattle.tool_state.specs.Seen.{IsSeen};
 
 use crate::tool_state::Tool;
@@ -96,7 +96,7 @@ impl<'a, V: Serve> ToolView<'a, V> {
     ) -> Result<Option<Request>, AllocError>
         requires seen { IsSeen (V.state self.now.server.now) self.now.tool.now self.now.names.now self.now.load }
         requires session { session ≡ live_session self.now.journal.now actor }
-        ensures { IfOk result (λ request. request ≡ tool_call self.now.plan.now (V.state self.now.server.now) self.now.journal.now (tool_of self.now.tool.now) (course_of self.now.tool.now) actor) }
+        ensures { IfOk result (λ request. request ≡ tool_call self.now.plan.now (V.state self.now.server.now) self.now.journal.now (tool_of self.now.tool.now) (tool_phase_of self.now.tool.now) actor) }
     {
         let cutover = &self.tool.work.cutover;
         let reverts = self.tool.is_reverting();

@@ -5,7 +5,7 @@ ghost use Rattle.base_values.specs.GhoSchema.Rows.{key_places};
 ghost use Rattle.server_model.specs.declared.outcome.Verdict.TheVariants as verdicts;
 ghost use Rattle.plan_data.specs.PlanData.{old_schema};
 ghost use Rattle.tool_program.specs.Verdicts.{new_column_name, copy_key, apply_key, cause_of, reverted_by};
-ghost use Rattle.tool_state.specs.ToolState.Meanings.{reason_of, course_of, tool_of};
+ghost use Rattle.tool_state.specs.ToolState.Meanings.{reason_of, tool_phase_of, tool_of};
 
 use crate::tool_state::{Reason, Tool, Tries};
 use base_values::{Key, Name, Sequence};
@@ -45,7 +45,7 @@ fn turns_of(alloc: Global, tries: &Tries) -> Result<Numbers, AllocError>
 
 /// The key of the row that the copier had.
 fn copy_key(alloc: Global, journal: &[Entry], tool: &Tool) -> Result<Key, AllocError>
-    ensures { IfOk result (λ key. key ≡ copy_key journal.now (course_of tool.now)) }
+    ensures { IfOk result (λ key. key ≡ copy_key journal.now (tool_phase_of tool.now)) }
 {
     match tool.setup {
         Some(_) => Ok(Sequence::new(alloc)),
@@ -55,7 +55,7 @@ fn copy_key(alloc: Global, journal: &[Entry], tool: &Tool) -> Result<Key, AllocE
 
 /// The key of the row that the applier had.
 fn apply_key(alloc: Global, plan: &Plan, journal: &[Entry], tool: &Tool) -> Result<Key, AllocError>
-    ensures { IfOk result (λ key. key ≡ apply_key plan.now journal.now (course_of tool.now)) }
+    ensures { IfOk result (λ key. key ≡ apply_key plan.now journal.now (tool_phase_of tool.now)) }
 {
     match tool.setup {
         Some(_) => Ok(Sequence::new(alloc)),

@@ -3,19 +3,19 @@
 ghost use Rattle.std.specs.Prelude.{◌≡◌};
 ghost use Rattle.server_model.specs.States.{State, is_tool_busy};
 ghost use Rattle.tool_program.specs.Verdicts.{is_calm, is_finished, is_over};
-ghost use Rattle.tool_state.specs.ToolState.Meanings.{course_of, tool_of};
+ghost use Rattle.tool_state.specs.ToolState.Meanings.{tool_phase_of, tool_of};
 
 use crate::tool_state::Tool;
 
 /// Whether no attempt is under way.
 fn is_calm(tool: &Tool) -> bool
-    ensures { result ≡ is_calm (course_of tool.now) }
+    ensures { result ≡ is_calm (tool_phase_of tool.now) }
 {
     tool.setup.is_some() || !tool.work.cutover.phase.stands()
 }
 
 fn is_finished(tool: &Tool) -> bool
-    ensures { result ≡ is_finished (course_of tool.now) }
+    ensures { result ≡ is_finished (tool_phase_of tool.now) }
 {
     tool.setup.is_none() && tool.work.cutover.phase.is_finished()
 }

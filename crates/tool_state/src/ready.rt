@@ -3,7 +3,7 @@
 ghost use Rattle.std.specs.Prelude.{◌≡◌, is_some};
 ghost use Rattle.tool_program.specs.JournalWords.Sessions.{live_session};
 ghost use Rattle.tool_program.specs.Programs.{copy_call, apply_call, lock_call, tool_call, tool_asks};
-ghost use Rattle.tool_state.specs.ToolState.Meanings.{work_of, course_of, tool_of};
+ghost use Rattle.tool_state.specs.ToolState.Meanings.{work_of, tool_phase_of, tool_of};
 ghost use Rattle.tool_state.specs.Seen.{IsSeen};
 
 use crate::tool_view::ToolView;
@@ -50,7 +50,7 @@ impl<'a, V: Serve> ToolView<'a, V> {
     fn has_call(&self, actor: Actor, session: Option<u32>) -> bool
         requires seen { IsSeen (V.state self.now.server.now) self.now.tool.now self.now.names.now self.now.load }
         requires session { session ≡ live_session self.now.journal.now actor }
-        ensures { result ≡ is_some (tool_call self.now.plan.now (V.state self.now.server.now) self.now.journal.now (tool_of self.now.tool.now) (course_of self.now.tool.now) actor) }
+        ensures { result ≡ is_some (tool_call self.now.plan.now (V.state self.now.server.now) self.now.journal.now (tool_of self.now.tool.now) (tool_phase_of self.now.tool.now) actor) }
     {
         let cutover = &self.tool.work.cutover;
         let reverts = self.tool.is_reverting();

@@ -26,7 +26,7 @@ use Rattle.top_call.specs.WholeReplays.SoundRuns.{IsSoundRun}
 use Rattle.top_call.specs.Comings.{IsRead, TellsPlan, ComesTo, Does}
 use Rattle.top_call.specs.Outcomes.{IsTaken, TakesNone, Comes, status_of}
 use Rattle.top_call.specs.Promises.{Ends, EndsUnder, PrintsDone, PrintsReport}
-use Rattle.top_call.specs.Standing.{Laws}
+use Rattle.top_call.specs.TopLaws.{Laws}
 use Rattle.top_call.proofs.Headline.{runs_of}
 use Rattle.top_call.proofs.Taken.{sound_of, ends_as, is_taken, tells_alter}
 
@@ -42,7 +42,7 @@ module _ (words : List (List ℕ)) (source : Taking) (sink : Giving) (turns : Li
   text_given : (printed : Printed) (text : List ℕ) → printed.text ≡ text → Gave printed → Appends sink.before sink.after text
   text_given printed text is given = subst (λ (bytes : List ℕ). Appends sink.before sink.after bytes) is given
 
-  reads_by : (told : PlanCommand) → command words ≡ Some (asked told) → reads_plan (command words) ≡ true
+  reads_by : (chosen : PlanCommand) → command words ≡ Some (asked chosen) → reads_plan (command words) ≡ true
   reads_by plans.Check is = ap reads_plan is
   reads_by plans.Replay is = ap reads_plan is
   reads_by (plans.Run workers) is = ap reads_plan is
@@ -52,21 +52,21 @@ module _ (words : List (List ℕ)) (source : Taking) (sink : Giving) (turns : Li
       subst Under (sym comes.shows.status_is) (record { faulty = faulty; untaken = comes.untaken; takes_none = comes.shows.takes_none; given = text_given printed _ comes.shows.text_is given })
 
   -- what stands under status 0 of this command
-  done_under : (told : Option Command) (printed : Printed) → command words ≡ told → printed.status ≡ statuses.Done → PrintsDone told source sink turns journal → Under printed.status
-  done_under told printed is status prints = subst Under (sym status) (subst (λ (one : Option Command). PrintsDone one source sink turns journal) (sym is) prints)
+  done_under : (chosen : Option Command) (printed : Printed) → command words ≡ chosen → printed.status ≡ statuses.Done → PrintsDone chosen source sink turns journal → Under printed.status
+  done_under chosen printed is status prints = subst Under (sym status) (subst (λ (one : Option Command). PrintsDone one source sink turns journal) (sym is) prints)
 
   workload_under : (number : ℕ) (printed : Printed) → command words ≡ Some (Generate number) → Gave printed → TakesNone (IsWorkload number source) (Some printed) turns journal → Under printed.status
   workload_under number printed is given comes =
       done_under (Some (Generate number)) printed is comes.shows.status_is (record { untaken = comes.untaken; takes_none = comes.shows.takes_none; given = text_given printed _ comes.shows.text_is given })
 
-  fault_under : (told : PlanCommand) (printed : Printed) → command words ≡ Some (asked told) → Gave printed → TakesNone (IsReadFault source) (Some printed) turns journal → Under printed.status
-  fault_under told printed is given comes =
-      subst Under (sym comes.shows.status_is) (record { reads = reads_by told is; untaken = comes.untaken; rose = comes.shows.rose; given = text_given printed _ comes.shows.text_is given })
+  fault_under : (chosen : PlanCommand) (printed : Printed) → command words ≡ Some (asked chosen) → Gave printed → TakesNone (IsReadFault source) (Some printed) turns journal → Under printed.status
+  fault_under chosen printed is given comes =
+      subst Under (sym comes.shows.status_is) (record { reads = reads_by chosen is; untaken = comes.untaken; rose = comes.shows.rose; given = text_given printed _ comes.shows.text_is given })
 
-  refusal_under : (told : PlanCommand) (printed : Printed) (was : IsRead told source (Some printed) turns journal) (refusal : PlanRefusal) → command words ≡ Some (asked told) → read was.bytes ≡ Err refusal → Gave printed → TakesNone (IsRefusal refusal) (Some printed) turns journal → Under printed.status
-  refusal_under told printed was refusal is said given comes =
+  refusal_under : (chosen : PlanCommand) (printed : Printed) (was : IsRead chosen source (Some printed) turns journal) (refusal : PlanRefusal) → command words ≡ Some (asked chosen) → read was.bytes ≡ Err refusal → Gave printed → TakesNone (IsRefusal refusal) (Some printed) turns journal → Under printed.status
+  refusal_under chosen printed was refusal is said given comes =
       subst Under (sym comes.shows.status_is) (record {
-        reads = reads_by told is;
+        reads = reads_by chosen is;
         bytes = was.bytes;
         whole = was.whole;
         refusal = refusal;
@@ -88,20 +88,20 @@ module _ (words : List (List ℕ)) (source : Taking) (sink : Giving) (turns : Li
         untaken = comes.untaken;
       })
 
-  printed_done : (told : PlanCommand) → PrintsReport told verdicts.Done source sink turns journal → PrintsDone (Some (asked told)) source sink turns journal
+  printed_done : (chosen : PlanCommand) → PrintsReport chosen verdicts.Done source sink turns journal → PrintsDone (Some (asked chosen)) source sink turns journal
   printed_done plans.Check prints = absurd prints.runs.takes
   printed_done plans.Replay prints = prints
   printed_done (plans.Run workers) prints = prints
 
-  module _ (laws : Laws) (told : PlanCommand) (printed : Printed) (was : IsRead told source (Some printed) turns journal) (plan : PlanData) (is : command words ≡ Some (asked told)) (said : read was.bytes ≡ Ok plan) (given : Gave printed) (taken : IsTaken told plan (Some printed) turns journal) where
+  module _ (laws : Laws) (chosen : PlanCommand) (printed : Printed) (was : IsRead chosen source (Some printed) turns journal) (plan : PlanData) (is : command words ≡ Some (asked chosen)) (said : read was.bytes ≡ Ok plan) (given : Gave printed) (taken : IsTaken chosen plan (Some printed) turns journal) where
     sound : IsSoundRun plan journal
-    sound = sound_of told plan turns journal taken.takes
+    sound = sound_of chosen plan turns journal taken.takes
 
-    report_given : (verdict : Verdict) → verdict_of plan journal ≡ verdict → PrintsReport told verdict source sink turns journal
+    report_given : (verdict : Verdict) → verdict_of plan journal ≡ verdict → PrintsReport chosen verdict source sink turns journal
     report_given verdict same =
         let tells = tells_alter laws plan journal taken.was_read sound.kept.faithful sound.kept.follows in
         record {
-          runs = runs_of laws told source (Some printed) turns journal was plan said taken;
+          runs = runs_of laws chosen source (Some printed) turns journal was plan said taken;
           taken = is_taken plan journal (laws.allow was.bytes plan said).turns taken.reports.over;
           over = ends_as plan journal verdict tells taken.reports.over sound.bound same;
           verdict_is = same;
@@ -111,11 +111,11 @@ module _ (words : List (List ℕ)) (source : Taking) (sink : Giving) (turns : Li
 
     verdict_under : (verdict : Verdict) → verdict_of plan journal ≡ verdict → printed.status ≡ status_of verdict → Under printed.status
     unfolding report_given
-    verdict_under verdicts.Done same status = done_under (Some (asked told)) printed is status (printed_done told (report_given verdicts.Done same))
-    verdict_under verdicts.Unfinished same status = subst Under (sym status) (record { told = told; command_is = is; prints = report_given verdicts.Unfinished same })
+    verdict_under verdicts.Done same status = done_under (Some (asked chosen)) printed is status (printed_done chosen (report_given verdicts.Done same))
+    verdict_under verdicts.Unfinished same status = subst Under (sym status) (record { chosen = chosen; command_is = is; prints = report_given verdicts.Unfinished same })
     verdict_under (verdicts.Reverted cause) same status =
         subst Under (sym status) (record {
-          told = told;
+          chosen = chosen;
           command_is = is;
           cause = cause;
           prints = report_given (verdicts.Reverted cause) same;
@@ -125,7 +125,7 @@ module _ (words : List (List ℕ)) (source : Taking) (sink : Giving) (turns : Li
     report_under : Under printed.status
     report_under = verdict_under (verdict_of plan journal) refl taken.reports.status_is
 
-  said_under : Laws → (told : PlanCommand) (printed : Printed) (was : IsRead told source (Some printed) turns journal) (said : Result PlanData PlanRefusal) → command words ≡ Some (asked told) → read was.bytes ≡ said → Gave printed → Comes told said (Some printed) turns journal → Under printed.status
+  said_under : Laws → (chosen : PlanCommand) (printed : Printed) (was : IsRead chosen source (Some printed) turns journal) (said : Result PlanData PlanRefusal) → command words ≡ Some (asked chosen) → read was.bytes ≡ said → Gave printed → Comes chosen said (Some printed) turns journal → Under printed.status
   said_under laws plans.Check printed was (Ok plan) is said given comes = schema_under printed was plan is said given comes
   said_under laws plans.Replay printed was (Ok plan) is said given comes = report_under laws plans.Replay printed was plan is said given comes
   said_under laws (plans.Run workers) printed was (Ok plan) is said given comes = report_under laws (plans.Run workers) printed was plan is said given comes
@@ -133,11 +133,11 @@ module _ (words : List (List ℕ)) (source : Taking) (sink : Giving) (turns : Li
   said_under laws plans.Replay printed was (Err refusal) is said given comes = refusal_under plans.Replay printed was refusal is said given comes
   said_under laws (plans.Run workers) printed was (Err refusal) is said given comes = refusal_under (plans.Run workers) printed was refusal is said given comes
 
-  plan_under : Laws → (told : PlanCommand) (printed : Printed) → command words ≡ Some (asked told) → Gave printed → TellsPlan told source (Some printed) turns journal → Under printed.status
-  plan_under laws told printed is given (inl was) = said_under laws told printed was (read was.bytes) is refl given was.comes
-  plan_under laws told printed is given (inr fault) = fault_under told printed is given fault
+  plan_under : Laws → (chosen : PlanCommand) (printed : Printed) → command words ≡ Some (asked chosen) → Gave printed → TellsPlan chosen source (Some printed) turns journal → Under printed.status
+  plan_under laws chosen printed is given (inl was) = said_under laws chosen printed was (read was.bytes) is refl given was.comes
+  plan_under laws chosen printed is given (inr fault) = fault_under chosen printed is given fault
 
-  whole_under : Laws → (told : Option Command) (printed : Printed) → command words ≡ told → Gave printed → ComesTo told source (Some printed) turns journal → Under printed.status
+  whole_under : Laws → (chosen : Option Command) (printed : Printed) → command words ≡ chosen → Gave printed → ComesTo chosen source (Some printed) turns journal → Under printed.status
   unfolding ComesTo
   whole_under laws None printed is given comes = usage_under printed is given comes
   whole_under laws (Some (Run workers)) printed is given comes = plan_under laws (plans.Run workers) printed is given comes

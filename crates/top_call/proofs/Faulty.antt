@@ -14,23 +14,23 @@ use Rattle.top_call.specs.Promises.{Ends, EndsUnder, PrintsDone}
 
 module _ (words : List (List ℕ)) (source : Taking) (sink : Giving) (turns : List Turn) (journal : List Entry) (none : command words ≡ None) where
   not_done : PrintsDone (command words) source sink turns journal → ⊥
-  not_done prints = subst (λ (told : Option Command). PrintsDone told source sink turns journal) none prints
+  not_done prints = subst (λ (chosen : Option Command). PrintsDone chosen source sink turns journal) none prints
 
   not_read : reads_plan (command words) ≡ true → ⊥
   not_read reads = false≢true (sym (ap reads_plan none) ∙ reads)
 
-  not_asked : (told : PlanCommand) → command words ≡ Some (asked told) → ⊥
-  not_asked told is = none-some (asked told) (sym none ∙ is)
+  not_asked : (chosen : PlanCommand) → command words ≡ Some (asked chosen) → ⊥
+  not_asked chosen is = none-some (asked chosen) (sym none ∙ is)
 
   faulty_status : (status : Status) → EndsUnder status words source sink turns journal → IsUsageOrLost (status_number status)
   faulty_status statuses.Done under = absurd (not_done under)
   faulty_status statuses.Usage under = inl refl
   faulty_status statuses.Refused under = absurd (not_read under.reads)
-  faulty_status statuses.Reverted under = absurd (not_asked under.told under.command_is)
+  faulty_status statuses.Reverted under = absurd (not_asked under.chosen under.command_is)
   faulty_status statuses.ReadFault under = absurd (not_read under.reads)
   faulty_status statuses.WriteFault under = inr (inl refl)
   faulty_status statuses.NoMemory under = inr (inr refl)
-  faulty_status statuses.TurnsSpent under = absurd (not_asked under.told under.command_is)
+  faulty_status statuses.TurnsSpent under = absurd (not_asked under.chosen under.command_is)
 
 -- *Faulty words get the usage*, unless the sink fails or memory runs out
 pub faulty_words : (words : List (List ℕ)) (source : Taking) (sink : Giving) (turns : List Turn) (journal : List Entry) (number : ℕ) → Ends words source sink turns journal number → command words ≡ None → IsUsageOrLost number

@@ -16,7 +16,7 @@ use Rattle.top_endings.specs.Endings.{Taking, Giving}
 use Rattle.top_call.specs.Comings.{IsRead, TellsPlan, ComesTo, Does}
 use Rattle.top_call.specs.Outcomes.{IsTaken, TakesNone, Comes}
 use Rattle.top_call.specs.Promises.{Runs, RunsBy}
-use Rattle.top_call.specs.Standing.{Laws}
+use Rattle.top_call.specs.TopLaws.{Laws}
 use Rattle.top_call.proofs.Taken.{sound_of, completes}
 
 -- THE HEADLINE
@@ -24,17 +24,17 @@ use Rattle.top_call.proofs.Taken.{sound_of, completes}
 none_taken : (Shows : Printed → Type 0) (printed : Option Printed) (turns : List Turn) (journal : List Entry) → TakesNone Shows printed turns journal → (length journal == 0) ≡ false → ⊥
 none_taken Shows printed turns journal none some = true≢false (sym (ap (λ (all : List Entry). length all == 0) none.untaken.no_journal) ∙ some)
 
-abbrev pub runs_of : Laws → (told : PlanCommand) (source : Taking) (printed : Option Printed) (turns : List Turn) (journal : List Entry) (was : IsRead told source printed turns journal) (plan : PlanData) → read was.bytes ≡ Ok plan → IsTaken told plan printed turns journal → Runs told source turns journal
-runs_of laws told source printed turns journal was plan said taken = record {
+abbrev pub runs_of : Laws → (chosen : PlanCommand) (source : Taking) (printed : Option Printed) (turns : List Turn) (journal : List Entry) (was : IsRead chosen source printed turns journal) (plan : PlanData) → read was.bytes ≡ Ok plan → IsTaken chosen plan printed turns journal → Runs chosen source turns journal
+runs_of laws chosen source printed turns journal was plan said taken = record {
   bytes = was.bytes;
   whole = was.whole;
   plan = plan;
   accepted = said;
   takes = taken.takes;
-  completes = completes laws plan journal taken.was_read (sound_of told plan turns journal taken.takes).kept;
+  completes = completes laws plan journal taken.was_read (sound_of chosen plan turns journal taken.takes).kept;
 }
 
-runs_said : Laws → (told : PlanCommand) (source : Taking) (printed : Option Printed) (turns : List Turn) (journal : List Entry) (was : IsRead told source printed turns journal) (said : Result PlanData PlanRefusal) → read was.bytes ≡ said → Comes told said printed turns journal → (length journal == 0) ≡ false → Runs told source turns journal
+runs_said : Laws → (chosen : PlanCommand) (source : Taking) (printed : Option Printed) (turns : List Turn) (journal : List Entry) (was : IsRead chosen source printed turns journal) (said : Result PlanData PlanRefusal) → read was.bytes ≡ said → Comes chosen said printed turns journal → (length journal == 0) ≡ false → Runs chosen source turns journal
 runs_said laws plans.Check source printed turns journal was (Ok plan) is comes some = absurd (none_taken _ printed turns journal comes some)
 runs_said laws plans.Replay source printed turns journal was (Ok plan) is comes some = runs_of laws plans.Replay source printed turns journal was plan is comes
 runs_said laws (plans.Run workers) source printed turns journal was (Ok plan) is comes some = runs_of laws (plans.Run workers) source printed turns journal was plan is comes
@@ -42,18 +42,18 @@ runs_said laws plans.Check source printed turns journal was (Err refusal) is com
 runs_said laws plans.Replay source printed turns journal was (Err refusal) is comes some = absurd (none_taken _ printed turns journal comes some)
 runs_said laws (plans.Run workers) source printed turns journal was (Err refusal) is comes some = absurd (none_taken _ printed turns journal comes some)
 
-runs_told : Laws → (told : PlanCommand) (source : Taking) (printed : Option Printed) (turns : List Turn) (journal : List Entry) → TellsPlan told source printed turns journal → (length journal == 0) ≡ false → Runs told source turns journal
-runs_told laws told source printed turns journal (inl was) some = runs_said laws told source printed turns journal was (read was.bytes) refl was.comes some
-runs_told laws told source printed turns journal (inr fault) some = absurd (none_taken _ printed turns journal fault some)
+runs_reported : Laws → (chosen : PlanCommand) (source : Taking) (printed : Option Printed) (turns : List Turn) (journal : List Entry) → TellsPlan chosen source printed turns journal → (length journal == 0) ≡ false → Runs chosen source turns journal
+runs_reported laws chosen source printed turns journal (inl was) some = runs_said laws chosen source printed turns journal was (read was.bytes) refl was.comes some
+runs_reported laws chosen source printed turns journal (inr fault) some = absurd (none_taken _ printed turns journal fault some)
 
 -- *Where turns were taken, they are a plan's whole replay or whole run*
-runs_where_taken : Laws → (words : List (List ℕ)) (told : Option Command) (source : Taking) (printed : Option Printed) (turns : List Turn) (journal : List Entry) → command words ≡ told → ComesTo told source printed turns journal → (length journal == 0) ≡ false → RunsBy words source turns journal
+runs_where_taken : Laws → (words : List (List ℕ)) (chosen : Option Command) (source : Taking) (printed : Option Printed) (turns : List Turn) (journal : List Entry) → command words ≡ chosen → ComesTo chosen source printed turns journal → (length journal == 0) ≡ false → RunsBy words source turns journal
 unfolding ComesTo
 runs_where_taken laws words None source printed turns journal is comes some = absurd (none_taken _ printed turns journal comes some)
-runs_where_taken laws words (Some Check) source printed turns journal is comes some = record { told = plans.Check; command_is = is; runs = runs_told laws plans.Check source printed turns journal comes some }
-runs_where_taken laws words (Some Replay) source printed turns journal is comes some = record { told = plans.Replay; command_is = is; runs = runs_told laws plans.Replay source printed turns journal comes some }
+runs_where_taken laws words (Some Check) source printed turns journal is comes some = record { chosen = plans.Check; command_is = is; runs = runs_reported laws plans.Check source printed turns journal comes some }
+runs_where_taken laws words (Some Replay) source printed turns journal is comes some = record { chosen = plans.Replay; command_is = is; runs = runs_reported laws plans.Replay source printed turns journal comes some }
 runs_where_taken laws words (Some (Run workers)) source printed turns journal is comes some =
-    record { told = plans.Run workers; command_is = is; runs = runs_told laws (plans.Run workers) source printed turns journal comes some }
+    record { chosen = plans.Run workers; command_is = is; runs = runs_reported laws (plans.Run workers) source printed turns journal comes some }
 runs_where_taken laws words (Some (Generate number)) source printed turns journal is comes some = absurd (none_taken _ printed turns journal comes some)
 
 pub runs_by : Laws → (words : List (List ℕ)) (source : Taking) (sink : Giving) (turns : List Turn) (journal : List Entry) (number : ℕ) → Does words source sink turns journal number → (length journal == 0) ≡ false → RunsBy words source turns journal

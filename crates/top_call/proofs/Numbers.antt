@@ -30,6 +30,6 @@ under status words source sink turns journal number ends is =
     subst (λ (s : Status). EndsUnder s words source sink turns journal) (sym (number_tells ends.status) ∙ ap numbered (sym ends.number_is ∙ is) ∙ number_tells status) ends.under
 
 -- *What stands under status 0*, of the command that the words are
-pub under_done : (told : Option Command) (words : List (List ℕ)) (source : Taking) (sink : Giving) (turns : List Turn) (journal : List Entry) (number : ℕ) → Ends words source sink turns journal number → number ≡ 0 → command words ≡ told → PrintsDone told source sink turns journal
-under_done told words source sink turns journal number ends is command_is =
+pub under_done : (chosen : Option Command) (words : List (List ℕ)) (source : Taking) (sink : Giving) (turns : List Turn) (journal : List Entry) (number : ℕ) → Ends words source sink turns journal number → number ≡ 0 → command words ≡ chosen → PrintsDone chosen source sink turns journal
+under_done chosen words source sink turns journal number ends is command_is =
     subst (λ (one : Option Command). PrintsDone one source sink turns journal) command_is (under Done words source sink turns journal number ends is)

@@ -23,13 +23,13 @@ use Rattle.top_endings.specs.declared.command.PlanCommand.TheVariants.{Check, Re
 use Rattle.top_endings.specs.declared.turn.Turn.{Turn}
 use Rattle.top_call.specs.Outcomes.{Takes}
 use Rattle.top_call.specs.Promises.{Completes, EndsBy}
-use Rattle.top_call.specs.Standing.{Laws}
+use Rattle.top_call.specs.TopLaws.{Laws}
 
 pub tells_alter : Laws → (plan : PlanData) (journal : List Entry) → WasRead plan → IsFaithful plan journal → Follows plan journal → has_ended plan journal ≡ true → TellsAlter plan journal
 tells_alter laws plan journal was faithful follows ended = laws.tell plan journal (laws.runnable plan was).fitting (laws.runnable plan was).stands faithful follows ended
 
 -- the run whose turns a command takes is sound, whichever it is
-pub sound_of : (told : PlanCommand) (plan : PlanData) (turns : List Turn) (journal : List Entry) → Takes told plan turns journal → IsSoundRun plan journal
+pub sound_of : (chosen : PlanCommand) (plan : PlanData) (turns : List Turn) (journal : List Entry) → Takes chosen plan turns journal → IsSoundRun plan journal
 sound_of Check plan turns journal taken = absurd taken
 sound_of Replay plan turns journal taken = taken.0.sound
 sound_of (Run workers) plan turns journal taken = taken.sound
@@ -65,14 +65,14 @@ as_unended plan journal verdicts.Unfinished is over bound same = (is, at_limit p
 as_unended plan journal verdicts.Done is over bound same = absurd (not_done same)
 as_unended plan journal (verdicts.Reverted cause) is over bound same = absurd (not_reverted cause same)
 
-told : (plan : PlanData) (journal : List Entry) → TellsAlter plan journal → verdict_of plan journal ≡ verdicts.Unfinished → ⊥
-told plan journal tells is = by (list_any is_alter (history plan journal)) refl where
+chosen : (plan : PlanData) (journal : List Entry) → TellsAlter plan journal → verdict_of plan journal ≡ verdicts.Unfinished → ⊥
+chosen plan journal tells is = by (list_any is_alter (history plan journal)) refl where
   by : (b : Bool) → list_any is_alter (history plan journal) ≡ b → ⊥
   by true alters = not_done (sym is ∙ tells.done alters)
   by false alters = not_reverted (tells.reverted alters).0 (sym is ∙ (tells.reverted alters).1)
 
 as_ended : (plan : PlanData) (journal : List Entry) (verdict : Verdict) → has_ended plan journal ≡ true → TellsAlter plan journal → verdict_of plan journal ≡ verdict → EndsBy plan journal verdict
-as_ended plan journal verdicts.Unfinished ended tells same = absurd (told plan journal tells same)
+as_ended plan journal verdicts.Unfinished ended tells same = absurd (chosen plan journal tells same)
 as_ended plan journal verdicts.Done ended tells same = ended
 as_ended plan journal (verdicts.Reverted cause) ended tells same = ended
 

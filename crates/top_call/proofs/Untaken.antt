@@ -26,16 +26,16 @@ nothing_shown : (Shows : Printed → Type 0) → TakesNone Shows None [] []
 nothing_shown Shows = record { untaken = no_turn; shows = tt }
 
 -- a plan of which nothing is printed, since memory ran out
-pub nothing_told : (told : PlanCommand) (source : Taking) → TellsPlan told source None [] []
-nothing_told told source = inr (nothing_shown (IsReadFault source))
+pub nothing_reported : (chosen : PlanCommand) (source : Taking) → TellsPlan chosen source None [] []
+nothing_reported chosen source = inr (nothing_shown (IsReadFault source))
 
 -- nothing is printed, whatever the command is
-pub nothing_comes : (told : Option Command) (source : Taking) → ComesTo told source None [] []
+pub nothing_comes : (chosen : Option Command) (source : Taking) → ComesTo chosen source None [] []
 unfolding ComesTo
 nothing_comes None source = nothing_shown (IsUsage source)
-nothing_comes (Some Check) source = nothing_told plans.Check source
-nothing_comes (Some Replay) source = nothing_told plans.Replay source
-nothing_comes (Some (Run workers)) source = nothing_told (plans.Run workers) source
+nothing_comes (Some Check) source = nothing_reported plans.Check source
+nothing_comes (Some Replay) source = nothing_reported plans.Replay source
+nothing_comes (Some (Run workers)) source = nothing_reported (plans.Run workers) source
 nothing_comes (Some (Generate number)) source = nothing_shown (IsWorkload number source)
 
 -- what comes under the commands that read a plan
@@ -52,13 +52,13 @@ unfolding ComesTo
 run_comes workers source printed turns journal tells = tells
 
 -- the source failed
-pub fault_told : (told : PlanCommand) (source : Taking) (printed : Option Printed) → IfSome printed (λ one. one ≡ record { status = statuses.ReadFault; text = read_fault_text }) → Rose source.faults_before source.faults_after → TellsPlan told source printed [] []
-fault_told told source None is rose = nothing_told told source
-fault_told told source (Some printed) is rose = inr (record { untaken = no_turn; shows = record { status_is = ap (λ (one : Printed). one.status) is; text_is = ap (λ (one : Printed). one.text) is; rose = rose } })
+pub fault_reported : (chosen : PlanCommand) (source : Taking) (printed : Option Printed) → IfSome printed (λ one. one ≡ record { status = statuses.ReadFault; text = read_fault_text }) → Rose source.faults_before source.faults_after → TellsPlan chosen source printed [] []
+fault_reported chosen source None is rose = nothing_reported chosen source
+fault_reported chosen source (Some printed) is rose = inr (record { untaken = no_turn; shows = record { status_is = ap (λ (one : Printed). one.status) is; text_is = ap (λ (one : Printed). one.text) is; rose = rose } })
 
 -- the source was read whole
-pub read_told : (told : PlanCommand) (source : Taking) (printed : Option Printed) (turns : List Turn) (journal : List Entry) (bytes : List ℕ) → ReadsWhole PLAN_LIMIT source.before source.after bytes → Comes told (read bytes) printed turns journal → TellsPlan told source printed turns journal
-read_told told source printed turns journal bytes whole comes = inl (record { bytes = bytes; whole = whole; comes = comes })
+pub read_reported : (chosen : PlanCommand) (source : Taking) (printed : Option Printed) (turns : List Turn) (journal : List Entry) (bytes : List ℕ) → ReadsWhole PLAN_LIMIT source.before source.after bytes → Comes chosen (read bytes) printed turns journal → TellsPlan chosen source printed turns journal
+read_reported chosen source printed turns journal bytes whole comes = inl (record { bytes = bytes; whole = whole; comes = comes })
 
 takes_nothing : (left : Option (List ℕ)) → Consumes left left []
 takes_nothing None = tt

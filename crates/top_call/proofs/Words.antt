@@ -10,7 +10,7 @@ use Rattle.top_words.specs.declared.command.Command.TheVariants.{Check, Replay, 
 use Rattle.top_endings.specs.Endings.{HasWorkers}
 
 abbrev IsAllowed : Option Command → Type 0
-IsAllowed told = IfSome told HasWorkers
+IsAllowed chosen = IfSome chosen HasWorkers
 
 up_to : (number : ℕ) → IsAllowed (option_map Run (up_to_16 number))
 up_to number = by (nat_le 1 number) (nat_le number 16) refl refl where

@@ -25,18 +25,18 @@ taken_by plan printed turns all journal workers was is run reports = record {
   reports = reports;
 }
 
-abbrev as_told : Turn → WorkerTurn
-as_told turn = record { worker = turn.worker; actor = turn.actor }
+abbrev as_reported : Turn → WorkerTurn
+as_reported turn = record { worker = turn.worker; actor = turn.actor }
 
 -- one turn more is told, and one is left fewer
-pub told_more : (told after : List Turn) (taken : List WorkerTurn) (index : ℕ) (turn : Turn) (item : WorkerTurn) → index < length taken → item ≡ get_or taken index item → after ≡ told ++ turn ∷ [] → turn.worker ≡ item.worker → turn.actor ≡ item.actor → worker_turns told ++ drop index taken ≡ taken → worker_turns after ++ drop (index + 1) taken ≡ taken
-told_more told after taken index turn item within at grown worker actor so_far =
+pub reported_more : (chosen after : List Turn) (taken : List WorkerTurn) (index : ℕ) (turn : Turn) (item : WorkerTurn) → index < length taken → item ≡ get_or taken index item → after ≡ chosen ++ turn ∷ [] → turn.worker ≡ item.worker → turn.actor ≡ item.actor → worker_turns chosen ++ drop index taken ≡ taken → worker_turns after ++ drop (index + 1) taken ≡ taken
+reported_more chosen after taken index turn item within at grown worker actor so_far =
     let rest = drop (index + 1) taken in
-    let same : as_told turn ≡ item = ap₂ (λ n a. record { worker = n; actor = a }) worker actor in
+    let same : as_reported turn ≡ item = ap₂ (λ n a. record { worker = n; actor = a }) worker actor in
     let from_here : drop index taken ≡ item ∷ rest = drop_more taken index item within ∙ ap (λ (one : WorkerTurn). one ∷ rest) (sym at) in
     ap (λ (all : List Turn). worker_turns all ++ rest) grown
-    ∙ ap (λ (all : List WorkerTurn). all ++ rest) (map-append as_told told (turn ∷ []))
-    ∙ append_assoc (worker_turns told) (as_told turn ∷ []) rest
-    ∙ ap (λ (one : WorkerTurn). worker_turns told ++ one ∷ rest) same
-    ∙ ap (λ (all : List WorkerTurn). worker_turns told ++ all) (sym from_here)
+    ∙ ap (λ (all : List WorkerTurn). all ++ rest) (map-append as_reported chosen (turn ∷ []))
+    ∙ append_assoc (worker_turns chosen) (as_reported turn ∷ []) rest
+    ∙ ap (λ (one : WorkerTurn). worker_turns chosen ++ one ∷ rest) same
+    ∙ ap (λ (all : List WorkerTurn). worker_turns chosen ++ all) (sym from_here)
     ∙ so_far

@@ -16,15 +16,15 @@ use Rattle.top_endings.specs.Endings.{Taking, Giving, Gives, IsWorkload, IsUsage
 use Rattle.top_call.specs.Outcomes.{TakesNone, Comes}
 
 -- the source was read to its end or one byte past the limit, and this comes of its bytes under the command
-pub record IsRead (told : PlanCommand) (source : Taking) (printed : Option Printed) (turns : List Turn) (journal : List Entry) : Type 0 where
+pub record IsRead (chosen : PlanCommand) (source : Taking) (printed : Option Printed) (turns : List Turn) (journal : List Entry) : Type 0 where
   pub bytes : List ℕ
   pub whole : ReadsWhole PLAN_LIMIT source.before source.after bytes
-  pub comes : Comes told (read bytes) printed turns journal
+  pub comes : Comes chosen (read bytes) printed turns journal
 
 -- what a source comes to under a command that reads a plan: what comes of its bytes; or no turn is taken, and it is said that
 -- the source failed, or nothing where memory ran out
 abbrev pub TellsPlan : PlanCommand → Taking → Option Printed → List Turn → List Entry → Type 0
-TellsPlan told source printed turns journal = IsRead told source printed turns journal ⊎ TakesNone (IsReadFault source) printed turns journal
+TellsPlan chosen source printed turns journal = IsRead chosen source printed turns journal ⊎ TakesNone (IsReadFault source) printed turns journal
 
 -- *Comes to*: what the words and the source come to
 unfoldable pub ComesTo : Option Command → Taking → Option Printed → List Turn → List Entry → Type 0

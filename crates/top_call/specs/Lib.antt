@@ -1,7 +1,7 @@
 pub mod Comings
 pub mod Outcomes
 pub mod Promises
-pub mod Standing
+pub mod TopLaws
 pub mod WorkerPlans
 pub mod PlanWorks
 pub mod WholeReplays

@@ -62,9 +62,9 @@ pub record IsReport (plan : PlanData) (journal : List Entry) (printed : Printed)
 
 -- These are the turns of the plan's whole replay, or of its whole run by this many workers; its report is printed, or nothing
 -- where memory ran out, and then the turns are those that were taken until then.
-pub record IsTaken (told : PlanCommand) (plan : PlanData) (printed : Option Printed) (turns : List Turn) (journal : List Entry) : Type 0 where
+pub record IsTaken (chosen : PlanCommand) (plan : PlanData) (printed : Option Printed) (turns : List Turn) (journal : List Entry) : Type 0 where
   pub was_read : WasRead plan
-  pub takes : Takes told plan turns journal
+  pub takes : Takes chosen plan turns journal
   pub reports : IfSome printed (IsReport plan journal)
 
 -- What comes of bytes that say this under a command: the plan's altered schema, or its replay or run, or the refusal.

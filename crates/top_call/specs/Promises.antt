@@ -40,19 +40,19 @@ Completes plan journal = IsQuiet plan → RowsHaveConvertedRows plan → IsWithi
 
 -- *The headline*, of the turns that a call leaves: the source was read whole, its bytes are an accepted plan, and the turns are
 -- those of the plan's whole replay, or of its whole run by this many workers, as the command says.
-pub record Runs (told : PlanCommand) (source : Taking) (turns : List Turn) (journal : List Entry) : Type 0 where
+pub record Runs (chosen : PlanCommand) (source : Taking) (turns : List Turn) (journal : List Entry) : Type 0 where
   pub bytes : List ℕ
   pub whole : ReadsWhole PLAN_LIMIT source.before source.after bytes
   pub plan : PlanData
   pub accepted : read bytes ≡ Ok plan
-  pub takes : Takes told plan turns journal
+  pub takes : Takes chosen plan turns journal
   pub completes : Completes plan journal
 
 -- the same of the command that the words are
 pub record RunsBy (words : List (List ℕ)) (source : Taking) (turns : List Turn) (journal : List Entry) : Type 0 where
-  pub told : PlanCommand
-  pub command_is : command words ≡ Some (asked told)
-  pub runs : Runs told source turns journal
+  pub chosen : PlanCommand
+  pub command_is : command words ≡ Some (asked chosen)
+  pub runs : Runs chosen source turns journal
 
 -- Where the verdict is done or reverted, the run has ended; where it is unfinished, the run hasn't, and took as many turns
 -- as the plan allows.
@@ -62,8 +62,8 @@ EndsBy plan journal verdict = has_ended plan journal ≡ true
 
 -- The report is given: turns were taken, the run is over as this verdict says, which is that of the journal and tells whether
 -- the ALTER was done; what is given is the report of it, of the verdict and of the tables at its end.
-pub record PrintsReport (told : PlanCommand) (verdict : Verdict) (source : Taking) (sink : Giving) (turns : List Turn) (journal : List Entry) : Type 0 where
-  pub runs : Runs told source turns journal
+pub record PrintsReport (chosen : PlanCommand) (verdict : Verdict) (source : Taking) (sink : Giving) (turns : List Turn) (journal : List Entry) : Type 0 where
+  pub runs : Runs chosen source turns journal
   pub taken : (length journal == 0) ≡ false
   pub over : EndsBy runs.plan journal verdict
   pub verdict_is : verdict_of runs.plan journal ≡ verdict
@@ -115,10 +115,10 @@ pub record PrintsRefusal (words : List (List ℕ)) (source : Taking) (sink : Giv
 -- Status 3: the report says why the migration was reverted, and that cause is in the journal: a row that didn't fit, tries that
 -- failed, or panic.
 pub record PrintsRevert (words : List (List ℕ)) (source : Taking) (sink : Giving) (turns : List Turn) (journal : List Entry) : Type 0 where
-  pub told : PlanCommand
-  pub command_is : command words ≡ Some (asked told)
+  pub chosen : PlanCommand
+  pub command_is : command words ≡ Some (asked chosen)
   pub cause : Cause
-  pub prints : PrintsReport told (verdicts.Reverted cause) source sink turns journal
+  pub prints : PrintsReport chosen (verdicts.Reverted cause) source sink turns journal
   pub stands : Stands prints.runs.plan journal cause
 
 -- Status 4: the source's fault count increased, and that is said.
@@ -142,9 +142,9 @@ pub record PrintsNone (words : List (List ℕ)) (source : Taking) (sink : Giving
 
 -- Status 7: the report is given of a run that hasn't ended, and has as many turns as the plan allows.
 pub record PrintsUnfinished (words : List (List ℕ)) (source : Taking) (sink : Giving) (turns : List Turn) (journal : List Entry) : Type 0 where
-  pub told : PlanCommand
-  pub command_is : command words ≡ Some (asked told)
-  pub prints : PrintsReport told verdicts.Unfinished source sink turns journal
+  pub chosen : PlanCommand
+  pub command_is : command words ≡ Some (asked chosen)
+  pub prints : PrintsReport chosen verdicts.Unfinished source sink turns journal
 
 -- what stands after a call that ended so
 abbrev pub EndsUnder : Status → List (List ℕ) → Taking → Giving → List Turn → List Entry → Type 0

@@ -8,7 +8,7 @@ ghost use Rattle.server_model.specs.declared.outcome.Verdict.TheVariants as verd
 ghost use Rattle.top_endings.specs.Endings.{asked, gave, HasWorkers, IsUsageOrLost, took};
 ghost use Rattle.top_call.specs.Comings.{ComesTo, Does, TellsPlan};
 ghost use Rattle.top_call.specs.Promises.{Ends, RunsBy, PrintsReport, PrintsSchema, PrintsWorkload, PrintsRevert, PrintsUnfinished, PrintsRefusal, PrintsUsage, PrintsReadFault, PrintsPrefix, PrintsNone};
-ghost use Rattle.top_call.specs.Standing.{Laws};
+ghost use Rattle.top_call.specs.TopLaws.{Laws};
 
 use crate::outcome::{Outcome, outcome_of, untaken};
 use base_edges::{Gate, ReadFault, Sink, Source, read_whole};
@@ -35,20 +35,20 @@ pub struct Ended {
 }
 
 /// What a source comes to under a command that reads a plan.
-#[tactic(auto, using(crate::proofs::Untaken::nothing_told, crate::proofs::Untaken::fault_told, crate::proofs::Untaken::read_told))]
+#[tactic(auto, using(crate::proofs::Untaken::nothing_reported, crate::proofs::Untaken::fault_reported, crate::proofs::Untaken::read_reported))]
 fn come_to_plan<R: Threads + Wait + Sync, S: Source, G: Gate + Sync>(
     rt: &R,
     alloc: Global,
-    told: PlanCommand,
+    chosen: PlanCommand,
     source: &mut S,
     gate: &G,
 ) -> Outcome
-    requires { HasWorkers (asked told) }
-    ensures comes { TellsPlan told (took S.left S.faults source.old source.new) result.printed result.turns result.journal }
+    requires { HasWorkers (asked chosen) }
+    ensures comes { TellsPlan chosen (took S.left S.faults source.old source.new) result.printed result.turns result.journal }
     ensures never_falls { S.faults source.old ≤ S.faults source.new }
 {
     match read_whole(alloc, source, PLAN_LIMIT) {
-        Ok(bytes) => match outcome_of(rt, alloc, told, bytes.as_slice(), gate) {
+        Ok(bytes) => match outcome_of(rt, alloc, chosen, bytes.as_slice(), gate) {
             Ok(outcome) => outcome,
             Err(_) => untaken(alloc, None),
         },
@@ -62,15 +62,15 @@ fn come_to_plan<R: Threads + Wait + Sync, S: Source, G: Gate + Sync>(
 fn come_under<R: Threads + Wait + Sync, S: Source, G: Gate + Sync>(
     rt: &R,
     alloc: Global,
-    told: Option<Command>,
+    chosen: Option<Command>,
     source: &mut S,
     gate: &G,
 ) -> Outcome
-    requires { IfSome told HasWorkers }
-    ensures comes { ComesTo told (took S.left S.faults source.old source.new) result.printed result.turns result.journal }
+    requires { IfSome chosen HasWorkers }
+    ensures comes { ComesTo chosen (took S.left S.faults source.old source.new) result.printed result.turns result.journal }
     ensures never_falls { S.faults source.old ≤ S.faults source.new }
 {
-    match told {
+    match chosen {
         Some(Command::Check) => come_to_plan(rt, alloc, PlanCommand::Check, source, gate),
         Some(Command::Replay) => come_to_plan(rt, alloc, PlanCommand::Replay, source, gate),
         Some(Command::Run(workers)) => {
@@ -94,7 +94,7 @@ fn come_to<R: Threads + Wait + Sync, S: Source, G: Gate + Sync>(
     ensures never_falls { S.faults source.old ≤ S.faults source.new }
 {
     match line.command(alloc) {
-        Ok(told) => come_under(rt, alloc, told, source, gate),
+        Ok(chosen) => come_under(rt, alloc, chosen, source, gate),
         Err(_) => untaken(alloc, None),
     }
 }

@@ -2,7 +2,7 @@
 use Rattle.std.specs.Prelude.{◌≡◌, ℕ, List, Some}
 use Rattle.base_values.specs.declared.gho_schema.schema.Schema.{Schema}
 use Rattle.base_values.specs.declared.row_conversion.map.MapColumn.{MapColumn}
-use Rattle.sql_show.specs.Printing.{printed_schema}
+use Rattle.sql_show.specs.SchemaText.{printed_schema}
 use Rattle.plan_data.specs.PlanData.{PlanData, plan_altered}
 use Rattle.top_endings.specs.declared.printed.Printed.{Printed}
 use Rattle.top_endings.specs.declared.status.Status.TheVariants as statuses

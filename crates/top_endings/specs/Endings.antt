@@ -92,14 +92,14 @@ asked (plans.Run workers) = Run workers
 -- a run has 1 to 16 workers
 abbrev pub HasWorkers : Command → Type 0
 HasWorkers (Run workers) = (1 ≤ workers) × (workers ≤ 16)
-HasWorkers told = Unit {0}
+HasWorkers chosen = Unit {0}
 
 -- the words are a command that reads a plan
 abbrev pub reads_plan : Option Command → Bool
 reads_plan (Some Check) = true
 reads_plan (Some Replay) = true
 reads_plan (Some (Run workers)) = true
-reads_plan told = false
+reads_plan chosen = false
 
 -- the number is 1, 5 or 6
 abbrev pub IsUsageOrLost : ℕ → Type 0

@@ -47,14 +47,14 @@ after_on actor other times actors true same others =
 after_on actor other times actors false same others =
     rw same (ap (λ (runs : List ActorRun). run actor times ∷ runs) (others other 1) ∙ sym (apart actor other times (runs_of actors) same))
 
-behind : (actors : List Actor) (actor : Actor) (times : ℕ) → runs_after actor times actors ≡ joined actor times (runs_of actors)
+following : (actors : List Actor) (actor : Actor) (times : ℕ) → runs_after actor times actors ≡ joined actor times (runs_of actors)
 unfolding runs_after runs_of joined
-behind [] actor times = refl
-behind (other ∷ actors) actor times = after_on actor other times actors (same_actor actor other) refl (behind actors)
+following [] actor times = refl
+following (other ∷ actors) actor times = after_on actor other times actors (same_actor actor other) refl (following actors)
 
 first_run : (actor : Actor) (actors : List Actor) → runs_of (actor ∷ actors) ≡ runs_after actor 1 actors
 unfolding runs_of
-first_run actor actors = sym (behind actors actor 1)
+first_run actor actors = sym (following actors actor 1)
 
 more_on : (last : OpenRun) (actor : Actor) (actors : List Actor) (b : Bool) → same_actor last.actor actor ≡ b
     → order_text (runs_open (Some last) (actor ∷ actors)) ≡ printed_before (Some last) actor ++ order_text (runs_open (Some (run_with (Some last) actor)) actors)

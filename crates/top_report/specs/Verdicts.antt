@@ -3,7 +3,7 @@ use Rattle.std.specs.Prelude.{codes, ℕ, List, ◌++◌}
 use Rattle.std.specs.Fmt.{decimal}
 use Rattle.std.specs.List.{flat_map}
 use Rattle.base_values.specs.declared.value.Value.TheVariants.{Text}
-use Rattle.base_values.specs.Printing.{printed, printed_row}
+use Rattle.base_values.specs.Literals.{printed, printed_row}
 use Rattle.server_model.specs.declared.outcome.Cause.{Cause}
 use Rattle.server_model.specs.declared.outcome.Cause.TheVariants as causes
 use Rattle.server_model.specs.declared.outcome.Task.{Task}

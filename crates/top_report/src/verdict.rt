@@ -2,7 +2,7 @@
 
 ghost use Rattle.std.specs.Prelude.{◌≡◌, ◌++◌, OnOk};
 ghost use Rattle.base_values.specs.declared.value.Value.TheVariants.{Text as TextValue};
-ghost use Rattle.base_values.specs.Printing.{printed};
+ghost use Rattle.base_values.specs.Literals.{printed};
 ghost use Rattle.server_model.specs.declared.outcome.Cause.TheVariants as causes;
 ghost use Rattle.top_report.specs.Verdicts.{cause_text, spaced_turns, task_text, verdict_line};
 

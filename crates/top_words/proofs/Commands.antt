@@ -4,7 +4,7 @@ use Rattle.std.specs.List.{list_any}
 use Rattle.clap.specs.Words.{Row, Text, subcommand_of, takes}
 use Rattle.top_words.specs.declared.command.Command.{Command}
 use Rattle.top_words.specs.Commands.{command}
-use Rattle.top_words.specs.Matching.{is_escape, program, told}
+use Rattle.top_words.specs.Matches.{is_escape, program, chosen}
 use Rattle.top_words.proofs.Taking.{form_taken}
 
 by_command : (P : Option Command → Type 0) (words : List Text) → (command words ≡ None → P None) → ((c : Command) → command words ≡ Some c → P (Some c)) → P (command words)
@@ -19,10 +19,10 @@ pub escaped : (words : List Text) → list_any is_escape words ≡ true → None
 escaped words is = by_command (λ o. None ≡ o) words (λ none. refl) (λ c is_command. let plain : list_any is_escape words ≡ false = (form_taken words c is_command).plain in absurd (cc (sym is ∙ plain)))
 
 -- words of a form are the command that the matches tell
-pub told_right : (words : List Text) (rows : Option (Text × List Row)) → rows ≡ subcommand_of program words → is_some (command words) ≡ true → told rows ≡ command words
-told_right words rows are is = ap told are ∙ go (command words) refl is
+pub reported_right : (words : List Text) (rows : Option (Text × List Row)) → rows ≡ subcommand_of program words → is_some (command words) ≡ true → chosen rows ≡ command words
+reported_right words rows are is = ap chosen are ∙ go (command words) refl is
   where
-    go : (o : Option Command) → command words ≡ o → is_some o ≡ true → told (subcommand_of program words) ≡ o
+    go : (o : Option Command) → command words ≡ o → is_some o ≡ true → chosen (subcommand_of program words) ≡ o
     go None at is = absurd (cc)
     go (Some c) at is = (form_taken words c at).tells
 

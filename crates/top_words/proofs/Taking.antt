@@ -11,13 +11,13 @@ use Rattle.top_words.specs.declared.command.Command.{Command}
 use Rattle.top_words.specs.declared.command.Command.TheVariants.{Check, Replay, Run, Generate}
 use Rattle.top_words.specs.Numbers.{number_of, workers_of, up_to_16}
 use Rattle.top_words.specs.Commands.{attached_number, command, generate_of, numbered_command, option_command, plain_command, run_by}
-use Rattle.top_words.specs.Matching.{program, told, is_escape}
+use Rattle.top_words.specs.Matches.{program, chosen, is_escape}
 use Rattle.top_words.proofs.Digits.{number_begins, of_each_digit}
 
 -- clap takes the words, what its matches tell is this, and no word is `--`
 pub record IsTaken (words : List Text) (command : Option Command) : Type 0 where
   pub taken : takes program words ≡ true
-  pub tells : told (subcommand_of program words) ≡ command
+  pub tells : chosen (subcommand_of program words) ≡ command
   pub plain : list_any is_escape words ≡ false
 
 -- ---- the forms

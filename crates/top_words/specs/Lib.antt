@@ -1,3 +1,3 @@
 pub mod Numbers
 pub mod Commands
-pub mod Matching
+pub mod Matches

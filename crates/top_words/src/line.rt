@@ -3,11 +3,11 @@
 ghost use Rattle.std.specs.Prelude.{◌≡◌, [], ◌∷◌, ◌++◌, OnOk, OnErr, IfOk, map, string_bytes};
 ghost use Rattle.top_words.specs.Commands.{command};
 ghost use Rattle.std.specs.List.{list_any};
-ghost use Rattle.top_words.specs.Matching.{is_escape};
+ghost use Rattle.top_words.specs.Matches.{is_escape};
 
 use crate::command::Command;
 use crate::forms::is_form;
-use crate::matches::{program, told};
+use crate::matches::{chosen, program};
 use clap::error::ErrorKind;
 use std::alloc::{AllocError, Global};
 use std::marker::Model;
@@ -36,7 +36,7 @@ fn has_escape(words: &[String]) -> bool
 /// The command that words are, if they are one. `clap` may take words that are none: so they are compared with the
 /// forms.
 fn command_of(alloc: Global, words: &[String]) -> Result<Option<Command>, AllocError>
-    ensures { IfOk result (λ told. told ≡ command (map string_bytes words.now)) }
+    ensures { IfOk result (λ chosen. chosen ≡ command (map string_bytes words.now)) }
 {
     if has_escape(words) {
         return Ok(None);
@@ -44,7 +44,7 @@ fn command_of(alloc: Global, words: &[String]) -> Result<Option<Command>, AllocE
     // `clap` first, and then the forms: so no form can be lost by `clap`, and nothing else that it takes is a command (`run
     // --workers=x`, its `help`, shortened words).
     match program(alloc)?.try_get_matches_from(words) {
-        Ok(matches) if is_form(words) => Ok(told(&matches)),
+        Ok(matches) if is_form(words) => Ok(chosen(&matches)),
         Ok(_) => Ok(None),
         Err(error) => match error.kind() {
             ErrorKind::OutOfMemory => Err(AllocError),
@@ -75,7 +75,7 @@ impl Line {
 
     /// The command that the words are, if they are one.
     pub fn command(&self, alloc: Global) -> Result<Option<Command>, AllocError>
-        ensures { IfOk result (λ told. told ≡ command self.now) }
+        ensures { IfOk result (λ chosen. chosen ≡ command self.now) }
     {
         command_of(alloc, self.words.as_slice())
     }

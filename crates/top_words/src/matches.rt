@@ -3,7 +3,7 @@
 ghost use Rattle.std.specs.Prelude.{◌≡◌, false, IfOk, option_map};
 ghost use Rattle.clap.specs.Words.{app_of, subcommand_rows_of};
 ghost use Rattle.clap.specs.declared.builder.command.Command.TheViews.{out-Command};
-ghost use Rattle.top_words.specs.Matching.{bare_app, command_told, generate_app, program, run_app, run_told, told};
+ghost use Rattle.top_words.specs.Matches.{bare_app, command_chosen, generate_app, program, run_app, run_chosen, chosen};
 ghost use Rattle.top_words.specs.Commands.{generate_of, run_by};
 
 use crate::command::Command;
@@ -62,8 +62,8 @@ fn run_by(number: &str) -> Option<Command>
     Some(Command::Run(workers_of(number)?))
 }
 
-fn run_told(number: Option<&str>) -> Option<Command>
-    ensures { result ≡ run_told (option_map (λ text. text.now) number.entry) }
+fn run_chosen(number: Option<&str>) -> Option<Command>
+    ensures { result ≡ run_chosen (option_map (λ text. text.now) number.entry) }
 {
     match number {
         None => Some(Command::Run(USUAL_WORKERS)),
@@ -77,15 +77,15 @@ fn generate_of(number: &str) -> Option<Command>
     Some(Command::Generate(number_of(number)?))
 }
 
-fn command_told(name: &str, workers: Option<&str>, number: Option<&str>) -> Option<Command>
-    ensures { result ≡ command_told name.now (option_map (λ text. text.now) workers.entry) (option_map (λ text. text.now) number.entry) }
+fn command_chosen(name: &str, workers: Option<&str>, number: Option<&str>) -> Option<Command>
+    ensures { result ≡ command_chosen name.now (option_map (λ text. text.now) workers.entry) (option_map (λ text. text.now) number.entry) }
 {
     if name == "check" {
         Some(Command::Check)
     } else if name == "replay" {
         Some(Command::Replay)
     } else if name == "run" {
-        run_told(workers)
+        run_chosen(workers)
     } else if name == "generate" {
         generate_of(number?)
     } else {
@@ -94,9 +94,9 @@ fn command_told(name: &str, workers: Option<&str>, number: Option<&str>) -> Opti
 }
 
 /// The command that the matches tell, if they tell one.
-pub(crate) fn told(matches: &ArgMatches<'_>) -> Option<Command>
-    ensures { result ≡ told (subcommand_rows_of matches.now) }
+pub(crate) fn chosen(matches: &ArgMatches<'_>) -> Option<Command>
+    ensures { result ≡ chosen (subcommand_rows_of matches.now) }
 {
     let (name, numbers) = matches.subcommand()?;
-    command_told(name, numbers.get_str(WORKERS), numbers.get_str(NUMBER))
+    command_chosen(name, numbers.get_str(WORKERS), numbers.get_str(NUMBER))
 }

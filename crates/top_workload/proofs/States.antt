@@ -11,9 +11,9 @@ pub one_more : (state count : ℕ) → state_after state (count + 1) ≡ next_st
 unfolding state_after
 one_more state count = rw add-one refl
 
-pub behind : (state a b : ℕ) → state_after (state_after state a) b ≡ state_after state (a + b)
+pub following : (state a b : ℕ) → state_after (state_after state a) b ≡ state_after state (a + b)
 unfolding state_after
-behind state a zero = rw add-zero refl
-behind state a (suc b) =
+following state a zero = rw add-zero refl
+following state a (suc b) =
     let next : suc (a + b) ≡ a + suc b = omega arith in
-    ap next_state (behind state a b) ∙ ap (λ n. state_after state n) next
+    ap next_state (following state a b) ∙ ap (λ n. state_after state n) next

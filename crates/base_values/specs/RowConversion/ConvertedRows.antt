@@ -7,7 +7,7 @@ use Rattle.base_values.specs.declared.value.Value.TheVariants.{Null}
 use Rattle.base_values.specs.declared.unfit.Unfit.{Unfit}
 use Rattle.base_values.specs.declared.fault.Fault.{Fault}
 use Rattle.base_values.specs.declared.fault.Fault.TheVariants as faults
-use Rattle.base_values.specs.Storing.{stores}
+use Rattle.base_values.specs.StoredValues.{stores}
 use Rattle.base_values.specs.GhoSchema.Options.{◌>>=◌}
 use Rattle.base_values.specs.declared.row_conversion.map.MapColumn.{MapColumn}
 use Rattle.base_values.specs.declared.row_conversion.map.Origin.{Origin}

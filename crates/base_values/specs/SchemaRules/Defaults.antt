@@ -5,7 +5,7 @@ use Rattle.base_values.specs.declared.unfit.Unfit.{Unfit}
 use Rattle.base_values.specs.declared.kind.Kind.{Kind}
 use Rattle.base_values.specs.declared.value.Value.{Value}
 use Rattle.base_values.specs.declared.value.Value.TheVariants.{Null, Num, Text, Blob}
-use Rattle.base_values.specs.Storing.{stores}
+use Rattle.base_values.specs.StoredValues.{stores}
 use Rattle.base_values.specs.declared.gho_schema.schema.Column.{Column}
 
 -- a stored default is there

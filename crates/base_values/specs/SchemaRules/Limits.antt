@@ -1,6 +1,6 @@
 -- How long names may be, and which names of tables are kept.
 use Rattle.std.specs.Prelude.{ℕ, Bool, not, ◌&&◌, nat_le, if◌then◌else◌, List}
-use Rattle.base_values.specs.Storing.{character_count}
+use Rattle.base_values.specs.StoredValues.{character_count}
 use Rattle.base_values.specs.GhoSchema.Names.{is_kept}
 
 -- the name has 1 to this many characters

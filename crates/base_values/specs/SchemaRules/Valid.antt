@@ -4,11 +4,11 @@ use Rattle.std.specs.List.{list_all, slice_get, AllByRecursion}
 use Rattle.base_values.specs.declared.kind.Kind.{Kind}
 use Rattle.base_values.specs.declared.kind.Kind.TheVariants.{Int, VarChar, VarBinary}
 use Rattle.base_values.specs.declared.value.Value.{Value}
-use Rattle.base_values.specs.Storing.{stores}
+use Rattle.base_values.specs.StoredValues.{stores}
 use Rattle.base_values.specs.declared.gho_schema.schema.Column.{Column}
 use Rattle.base_values.specs.declared.gho_schema.schema.Index.{Index}
 use Rattle.base_values.specs.declared.gho_schema.schema.Schema.{Schema}
-use Rattle.base_values.specs.GhoSchema.Clustering.{is_not_null, clustered_key}
+use Rattle.base_values.specs.GhoSchema.ClusteredKey.{is_not_null, clustered_key}
 use Rattle.base_values.specs.SchemaRules.Names.{names_differ}
 
 -- integers of 1, 2, 3, 4 or 8 bytes, and texts and bytes of a length from 1 to 1,000 ("Data Types"; the greatest length is this project's rule)

@@ -1,7 +1,7 @@
 //! Rows in order of their clustered key.
 
 ghost use Rattle.std.specs.Prelude.{◌≡◌, [], ◌++◌, option_to_list, slice_get, Some, None, IfOk, OnOk, OnErr, IsErrOf};
-ghost use Rattle.base_values.specs.Comparing.{compare_keys};
+ghost use Rattle.base_values.specs.KeyOrder.{compare_keys};
 ghost use Rattle.base_values.specs.GhoSchema.Rows.{key_of, put};
 
 use crate::gho_schema::schema::Places;

@@ -2,7 +2,7 @@
 
 ghost use Rattle.std.specs.Prelude.{◌≡◌, IfOk};
 
-use crate::gho_schema::clustering::clustered_key;
+use crate::gho_schema::clustered::clustered_key;
 use crate::{Chars, Duplicate, Kind, Name, Sequence, Value};
 use std::alloc::AllocError;
 

@@ -1,7 +1,7 @@
 //! What an ALTER makes of rows.
 
 ghost use Rattle.std.specs.Prelude.{◌≡◌};
-ghost use Rattle.base_values.specs.Storing.{stores};
+ghost use Rattle.base_values.specs.StoredValues.{stores};
 ghost use Rattle.base_values.specs.RowConversion.ConvertedRows.{source, Fits, converted_row};
 ghost use Rattle.base_values.specs.Faults.{Answers};
 

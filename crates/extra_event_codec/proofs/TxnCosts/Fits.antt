@@ -9,12 +9,12 @@ use Rattle.std.specs.Str.{IsUtf8}
 use Rattle.base_values.specs.SchemaRules.Limits.{is_column_name, is_name_length}
 use Rattle.base_values.specs.declared.value.Value.{Value}
 use Rattle.base_values.specs.declared.value.Value.TheVariants.{Null, Num, Text, Blob}
-use Rattle.base_values.specs.Storing.{character_count}
+use Rattle.base_values.specs.StoredValues.{character_count}
 use Rattle.base_values.specs.declared.event.Change.{Change}
 use Rattle.base_values.specs.declared.event.Change.TheVariants.{Write, Update, Delete}
 use Rattle.base_values.specs.declared.event.RowEvent.{RowEvent}
-use Rattle.extra_event_codec.specs.Encoding.{body_of, columns_of, values_of, IsEncodable, IsEncodableValue, RowsAlike}
-use Rattle.extra_event_codec.specs.TxnCosts.Fitting.{are_alike, has_columns, is_column_value, is_encodable, is_event_name}
+use Rattle.extra_event_codec.specs.Encodings.{body_of, columns_of, values_of, IsEncodable, IsEncodableValue, RowsAlike}
+use Rattle.extra_event_codec.specs.TxnCosts.Encodable.{are_alike, has_columns, is_column_value, is_encodable, is_event_name}
 
 value_fits : (value : Value) → is_column_value value ≡ true → IsEncodableValue value
 value_fits Null is = tt

@@ -2,7 +2,7 @@
 use Rattle.std.proofs.Common.{◌≡◌, ℕ, ◌+◌, ◌-◌, ◌^◌, ◌<◌, List, length, take, get_or, min, sym, ap, ◌∙◌, arith}
 use Rattle.std.proofs.lemmas.List.Sums.{sum_by_more}
 use Rattle.base_values.specs.declared.event.RowEvent.{RowEvent}
-use Rattle.extra_event_codec.specs.Encoding.{encoded}
+use Rattle.extra_event_codec.specs.Encodings.{encoded}
 use Rattle.extra_event_codec.specs.TxnCosts.Costs.{bytes_of, cost_of}
 
 -- a sum that stops at the most, with one more

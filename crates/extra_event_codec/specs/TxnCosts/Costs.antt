@@ -4,7 +4,7 @@ use Rattle.std.specs.List.{sum_by}
 use Rattle.base_values.specs.declared.event.Change.{Change}
 use Rattle.base_values.specs.declared.event.Change.TheVariants.{Write, Update, Delete}
 use Rattle.base_values.specs.declared.event.RowEvent.{RowEvent}
-use Rattle.extra_event_codec.specs.Encoding.{encoded}
+use Rattle.extra_event_codec.specs.Encodings.{encoded}
 
 -- In how many bytes the events are encoded.
 abbrev pub bytes_of : List RowEvent → ℕ

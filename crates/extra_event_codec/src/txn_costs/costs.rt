@@ -2,7 +2,7 @@
 
 ghost use Rattle.std.specs.Prelude.{◌≡◌, count_by};
 ghost use Rattle.std.specs.List.{AllByRecursion};
-ghost use Rattle.extra_event_codec.specs.Encoding.{IsEncodable};
+ghost use Rattle.extra_event_codec.specs.Encodings.{IsEncodable};
 ghost use Rattle.extra_event_codec.specs.TxnCosts.Costs.{cost_of, is_put};
 
 use crate::cost as event_cost;

@@ -2,8 +2,8 @@
 
 ghost use Rattle.std.specs.Prelude.{◌≡◌, ◌<◌, ◌≤◌, ◌+◌, ◌^◌, ◌&&◌, length, nat_lt, IsTrue, ◌↔◌, IfSome, IfNone};
 ghost use Rattle.std.specs.List.{list_all, AllByRecursion};
-ghost use Rattle.extra_event_codec.specs.Encoding.{body_of, columns_of, value_bytes, values_bytes, values_of, IsEncodable};
-ghost use Rattle.extra_event_codec.specs.TxnCosts.Fitting.{are_alike, has_columns, is_column_value, is_encodable, is_event_name};
+ghost use Rattle.extra_event_codec.specs.Encodings.{body_of, columns_of, value_bytes, values_bytes, values_of, IsEncodable};
+ghost use Rattle.extra_event_codec.specs.TxnCosts.Encodable.{are_alike, has_columns, is_column_value, is_encodable, is_event_name};
 
 use base_values::schema_rules::is_column_name;
 use base_values::{Change, Name, RowEvent, Value};

@@ -3,8 +3,8 @@
 ghost use Rattle.std.specs.Prelude.{◌≡◌, ◌≤◌, ◌+◌, ◌-◌, ◌++◌, [], ℕ, List, length, count_by, vec_len, vec_capacity, IfSome, OnOk};
 ghost use Rattle.std.specs.List.{AllByRecursion};
 ghost use Rattle.table_store.specs.Databases.{database, spare_in};
-ghost use Rattle.extra_event_codec.specs.Encoding.{IsEncodable};
-ghost use Rattle.server_model.specs.Jobs.{after_events};
+ghost use Rattle.extra_event_codec.specs.Encodings.{IsEncodable};
+ghost use Rattle.server_model.specs.Operations.{after_events};
 ghost use Rattle.server_transaction.specs.Premises.{IsOf};
 ghost use Rattle.server_transaction.specs.Rooms.{puts_in};
 ghost use Rattle.server_transaction.specs.Shown.{find_writes};

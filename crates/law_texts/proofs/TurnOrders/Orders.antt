@@ -7,7 +7,7 @@ use Rattle.base_script.specs.declared.actor.Actor.{Actor}
 use Rattle.server_model.specs.Entries.{same_actor}
 use Rattle.plan_data.specs.PlanData.{turns_in}
 use Rattle.plan_data.specs.declared.runs.ActorRun.{ActorRun}
-use Rattle.plan_orders.specs.Spacing.{is_empty, is_space, spaced_words}
+use Rattle.plan_orders.specs.Words.{is_empty, is_space, spaced_words}
 use Rattle.plan_orders.specs.TurnOrder.Refusals.{or_refused}
 use Rattle.plan_orders.specs.TurnOrder.Turns.{next_word, run_among, runs_from, turns_of}
 use Rattle.top_report.specs.Turns.{joined, order_text, run_text, runs_of}
@@ -60,8 +60,8 @@ parts clients [] few are = refl
 parts clients (first ∷ []) few are =
     ap (λ (others : List (List ℕ)). [] ∷ others) (ap (slice_split is_space) (append-nil (run_text first)) ∙ one_part (run_text first) (dark_run clients first few are.0))
 parts clients (first ∷ second ∷ runs) few are =
-    let behind = order_text (second ∷ runs) in
-    let others : slice_split is_space behind ≡ [] ∷ map run_text (second ∷ runs) = parts clients (second ∷ runs) few are.1 in
+    let following = order_text (second ∷ runs) in
+    let others : slice_split is_space following ≡ [] ∷ map run_text (second ∷ runs) = parts clients (second ∷ runs) few are.1 in
     ap (λ (others : List (List ℕ)). [] ∷ others) (first_part (run_text first) (run_text second ++ flat_map (λ run. codes " " ++ run_text run) runs) (dark_run clients first few are.0) ∙ ap (λ (words : List (List ℕ)). run_text first ∷ words) (tails others))
   where
     tails : {words others : List (List ℕ)} → [] ∷ words ≡ [] ∷ others → words ≡ others

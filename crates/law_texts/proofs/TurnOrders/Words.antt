@@ -14,7 +14,7 @@ use Rattle.base_script.specs.declared.actor.Actor.TheVariants.{Op, Insp, Copy, A
 use Rattle.plan_data.specs.declared.runs.ActorRun.{ActorRun}
 use Rattle.plan_orders.specs.Actors.{actor_of, client_of, is_among}
 use Rattle.plan_orders.specs.Numbers.{is_number, number_of}
-use Rattle.plan_orders.specs.Spacing.{is_space, parts_around, parts_at}
+use Rattle.plan_orders.specs.Words.{is_space, parts_around, parts_at}
 use Rattle.plan_orders.specs.TurnOrder.Turns.{run_among, run_in, run_of, run_with}
 use Rattle.top_report.specs.Turns.{actor_word, run_text, times_text}
 use Rattle.law_texts.specs.TurnOrders.{IsOf}
@@ -136,7 +136,7 @@ longer (byte ∷ word) rest = let next : nat_lt (length word) (length (word ++ 4
 two_parts : (word rest : List ℕ) → list_all is_plain word ≡ true → parts_at 42 (word ++ 42 ∷ rest) ≡ Some (word, rest)
 two_parts word rest plain =
     ap (λ (place : ℕ). parts_around (word ++ 42 ∷ rest) (cond (nat_lt place (length (word ++ 42 ∷ rest))) (Some place) None)) (at_mark word rest plain)
-    ∙ rw (longer word rest) (ap₂ (λ (front behind : List ℕ). Some (front, behind)) (taken word rest) (dropped word rest))
+    ∙ rw (longer word rest) (ap₂ (λ (front following : List ℕ). Some (front, following)) (taken word rest) (dropped word rest))
 
 -- ---- a run is read
 
@@ -186,15 +186,15 @@ pub dark_run : (clients : ℕ) (run : ActorRun) → clients < 2 ^ 32 → IsRun c
 unfolding run_text
 dark_run clients run few is = dark_both (actor_word run.actor) (times_text run.times) (dark_if_plain (actor_word run.actor) (plain_word clients run.actor few is.its)) (dark_times run.times (run.times == 1) refl is.few)
 
-long_word : (actor : Actor) (behind : List ℕ) → (length (actor_word actor ++ behind) == 0) ≡ false
+long_word : (actor : Actor) (following : List ℕ) → (length (actor_word actor ++ following) == 0) ≡ false
 unfolding actor_word
-long_word Op behind = grind (arith, nat_tests)
-long_word Insp behind = grind (arith, nat_tests)
-long_word Copy behind = grind (arith, nat_tests)
-long_word Apply behind = grind (arith, nat_tests)
-long_word Lock behind = grind (arith, nat_tests)
-long_word Ren behind = grind (arith, nat_tests)
-long_word (Client number) behind = grind (arith, nat_tests)
+long_word Op following = grind (arith, nat_tests)
+long_word Insp following = grind (arith, nat_tests)
+long_word Copy following = grind (arith, nat_tests)
+long_word Apply following = grind (arith, nat_tests)
+long_word Lock following = grind (arith, nat_tests)
+long_word Ren following = grind (arith, nat_tests)
+long_word (Client number) following = grind (arith, nat_tests)
 
 -- a run's text isn't empty
 pub long_run : (run : ActorRun) → (length (run_text run) == 0) ≡ false

@@ -1,11 +1,11 @@
 -- A workload's CREATE TABLE and ALTER, which are the same for each number: what they are read as is computed.
 use Rattle.std.proofs.Common.{◌≡◌, false, Ok, refl, arith}
-use Rattle.base_values.specs.Storing as s1
-use Rattle.base_values.specs.GhoSchema.Clustering as s2
+use Rattle.base_values.specs.StoredValues as s1
+use Rattle.base_values.specs.GhoSchema.ClusteredKey as s2
 use Rattle.base_values.specs.GhoSchema.Names as s3
 use Rattle.sql_words.specs.Front as w1
 use Rattle.sql_words.specs.Quoted as w2
-use Rattle.sql_words.specs.Reading as w3
+use Rattle.sql_words.specs.Readings as w3
 use Rattle.sql_grammar.specs.Attributes as t1
 use Rattle.sql_grammar.specs.Keys as t2
 use Rattle.sql_grammar.specs.Kinds as t3
@@ -19,22 +19,22 @@ use Rattle.base_values.specs.ToolNames as r4
 use Rattle.base_values.specs.SchemaRules.Names as r3
 use Rattle.base_values.specs.SchemaRules.Valid.{IsValid}
 use Rattle.sql_create.specs.Columns as c1
-use Rattle.sql_create.specs.Declaring as c2
+use Rattle.sql_create.specs.DeclaredSchema as c2
 use Rattle.sql_create.specs.Keys as c3
 use Rattle.sql_create.specs.Options as c4
 use Rattle.sql_create.specs.Parts as c5
-use Rattle.sql_create.specs.Reading as c6
+use Rattle.sql_create.specs.CreateText as c6
 use Rattle.sql_create.specs.Written as c7
-use Rattle.sql_alter.specs.Adding as a1
+use Rattle.sql_alter.specs.Additions as a1
 use Rattle.sql_alter.specs.Clauses as a2
 use Rattle.sql_alter.specs.Column as a3
 use Rattle.sql_alter.specs.Pieces as a4
-use Rattle.sql_alter.specs.Reading.{alter_at}
-use Rattle.sql_change.specs.Altering as b1
-use Rattle.sql_change.specs.Changing as b2
+use Rattle.sql_alter.specs.AlterText.{alter_at}
+use Rattle.sql_change.specs.AlteredSchema as b1
+use Rattle.sql_change.specs.ClauseResults as b2
 use Rattle.sql_change.specs.Columns as b3
 use Rattle.sql_change.specs.Places as b4
-use Rattle.sql_change.specs.Standing as b5
+use Rattle.sql_change.specs.AlteredSoFar as b5
 use Rattle.law_texts.specs.Workloads.Alters.{clauses, altered_schema, altered_map}
 use Rattle.law_texts.specs.Workloads.Rows.{table_schema}
 use Rattle.law_texts.specs.Workloads.Document.Texts.{alter_text, table_name, create_text}

@@ -88,9 +88,9 @@ lex_values letter key value is wide also =
     let last : Lexes (41 ∷ []) (sign_word (codes ")") ∷ []) = lex-word class.Sign (codes ")") [] [] (omega arith) (λ place. refl) lex-end in
     let number = number_then value (41 ∷ []) _ also (refl, refl, refl) last in
     let text = text_then letter key (44 ∷ 32 ∷ (decimal value ++ 41 ∷ [])) _ is wide (refl, refl, refl) (lex-word class.Sign (codes ",") (32 ∷ (decimal value ++ 41 ∷ [])) _ (omega arith) (λ place. refl) (lex-gap 32 (decimal value ++ 41 ∷ []) _ refl number)) in
-    let behind : List ℕ = 39 ∷ letter ∷ (decimal key ++ (39 ∷ 44 ∷ 32 ∷ (decimal value ++ 41 ∷ []))) in
-    let first = number_then key (44 ∷ 32 ∷ behind) _ wide (refl, refl, refl) (lex-word class.Sign (codes ",") (32 ∷ behind) _ (omega arith) (λ place. refl) (lex-gap 32 behind _ refl text)) in
-    lex-word class.Sign (codes "(") (decimal key ++ (44 ∷ 32 ∷ behind)) _ (omega arith) (λ place. refl) first
+    let following : List ℕ = 39 ∷ letter ∷ (decimal key ++ (39 ∷ 44 ∷ 32 ∷ (decimal value ++ 41 ∷ []))) in
+    let first = number_then key (44 ∷ 32 ∷ following) _ wide (refl, refl, refl) (lex-word class.Sign (codes ",") (32 ∷ following) _ (omega arith) (λ place. refl) (lex-gap 32 following _ refl text)) in
+    lex-word class.Sign (codes "(") (decimal key ++ (44 ∷ 32 ∷ following)) _ (omega arith) (λ place. refl) first
 
 -- ---- conditions and statements
 

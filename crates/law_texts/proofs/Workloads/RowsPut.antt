@@ -9,9 +9,9 @@ use Rattle.std.specs.List.{range_with_len}
 use Rattle.std.specs.Ordering.{is_eq}
 use Rattle.base_values.specs.declared.value.Value.{Value}
 use Rattle.base_values.specs.declared.value.Value.TheVariants.{Num, Text}
-use Rattle.base_values.specs.Comparing.{compare_values, compare_keys}
+use Rattle.base_values.specs.KeyOrder.{compare_values, compare_keys}
 use Rattle.base_values.proofs.Orders.{tied_keys}
-use Rattle.base_values.specs.GhoSchema.Clustering.{clustered_among}
+use Rattle.base_values.specs.GhoSchema.ClusteredKey.{clustered_among}
 use Rattle.base_values.specs.GhoSchema.Rows.{key_of, key_places, with_row}
 use Rattle.base_values.specs.GhoSchema.Tables.{clash}
 use Rattle.table_store.specs.Databases.{TableRows}

@@ -7,7 +7,7 @@ use Rattle.std.specs.Fmt.{decimal}
 use Rattle.base_values.specs.declared.kind.Kind.TheVariants.{Int, VarChar}
 use Rattle.base_values.specs.declared.value.Value.{Value}
 use Rattle.base_values.specs.declared.value.Value.TheVariants.{Null, Num, Text}
-use Rattle.base_values.specs.Storing.{half, character_count, in_range, text_within, stores}
+use Rattle.base_values.specs.StoredValues.{half, character_count, in_range, text_within, stores}
 use Rattle.base_values.specs.declared.gho_schema.schema.Column.{Column}
 use Rattle.sql_grammar.specs.declared.token.Token.{Token}
 use Rattle.sql_grammar.specs.Pieces.{after_sign, literal_of}

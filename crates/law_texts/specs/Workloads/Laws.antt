@@ -4,9 +4,9 @@ use Rattle.std.specs.List.{list_any}
 use Rattle.std.specs.Str.{bytes_eq}
 use Rattle.base_values.specs.GhoSchema.Tables.{IsTable}
 use Rattle.base_values.specs.SchemaRules.Valid.{IsValid}
-use Rattle.sql_create.specs.Reading.{schema_at}
-use Rattle.sql_change.specs.Altering.{altered}
-use Rattle.sql_alter.specs.Reading.{alter_at}
+use Rattle.sql_create.specs.CreateText.{schema_at}
+use Rattle.sql_change.specs.AlteredSchema.{altered}
+use Rattle.sql_alter.specs.AlterText.{alter_at}
 use Rattle.sql_statement.specs.Scripts.{script_of}
 use Rattle.plan_reader.specs.PlanTables.Tables.{tables_of}
 use Rattle.top_workload.specs.Workloads.{row_count}

@@ -8,7 +8,7 @@ use Rattle.plan_orders.specs.declared.turn_order.fault.TurnRefusal.{TurnRefusal}
 use Rattle.plan_orders.specs.TurnOrder.Refusals.{or_refused}
 use Rattle.plan_orders.specs.Actors.{actor_of, is_among}
 use Rattle.plan_orders.specs.Numbers.{number_of}
-use Rattle.plan_orders.specs.Spacing.{spaced_words, parts_at}
+use Rattle.plan_orders.specs.Words.{spaced_words, parts_at}
 
 abbrev pub run_with : Option Actor → Option ℕ → Option ActorRun
 run_with None times = None

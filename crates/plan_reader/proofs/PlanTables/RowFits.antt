@@ -3,7 +3,7 @@ use Rattle.std.proofs.Common.{◌≡◌, codes, Bool, true, false, cond, not, �
 use Rattle.std.specs.Result.{result_ok}
 use Rattle.base_values.specs.declared.unfit.Unfit.{Unfit}
 use Rattle.base_values.specs.declared.value.Value.{Value}
-use Rattle.base_values.specs.Storing.{stores}
+use Rattle.base_values.specs.StoredValues.{stores}
 use Rattle.base_values.specs.Laws.{StoresAgain}
 use Rattle.base_values.specs.declared.gho_schema.schema.Column.{Column}
 use Rattle.base_values.specs.GhoSchema.Options.{◌>>=◌}

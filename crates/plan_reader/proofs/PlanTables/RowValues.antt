@@ -26,11 +26,11 @@ regroup front v None = refl
 from_here : (columns : List Column) (i : ℕ) (column : Column) → i < length columns → column ≡ get_or columns i column → drop i columns ≡ column ∷ drop (i + 1) columns
 from_here columns i column lt is = drop_more columns i column lt ∙ ap (λ (c : Column). c ∷ drop (i + 1) columns) (sym is)
 
-pub goes_on : (front : List Value) (columns : List Column) (i : ℕ) (sign : Bool) (column : Column) (words behind : List Token) (v : Value) (after : List Token) (total : Option Values)
-    → i < length columns → column ≡ get_or columns i column → after_sign (mark sign) words ≡ Some behind → value_at column behind ≡ Some (v, after)
+pub goes_on : (front : List Value) (columns : List Column) (i : ℕ) (sign : Bool) (column : Column) (words following : List Token) (v : Value) (after : List Token) (total : Option Values)
+    → i < length columns → column ≡ get_or columns i column → after_sign (mark sign) words ≡ Some following → value_at column following ≡ Some (v, after)
     → with_front front (values_at (drop i columns) sign words) ≡ total → with_front (front ++ v ∷ []) (values_at (drop (i + 1) columns) false after) ≡ total
 unfolding values_at
-goes_on front columns i sign column words behind v after total lt is s h so_far =
+goes_on front columns i sign column words following v after total lt is s h so_far =
     let one : with_front front (values_at (drop i columns) sign words) ≡ with_front (front ++ v ∷ []) (values_at (drop (i + 1) columns) false after) =
     rw (from_here columns i column lt is, s, h) (regroup front v (values_at (drop (i + 1) columns) false after)) in
     sym one ∙ so_far
@@ -42,12 +42,12 @@ no_sign front columns i sign column words total lt is s so_far =
     let one : with_front front (values_at (drop i columns) sign words) ≡ None = rw (from_here columns i column lt is, s) refl in
     sym so_far ∙ one
 
-pub fails : (fault : RowFault) (front : List Value) (columns : List Column) (i : ℕ) (sign : Bool) (column : Column) (words behind : List Token) (total : Option Values)
-    → i < length columns → column ≡ get_or columns i column → after_sign (mark sign) words ≡ Some behind → Misses fault (value_at column behind)
+pub fails : (fault : RowFault) (front : List Value) (columns : List Column) (i : ℕ) (sign : Bool) (column : Column) (words following : List Token) (total : Option Values)
+    → i < length columns → column ≡ get_or columns i column → after_sign (mark sign) words ≡ Some following → Misses fault (value_at column following)
     → with_front front (values_at (drop i columns) sign words) ≡ total → Misses fault total
 unfolding values_at
-fails faults.Memory front columns i sign column words behind total lt is s h so_far = tt
-fails faults.Bad front columns i sign column words behind total lt is s h so_far =
+fails faults.Memory front columns i sign column words following total lt is s h so_far = tt
+fails faults.Bad front columns i sign column words following total lt is s h so_far =
     let one : with_front front (values_at (drop i columns) sign words) ≡ None = rw (from_here columns i column lt is, s, h) refl in
     sym so_far ∙ one
 

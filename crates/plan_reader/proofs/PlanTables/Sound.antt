@@ -15,7 +15,7 @@ use Rattle.base_values.proofs.SchemaRules.Steps.{bind_ok, kept_out}
 use Rattle.base_values.specs.SchemaRules.Valid.{IsValid}
 use Rattle.base_values.specs.SchemaRules.Results.{◌>>=◌}
 use Rattle.sql_create.specs.Laws.{ReadSchemasAreValid}
-use Rattle.sql_create.specs.Reading.{schema_at}
+use Rattle.sql_create.specs.CreateText.{schema_at}
 use Rattle.sql_grammar.specs.Tokens.{text_words}
 use Rattle.sql_grammar.specs.declared.code.SchemaCode.{SchemaCode}
 use Rattle.plan_keys.specs.Limits.{TableData}

@@ -2,7 +2,7 @@
 use Rattle.std.specs.Prelude.{codes, ℕ, Bool, true, false, not, ◌&&◌, if◌then◌else◌, List, [], ◌∷◌, Option, Some, None}
 use Rattle.std.specs.Result.{result_ok}
 use Rattle.base_values.specs.declared.value.Value.{Value}
-use Rattle.base_values.specs.Storing.{stores}
+use Rattle.base_values.specs.StoredValues.{stores}
 use Rattle.base_values.specs.declared.gho_schema.schema.Column.{Column}
 use Rattle.base_values.specs.GhoSchema.Options.{◌>>=◌}
 use Rattle.sql_grammar.specs.declared.token.Token.{Token}

@@ -5,7 +5,7 @@ use Rattle.base_values.specs.GhoSchema.Tables.{IsTable}
 use Rattle.table_store.specs.Databases.{TableRows, Database, has_table}
 use Rattle.base_values.specs.SchemaRules.Valid.{IsValid}
 use Rattle.base_values.specs.SchemaRules.Results.{◌>>=◌}
-use Rattle.sql_create.specs.Reading.{schema_at}
+use Rattle.sql_create.specs.CreateText.{schema_at}
 use Rattle.sql_grammar.specs.declared.code.SchemaCode.{SchemaCode}
 use Rattle.sql_grammar.specs.declared.code.SchemaCode.TheVariants.{RepeatedName}
 use Rattle.plan_keys.specs.Limits.{TableData}

@@ -58,11 +58,11 @@ fn values_at<'a>(
     let mut rest = words;
     let mut is_first = true;
     for column in columns {
-        let behind = match after_mark(is_first, rest) {
+        let following = match after_mark(is_first, rest) {
             None => return Err(RowFault::Bad),
-            Some(behind) => behind,
+            Some(following) => following,
         };
-        let (value, after) = value_at(alloc, column, behind)?;
+        let (value, after) = value_at(alloc, column, following)?;
         row.push(value)?;
         rest = after;
         is_first = false;

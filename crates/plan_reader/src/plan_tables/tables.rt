@@ -5,7 +5,7 @@ ghost use Rattle.std.specs.List.{AllByRecursion};
 ghost use Rattle.table_store.specs.Databases.{database, has_table};
 ghost use Rattle.base_values.specs.SchemaRules.Valid.{IsValid};
 ghost use Rattle.sql_create.specs.Laws.{ReadSchemasAreValid};
-ghost use Rattle.sql_create.specs.Reading.{schema_at};
+ghost use Rattle.sql_create.specs.CreateText.{schema_at};
 ghost use Rattle.plan_keys.specs.PlanKeys.{table_data};
 ghost use Rattle.base_values.specs.Faults.{Answers};
 ghost use Rattle.plan_reader.specs.PlanTables.Tables.{of_schema, newly_named, table_at, tables_from, tables_of, IsSound};
@@ -83,7 +83,7 @@ fn add(tables: &mut Tables, table: Table) -> Result<(), AllocError>
 {
     match tables.add(table) {
         Ok(()) => Ok(()),
-        Err(AddFault::Stands) => unreachable!(),
+        Err(AddFault::Exists) => unreachable!(),
         Err(AddFault::Memory) => Err(AllocError),
     }
 }

@@ -21,14 +21,14 @@ use Rattle.server_model.specs.declared.work.Reach.{Reach}
 use Rattle.server_model.specs.declared.work.Work.TheVariants.{Copy, Replace, Delete, Update}
 use Rattle.table_store.proofs.FoundRows.{put_new}
 use Rattle.proof_journals.proofs.Ghost.Keys.{reach_locked}
-use Rattle.proof_journals.specs.Ghost.Holding.{Clustered, is_locked}
+use Rattle.proof_journals.specs.Ghost.HeldKeys.{Clustered, is_locked}
 use Rattle.proof_journals.proofs.Ghost.Rows.Finding.{found_in}
 use Rattle.proof_journals.specs.Ghost.Rows.Changes.{deleting, replacing, updating}
 use Rattle.proof_journals.specs.Ghost.Rows.Moments.{rows_after, rows_after_all}
 use Rattle.server_model.specs.Answers.{refuses}
-use Rattle.server_model.specs.Needing.{needs}
+use Rattle.server_model.specs.Needs.{needs}
 use Rattle.server_model.specs.Rows.{reaches, rows_met, same_row}
-use Rattle.server_model.specs.Saying.{TableResult, change_first, clashes_besides, only, result_or_refusal, tells, updated, updates, with_sets}
+use Rattle.server_model.specs.StatementResults.{TableResult, change_first, clashes_besides, only, result_or_refusal, tells, updated, updates, with_sets}
 use Rattle.server_model.proofs.LockedRows.Points2.{one_met, under_point}
 use Rattle.server_model.proofs.LockedRows.Standing.{one_row}
 use Rattle.server_model.specs.LockedRows.Agreeing.{Within}
@@ -52,18 +52,18 @@ key_met schema at key rows full ascends =
     same_tests (reaches schema (at_key schema at key)) (is_at (key_places schema) key) rows (λ row. reaches_key schema at key row full) ∙ one_met (key_places schema) key rows ascends
 
 -- *REPLACE*
-pub replace_told : (schema : Schema) (row : Row) (rows : List Row) → (tells schema rows (Replace row)).changes ≡ replacing schema row rows
+pub replace_reported : (schema : Schema) (row : Row) (rows : List Row) → (tells schema rows (Replace row)).changes ≡ replacing schema row rows
 unfolding tells
-replace_told schema row rows = refl
+replace_reported schema row rows = refl
 
 -- *DELETE by key*
 deleting_list : (found : Option Row) → map changes.Delete (option_to_list found) ≡ deleting found
 deleting_list None = refl
 deleting_list (Some row) = refl
 
-pub delete_told : (schema : Schema) (at : Clustered schema) (key : Row) (rows : List Row) → no_null key ≡ true → Ascends (key_places schema) rows → (tells schema rows (Delete (at_key schema at key))).changes ≡ deleting (find (is_at (key_places schema) key) rows)
+pub delete_reported : (schema : Schema) (at : Clustered schema) (key : Row) (rows : List Row) → no_null key ≡ true → Ascends (key_places schema) rows → (tells schema rows (Delete (at_key schema at key))).changes ≡ deleting (find (is_at (key_places schema) key) rows)
 unfolding tells
-delete_told schema at key rows full ascends = ap (map changes.Delete) (key_met schema at key rows full ascends) ∙ deleting_list (find (is_at (key_places schema) key) rows)
+delete_reported schema at key rows full ascends = ap (map changes.Delete) (key_met schema at key rows full ascends) ∙ deleting_list (find (is_at (key_places schema) key) rows)
 
 -- whether a row clashes, by the two words for it
 clash_by : (schema : Schema) (row first : Row) (rows : List Row) (b : Bool) (found : Option Row) → cond (b && true) (Some first) (find (λ other. clash schema.uniques row other && true) rows) ≡ found
@@ -75,9 +75,9 @@ pub clash_found : (schema : Schema) (row : Row) (rows : List Row) (found : Optio
 clash_found schema row [] found is = ap Rattle.std.specs.Prelude.is_some is
 clash_found schema row (first ∷ rows) found is = clash_by schema row first rows (clash schema.uniques row first) found is (λ o e. clash_found schema row rows o e)
 
-pub copy_told : (schema : Schema) (row : Row) (rows : List Row) → clashing (record { schema = schema; rows = rows }) row None ≡ None → tells schema rows (Copy row) ≡ record { answer = answers.Ok 1; changes = changes.Write row ∷ [] }
+pub copy_reported : (schema : Schema) (row : Row) (rows : List Row) → clashing (record { schema = schema; rows = rows }) row None ≡ None → tells schema rows (Copy row) ≡ record { answer = answers.Ok 1; changes = changes.Write row ∷ [] }
 unfolding tells
-copy_told schema row rows none = rw (clash_found schema row rows None none) refl
+copy_reported schema row rows none = rw (clash_found schema row rows None none) refl
 
 pub copy_rested : (schema : Schema) (row was : Row) (rows : List Row) → clashing (record { schema = schema; rows = rows }) row None ≡ Some was → tells schema rows (Copy row) ≡ only (answers.Ok 0)
 unfolding tells
@@ -103,27 +103,27 @@ sets_fit (column ∷ columns) [] fits = absurd fits
 sets_fit (column ∷ columns) (value ∷ new) fits = (fits.0, sets_fit columns new fits.1)
 
 -- what an UPDATE of the row of a key says
-pub data UpdateTold (schema : Schema) (new : Row) (rows : List Row) (found : Option Row) (told : TableResult) : Type 0 where
-  missed : found ≡ None → told ≡ only (answers.Ok 0) → UpdateTold schema new rows found told
-  rested : found ≡ Some new → told ≡ only (answers.Ok 0) → UpdateTold schema new rows found told
-  changed : (old : Row) → found ≡ Some old → told ≡ record { answer = answers.Ok 1; changes = changes.Update old new ∷ [] } → UpdateTold schema new rows found told
-  refused : (old : Row) → found ≡ Some old → clashes_besides schema new old rows ≡ true → told ≡ only (refuses ER_DUP_ENTRY) → UpdateTold schema new rows found told
+pub data UpdateReported (schema : Schema) (new : Row) (rows : List Row) (found : Option Row) (reported : TableResult) : Type 0 where
+  missed : found ≡ None → reported ≡ only (answers.Ok 0) → UpdateReported schema new rows found reported
+  rested : found ≡ Some new → reported ≡ only (answers.Ok 0) → UpdateReported schema new rows found reported
+  changed : (old : Row) → found ≡ Some old → reported ≡ record { answer = answers.Ok 1; changes = changes.Update old new ∷ [] } → UpdateReported schema new rows found reported
+  refused : (old : Row) → found ≡ Some old → clashes_besides schema new old rows ≡ true → reported ≡ only (refuses ER_DUP_ENTRY) → UpdateReported schema new rows found reported
 
 update_two : (schema : Schema) (new old : Row) (rows : List Row) (same clashes : Bool) → same_row old new ≡ same → clashes_besides schema new old rows ≡ clashes
-    → UpdateTold schema new rows (Some old) (result_or_refusal (cond same (Ok []) (cond clashes (Err (refuses ER_DUP_ENTRY)) (change_first (changes.Update old new) (Ok [])))))
+    → UpdateReported schema new rows (Some old) (result_or_refusal (cond same (Ok []) (cond clashes (Err (refuses ER_DUP_ENTRY)) (change_first (changes.Update old new) (Ok [])))))
 update_two schema new old rows true clashes is besides = rested (ap Some (one_row old new is)) refl
 update_two schema new old rows false true is besides = refused old refl besides refl
 update_two schema new old rows false false is besides = changed old refl refl
 
-update_one : (schema : Schema) (new : Row) (rows : List Row) (found : Option Row) → ((old : Row) → found ≡ Some old → with_sets (all_set new) old ≡ new) → UpdateTold schema new rows found (updated schema (Ok (all_set new)) (option_to_list found) rows)
+update_one : (schema : Schema) (new : Row) (rows : List Row) (found : Option Row) → ((old : Row) → found ≡ Some old → with_sets (all_set new) old ≡ new) → UpdateReported schema new rows found (updated schema (Ok (all_set new)) (option_to_list found) rows)
 unfolding updates
 update_one schema new rows None sets = missed refl refl
 update_one schema new rows (Some old) sets = rw (sets old refl) (update_two schema new old rows (same_row old new) (clashes_besides schema new old rows) refl refl)
 
-pub update_told : (schema : Schema) (at : Clustered schema) (key new : Row) (rows : List Row) → no_null key ≡ true → IsTable schema rows → IsRow schema.columns new
-    → UpdateTold schema new rows (find (is_at (key_places schema) key) rows) (tells schema rows (Update (at_key schema at key) (Ok (all_set new))))
+pub update_reported : (schema : Schema) (at : Clustered schema) (key new : Row) (rows : List Row) → no_null key ≡ true → IsTable schema rows → IsRow schema.columns new
+    → UpdateReported schema new rows (find (is_at (key_places schema) key) rows) (tells schema rows (Update (at_key schema at key) (Ok (all_set new))))
 unfolding tells
-update_told schema at key new rows full is fits =
+update_reported schema at key new rows full is fits =
     let found : Option Row = find (is_at (key_places schema) key) rows in
     rw (key_met schema at key rows full is.ascends)
     (update_one schema new rows found (λ old there. sets_all schema.columns new old fits (found_in (is_at (key_places schema) key) (IsRow schema.columns) rows old is.rows_fit there)))
@@ -133,13 +133,13 @@ update_itself : (places : List ℕ) (row : Row) (rows : List Row) → Ascends pl
 update_itself places row rows ascends found =
     put_new places row (without_key places (key_of places row) rows) (gone places (key_of places row) rows) ∙ put_again places row rows ascends found
 
-pub update_makes : (schema : Schema) (new : Row) (rows : List Row) (found : Option Row) (told : TableResult) → UpdateTold schema new rows found told → find (is_at (key_places schema) (key_of (key_places schema) new)) rows ≡ found → Ascends (key_places schema) rows → (told ≡ only (refuses ER_DUP_ENTRY) → ⊥)
-    → rows_after_all (key_places schema) told.changes rows ≡ rows_after_all (key_places schema) (updating new found) rows
+pub update_makes : (schema : Schema) (new : Row) (rows : List Row) (found : Option Row) (reported : TableResult) → UpdateReported schema new rows found reported → find (is_at (key_places schema) (key_of (key_places schema) new)) rows ≡ found → Ascends (key_places schema) rows → (reported ≡ only (refuses ER_DUP_ENTRY) → ⊥)
+    → rows_after_all (key_places schema) reported.changes rows ≡ rows_after_all (key_places schema) (updating new found) rows
 unfolding rows_after_all
-update_makes schema new rows found told (missed none is) there ascends done = rw (is, none) refl
-update_makes schema new rows found told (rested same is) there ascends done = rw (is, same) (sym (update_itself (key_places schema) new rows ascends (there ∙ same)))
-update_makes schema new rows found told (changed old some is) there ascends done = rw (is, some) refl
-update_makes schema new rows found told (refused old some clashes is) there ascends done = absurd (done is)
+update_makes schema new rows found reported (missed none is) there ascends done = rw (is, none) refl
+update_makes schema new rows found reported (rested same is) there ascends done = rw (is, same) (sym (update_itself (key_places schema) new rows ascends (there ∙ same)))
+update_makes schema new rows found reported (changed old some is) there ascends done = rw (is, some) refl
+update_makes schema new rows found reported (refused old some clashes is) there ascends done = absurd (done is)
 
 -- a statement by key holds the key, also where no row has it
 pub delete_locks : (schema : Schema) (at : Clustered schema) (key : Row) (rows : List Row) (locks : List Lock) → Within (needs schema rows (Delete (at_key schema at key))) locks → is_locked schema locks key ≡ true

@@ -6,7 +6,7 @@ use Rattle.std.proofs.lemmas.List.{take_all}
 use Rattle.std.proofs.Math.Bool.{and-false}
 use Rattle.std.specs.List.{AllByRecursion}
 use Rattle.std.specs.Ordering.{is_le, ordering_reverse}
-use Rattle.base_values.specs.Comparing.{compare_keys}
+use Rattle.base_values.specs.KeyOrder.{compare_keys}
 use Rattle.base_values.proofs.Orders.{tied_keys}
 use Rattle.base_values.specs.declared.gho_schema.schema.Schema.{Schema}
 use Rattle.server_locks.specs.declared.row_locks.lock.Lock.{Lock}
@@ -27,12 +27,12 @@ use Rattle.table_store.proofs.RowLaws.{key_is}
 use Rattle.proof_journals.proofs.Ghost.Joining.{IsCopied}
 use Rattle.proof_journals.proofs.Ghost.Keys.{among_any, full_key}
 use Rattle.proof_journals.proofs.Ghost.Ranges.{less_then, tied}
-use Rattle.proof_journals.specs.Ghost.Holding.{Clustered}
+use Rattle.proof_journals.specs.Ghost.HeldKeys.{Clustered}
 use Rattle.proof_journals.proofs.Ghost.Rows.Finding.{found_at, found_in}
 use Rattle.proof_journals.specs.Ghost.Rows.Moments.{Row, rows_at}
 use Rattle.proof_journals.specs.Ghost.Rows.Timelines.{IsPlanned, Migration}
 use Rattle.server_model.specs.Chunks.{keys_of, last_of}
-use Rattle.server_model.specs.Needing.{lock_on}
+use Rattle.server_model.specs.Needs.{lock_on}
 use Rattle.server_model.specs.Rows.{lies_under}
 use Rattle.server_model.proofs.LockedRows.Standing.{same-filter, same-within}
 use Rattle.server_model.proofs.LockedRows.Tests.{same_bytes}
@@ -130,12 +130,12 @@ cut_span places low end n rows (x ∷ xs) ascends are less =
     let ordered : Ascends places (x ∷ xs) = subst (Ascends places) are (ascends-filter places inside rows ascends) in
     let all : AllByRecursion (λ row. has (record { low = low; high = Closed end }) (key_of places row) ≡ true) (x ∷ xs) = subst (AllByRecursion (λ row. inside row ≡ true)) are (passing inside rows) in
     let within : is_le (compare_keys last end) ≡ true = below_end low end last (last_passes (λ k. has (record { low = low; high = Closed end }) k ≡ true) places x n xs all) in
-    let told : take (suc n) (keys_of places (x ∷ xs)) ≡ keys_of places (x ∷ take n xs) = keys_taken places (suc n) (x ∷ xs) in
+    let reported : take (suc n) (keys_of places (x ∷ xs)) ≡ keys_of places (x ∷ take n xs) = keys_taken places (suc n) (x ∷ xs) in
     let named : last_of [] (take (suc n) (keys_of places (x ∷ xs))) ≡ last = ap (last_of (key_of places x)) (keys_taken places n xs) in
     let rows_are : filter (λ row. has (record { low = low; high = Closed last }) (key_of places row)) rows ≡ x ∷ take n xs =
     sym (filter_two (up_to places last) inside (λ row. has (record { low = low; high = Closed last }) (key_of places row)) rows (λ row. nearer low last end (key_of places row) within))
     ∙ ap (filter (up_to places last)) are ∙ first_ones places x n xs ordered in
-    told ∙ ap (keys_of places) (sym rows_are) ∙ ap (λ (l : Row). keys_of places (filter (λ row. has (record { low = low; high = Closed l }) (key_of places row)) rows)) (sym named)
+    reported ∙ ap (keys_of places) (sym rows_are) ∙ ap (λ (l : Row). keys_of places (filter (λ row. has (record { low = low; high = Closed l }) (key_of places row)) rows)) (sym named)
 
 pub length_keys : (places : List ℕ) (rows : List Row) → length (keys_of places rows) ≡ length rows
 length_keys places [] = refl

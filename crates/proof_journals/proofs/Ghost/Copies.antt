@@ -12,11 +12,11 @@ use Rattle.proof_journals.proofs.Ghost.Rows.TimelineLaws.{each_table}
 use Rattle.proof_journals.specs.Ghost.Rows.Moments.{Row}
 use Rattle.proof_journals.specs.Ghost.Rows.Timelines.{IsPlanned, Migration}
 use Rattle.proof_journals.specs.Ghost.Copies.{IsAltered, IsCopyEnd, IsCopyStart, IsInScene, SceneTurns, range_of, rows_now}
-use Rattle.proof_journals.specs.Ghost.Holding.{Clustered}
+use Rattle.proof_journals.specs.Ghost.HeldKeys.{Clustered}
 use Rattle.proof_journals.specs.Ghost.Invariant.{IsServed}
 use Rattle.proof_journals.specs.Ghost.Laws.{CopiesAlter, SceneCopiesAlter}
-use Rattle.proof_journals.specs.Ghost.Running.{KeptTool, ToolMoment, ToolRun, ToolStands}
-use Rattle.proof_journals.specs.Ghost.Running.ToolStands.{at_rest}
+use Rattle.proof_journals.specs.Ghost.ToolTurns.{KeptTool, ToolMoment, ToolRun, ToolStands}
+use Rattle.proof_journals.specs.Ghost.ToolTurns.ToolStands.{at_rest}
 use Rattle.proof_journals.specs.Ghost.Tool.{CopyState, ToolInvariant, no_ghost, start_places}
 use Rattle.proof_journals.specs.Ghost.Tool.ApplyState.{Idle}
 use Rattle.proof_journals.specs.Ghost.Tool.CopyState.{Waiting}

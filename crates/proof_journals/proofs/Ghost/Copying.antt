@@ -6,7 +6,7 @@ use Rattle.std.proofs.Math.Path.{fun_ext}
 use Rattle.std.proofs.Math.Seq.{take-length}
 use Rattle.std.specs.List.{AllByRecursion, list_any, slice_get}
 use Rattle.std.specs.Ordering.{is_eq}
-use Rattle.base_values.specs.Comparing.{compare_keys}
+use Rattle.base_values.specs.KeyOrder.{compare_keys}
 use Rattle.base_values.specs.declared.span.Bound.{Bound}
 use Rattle.base_values.specs.declared.span.Bound.TheVariants.{Open, Closed}
 use Rattle.base_values.specs.declared.span.Span.{Span}
@@ -23,12 +23,12 @@ use Rattle.table_store.proofs.Orders.{is_Equal}
 use Rattle.server_model.specs.declared.work.Work.TheVariants as works
 use Rattle.proof_journals.proofs.Ghost.Chunks.{copied_by_key, span_same}
 use Rattle.proof_journals.proofs.Ghost.Ending.{all_joins, chunk_joins}
-use Rattle.proof_journals.proofs.Ghost.Joining.{table_stands}
+use Rattle.proof_journals.proofs.Ghost.Joining.{table_exists}
 use Rattle.proof_journals.proofs.Ghost.Keeping.{chunk_keeps}
 use Rattle.proof_journals.proofs.Ghost.Saying.{step_keeps}
 use Rattle.proof_journals.proofs.Ghost.Stepping.{copy_keeps, span_keeps}
 use Rattle.proof_journals.specs.Ghost.Given.{IsGiven}
-use Rattle.proof_journals.specs.Ghost.Holding.{Clustered, is_locked}
+use Rattle.proof_journals.specs.Ghost.HeldKeys.{Clustered, is_locked}
 use Rattle.proof_journals.specs.Ghost.Invariant.{GhostInvariant, IsServed}
 use Rattle.proof_journals.specs.Ghost.Joined.{AreGranted, IsJoined}
 use Rattle.proof_journals.specs.Ghost.Statements.{DoesWork}
@@ -43,8 +43,8 @@ use Rattle.proof_journals.specs.Ghost.Rows.Views.{chunk_view, GhostRows, ghost_r
 use Rattle.proof_journals.proofs.Kept.{apart-turn}
 use Rattle.proof_journals.specs.Scenes.{Besides, SessionHold, Stored, no_hold}
 use Rattle.server_model.specs.Chunks.{keys_of}
-use Rattle.server_model.specs.Jobs.{Job, after_events}
-use Rattle.server_model.specs.Saying.{tells}
+use Rattle.server_model.specs.Operations.{Operation, after_events}
+use Rattle.server_model.specs.StatementResults.{tells}
 use Rattle.server_model.proofs.LockedRows.Stables.{others_agree}
 use Rattle.server_model.specs.LockedRows.Agreeing.{Agree, SameWhere, TablesAgree, Within, is_under}
 use Rattle.server_model.specs.LockedRows.Covering.{Apart}
@@ -77,12 +77,12 @@ among_next (first ∷ keys) (suc n) key other at =
     ∙ ap (λ (b : Bool). is_eq (compare_keys other first) || b) (among_next keys n key other at)
 
 -- *A row*: CopyRow of the next key told
-pub copies_next : (m : Migration) (rows : List Row) (done half : Row → Bool) (keys : List Row) (n : ℕ) (progress : Progress Row) (ghost : GhostRows) (copier applier : ℕ) (now : Stored) (hold holds : ℕ → SessionHold) (own : SessionHold) (task : Job) (key row made : Row) → IsPlanned m rows → IsServed now hold
+pub copies_next : (m : Migration) (rows : List Row) (done half : Row → Bool) (keys : List Row) (n : ℕ) (progress : Progress Row) (ghost : GhostRows) (copier applier : ℕ) (now : Stored) (hold holds : ℕ → SessionHold) (own : SessionHold) (task : Operation) (key row made : Row) → IsPlanned m rows → IsServed now hold
     → GhostInvariant m rows done half (take n keys) progress ghost copier applier now hold → (applier == copier) ≡ false → slice_get keys n ≡ Some key → DoesWork m task (works.Copy made) → IsGiven now hold copier task own → Besides copier hold holds own
     → find (is_at (key_places m.schema) key) (rows_at m.name (key_places m.schema) rows now.log progress.end) ≡ Some row → converted_row m.columns row ≡ Ok made
     → GhostInvariant m rows done half (take (suc n) keys) (record progress { copier_holds = is_among (key ∷ take n keys) }) (record ghost { chunk = ghost.chunk ++ (tells m.new (chunk_view m ghost) (works.Copy made)).changes }) copier applier now holds
 copies_next m rows done half keys n progress ghost copier applier now hold holds own task key row made planned served kept differ at is given besides found imaged =
-    let fits = (table_stands m rows now.log done half progress ghost progress.end planned kept.joined.under_way).rows_fit in
+    let fits = (table_exists m rows now.log done half progress ghost progress.end planned kept.joined.under_way).rows_fit in
     let copied = copied_by_key m rows now.log progress.end key row made planned fits found imaged in
     retaken m rows done half (key ∷ take n keys) (take (suc n) keys) (record progress { copier_holds = is_among (key ∷ take n keys) }) (record ghost { chunk = ghost.chunk ++ (tells m.new (chunk_view m ghost) (works.Copy made)).changes }) copier applier now holds (λ other. among_next keys n key other at)
     (subst (λ (k : Row). GhostInvariant m rows done half (k ∷ take n keys) (record progress { copier_holds = is_among (k ∷ take n keys) }) (record ghost { chunk = ghost.chunk ++ (tells m.new (chunk_view m ghost) (works.Copy made)).changes }) copier applier now holds) copied.0
@@ -93,18 +93,18 @@ pub begins_span : (m : Migration) (rows : List Row) (half : Row → Bool) (progr
     → (applier == copier) ≡ false → Besides copier hold holds own → Within (hold copier).locks own.locks → Apart own.locks (hold applier).locks → own.writes ≡ (hold copier).writes
     → keys ≡ keys_of (key_places m.schema) (filter (λ row. has (record { low = low; high = Closed high }) (key_of (key_places m.schema) row)) (rows_at m.name (key_places m.schema) rows now.log progress.end))
     → GhostInvariant m rows (is_done_in (Some (record { low = low; high = Closed top })) (Some (record { low = Open high; high = Closed top })) keys) half (take 0 keys) progress ghost copier applier now holds
-begins_span m rows half progress ghost copier applier now hold holds own keys low high top kept differ besides within apart wrote told =
+begins_span m rows half progress ghost copier applier now hold holds own keys low high top kept differ besides within apart wrote reported =
     let done : Row → Bool = is_done (Some (record { low = low; high = Closed top })) in
     let there : GhostInvariant m rows done half [] progress ghost copier applier now holds = span_keeps m rows done half [] progress ghost copier applier now hold holds own kept differ besides within apart wrote in
     step_keeps m rows done half (is_done_in (Some (record { low = low; high = Closed top })) (Some (record { low = Open high; high = Closed top })) keys) half [] progress progress ghost copier applier now holds there
-    (chunk_joins m rows now.log half (holds applier).locks (holds copier).locks [] progress ghost keys low high top told there.joined)
+    (chunk_joins m rows now.log half (holds applier).locks (holds copier).locks [] progress ghost keys low high top reported there.joined)
 
 -- *The chunk's COMMIT*, when all keys told are taken
-pub commits_chunk : (m : Migration) (rows : List Row) (left behind : Option Span) (keys : List Row) (half : Row → Bool) (progress : Progress Row) (ghost : GhostRows) (copier applier : ℕ) (now after : Stored) (hold holds : ℕ → SessionHold) → IsPlanned m rows → IsServed now hold
-    → GhostInvariant m rows (is_done_in left behind keys) half (take (length keys) keys) progress ghost copier applier now hold → (applier == copier) ≡ false → Besides copier hold holds no_hold → after.tables ≡ after_events now.tables (hold copier).writes → after.log ≡ now.log ++ (hold copier).writes
-    → GhostInvariant m rows (is_done behind) half [] (record progress { end = length after.log; copier_holds = λ _. false }) (record ghost { committed = rows_after_all (key_places m.new) ghost.chunk ghost.committed; chunk = [] }) copier applier after holds
-commits_chunk m rows left behind keys half progress ghost copier applier now after hold holds planned served kept differ besides tables log =
-    chunk_keeps m rows left behind keys half (take (length keys) keys) progress ghost copier applier now after hold holds planned served kept differ (λ key. ap (λ (ks : List Row). is_among ks key) (take-length keys)) besides tables log
+pub commits_chunk : (m : Migration) (rows : List Row) (left following : Option Span) (keys : List Row) (half : Row → Bool) (progress : Progress Row) (ghost : GhostRows) (copier applier : ℕ) (now after : Stored) (hold holds : ℕ → SessionHold) → IsPlanned m rows → IsServed now hold
+    → GhostInvariant m rows (is_done_in left following keys) half (take (length keys) keys) progress ghost copier applier now hold → (applier == copier) ≡ false → Besides copier hold holds no_hold → after.tables ≡ after_events now.tables (hold copier).writes → after.log ≡ now.log ++ (hold copier).writes
+    → GhostInvariant m rows (is_done following) half [] (record progress { end = length after.log; copier_holds = λ _. false }) (record ghost { committed = rows_after_all (key_places m.new) ghost.chunk ghost.committed; chunk = [] }) copier applier after holds
+commits_chunk m rows left following keys half progress ghost copier applier now after hold holds planned served kept differ besides tables log =
+    chunk_keeps m rows left following keys half (take (length keys) keys) progress ghost copier applier now after hold holds planned served kept differ (λ key. ap (λ (ks : List Row). is_among ks key) (take-length keys)) besides tables log
 
 -- the chunk that ends at the greatest key was the last
 pub copied_all : (m : Migration) (rows : List Row) (half : Row → Bool) (progress : Progress Row) (ghost : GhostRows) (copier applier : ℕ) (now : Stored) (hold : ℕ → SessionHold) (top : Row) → GhostInvariant m rows (is_done (Some (record { low = Open top; high = Closed top }))) half [] progress ghost copier applier now hold
@@ -130,7 +130,7 @@ span_stays m rows done half next next_half taken other progress later ghost ghos
     let both : TablesAgree (hold copier).locks (Some (record { schema = m.schema; rows = a })) (Some (record { schema = m.schema; rows = b })) =
     subst (λ (t : Option TableRows). TablesAgree (hold copier).locks t (Some (record { schema = m.schema; rows = b }))) kept.old
     (subst (λ (t : Option TableRows). TablesAgree (hold copier).locks (find_table m.name now.tables) t) then.old (agree.tables m.name spans.named)) in
-    span_same m.schema planned.old_key at span (hold copier).locks a b (table_stands m rows now.log done half progress ghost (length now.log) planned kept.joined.under_way) (table_stands m rows after.log next next_half later ghost' (length after.log) planned then.joined.under_way) spans.among (same_in m (hold copier).locks a b both)
+    span_same m.schema planned.old_key at span (hold copier).locks a b (table_exists m rows now.log done half progress ghost (length now.log) planned kept.joined.under_way) (table_exists m rows after.log next next_half later ghost' (length after.log) planned then.joined.under_way) spans.among (same_in m (hold copier).locks a b both)
 
 key_here : (places : List ℕ) (key row : Row) (all : List Row) (b rest : Bool) → is_eq (compare_keys key (key_of places row)) ≡ b → find (is_at places (key_of places row)) all ≡ Some row → (rest ≡ true → SomeRow places key all) → (b || rest) ≡ true → SomeRow places key all
 key_here places key row all true rest same found more some = (row, subst (λ (k : Row). find (is_at places k) all ≡ Some row) (sym (tied_keys key (key_of places row) (is_Equal (compare_keys key (key_of places row)) same))) found)

@@ -12,7 +12,7 @@ use Rattle.table_store.specs.ClusteredKeys.{HasClusteredKey}
 use Rattle.table_store.specs.RowLists.{is_at}
 use Rattle.table_store.proofs.Orders.{Row}
 use Rattle.proof_journals.proofs.Ghost.Keys.{locked_apart, row_locked}
-use Rattle.proof_journals.specs.Ghost.Holding.{is_locked}
+use Rattle.proof_journals.specs.Ghost.HeldKeys.{is_locked}
 use Rattle.proof_journals.proofs.Ghost.Rows.Finding.{found_in}
 use Rattle.proof_journals.proofs.Ghost.Rows.TimelineLaws.{change_keeps}
 use Rattle.proof_journals.specs.Ghost.Rows.Changes.{NamesHeld, NoneRemoved, new_key, old_key, removed_row}
@@ -20,7 +20,7 @@ use Rattle.proof_journals.specs.Ghost.Rows.Disjoint.{AllDisjoint, AreDisjoint, D
 use Rattle.proof_journals.specs.Ghost.Rows.Moments.{Fits, FitsAll, rows_after}
 use Rattle.proof_journals.specs.Ghost.Rows.Views.{is_among}
 use Rattle.proof_journals.proofs.Kept.{apart-turn}
-use Rattle.server_model.specs.Needing.{points}
+use Rattle.server_model.specs.Needs.{points}
 use Rattle.server_model.proofs.LockedRows.Covers.{not_under}
 use Rattle.server_model.proofs.LockedRows.Points.{clash_under, under-within}
 use Rattle.server_model.specs.LockedRows.Agreeing.{Within}

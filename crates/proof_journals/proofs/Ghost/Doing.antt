@@ -21,7 +21,7 @@ use Rattle.proof_journals.proofs.Ghost.Stepping.{delete_keeps, given_grant, half
 use Rattle.proof_journals.proofs.Ghost.Walking.{Comes, changes_front, get_front, is_due, walks, walks_out}
 use Rattle.proof_journals.specs.Ghost.Doings.{changes_in, IsHalf, IsWhole, planned}
 use Rattle.proof_journals.specs.Ghost.Given.{IsGiven}
-use Rattle.proof_journals.specs.Ghost.Holding.{is_locked}
+use Rattle.proof_journals.specs.Ghost.HeldKeys.{is_locked}
 use Rattle.proof_journals.specs.Ghost.Invariant.{GhostInvariant, IsServed}
 use Rattle.proof_journals.specs.Ghost.Statements.{DoesWork}
 use Rattle.proof_journals.specs.Ghost.Relation.Views.{Progress}
@@ -31,9 +31,9 @@ use Rattle.proof_journals.specs.Ghost.Rows.Timelines.{IsDue, IsPlanned, Migratio
 use Rattle.proof_journals.specs.Ghost.Rows.Views.{is_key, GhostRows, ghost_row, view_of}
 use Rattle.proof_journals.specs.Scenes.{Besides, SessionHold, Stored}
 use Rattle.server_model.specs.Answers.{refuses}
-use Rattle.server_model.specs.Jobs.{Job}
-use Rattle.server_model.specs.Needing.{needs, points, points_of}
-use Rattle.server_model.specs.Saying.{displaced, only, tells}
+use Rattle.server_model.specs.Operations.{Operation}
+use Rattle.server_model.specs.Needs.{needs, points, points_of}
+use Rattle.server_model.specs.StatementResults.{displaced, only, tells}
 use Rattle.server_model.proofs.LockedRows.Points.{within-parts}
 use Rattle.server_model.specs.LockedRows.Agreeing.{Within}
 
@@ -127,14 +127,14 @@ pub record AppliedHalf (m : Migration) (rows : List Row) (done : Row → Bool) (
 
 -- the events behind a place
 whole_after : (m : Migration) (log : List RowEvent) (place end next left whole : ℕ) (more : List Change) (rest : List Doing) → rest ≡ planned m more → more ≡ changes_in m.name log (place + 1) left → place + 1 + left ≡ whole → whole ≡ next → next ≤ end → IsWhole m log (place + 1) end next rest
-whole_after m log place end next left whole more rest others behind sum same within = record { steps = left; sum = sum ∙ same; within = within; are = others ∙ ap (planned m) behind }
+whole_after m log place end next left whole more rest others following sum same within = record { steps = left; sum = sum ∙ same; within = within; are = others ∙ ap (planned m) following }
 
 points_in : (m : Migration) (view : List Row) (made : Row) (locks : List _) → Within (needs m.new view (works.Replace made)) locks → Within (points m.new made) locks
 unfolding needs
 points_in m view made locks within = (within-parts (points m.new made) (points_of m.new (displaced m.new made view)) locks within).0
 
 -- the image of a row that an event leaves holds the row's key
-left_locked : (m : Migration) (rows : List Row) (half done : Row → Bool) (taken : List Row) (progress : Progress Row) (ghost : GhostRows) (copier applier : ℕ) (now : Stored) (hold : ℕ → SessionHold) (own : SessionHold) (task : Job) (row made : Row) → IsPlanned m rows → IsServed now hold → GhostInvariant m rows done half taken progress ghost copier applier now hold
+left_locked : (m : Migration) (rows : List Row) (half done : Row → Bool) (taken : List Row) (progress : Progress Row) (ghost : GhostRows) (copier applier : ℕ) (now : Stored) (hold : ℕ → SessionHold) (own : SessionHold) (task : Operation) (row made : Row) → IsPlanned m rows → IsServed now hold → GhostInvariant m rows done half taken progress ghost copier applier now hold
     → DoesWork m task (works.Replace made) → IsGiven now hold applier task own → IsRow m.schema.columns row → converted_row m.columns row ≡ Ok made → is_locked m.new own.locks (key_of (key_places m.schema) row) ≡ true
 left_locked m rows half done taken progress ghost copier applier now hold own task row made planned served kept is given fits imaged =
     let needed : Within (needs m.new (view_of m ghost) (works.Replace made)) own.locks = subst (λ (l : List Lock). Within l own.locks) (applier_says m rows done half taken progress ghost copier applier now hold task (works.Replace made) served kept is.table is.does).needed given.needed in
@@ -142,7 +142,7 @@ left_locked m rows half done taken progress ghost copier applier now hold own ta
     (row_locked m.new planned.new_key made own.locks (planned.fits row made fits imaged) (points_in m (view_of m ghost) made own.locks needed))
 
 -- *Putting*: REPLACE of the image of a row that was written
-pub put_does : (m : Migration) (rows : List Row) (done : Row → Bool) (taken : List Row) (progress : Progress Row) (ghost : GhostRows) (copier applier : ℕ) (now : Stored) (hold holds : ℕ → SessionHold) (own : SessionHold) (task : Job) (next : ℕ) (row made : Row) (rest : List Doing) → IsPlanned m rows → IsServed now hold
+pub put_does : (m : Migration) (rows : List Row) (done : Row → Bool) (taken : List Row) (progress : Progress Row) (ghost : GhostRows) (copier applier : ℕ) (now : Stored) (hold holds : ℕ → SessionHold) (own : SessionHold) (task : Operation) (next : ℕ) (row made : Row) (rest : List Doing) → IsPlanned m rows → IsServed now hold
     → GhostInvariant m rows done (λ _. false) taken progress ghost copier applier now hold → (copier == applier) ≡ false → IsWhole m now.log progress.reached progress.end next (Putting row ∷ rest) → converted_row m.columns row ≡ Ok made → DoesWork m task (works.Replace made) → IsGiven now hold applier task own → Besides applier hold holds own
     → AppliedWhole m rows done taken progress ghost (tells m.new (view_of m ghost) (works.Replace made)).changes copier applier now holds own next rest
 put_does m rows done taken progress ghost copier applier now hold holds own task next row made rest planned served kept differ whole imaged is given besides =
@@ -156,11 +156,11 @@ put_does m rows done taken progress ghost copier applier now hold holds own task
       reached = comes.place + 1;
       kept = replace_keeps m rows done (λ _. false) taken there ghost copier applier now hold holds own task (Write row) row made planned served comes.kept differ is given besides comes.less comes.due refl imaged
           (left_locked m rows (λ _. false) done taken there ghost copier applier now hold own task row made planned served comes.kept is given fits imaged) (λ key no. absurd (false≢true no)) (λ differs. absurd (differs refl));
-      whole = whole_after m now.log comes.place progress.end next comes.left (progress.reached + whole.steps) first.more rest first.others comes.behind comes.sum whole.sum whole.within;
+      whole = whole_after m now.log comes.place progress.end next comes.left (progress.reached + whole.steps) first.more rest first.others comes.following comes.sum whole.sum whole.within;
     }
 
 -- *Changing*: UPDATE in place, not refused
-pub change_does : (m : Migration) (rows : List Row) (done : Row → Bool) (taken : List Row) (progress : Progress Row) (ghost : GhostRows) (copier applier : ℕ) (now : Stored) (hold holds : ℕ → SessionHold) (own : SessionHold) (task : Job) (next : ℕ) (before row made : Row) (rest : List Doing) (planned' : IsPlanned m rows) → IsServed now hold
+pub change_does : (m : Migration) (rows : List Row) (done : Row → Bool) (taken : List Row) (progress : Progress Row) (ghost : GhostRows) (copier applier : ℕ) (now : Stored) (hold holds : ℕ → SessionHold) (own : SessionHold) (task : Operation) (next : ℕ) (before row made : Row) (rest : List Doing) (planned' : IsPlanned m rows) → IsServed now hold
     → GhostInvariant m rows done (λ _. false) taken progress ghost copier applier now hold → (copier == applier) ≡ false → IsWhole m now.log progress.reached progress.end next (Changing before row ∷ rest) → converted_row m.columns row ≡ Ok made
     → DoesWork m task (update_work m rows planned' (key_of (key_places m.schema) before) made) → IsGiven now hold applier task own → Besides applier hold holds own → (tells m.new (view_of m ghost) (update_work m rows planned' (key_of (key_places m.schema) before) made) ≡ only (refuses ER_DUP_ENTRY) → ⊥)
     → AppliedWhole m rows done taken progress ghost (tells m.new (view_of m ghost) (update_work m rows planned' (key_of (key_places m.schema) before) made)).changes copier applier now holds own next rest
@@ -173,11 +173,11 @@ change_does m rows done taken progress ghost copier applier now hold holds own t
     record {
       reached = comes.place + 1;
       kept = update_keeps m rows done taken there ghost copier applier now hold holds own task before row made planned' served comes.kept differ is given besides comes.less comes.due first.stays imaged not_refused;
-      whole = whole_after m now.log comes.place progress.end next comes.left (progress.reached + whole.steps) first.more rest first.others comes.behind comes.sum whole.sum whole.within;
+      whole = whole_after m now.log comes.place progress.end next comes.left (progress.reached + whole.steps) first.more rest first.others comes.following comes.sum whole.sum whole.within;
     }
 
 -- *Changing a row that has no image*, where the new table has no row of its key
-pub unfit_does : (m : Migration) (rows : List Row) (done : Row → Bool) (taken : List Row) (progress : Progress Row) (ghost : GhostRows) (copier applier : ℕ) (now : Stored) (hold holds : ℕ → SessionHold) (own : SessionHold) (task : Job) (next : ℕ) (before row : Row) (fault : _) (rest : List Doing) (planned' : IsPlanned m rows) → IsServed now hold
+pub unfit_does : (m : Migration) (rows : List Row) (done : Row → Bool) (taken : List Row) (progress : Progress Row) (ghost : GhostRows) (copier applier : ℕ) (now : Stored) (hold holds : ℕ → SessionHold) (own : SessionHold) (task : Operation) (next : ℕ) (before row : Row) (fault : _) (rest : List Doing) (planned' : IsPlanned m rows) → IsServed now hold
     → GhostInvariant m rows done (λ _. false) taken progress ghost copier applier now hold → (copier == applier) ≡ false → IsWhole m now.log progress.reached progress.end next (Changing before row ∷ rest)
     → DoesWork m task (unfit_work m rows planned' (key_of (key_places m.schema) before) fault) → IsGiven now hold applier task own → Besides applier hold holds own → ghost_row m (view_of m ghost) (key_of (key_places m.schema) before) ≡ None
     → AppliedWhole m rows done taken progress ghost (tells m.new (view_of m ghost) (unfit_work m rows planned' (key_of (key_places m.schema) before) fault)).changes copier applier now holds own next rest
@@ -190,7 +190,7 @@ unfit_does m rows done taken progress ghost copier applier now hold holds own ta
     record {
       reached = comes.place + 1;
       kept = unfit_keeps m rows done taken there ghost copier applier now hold holds own task before row fault planned' served comes.kept differ is given besides comes.less comes.due first.stays none;
-      whole = whole_after m now.log comes.place progress.end next comes.left (progress.reached + whole.steps) first.more rest first.others comes.behind comes.sum whole.sum whole.within;
+      whole = whole_after m now.log comes.place progress.end next comes.left (progress.reached + whole.steps) first.more rest first.others comes.following comes.sum whole.sum whole.within;
     }
 
 -- what a DELETE leaves: the event is applied, or half applied
@@ -199,7 +199,7 @@ pub data Removed (m : Migration) (rows : List Row) (done : Row → Bool) (taken 
   halfway : (after : Row) (rest : List Doing) → todo ≡ Putting after ∷ rest → AppliedHalf m rows done taken progress ghost changes copier applier now holds own next row after rest → Removed m rows done taken progress ghost changes copier applier now holds own next row todo
 
 -- the first half of an UPDATE, at the place where it comes
-half_there : (m : Migration) (rows : List Row) (done : Row → Bool) (taken : List Row) (progress : Progress Row) (ghost : GhostRows) (copier applier : ℕ) (now : Stored) (hold holds : ℕ → SessionHold) (own : SessionHold) (task : Job) (next steps : ℕ) (before after : Row) (more : List Change) (planned' : IsPlanned m rows) → IsServed now hold
+half_there : (m : Migration) (rows : List Row) (done : Row → Bool) (taken : List Row) (progress : Progress Row) (ghost : GhostRows) (copier applier : ℕ) (now : Stored) (hold holds : ℕ → SessionHold) (own : SessionHold) (task : Operation) (next steps : ℕ) (before after : Row) (more : List Change) (planned' : IsPlanned m rows) → IsServed now hold
     → (copier == applier) ≡ false → progress.reached + steps ≡ next → next ≤ progress.end → Comes m rows done taken progress ghost copier applier now hold steps (Update before after) more
     → DoesWork m task (delete_work m rows planned' (key_of (key_places m.schema) before)) → IsGiven now hold applier task own → Besides applier hold holds own
     → AppliedHalf m rows done taken progress ghost (tells m.new (view_of m ghost) (delete_work m rows planned' (key_of (key_places m.schema) before))).changes copier applier now holds own next before after (planned m more)
@@ -211,12 +211,12 @@ half_there m rows done taken progress ghost copier applier now hold holds own ta
     record {
       reached = comes.place;
       kept = half_keeps m rows done taken there ghost copier applier now hold holds own task key planned' served comes.kept differ is given besides full;
-      half = record { steps = comes.left; sum = comes.sum ∙ sum; within = within; event = comes.event; there = comes.there; named = comes.named; is = comes.is; are = ap (planned m) comes.behind };
+      half = record { steps = comes.left; sum = comes.sum ∙ sum; within = within; event = comes.event; there = comes.there; named = comes.named; is = comes.is; are = ap (planned m) comes.following };
       locked = half_holds m rows (hold applier).locks own.locks (hold copier).locks ghost key planned' grant;
       empty = half_empty m rows now.log done there ghost key planned' comes.kept.joined.under_way full;
     }
 
-remove_by_first : (m : Migration) (rows : List Row) (done : Row → Bool) (taken : List Row) (progress : Progress Row) (ghost : GhostRows) (copier applier : ℕ) (now : Stored) (hold holds : ℕ → SessionHold) (own : SessionHold) (task : Job) (next : ℕ) (row : Row) (rest : List Doing) (planned' : IsPlanned m rows) → IsServed now hold
+remove_by_first : (m : Migration) (rows : List Row) (done : Row → Bool) (taken : List Row) (progress : Progress Row) (ghost : GhostRows) (copier applier : ℕ) (now : Stored) (hold holds : ℕ → SessionHold) (own : SessionHold) (task : Operation) (next : ℕ) (row : Row) (rest : List Doing) (planned' : IsPlanned m rows) → IsServed now hold
     → GhostInvariant m rows done (λ _. false) taken progress ghost copier applier now hold → (copier == applier) ≡ false → (whole : IsWhole m now.log progress.reached progress.end next (Removing row ∷ rest)) → RemoveFirst m (changes_in m.name now.log progress.reached whole.steps) row rest
     → DoesWork m task (delete_work m rows planned' (key_of (key_places m.schema) row)) → IsGiven now hold applier task own → Besides applier hold holds own
     → Removed m rows done taken progress ghost (tells m.new (view_of m ghost) (delete_work m rows planned' (key_of (key_places m.schema) row))).changes copier applier now holds own next row rest
@@ -228,7 +228,7 @@ remove_by_first m rows done taken progress ghost copier applier now hold holds o
     wholly (record {
       reached = comes.place + 1;
       kept = delete_keeps m rows done taken there ghost copier applier now hold holds own task row planned' served comes.kept differ is given besides comes.less comes.due;
-      whole = whole_after m now.log comes.place progress.end next comes.left (progress.reached + whole.steps) more rest others comes.behind comes.sum whole.sum whole.within;
+      whole = whole_after m now.log comes.place progress.end next comes.left (progress.reached + whole.steps) more rest others comes.following comes.sum whole.sum whole.within;
     })
 remove_by_first m rows done taken progress ghost copier applier now hold holds own task next row rest planned' served kept differ whole (moved after more are others) is given besides =
     let sum : progress.reached + whole.steps ≡ next = whole.sum in
@@ -237,14 +237,14 @@ remove_by_first m rows done taken progress ghost copier applier now hold holds o
     halfway after (planned m more) others (half_there m rows done taken progress ghost copier applier now hold holds own task next whole.steps row after more planned' served differ sum within comes is given besides)
 
 -- *Removing*: DELETE by key, of a row that was deleted, or the first half of an UPDATE that changes a unique key
-pub remove_does : (m : Migration) (rows : List Row) (done : Row → Bool) (taken : List Row) (progress : Progress Row) (ghost : GhostRows) (copier applier : ℕ) (now : Stored) (hold holds : ℕ → SessionHold) (own : SessionHold) (task : Job) (next : ℕ) (row : Row) (rest : List Doing) (planned' : IsPlanned m rows) → IsServed now hold
+pub remove_does : (m : Migration) (rows : List Row) (done : Row → Bool) (taken : List Row) (progress : Progress Row) (ghost : GhostRows) (copier applier : ℕ) (now : Stored) (hold holds : ℕ → SessionHold) (own : SessionHold) (task : Operation) (next : ℕ) (row : Row) (rest : List Doing) (planned' : IsPlanned m rows) → IsServed now hold
     → GhostInvariant m rows done (λ _. false) taken progress ghost copier applier now hold → (copier == applier) ≡ false → IsWhole m now.log progress.reached progress.end next (Removing row ∷ rest) → DoesWork m task (delete_work m rows planned' (key_of (key_places m.schema) row)) → IsGiven now hold applier task own → Besides applier hold holds own
     → Removed m rows done taken progress ghost (tells m.new (view_of m ghost) (delete_work m rows planned' (key_of (key_places m.schema) row))).changes copier applier now holds own next row rest
 remove_does m rows done taken progress ghost copier applier now hold holds own task next row rest planned' served kept differ whole is given besides =
     remove_by_first m rows done taken progress ghost copier applier now hold holds own task next row rest planned' served kept differ whole (remove_first m (changes_in m.name now.log progress.reached whole.steps) row rest (sym whole.are)) is given besides
 
 -- *The refused UPDATE's DELETE*
-pub removal_does : (m : Migration) (rows : List Row) (done : Row → Bool) (taken : List Row) (progress : Progress Row) (ghost : GhostRows) (copier applier : ℕ) (now : Stored) (hold holds : ℕ → SessionHold) (own : SessionHold) (task : Job) (next : ℕ) (before after : Row) (rest : List Doing) (planned' : IsPlanned m rows) → IsServed now hold
+pub removal_does : (m : Migration) (rows : List Row) (done : Row → Bool) (taken : List Row) (progress : Progress Row) (ghost : GhostRows) (copier applier : ℕ) (now : Stored) (hold holds : ℕ → SessionHold) (own : SessionHold) (task : Operation) (next : ℕ) (before after : Row) (rest : List Doing) (planned' : IsPlanned m rows) → IsServed now hold
     → GhostInvariant m rows done (λ _. false) taken progress ghost copier applier now hold → (copier == applier) ≡ false → IsWhole m now.log progress.reached progress.end next (Changing before after ∷ rest) → DoesWork m task (delete_work m rows planned' (key_of (key_places m.schema) before)) → IsGiven now hold applier task own → Besides applier hold holds own
     → AppliedHalf m rows done taken progress ghost (tells m.new (view_of m ghost) (delete_work m rows planned' (key_of (key_places m.schema) before))).changes copier applier now holds own next before after rest
 removal_does m rows done taken progress ghost copier applier now hold holds own task next before after rest planned' served kept differ whole is given besides =
@@ -256,7 +256,7 @@ removal_does m rows done taken progress ghost copier applier now hold holds own 
     (half_there m rows done taken progress ghost copier applier now hold holds own task next whole.steps before after first.more planned' served differ sum within comes is given besides)
 
 -- *The second half*: REPLACE of the image of the row behind the UPDATE
-pub second_does : (m : Migration) (rows : List Row) (done : Row → Bool) (taken : List Row) (progress : Progress Row) (ghost : GhostRows) (copier applier : ℕ) (now : Stored) (hold holds : ℕ → SessionHold) (own : SessionHold) (task : Job) (next : ℕ) (before after made : Row) (rest : List Doing) → IsPlanned m rows → IsServed now hold
+pub second_does : (m : Migration) (rows : List Row) (done : Row → Bool) (taken : List Row) (progress : Progress Row) (ghost : GhostRows) (copier applier : ℕ) (now : Stored) (hold holds : ℕ → SessionHold) (own : SessionHold) (task : Operation) (next : ℕ) (before after made : Row) (rest : List Doing) → IsPlanned m rows → IsServed now hold
     → GhostInvariant m rows done (is_key (key_of (key_places m.schema) before)) taken progress ghost copier applier now hold → (copier == applier) ≡ false → IsHalf m now.log progress.reached progress.end next before after rest
     → is_locked m.new (hold applier).locks (key_of (key_places m.schema) before) ≡ true → ghost_row m (view_of m ghost) (key_of (key_places m.schema) before) ≡ None → converted_row m.columns after ≡ Ok made → DoesWork m task (works.Replace made) → IsGiven now hold applier task own → Besides applier hold holds own
     → AppliedWhole m rows done taken progress ghost (tells m.new (view_of m ghost) (works.Replace made)).changes copier applier now holds own next rest

@@ -13,7 +13,7 @@ use Rattle.proof_journals.proofs.Ghost.Disjoint.{held_apart}
 use Rattle.proof_journals.proofs.Ghost.Joining.{none_among, none_locked}
 use Rattle.proof_journals.proofs.Ghost.Keys.{locked_more}
 use Rattle.proof_journals.specs.Ghost.Doings.{OthersOnly}
-use Rattle.proof_journals.specs.Ghost.Holding.{is_locked}
+use Rattle.proof_journals.specs.Ghost.HeldKeys.{is_locked}
 use Rattle.proof_journals.specs.Ghost.Joined.{AreGranted, IsJoined}
 use Rattle.proof_journals.specs.Ghost.Relation.Views.{Progress}
 use Rattle.proof_journals.proofs.Ghost.Rows.Chunking.{all_done, chunk_begins}
@@ -147,30 +147,30 @@ chunk_granted m own others taken progress ghost granted =
     record { apart = apart-turn [] own (none_apart own); applier_holds = granted.applier_holds; copier_holds = sym none_among; taken = λ key among. absurd (true≢false (sym among ∙ ap (λ (t : Row → Bool). t key) none_among)); batch = granted.batch; chunk = tt }
 
 -- *The chunk's COMMIT*, when all its keys are taken
-pub chunk_ends : (m : Migration) (rows : List Row) (log : List RowEvent) (left behind : Option Span) (keys : List Row) (half : Row → Bool) (own others : List Lock) (taken : List Row) (progress : Progress Row) (ghost : GhostRows) → IsPlanned m rows → ((key : Row) → is_among taken key ≡ is_among keys key)
-    → IsJoined m rows log (is_done_in left behind keys) half own others taken progress ghost
-    → IsJoined m rows log (is_done behind) half own [] [] (record progress { copier_holds = λ _. false }) (record ghost { committed = rows_after_all (key_places m.new) ghost.chunk ghost.committed; chunk = [] })
-chunk_ends m rows log left behind keys half own others taken progress ghost planned all now =
+pub chunk_ends : (m : Migration) (rows : List Row) (log : List RowEvent) (left following : Option Span) (keys : List Row) (half : Row → Bool) (own others : List Lock) (taken : List Row) (progress : Progress Row) (ghost : GhostRows) → IsPlanned m rows → ((key : Row) → is_among taken key ≡ is_among keys key)
+    → IsJoined m rows log (is_done_in left following keys) half own others taken progress ghost
+    → IsJoined m rows log (is_done following) half own [] [] (record progress { copier_holds = λ _. false }) (record ghost { committed = rows_after_all (key_places m.new) ghost.chunk ghost.committed; chunk = [] })
+chunk_ends m rows log left following keys half own others taken progress ghost planned all now =
     record {
-      under_way = chunk_commits_on m rows log left behind keys half progress ghost planned (now.granted.copier_holds ∙ fun_ext all) now.under_way;
+      under_way = chunk_commits_on m rows log left following keys half progress ghost planned (now.granted.copier_holds ∙ fun_ext all) now.under_way;
       granted = chunk_granted m own others taken progress ghost now.granted;
     }
 
-pub chunk_lost : (m : Migration) (rows : List Row) (log : List RowEvent) (left behind : Option Span) (keys : List Row) (half : Row → Bool) (own others : List Lock) (taken : List Row) (progress : Progress Row) (ghost : GhostRows) → IsJoined m rows log (is_done_in left behind keys) half own others taken progress ghost
+pub chunk_lost : (m : Migration) (rows : List Row) (log : List RowEvent) (left following : Option Span) (keys : List Row) (half : Row → Bool) (own others : List Lock) (taken : List Row) (progress : Progress Row) (ghost : GhostRows) → IsJoined m rows log (is_done_in left following keys) half own others taken progress ghost
     → IsJoined m rows log (is_done left) half own [] [] (record progress { copier_holds = λ _. false }) (record ghost { chunk = [] })
-chunk_lost m rows log left behind keys half own others taken progress ghost now =
+chunk_lost m rows log left following keys half own others taken progress ghost now =
     record {
-      under_way = chunk_rolls_back_on m rows log left behind keys half progress ghost now.under_way;
+      under_way = chunk_rolls_back_on m rows log left following keys half progress ghost now.under_way;
       granted = record { apart = apart-turn [] own (none_apart own); applier_holds = now.granted.applier_holds; copier_holds = sym none_among; taken = λ key among. absurd (true≢false (sym among ∙ ap (λ (t : Row → Bool). t key) none_among)); batch = now.granted.batch; chunk = tt };
     }
 
 -- a COMMIT of the chunk that was done and lost: the chunk is to be done again
-pub chunk_unknown : (m : Migration) (rows : List Row) (log : List RowEvent) (left behind : Option Span) (keys : List Row) (half : Row → Bool) (own others : List Lock) (taken : List Row) (progress : Progress Row) (ghost : GhostRows) → IsPlanned m rows
-    → IsJoined m rows log (is_done_in left behind keys) half own others taken progress ghost
+pub chunk_unknown : (m : Migration) (rows : List Row) (log : List RowEvent) (left following : Option Span) (keys : List Row) (half : Row → Bool) (own others : List Lock) (taken : List Row) (progress : Progress Row) (ghost : GhostRows) → IsPlanned m rows
+    → IsJoined m rows log (is_done_in left following keys) half own others taken progress ghost
     → IsJoined m rows log (is_done left) half own [] [] (record progress { copier_holds = λ _. false }) (record ghost { committed = rows_after_all (key_places m.new) ghost.chunk ghost.committed; chunk = [] })
-chunk_unknown m rows log left behind keys half own others taken progress ghost planned now =
+chunk_unknown m rows log left following keys half own others taken progress ghost planned now =
     record {
-      under_way = chunk_is_to_repeat m rows log left behind keys half progress ghost planned now.under_way;
+      under_way = chunk_is_to_repeat m rows log left following keys half progress ghost planned now.under_way;
       granted = chunk_granted m own others taken progress ghost now.granted;
     }
 

@@ -11,13 +11,13 @@ use Rattle.table_store.specs.Databases.{TableRows, Database, find_table, with_ch
 use Rattle.table_store.proofs.Orders.{Row}
 use Rattle.proof_journals.proofs.Ghost.Changing.{same_change}
 use Rattle.proof_journals.proofs.Ghost.Telling.{tells_fit}
-use Rattle.proof_journals.specs.Ghost.Fitting.{EventsFit, IsFitting}
+use Rattle.proof_journals.specs.Ghost.FittingEvents.{EventsFit, IsFitting}
 use Rattle.proof_journals.proofs.Ghost.Rows.TimelineLaws.{change_keeps}
 use Rattle.proof_journals.specs.Ghost.Rows.Moments.{Fits, FitsAll, LogFits, rows_after, rows_at, rows_then}
 use Rattle.proof_journals.proofs.Tools.{sound_alike}
-use Rattle.server_model.specs.Jobs.{Job, after_events, change_table, events_of, job_needs, job_says, result_in}
+use Rattle.server_model.specs.Operations.{Operation, after_events, change_table, events_of, operation_needs, operation_result, result_in}
 use Rattle.server_model.specs.Rows.{change_rows}
-use Rattle.server_model.specs.Saying.{tells}
+use Rattle.server_model.specs.StatementResults.{tells}
 use Rattle.server_model.proofs.LockedRows.Finding.{NamesWithin, agree_events, agree_itself, agree_then, agree_within, change_if, found_after, says_alike}
 use Rattle.server_model.proofs.LockedRows.Tests.{are_same, same_bytes}
 use Rattle.server_model.specs.LockedRows.Agreeing.{Agree, Within}
@@ -69,15 +69,15 @@ changes_fit name (change ∷ changes) tables table found is fits =
     let same : change_rows (key_places table.schema) change table.rows ≡ rows_after (key_places table.schema) change table.rows = same_change table.schema is.keyed change table.rows is.is_table fits.0 in
     (rw found fits.0, changes_fit name changes (with_change name (change_table change) tables) next there (well_formed_change change table is fits.0) (subst (λ (r : List Row). FitsAll table.schema r changes) (sym same) fits.1))
 
-fit_in : (task : Job) (tables : Database) (found : Option TableRows) → find_table task.table tables ≡ found → WhereFound IsWellFormedTable found → WhereFound (λ table. IsSound table.schema.columns (task.work table.schema)) found → EventsFit tables (result_in task found).events
+fit_in : (task : Operation) (tables : Database) (found : Option TableRows) → find_table task.table tables ≡ found → WhereFound IsWellFormedTable found → WhereFound (λ table. IsSound table.schema.columns (task.work table.schema)) found → EventsFit tables (result_in task found).events
 unfolding EventsFit
 fit_in task tables None found is sound = tt
 fit_in task tables (Some table) found is sound =
     changes_fit task.table (tells table.schema table.rows (task.work table.schema)).changes tables table found is (tells_fit table.schema is.keyed table.rows (task.work table.schema) sound is.is_table)
 
 -- *What a statement writes goes with the tables on which it was said.*
-pub says_fit : (tables : Database) (task : Job) → TaskSound task tables → IsWellFormedDatabase tables → EventsFit tables (job_says tables task).events
-unfolding job_says
+pub says_fit : (tables : Database) (task : Operation) → TaskSound task tables → IsWellFormedDatabase tables → EventsFit tables (operation_result tables task).events
+unfolding operation_result
 says_fit tables task sound is = fit_in task tables (find_table task.table tables) refl (is.each task.table) sound
 
 -- ---- a client's lines
@@ -94,8 +94,8 @@ fitting_begin tables = record { each = λ other is agree. nothing_fits other }
 pub fitting_others : (names : List (List ℕ)) (locks : List Lock) (writes : List RowEvent) (before after : Database) → Agree names locks before after → IsFitting names locks writes before → IsFitting names locks writes after
 fitting_others names locks writes before after kept fitting = record { each = λ other is agree. fitting.each other is (agree_then names locks before after other kept agree) }
 
-pub fitting_task : (names more : List (List ℕ)) (locks all : List Lock) (writes : List RowEvent) (tables : Database) (task : Job) → IsFitting names locks writes tables → IsWellFormedDatabase tables → TaskSound task (after_events tables writes) → NamesWithin names more → Within locks all
-    → list_any (bytes_eq task.table) more ≡ true → Within (job_needs (after_events tables writes) task) all → IsFitting more all (writes ++ (job_says (after_events tables writes) task).events) tables
+pub fitting_task : (names more : List (List ℕ)) (locks all : List Lock) (writes : List RowEvent) (tables : Database) (task : Operation) → IsFitting names locks writes tables → IsWellFormedDatabase tables → TaskSound task (after_events tables writes) → NamesWithin names more → Within locks all
+    → list_any (bytes_eq task.table) more ≡ true → Within (operation_needs (after_events tables writes) task) all → IsFitting more all (writes ++ (operation_result (after_events tables writes) task).events) tables
 fitting_task names more locks all writes tables task fitting well_formed sound named within mine needed = record {
   each = λ other is agree.
       let here : IsWellFormedDatabase (after_events tables writes) = well_formed_events tables writes well_formed (fitting.each tables well_formed (agree_itself names locks tables)) in
@@ -104,7 +104,7 @@ fitting_task names more locks all writes tables task fitting well_formed sound n
       let both = agree_events more all tables other writes agree in
       let alike : SaysAlike task (after_events tables writes) (after_events other writes) = says_alike more all (after_events tables writes) (after_events other writes) task both mine needed here there in
       let sound_there : TaskSound task (after_events other writes) = sound_alike task all (find_table task.table (after_events tables writes)) (find_table task.table (after_events other writes)) (both.tables task.table mine) sound in
-      rw (alike.said) (fit_more other writes (job_says (after_events other writes) task).events fits (says_fit (after_events other writes) task sound_there there));
+      rw (alike.said) (fit_more other writes (operation_result (after_events other writes) task).events fits (says_fit (after_events other writes) task sound_there there));
 }
 
 -- *The tool's own writes go with the committed tables.*

@@ -4,7 +4,7 @@ use Rattle.std.proofs.lemmas.List.{append-nil}
 use Rattle.std.proofs.Math.Path.{fun_ext}
 use Rattle.std.specs.List.{AllByRecursion}
 use Rattle.std.specs.Ordering.{is_eq}
-use Rattle.base_values.specs.Comparing.{compare_keys}
+use Rattle.base_values.specs.KeyOrder.{compare_keys}
 use Rattle.base_values.specs.declared.gho_schema.schema.Schema.{Schema}
 use Rattle.base_values.specs.GhoSchema.Rows.{key_of, key_places}
 use Rattle.base_values.specs.GhoSchema.Tables.{IsRow, IsTable}
@@ -20,13 +20,13 @@ use Rattle.base_values.specs.declared.row_conversion.conversion_fault.UnfitAt.{U
 use Rattle.base_values.specs.declared.mysql_errors.TheConstants.{ER_DUP_ENTRY}
 use Rattle.server_model.specs.declared.work.Work.{Work}
 use Rattle.server_model.specs.declared.work.Work.TheVariants as works
-use Rattle.proof_journals.proofs.Ghost.Applying.{UpdateTold, all_set, at_key, copy_rested, copy_told, delete_locks, delete_told, key_met, replace_told, update_locks, update_makes, update_told}
+use Rattle.proof_journals.proofs.Ghost.Applying.{UpdateReported, all_set, at_key, copy_rested, copy_reported, delete_locks, delete_reported, key_met, replace_reported, update_locks, update_makes, update_reported}
 use Rattle.proof_journals.proofs.Ghost.Disjoint.{NamesRows, all_disjoint, covered_keys, held_apart, converted_row_free, named_rows, none_removed}
 use Rattle.proof_journals.proofs.Ghost.Keys.{clustered, full_key, locked_more, row_locked}
 use Rattle.proof_journals.proofs.Ghost.Telling.{tells_fit}
-use Rattle.proof_journals.specs.Ghost.Holding.{Clustered, is_locked}
+use Rattle.proof_journals.specs.Ghost.HeldKeys.{Clustered, is_locked}
 use Rattle.proof_journals.specs.Ghost.Joined.{AreGranted, IsJoined}
-use Rattle.proof_journals.specs.Ghost.Relation.Applying.{AppliedAt}
+use Rattle.proof_journals.specs.Ghost.Relation.AppliedEvents.{AppliedAt}
 use Rattle.proof_journals.specs.Ghost.Relation.Views.{Progress}
 use Rattle.proof_journals.proofs.Ghost.Rows.Applying.{delete_applies, replace_applies, update_applies}
 use Rattle.proof_journals.proofs.Ghost.Rows.Copying.{among_more}
@@ -43,8 +43,8 @@ use Rattle.proof_journals.specs.Ghost.Rows.Timelines.{IsDue, IsPlanned, Migratio
 use Rattle.proof_journals.specs.Ghost.Rows.UnderWay.{IsUnderWay}
 use Rattle.proof_journals.specs.Ghost.Rows.Views.{is_key, chunk_view, GhostRows, ghost_row, is_among, view_of}
 use Rattle.server_model.specs.Answers.{refuses}
-use Rattle.server_model.specs.Needing.{needs, points, points_of}
-use Rattle.server_model.specs.Saying.{TableResult, displaced, only, tells}
+use Rattle.server_model.specs.Needs.{needs, points, points_of}
+use Rattle.server_model.specs.StatementResults.{TableResult, displaced, only, tells}
 use Rattle.server_model.proofs.LockedRows.Covers.{tells_covered}
 use Rattle.server_model.proofs.LockedRows.Finding.{covered_more}
 use Rattle.server_model.proofs.LockedRows.Points.{within-parts}
@@ -62,8 +62,8 @@ none_among = fun_ext (λ key. refl)
 
 -- ---- what stands at the log's end
 
-pub table_stands : (m : Migration) (rows : List Row) (log : List RowEvent) (done half : Row → Bool) (progress : Progress Row) (ghost : GhostRows) (i : ℕ) → IsPlanned m rows → IsUnderWay m rows log done half progress ghost → IsTable m.schema (rows_at m.name (key_places m.schema) rows log i)
-table_stands m rows log done half progress ghost i planned now = each_table m.name m.schema planned.old_key log rows i planned.table now.log_fits
+pub table_exists : (m : Migration) (rows : List Row) (log : List RowEvent) (done half : Row → Bool) (progress : Progress Row) (ghost : GhostRows) (i : ℕ) → IsPlanned m rows → IsUnderWay m rows log done half progress ghost → IsTable m.schema (rows_at m.name (key_places m.schema) rows log i)
+table_exists m rows log done half progress ghost i planned now = each_table m.name m.schema planned.old_key log rows i planned.table now.log_fits
 
 batch_names : (m : Migration) (rows : List Row) (log : List RowEvent) (done half : Row → Bool) (progress : Progress Row) (ghost : GhostRows) → IsPlanned m rows → IsUnderWay m rows log done half progress ghost → NamesRows m.new ghost.batch
 batch_names m rows log done half progress ghost planned now = named_rows m.new planned.new_key ghost.batch ghost.committed now.table now.batch
@@ -90,7 +90,7 @@ IsCopied m rows log end row made = (find (is_at (key_places m.schema) (key_of (k
 
 copied_fits : (m : Migration) (rows : List Row) (log : List RowEvent) (done half : Row → Bool) (progress : Progress Row) (ghost : GhostRows) (row made : Row) → IsPlanned m rows → IsUnderWay m rows log done half progress ghost → IsCopied m rows log progress.end row made → IsRow m.new.columns made
 copied_fits m rows log done half progress ghost row made planned now copied =
-    planned.fits row made (found_in (is_at (key_places m.schema) (key_of (key_places m.new) made)) (IsRow m.schema.columns) (rows_at m.name (key_places m.schema) rows log progress.end) row (table_stands m rows log done half progress ghost progress.end planned now).rows_fit copied.0) copied.1
+    planned.fits row made (found_in (is_at (key_places m.schema) (key_of (key_places m.new) made)) (IsRow m.schema.columns) (rows_at m.name (key_places m.schema) rows log progress.end) row (table_exists m rows log done half progress ghost progress.end planned now).rows_fit copied.0) copied.1
 
 copy_by : (m : Migration) (rows : List Row) (log : List RowEvent) (done half : Row → Bool) (own others all : List Lock) (keys : List Row) (progress : Progress Row) (ghost : GhostRows) (row made : Row) (found : Option Row) → IsPlanned m rows → IsJoined m rows log done half own others keys progress ghost
     → IsCopied m rows log progress.end row made → Within others all → Apart own all → Within (points m.new made) all → clashing (record { schema = m.new; rows = chunk_view m ghost }) made None ≡ found
@@ -98,9 +98,9 @@ copy_by : (m : Migration) (rows : List Row) (log : List RowEvent) (done half : R
 copy_by m rows log done half own others all keys progress ghost row made None planned now copied within apart mine clash =
     let fits : IsRow m.new.columns made = copied_fits m rows log done half progress ghost row made planned now.under_way copied in
     let free : progress.applier_holds (key_of (key_places m.new) made) ≡ false = ap (λ (t : Row → Bool). t (key_of (key_places m.new) made)) now.granted.applier_holds ∙ converted_row_free m.new planned.new_key own all made apart fits mine in
-    let told : (tells m.new (chunk_view m ghost) (works.Copy made)).changes ≡ Write made ∷ [] = ap (λ (t : TableResult). t.changes) (copy_told m.new made (chunk_view m ghost) clash) in
+    let reported : (tells m.new (chunk_view m ghost) (works.Copy made)).changes ≡ Write made ∷ [] = ap (λ (t : TableResult). t.changes) (copy_reported m.new made (chunk_view m ghost) clash) in
     let disjoint : AllDisjoint m.new ghost.batch (Write made ∷ []) = all_disjoint m.new planned.new_key own all ghost.batch (Write made ∷ []) apart (batch_names m rows log done half progress ghost planned now.under_way) now.granted.batch ((fits, tt), tt) ((mine, tt), tt) in
-    rw told (record {
+    rw reported (record {
       under_way = copy_goes_on m rows log done half progress ghost keys row made planned.new_key fits copied.0 copied.1 clash free now.granted.copier_holds (first_column m.new (Write made) ghost.batch disjoint) now.under_way;
       granted = record {
         apart = apart;
@@ -114,8 +114,8 @@ copy_by m rows log done half own others all keys progress ghost row made None pl
 copy_by m rows log done half own others all keys progress ghost row made (Some was) planned now copied within apart mine clash =
     let fits : IsRow m.new.columns made = copied_fits m rows log done half progress ghost row made planned now.under_way copied in
     let free : progress.applier_holds (key_of (key_places m.new) made) ≡ false = ap (λ (t : Row → Bool). t (key_of (key_places m.new) made)) now.granted.applier_holds ∙ converted_row_free m.new planned.new_key own all made apart fits mine in
-    let told : (tells m.new (chunk_view m ghost) (works.Copy made)).changes ≡ [] = ap (λ (t : TableResult). t.changes) (copy_rested m.new made was (chunk_view m ghost) clash) in
-    rw (told, append-nil ghost.chunk) (record {
+    let reported : (tells m.new (chunk_view m ghost) (works.Copy made)).changes ≡ [] = ap (λ (t : TableResult). t.changes) (copy_rested m.new made was (chunk_view m ghost) clash) in
+    rw (reported, append-nil ghost.chunk) (record {
       under_way = copy_rests m rows log done half progress ghost keys row made was planned.new_key (under_way_timeline m rows log done half progress ghost planned now.under_way) copied.0 copied.1 clash free now.granted.copier_holds (none_removed m.new own all made ghost.batch apart now.granted.batch mine) now.under_way;
       granted = record {
         apart = apart;
@@ -143,9 +143,9 @@ batch_covered m own all ghost work covered within mine =
     both (λ c. RowsCovered m.new all (rows_of c)) ghost.batch (tells m.new (view_of m ghost) work).changes (covered_more m.new own all ghost.batch within covered)
     (covered_more m.new (needs m.new (view_of m ghost) work) all (tells m.new (view_of m ghost) work).changes mine (tells_covered m.new (view_of m ghost) work))
 
-told_names : (m : Migration) (rows : List Row) (log : List RowEvent) (done half : Row → Bool) (progress : Progress Row) (ghost : GhostRows) (work : Work) → IsPlanned m rows → IsUnderWay m rows log done half progress ghost → IsSound m.new.columns work
+reported_names : (m : Migration) (rows : List Row) (log : List RowEvent) (done half : Row → Bool) (progress : Progress Row) (ghost : GhostRows) (work : Work) → IsPlanned m rows → IsUnderWay m rows log done half progress ghost → IsSound m.new.columns work
     → NamesRows m.new (tells m.new (view_of m ghost) work).changes
-told_names m rows log done half progress ghost work planned now sound =
+reported_names m rows log done half progress ghost work planned now sound =
     let table = view_table m rows log done half progress ghost planned now in
     named_rows m.new planned.new_key (tells m.new (view_of m ghost) work).changes (view_of m ghost) table (tells_fit m.new planned.new_key (view_of m ghost) work sound table)
 
@@ -170,17 +170,17 @@ pub statement_joins : (m : Migration) (rows : List Row) (log : List RowEvent) (d
     → ((key : Row) → AppliedAt (timeline_of m rows log) half progress.reached (ghost_row m (view_of m ghost)) (ghost_row m (rows_after_all (key_places m.new) (tells m.new (view_of m ghost) work).changes (view_of m ghost))) key)
     → IsJoined m rows log done (λ _. false) all others keys (record progress { reached = progress.reached + 1; applier_holds = is_locked m.new all }) (record ghost { batch = ghost.batch ++ (tells m.new (view_of m ghost) work).changes })
 statement_joins m rows log done half own all others keys progress ghost work change planned now grant more due old new each =
-    let told : List Change = (tells m.new (view_of m ghost) work).changes in
+    let reported : List Change = (tells m.new (view_of m ghost) work).changes in
     let table = view_table m rows log done half progress ghost planned now.under_way in
-    let names : NamesRows m.new told = told_names m rows log done half progress ghost work planned now.under_way grant.sound in
+    let names : NamesRows m.new reported = reported_names m rows log done half progress ghost work planned now.under_way grant.sound in
     let first : NamesRows m.new ghost.batch = batch_names m rows log done half progress ghost planned now.under_way in
-    let covered : Covered m.new all (ghost.batch ++ told) = batch_covered m own all ghost work now.granted.batch grant.within grant.needed in
+    let covered : Covered m.new all (ghost.batch ++ reported) = batch_covered m own all ghost work now.granted.batch grant.within grant.needed in
     record {
-      under_way = event_goes_on m rows log done half progress ghost (is_locked m.new all) change told (under_way_timeline m rows log done half progress ghost planned now.under_way) more due
+      under_way = event_goes_on m rows log done half progress ghost (is_locked m.new all) change reported (under_way_timeline m rows log done half progress ghost planned now.under_way) more due
           (held_free m all others keys progress grant.apart now.granted.copier_holds now.granted.taken)
-          (covered_keys m.new planned.new_key all (ghost.batch ++ told) (both (λ c. AllByRecursion (IsRow m.new.columns) (rows_of c)) ghost.batch told first names) covered) old new each
+          (covered_keys m.new planned.new_key all (ghost.batch ++ reported) (both (λ c. AllByRecursion (IsRow m.new.columns) (rows_of c)) ghost.batch reported first names) covered) old new each
           (tells_fit m.new planned.new_key (view_of m ghost) work grant.sound table)
-          (all_disjoint m.new planned.new_key all others told ghost.chunk grant.apart names (covered_more m.new (needs m.new (view_of m ghost) work) all told grant.needed (tells_covered m.new (view_of m ghost) work)) (chunk_names m rows log done half progress ghost planned now.under_way) now.granted.chunk)
+          (all_disjoint m.new planned.new_key all others reported ghost.chunk grant.apart names (covered_more m.new (needs m.new (view_of m ghost) work) all reported grant.needed (tells_covered m.new (view_of m ghost) work)) (chunk_names m rows log done half progress ghost planned now.under_way) now.granted.chunk)
           now.under_way;
       granted = granted_more m rows log done half own all others keys progress (record progress { reached = progress.reached + 1; applier_holds = is_locked m.new all }) ghost work refl refl now grant;
     }
@@ -208,19 +208,19 @@ replace_joins m rows log done half own all others keys progress ghost change row
     let mine : Within (points m.new made) all = (within-parts (points m.new made) (points_of m.new (displaced m.new made (view_of m ghost))) all grant.needed).0 in
     statement_joins m rows log done half own all others keys progress ghost (works.Replace made) change planned now grant more due old
     (subst (λ (k : Row). is_locked m.new all k ≡ true) same (row_locked m.new planned.new_key made all made_fits mine))
-    (λ key. subst (λ (cs : List Change). AppliedAt (timeline_of m rows log) half progress.reached (ghost_row m (view_of m ghost)) (ghost_row m (rows_after_all (key_places m.new) cs (view_of m ghost))) key) (sym (replace_told m.new made (view_of m ghost)))
+    (λ key. subst (λ (cs : List Change). AppliedAt (timeline_of m rows log) half progress.reached (ghost_row m (view_of m ghost)) (ghost_row m (rows_after_all (key_places m.new) cs (view_of m ghost))) key) (sym (replace_reported m.new made (view_of m ghost)))
     (replace_applies m rows log progress.reached change half row made (view_of m ghost) planned.old_key planned.new_key due left imaged same (view_table m rows log done half progress ghost planned now.under_way) made_fits taken_out gone key))
 
 -- ---- DELETE and UPDATE by key
 
 pub due_row : (m : Migration) (rows : List Row) (log : List RowEvent) (done half : Row → Bool) (progress : Progress Row) (ghost : GhostRows) (row : Row) → IsPlanned m rows → IsUnderWay m rows log done half progress ghost → IsDue m rows log progress.reached (Delete row) → IsRow m.schema.columns row
 due_row m rows log done half progress ghost row planned now due =
-    found_in (is_at (key_places m.schema) (key_of (key_places m.schema) row)) (IsRow m.schema.columns) (rows_at m.name (key_places m.schema) rows log progress.reached) row (table_stands m rows log done half progress ghost progress.reached planned now).rows_fit
+    found_in (is_at (key_places m.schema) (key_of (key_places m.schema) row)) (IsRow m.schema.columns) (rows_at m.name (key_places m.schema) rows log progress.reached) row (table_exists m rows log done half progress ghost progress.reached planned now).rows_fit
     (subst (Fits m.schema (rows_at m.name (key_places m.schema) rows log progress.reached)) due.is (due.step.fits due.named))
 
 pub due_before : (m : Migration) (rows : List Row) (log : List RowEvent) (done half : Row → Bool) (progress : Progress Row) (ghost : GhostRows) (before row : Row) → IsPlanned m rows → IsUnderWay m rows log done half progress ghost → IsDue m rows log progress.reached (Update before row) → IsRow m.schema.columns before
 due_before m rows log done half progress ghost before row planned now due =
-    found_in (is_at (key_places m.schema) (key_of (key_places m.schema) before)) (IsRow m.schema.columns) (rows_at m.name (key_places m.schema) rows log progress.reached) before (table_stands m rows log done half progress ghost progress.reached planned now).rows_fit
+    found_in (is_at (key_places m.schema) (key_of (key_places m.schema) before)) (IsRow m.schema.columns) (rows_at m.name (key_places m.schema) rows log progress.reached) before (table_exists m rows log done half progress ghost progress.reached planned now).rows_fit
     (subst (Fits m.schema (rows_at m.name (key_places m.schema) rows log progress.reached)) due.is (due.step.fits due.named)).0
 
 -- the work by a key of the new table
@@ -238,10 +238,10 @@ delete_joins m rows log done own all others keys progress ghost row planned now 
     let key : Row = key_of (key_places m.schema) row in
     let at : Clustered m.new = clustered m.new planned.new_key in
     let full = full_key m.schema planned.old_key row (due_row m rows log done (λ _. false) progress ghost row planned now.under_way due) in
-    let told = delete_told m.new at key (view_of m ghost) full (view_table m rows log done (λ _. false) progress ghost planned now.under_way).ascends in
+    let reported = delete_reported m.new at key (view_of m ghost) full (view_table m rows log done (λ _. false) progress ghost planned now.under_way).ascends in
     let mine : is_locked m.new all key ≡ true = delete_locks m.new at key (view_of m ghost) all grant.needed in
     statement_joins m rows log done (λ _. false) own all others keys progress ghost (delete_work m rows planned key) (Delete row) planned now grant more due mine mine
-    (λ k. subst (λ (cs : List Change). AppliedAt (timeline_of m rows log) (λ _. false) progress.reached (ghost_row m (view_of m ghost)) (ghost_row m (rows_after_all (key_places m.new) cs (view_of m ghost))) k) (sym told)
+    (λ k. subst (λ (cs : List Change). AppliedAt (timeline_of m rows log) (λ _. false) progress.reached (ghost_row m (view_of m ghost)) (ghost_row m (rows_after_all (key_places m.new) cs (view_of m ghost))) k) (sym reported)
     (delete_applies m rows log progress.reached row (view_of m ghost) planned.old_key due k))
 
 -- *UPDATE in place*, where it isn't refused
@@ -260,10 +260,10 @@ update_joins m rows log done own all others keys progress ghost before row made 
     let same : key_of (key_places m.new) made ≡ key_of (key_places m.schema) row = planned.same_key row made fits imaged in
     let full = full_key m.schema planned.old_key before (due_before m rows log done (λ _. false) progress ghost before row planned now.under_way due) in
     let work : Work = update_work m rows planned key made in
-    let told : UpdateTold m.new made view (ghost_row m view key) (tells m.new view work) = update_told m.new at key made view full table made_fits in
+    let reported : UpdateReported m.new made view (ghost_row m view key) (tells m.new view work) = update_reported m.new at key made view full table made_fits in
     let keyed : key_of (key_places m.new) made ≡ key = same ∙ sym one in
     let makes : rows_after_all (key_places m.new) (tells m.new view work).changes view ≡ rows_after_all (key_places m.new) (updating made (ghost_row m view key)) view =
-    update_makes m.new made view (ghost_row m view key) (tells m.new view work) told (ap (ghost_row m view) keyed) table.ascends not_refused in
+    update_makes m.new made view (ghost_row m view key) (tells m.new view work) reported (ap (ghost_row m view) keyed) table.ascends not_refused in
     let whole : rows_after_all (key_places m.new) (tells m.new view work).changes view ≡ rows_after_all (key_places m.new) (updating made (ghost_row m view (key_of (key_places m.new) made))) view =
     makes ∙ ap (λ (k : Row). rows_after_all (key_places m.new) (updating made (ghost_row m view k)) view) (sym keyed) in
     let mine : is_locked m.new all key ≡ true = update_locks m.new at key (Ok (all_set made)) view all grant.needed in
@@ -279,16 +279,16 @@ half_joins m rows log done own all others keys progress ghost key planned now gr
     let work : Work = delete_work m rows planned key in
     let view : List Row = view_of m ghost in
     let at : Clustered m.new = clustered m.new planned.new_key in
-    let names : NamesRows m.new (tells m.new view work).changes = told_names m rows log done (λ _. false) progress ghost work planned now.under_way grant.sound in
+    let names : NamesRows m.new (tells m.new view work).changes = reported_names m rows log done (λ _. false) progress ghost work planned now.under_way grant.sound in
     let first : NamesRows m.new ghost.batch = batch_names m rows log done (λ _. false) progress ghost planned now.under_way in
     let covered : Covered m.new all (ghost.batch ++ (tells m.new view work).changes) = batch_covered m own all ghost work now.granted.batch grant.within grant.needed in
-    let told : (tells m.new view work).changes ≡ deleting (ghost_row m view key) = delete_told m.new at key view full (view_table m rows log done (λ _. false) progress ghost planned now.under_way).ascends in
+    let reported : (tells m.new view work).changes ≡ deleting (ghost_row m view key) = delete_reported m.new at key view full (view_table m rows log done (λ _. false) progress ghost planned now.under_way).ascends in
     let keyed = covered_keys m.new planned.new_key all (ghost.batch ++ (tells m.new view work).changes) (both (λ c. AllByRecursion (IsRow m.new.columns) (rows_of c)) ghost.batch (tells m.new view work).changes first names) covered in
     let disjoint = all_disjoint m.new planned.new_key all others (tells m.new view work).changes ghost.chunk grant.apart names (covered_more m.new (needs m.new view work) all (tells m.new view work).changes grant.needed (tells_covered m.new view work)) (chunk_names m rows log done (λ _. false) progress ghost planned now.under_way) now.granted.chunk in
     record {
-      under_way = subst (λ (cs : List Change). IsUnderWay m rows log done (is_key key) (record progress { applier_holds = is_locked m.new all }) (record ghost { batch = ghost.batch ++ cs })) (sym told)
+      under_way = subst (λ (cs : List Change). IsUnderWay m rows log done (is_key key) (record progress { applier_holds = is_locked m.new all }) (record ghost { batch = ghost.batch ++ cs })) (sym reported)
           (half_goes_on m rows log done progress ghost (is_locked m.new all) key (held_free m all others keys progress grant.apart now.granted.copier_holds now.granted.taken)
-          (subst (λ (cs : List Change). NamesHeld (key_places m.new) (is_locked m.new all) (ghost.batch ++ cs)) told keyed) (subst (λ (cs : List Change). AllDisjoint m.new cs ghost.chunk) told disjoint) now.under_way);
+          (subst (λ (cs : List Change). NamesHeld (key_places m.new) (is_locked m.new all) (ghost.batch ++ cs)) reported keyed) (subst (λ (cs : List Change). AllDisjoint m.new cs ghost.chunk) reported disjoint) now.under_way);
       granted = granted_more m rows log done (λ _. false) own all others keys progress (record progress { applier_holds = is_locked m.new all }) ghost work refl refl now grant;
     }
 
@@ -300,14 +300,14 @@ pub half_empty : (m : Migration) (rows : List Row) (log : List RowEvent) (done :
     → ghost_row m (view_of m (record ghost { batch = ghost.batch ++ (tells m.new (view_of m ghost) (delete_work m rows planned key)).changes })) key ≡ None
 half_empty m rows log done progress ghost key planned now full =
     let view : List Row = view_of m ghost in
-    let told : (tells m.new view (delete_work m rows planned key)).changes ≡ deleting (ghost_row m view key) = delete_told m.new (clustered m.new planned.new_key) key view full (view_table m rows log done (λ _. false) progress ghost planned now).ascends in
-    ap (λ (rs : List Row). ghost_row m rs key) (after_both (key_places m.new) ghost.batch (tells m.new view (delete_work m rows planned key)).changes ghost.committed ∙ ap (λ (cs : List Change). rows_after_all (key_places m.new) cs view) told)
+    let reported : (tells m.new view (delete_work m rows planned key)).changes ≡ deleting (ghost_row m view key) = delete_reported m.new (clustered m.new planned.new_key) key view full (view_table m rows log done (λ _. false) progress ghost planned now).ascends in
+    ap (λ (rs : List Row). ghost_row m rs key) (after_both (key_places m.new) ghost.batch (tells m.new view (delete_work m rows planned key)).changes ghost.committed ∙ ap (λ (cs : List Change). rows_after_all (key_places m.new) cs view) reported)
     ∙ (deleted (key_places m.new) key view).here
 
 -- *UPDATE in place of a row that has no image*, where the new table has no row of its key: Ok(0)
-unfit_told : (schema : Schema) (at : Clustered schema) (key : Row) (fault : _) (rows : List Row) → no_null key ≡ true → Ascends (key_places schema) rows → find (is_at (key_places schema) key) rows ≡ None → (tells schema rows (works.Update (at_key schema at key) (Err fault))).changes ≡ []
+unfit_reported : (schema : Schema) (at : Clustered schema) (key : Row) (fault : _) (rows : List Row) → no_null key ≡ true → Ascends (key_places schema) rows → find (is_at (key_places schema) key) rows ≡ None → (tells schema rows (works.Update (at_key schema at key) (Err fault))).changes ≡ []
 unfolding tells
-unfit_told schema at key fault rows full ascends none = rw (key_met schema at key rows full ascends, none) refl
+unfit_reported schema at key fault rows full ascends none = rw (key_met schema at key rows full ascends, none) refl
 
 abbrev pub unfit_work : (m : Migration) (rows : List Row) → IsPlanned m rows → Row → UnfitAt → Work
 unfit_work m rows planned key fault = works.Update (at_key m.new (clustered m.new planned.new_key) key) (Err fault)
@@ -323,6 +323,6 @@ unfit_joins m rows log done own all others keys progress ghost before row fault 
     let full = full_key m.schema planned.old_key before (due_before m rows log done (λ _. false) progress ghost before row planned now.under_way due) in
     let one : key ≡ key_of (key_places m.schema) row = keys_stay m planned.keeps before row stays in
     let mine : is_locked m.new all key ≡ true = update_locks m.new at key (Err fault) view all grant.needed in
-    let told : (tells m.new view (unfit_work m rows planned key fault)).changes ≡ [] = unfit_told m.new at key fault view full (view_table m rows log done (λ _. false) progress ghost planned now.under_way).ascends none in
+    let reported : (tells m.new view (unfit_work m rows planned key fault)).changes ≡ [] = unfit_reported m.new at key fault view full (view_table m rows log done (λ _. false) progress ghost planned now.under_way).ascends none in
     statement_joins m rows log done (λ _. false) own all others keys progress ghost (unfit_work m rows planned key fault) (Update before row) planned now grant more due mine (subst (λ (k : Row). is_locked m.new all k ≡ true) one mine)
-    (λ k. subst (λ (cs : List Change). AppliedAt (timeline_of m rows log) (λ _. false) progress.reached (ghost_row m view) (ghost_row m (rows_after_all (key_places m.new) cs view)) k) (sym told) (misses m rows log progress.reached before row view due stays one (subst (λ (key : Row). ghost_row m view key ≡ None) one none) k))
+    (λ k. subst (λ (cs : List Change). AppliedAt (timeline_of m rows log) (λ _. false) progress.reached (ghost_row m view) (ghost_row m (rows_after_all (key_places m.new) cs view)) k) (sym reported) (misses m rows log progress.reached before row view due stays one (subst (λ (key : Row). ghost_row m view key ≡ None) one none) k))

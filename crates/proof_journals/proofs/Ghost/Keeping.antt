@@ -10,7 +10,7 @@ use Rattle.server_locks.specs.declared.row_locks.lock.Lock.{Lock}
 use Rattle.table_store.specs.Databases.{TableRows, Database, find_table, with_change}
 use Rattle.proof_journals.proofs.Ghost.Ending.{batch_ends, batch_lost, batch_unknown, chunk_ends, chunk_lost, chunk_unknown, log_joins}
 use Rattle.proof_journals.proofs.Ghost.Fitting.{events_lead, found_behind}
-use Rattle.proof_journals.specs.Ghost.Fitting.{EventsFit}
+use Rattle.proof_journals.specs.Ghost.FittingEvents.{EventsFit}
 use Rattle.proof_journals.specs.Ghost.Invariant.{GhostInvariant, IsServed, NotOf}
 use Rattle.proof_journals.specs.Ghost.Joined.{IsJoined}
 use Rattle.proof_journals.specs.Ghost.Relation.Views.{Progress}
@@ -19,7 +19,7 @@ use Rattle.proof_journals.specs.Ghost.Rows.Moments.{LogFits, Row, rows_after, ro
 use Rattle.proof_journals.specs.Ghost.Rows.Timelines.{IsPlanned, Migration}
 use Rattle.proof_journals.specs.Ghost.Rows.Views.{GhostRows, is_among, is_done, is_done_in}
 use Rattle.proof_journals.specs.Scenes.{Besides, SessionHold, Stored, no_hold}
-use Rattle.server_model.specs.Jobs.{after_events, change_table, events_of}
+use Rattle.server_model.specs.Operations.{after_events, change_table, events_of}
 use Rattle.server_model.proofs.LockedRows.Finding.{change_if, found_after}
 use Rattle.server_model.proofs.LockedRows.Tests.{same_bytes}
 use Rattle.server_model.specs.LockedRows.Databases.{IsWellFormedDatabase}
@@ -110,17 +110,17 @@ batch_keeps m rows done taken progress ghost copier applier now after hold holds
     }
 
 -- *The chunk's COMMIT*
-pub chunk_keeps : (m : Migration) (rows : List Row) (left behind : Option Span) (keys : List Row) (half : Row → Bool) (taken : List Row) (progress : Progress Row) (ghost : GhostRows) (copier applier : ℕ) (now after : Stored) (hold holds : ℕ → SessionHold) → IsPlanned m rows → IsServed now hold
-    → GhostInvariant m rows (is_done_in left behind keys) half taken progress ghost copier applier now hold → (applier == copier) ≡ false → ((key : Row) → is_among taken key ≡ is_among keys key)
+pub chunk_keeps : (m : Migration) (rows : List Row) (left following : Option Span) (keys : List Row) (half : Row → Bool) (taken : List Row) (progress : Progress Row) (ghost : GhostRows) (copier applier : ℕ) (now after : Stored) (hold holds : ℕ → SessionHold) → IsPlanned m rows → IsServed now hold
+    → GhostInvariant m rows (is_done_in left following keys) half taken progress ghost copier applier now hold → (applier == copier) ≡ false → ((key : Row) → is_among taken key ≡ is_among keys key)
     → Besides copier hold holds no_hold → after.tables ≡ after_events now.tables (hold copier).writes → after.log ≡ now.log ++ (hold copier).writes
-    → GhostInvariant m rows (is_done behind) half [] (record progress { end = length after.log; copier_holds = λ _. false }) (record ghost { committed = rows_after_all (key_places m.new) ghost.chunk ghost.committed; chunk = [] }) copier applier after holds
-chunk_keeps m rows left behind keys half taken progress ghost copier applier now after hold holds planned served kept differ all besides tables log =
+    → GhostInvariant m rows (is_done following) half [] (record progress { end = length after.log; copier_holds = λ _. false }) (record ghost { committed = rows_after_all (key_places m.new) ghost.chunk ghost.committed; chunk = [] }) copier applier after holds
+chunk_keeps m rows left following keys half taken progress ghost copier applier now after hold holds planned served kept differ all besides tables log =
     let writes : List RowEvent = (hold copier).writes in
     let ghost' : GhostRows = record ghost { committed = rows_after_all (key_places m.new) ghost.chunk ghost.committed; chunk = [] } in
     record {
       joined = rw (besides.here, besides.there applier differ)
-          (joined_then m rows (is_done behind) half (hold applier).locks [] [] (record progress { copier_holds = λ _. false }) ghost' now after writes planned served.well_formed (served.fits copier) kept.old log
-          (chunk_ends m rows now.log left behind keys half (hold applier).locks (hold copier).locks taken progress ghost planned all kept.joined));
+          (joined_then m rows (is_done following) half (hold applier).locks [] [] (record progress { copier_holds = λ _. false }) ghost' now after writes planned served.well_formed (served.fits copier) kept.old log
+          (chunk_ends m rows now.log left following keys half (hold applier).locks (hold copier).locks taken progress ghost planned all kept.joined));
       old = old_then m rows now after writes served.well_formed (served.fits copier) kept.old tables log;
       new = new_then m ghost.chunk ghost.committed now after writes served.well_formed (served.fits copier) kept.chunk kept.new tables;
       batch = ap (λ (s : SessionHold). s.writes) (besides.there applier differ) ∙ kept.batch;
@@ -146,17 +146,17 @@ batch_keeps_lost m rows done taken progress ghost copier applier now after hold 
       differ = kept.differ;
     }
 
-pub chunk_keeps_lost : (m : Migration) (rows : List Row) (left behind : Option Span) (keys : List Row) (half : Row → Bool) (taken : List Row) (progress : Progress Row) (ghost : GhostRows) (copier applier : ℕ) (now after : Stored) (hold holds : ℕ → SessionHold) → IsPlanned m rows → IsServed now hold
-    → GhostInvariant m rows (is_done_in left behind keys) half taken progress ghost copier applier now hold → (applier == copier) ≡ false
+pub chunk_keeps_lost : (m : Migration) (rows : List Row) (left following : Option Span) (keys : List Row) (half : Row → Bool) (taken : List Row) (progress : Progress Row) (ghost : GhostRows) (copier applier : ℕ) (now after : Stored) (hold holds : ℕ → SessionHold) → IsPlanned m rows → IsServed now hold
+    → GhostInvariant m rows (is_done_in left following keys) half taken progress ghost copier applier now hold → (applier == copier) ≡ false
     → Besides copier hold holds no_hold → after.tables ≡ after_events now.tables (hold copier).writes → after.log ≡ now.log ++ (hold copier).writes
     → GhostInvariant m rows (is_done left) half [] (record progress { end = length after.log; copier_holds = λ _. false }) (record ghost { committed = rows_after_all (key_places m.new) ghost.chunk ghost.committed; chunk = [] }) copier applier after holds
-chunk_keeps_lost m rows left behind keys half taken progress ghost copier applier now after hold holds planned served kept differ besides tables log =
+chunk_keeps_lost m rows left following keys half taken progress ghost copier applier now after hold holds planned served kept differ besides tables log =
     let writes : List RowEvent = (hold copier).writes in
     let ghost' : GhostRows = record ghost { committed = rows_after_all (key_places m.new) ghost.chunk ghost.committed; chunk = [] } in
     record {
       joined = rw (besides.here, besides.there applier differ)
           (joined_then m rows (is_done left) half (hold applier).locks [] [] (record progress { copier_holds = λ _. false }) ghost' now after writes planned served.well_formed (served.fits copier) kept.old log
-          (chunk_unknown m rows now.log left behind keys half (hold applier).locks (hold copier).locks taken progress ghost planned kept.joined));
+          (chunk_unknown m rows now.log left following keys half (hold applier).locks (hold copier).locks taken progress ghost planned kept.joined));
       old = old_then m rows now after writes served.well_formed (served.fits copier) kept.old tables log;
       new = new_then m ghost.chunk ghost.committed now after writes served.well_formed (served.fits copier) kept.chunk kept.new tables;
       batch = ap (λ (s : SessionHold). s.writes) (besides.there applier differ) ∙ kept.batch;
@@ -177,12 +177,12 @@ batch_keeps_back m rows done half taken progress ghost copier applier now hold h
       differ = kept.differ;
     }
 
-pub chunk_keeps_back : (m : Migration) (rows : List Row) (left behind : Option Span) (keys : List Row) (half : Row → Bool) (taken : List Row) (progress : Progress Row) (ghost : GhostRows) (copier applier : ℕ) (now : Stored) (hold holds : ℕ → SessionHold)
-    → GhostInvariant m rows (is_done_in left behind keys) half taken progress ghost copier applier now hold → (applier == copier) ≡ false → Besides copier hold holds no_hold
+pub chunk_keeps_back : (m : Migration) (rows : List Row) (left following : Option Span) (keys : List Row) (half : Row → Bool) (taken : List Row) (progress : Progress Row) (ghost : GhostRows) (copier applier : ℕ) (now : Stored) (hold holds : ℕ → SessionHold)
+    → GhostInvariant m rows (is_done_in left following keys) half taken progress ghost copier applier now hold → (applier == copier) ≡ false → Besides copier hold holds no_hold
     → GhostInvariant m rows (is_done left) half [] (record progress { copier_holds = λ _. false }) (record ghost { chunk = [] }) copier applier now holds
-chunk_keeps_back m rows left behind keys half taken progress ghost copier applier now hold holds kept differ besides =
+chunk_keeps_back m rows left following keys half taken progress ghost copier applier now hold holds kept differ besides =
     record {
-      joined = rw (besides.here, besides.there applier differ) (chunk_lost m rows now.log left behind keys half (hold applier).locks (hold copier).locks taken progress ghost kept.joined);
+      joined = rw (besides.here, besides.there applier differ) (chunk_lost m rows now.log left following keys half (hold applier).locks (hold copier).locks taken progress ghost kept.joined);
       old = kept.old;
       new = kept.new;
       batch = ap (λ (s : SessionHold). s.writes) (besides.there applier differ) ∙ kept.batch;
@@ -205,15 +205,15 @@ other_keeps m rows done half taken progress ghost copier applier number now hold
 
 -- ---- before the migration is under way: the table from the log's first event on
 
-pub record TableStands (m : Migration) (rows : List Row) (now : Stored) : Type 0 where
+pub record TableExists (m : Migration) (rows : List Row) (now : Stored) : Type 0 where
   pub log_fits : LogFits m.name m.schema rows now.log
   pub found : find_table m.name now.tables ≡ Some (record { schema = m.schema; rows = rows_at m.name (key_places m.schema) rows now.log (length now.log) })
 
-pub table_opens : (m : Migration) (rows : List Row) (tables : Database) → find_table m.name tables ≡ Some (record { schema = m.schema; rows = rows }) → TableStands m rows (record { tables = tables; log = [] })
+pub table_opens : (m : Migration) (rows : List Row) (tables : Database) → find_table m.name tables ≡ Some (record { schema = m.schema; rows = rows }) → TableExists m rows (record { tables = tables; log = [] })
 unfolding LogFits rows_at
 table_opens m rows tables found = record { log_fits = tt; found = found }
 
-pub table_commits : (m : Migration) (rows : List Row) (now after : Stored) (hold : ℕ → SessionHold) (number : ℕ) → IsServed now hold → TableStands m rows now → after.tables ≡ after_events now.tables (hold number).writes → after.log ≡ now.log ++ (hold number).writes → TableStands m rows after
+pub table_commits : (m : Migration) (rows : List Row) (now after : Stored) (hold : ℕ → SessionHold) (number : ℕ) → IsServed now hold → TableExists m rows now → after.tables ≡ after_events now.tables (hold number).writes → after.log ≡ now.log ++ (hold number).writes → TableExists m rows after
 table_commits m rows now after hold number served stands tables log =
     let writes : List RowEvent = (hold number).writes in
     record {
@@ -222,5 +222,5 @@ table_commits m rows now after hold number served stands tables log =
       found = old_then m rows now after writes served.well_formed (served.fits number) stands.found tables log;
     }
 
-pub table_moves : (m : Migration) (rows : List Row) (now after : Stored) → TableStands m rows now → after.log ≡ now.log → find_table m.name after.tables ≡ find_table m.name now.tables → TableStands m rows after
+pub table_moves : (m : Migration) (rows : List Row) (now after : Stored) → TableExists m rows now → after.log ≡ now.log → find_table m.name after.tables ≡ find_table m.name now.tables → TableExists m rows after
 table_moves m rows now after stands log same = record { log_fits = rw log stands.log_fits; found = rw log (same ∙ stands.found) }

@@ -8,17 +8,17 @@ use Rattle.base_values.specs.Spans.{has, meets, point}
 use Rattle.base_values.proofs.SpanLaws.{point_has_key, common_key}
 use Rattle.base_values.specs.declared.gho_schema.schema.Schema.{Schema}
 use Rattle.base_values.specs.declared.gho_schema.schema.Index.{Index}
-use Rattle.base_values.specs.GhoSchema.Clustering.{clustered_place, unique_at}
+use Rattle.base_values.specs.GhoSchema.ClusteredKey.{clustered_place, unique_at}
 use Rattle.base_values.specs.GhoSchema.Rows.{key_of, key_places, places_of}
 use Rattle.base_values.specs.GhoSchema.Tables.{IsRow, no_null}
 use Rattle.server_locks.specs.declared.row_locks.lock.Lock.{Lock}
-use Rattle.server_locks.specs.RowLocks.Granting.{conflict}
+use Rattle.server_locks.specs.RowLocks.Grants.{conflict}
 use Rattle.table_store.specs.ClusteredKeys.{HasClusteredKey}
 use Rattle.table_store.proofs.Orders.{Row}
 use Rattle.server_model.specs.declared.work.Reach.{Reach}
 use Rattle.table_store.proofs.TableLaws.{key_no_null}
-use Rattle.proof_journals.specs.Ghost.Holding.{Clustered, is_locked, is_place, locks_key}
-use Rattle.server_model.specs.Needing.{lock_on, points}
+use Rattle.proof_journals.specs.Ghost.HeldKeys.{Clustered, is_locked, is_place, locks_key}
+use Rattle.server_model.specs.Needs.{lock_on, points}
 use Rattle.server_model.proofs.LockedRows.WellFormed.{nulls}
 use Rattle.server_model.proofs.LockedRows.Points.{among-within, point_of}
 use Rattle.server_model.proofs.LockedRows.Tests.{are_one, are_same, same_bytes, same_number}

@@ -12,17 +12,17 @@ use Rattle.server_model.specs.declared.entry.Asked.{Asked}
 use Rattle.server_model.specs.declared.entry.Asked.TheVariants.{Call, Poll, Cut, Command}
 use Rattle.server_model.specs.declared.request.Request.{Request}
 use Rattle.server_model.specs.declared.request.Request.TheVariants as requests
-use Rattle.server_model.specs.Effects.{Effect, all_stand, begins, created, effect, effect_unless, defined, dropped, is_outside, locks_if, renamed_or, result_effect}
+use Rattle.server_model.specs.Effects.{Effect, all_exist, begins, created, effect, effect_unless, defined, dropped, is_outside, locks_if, renamed_or, result_effect}
 use Rattle.server_model.specs.Effects.Effect.{Rests, Grows, Writes, Forgets, Moves, Locks, Unlocks}
 use Rattle.server_model.specs.Entries.{is_command, is_client}
-use Rattle.server_model.specs.Jobs.{says, job_says, copy_job}
-use Rattle.server_model.specs.Locking.{need, need_within, blocker}
-use Rattle.server_model.specs.Serving.{at_rest, called_unless, calls, does, done, forgets, goes_on, holding, is_over, leaves, locking, loses, polled_of, polled_over, polled_unless, polls, serves, unlocking, without_waiting}
+use Rattle.server_model.specs.Operations.{statement_result, operation_result, copy_operation}
+use Rattle.server_model.specs.Blockers.{need, need_within, blocker}
+use Rattle.server_model.specs.PlainServer.{at_rest, called_unless, calls, does, done, forgets, goes_on, holding, is_over, leaves, locking, loses, polled_of, polled_over, polled_unless, polls, serves, unlocking, without_waiting}
 use Rattle.server_model.specs.States.{State, is_in_transaction, opened, session_of, view, waiting_of, with_session, writes_of}
 use Rattle.tool_program.specs.JournalWords.Journals.{after_entry, opens}
 use Rattle.proof_journals.specs.Scenes.{Besides, SessionHold, Stored, no_hold}
 use Rattle.proof_journals.specs.Holdings.{Face, face_in, face_of, no_face, stored}
-use Rattle.proof_journals.specs.Turns.{about, answer_at, inner, missed_at, scene_state, told_at}
+use Rattle.proof_journals.specs.Turns.{about, answer_at, inner, missed_at, scene_state, reported_at}
 use Rattle.proof_journals.proofs.Answering.{lost_faces}
 use Rattle.proof_journals.proofs.Faces.{faces_opened, faces_with, opened_live}
 use Rattle.proof_journals.proofs.Held.{hold_in, holding_face, rests_face, locking_face, unlocking_face}
@@ -33,7 +33,7 @@ use Rattle.proof_journals.proofs.Turning.{holds_besides}
 use Rattle.proof_journals.proofs.Tooling.{AreApart, final}
 use Rattle.proof_journals.proofs.ServerTurns.Others.{at_wait}
 use Rattle.proof_journals.specs.Ghost.Laws.{EffectsAreDone}
-use Rattle.proof_journals.specs.Ghost.Leaving.{EffectLeaves, is_lost, unless_lost, was_done, where_done, with_grant}
+use Rattle.proof_journals.specs.Ghost.EffectStates.{EffectLeaves, is_lost, unless_lost, was_done, where_done, with_grant}
 
 abbrev pub holds_of : State → ℕ → SessionHold
 holds_of state n = (face_of state.sessions n).hold
@@ -100,7 +100,7 @@ effect_left now w number there lost (Grows answer need events) free = (
 )
 effect_left now w number there lost (Writes answer events) free =
     let wrote : writes_of (session_of number now.sessions) ≡ (holds_of now number).writes = ap writes_of there.is ∙ ap (λ (h : SessionHold). h.writes) (hold_found now number there) in (
-      ap (λ (s : Stored). s.tables) (stored_final lost number (does (Writes answer events) (at_wait now w) number).after) ∙ ap (λ (own : List RowEvent). Rattle.server_model.specs.Jobs.after_events now.tables (own ++ events)) wrote,
+      ap (λ (s : Stored). s.tables) (stored_final lost number (does (Writes answer events) (at_wait now w) number).after) ∙ ap (λ (own : List RowEvent). Rattle.server_model.specs.Operations.after_events now.tables (own ++ events)) wrote,
       ap (λ (s : Stored). s.log) (stored_final lost number (does (Writes answer events) (at_wait now w) number).after) ∙ ap (λ (own : List RowEvent). now.log ++ (own ++ events)) wrote,
       rests_so now number there lost _ _ w,
     )
@@ -134,7 +134,7 @@ effect_apart now w number false busy seen requests.Begin free = none_needed now 
 effect_apart now w number false busy seen requests.Commit free = tt
 effect_apart now w number false busy seen requests.Rollback free = tt
 effect_apart now w number false busy seen (requests.Do statement) free = at busy where
-  at : (b : Bool) → NeedsApart now number (result_effect b (need_within seen (requests.Do statement)) (says seen statement))
+  at : (b : Bool) → NeedsApart now number (result_effect b (need_within seen (requests.Do statement)) (statement_result seen statement))
   at true = free
   at false = tt
 effect_apart now w number false busy seen (requests.Ends table) free = tt
@@ -144,10 +144,10 @@ effect_apart now w number false busy seen (requests.BeginSpan table span size) f
   at None = tt
   at (Some t) = free
 effect_apart now w number false busy seen (requests.CopyRow from into map key) free = at busy where
-  at : (b : Bool) → NeedsApart now number (result_effect b (need_within seen (requests.CopyRow from into map key)) (job_says seen (copy_job seen from into map key)))
+  at : (b : Bool) → NeedsApart now number (result_effect b (need_within seen (requests.CopyRow from into map key)) (operation_result seen (copy_operation seen from into map key)))
   at true = free
   at false = tt
-effect_apart now w number false busy seen (requests.LockTables names) free = at (all_stand names now.tables) where
+effect_apart now w number false busy seen (requests.LockTables names) free = at (all_exist names now.tables) where
   at : (b : Bool) → NeedsApart now number (locks_if b names)
   at true = tt
   at false = tt
@@ -204,17 +204,17 @@ served_left now number (Command word) request lost there one is answered = absur
 served_left now number Cut request lost there one is answered = absurd (let no : false ≡ true = answered in cc)
 
 -- ... and heard, or missed in its turn
-turn_left : (now : State) (number : ℕ) (asked : Asked) (side : Option Side) (request : Request) (given : Answer) → There now number → OneIn now.sessions → about now number asked ≡ Some request → told_at side (answer_at side (serves now number asked).answer) (missed_at side (serves now number asked).answer) ≡ Some given
+turn_left : (now : State) (number : ℕ) (asked : Asked) (side : Option Side) (request : Request) (given : Answer) → There now number → OneIn now.sessions → about now number asked ≡ Some request → reported_at side (answer_at side (serves now number asked).answer) (missed_at side (serves now number asked).answer) ≡ Some given
     → was_done given ≡ true → EffectLeaves (effect (where_done asked number now) number request) (is_lost side) number (stored now) (stored (leaves side now number asked)) (holds_of now) (holds_of (leaves side now number asked))
-turn_left now number asked None request given there one is told answered =
+turn_left now number asked None request given there one is reported answered =
     served_left now number asked request false there one is (let same : (serves now number asked).answer ≡ given = cc in ap was_done same ∙ answered)
-turn_left now number asked (Some Before) request given there one is told answered = absurd cc
-turn_left now number asked (Some After) request given there one is told answered =
+turn_left now number asked (Some Before) request given there one is reported answered = absurd cc
+turn_left now number asked (Some After) request given there one is reported answered =
     served_left now number asked request true there one is (let same : (serves now number asked).answer ≡ given = cc in ap was_done same ∙ answered)
 
 -- *Deeds are done*
 pub effects_are_done : EffectsAreDone
-effects_are_done limits scene journal entry request given run told is heard answered =
+effects_are_done limits scene journal entry request given run reported is heard answered =
     let before : State = scene_state limits scene journal in
     let number : ℕ = entry.session in
     let nothing : Bool = is_command entry.asked in
@@ -224,8 +224,8 @@ effects_are_done limits scene journal entry request given run told is heard answ
     let same : stored now ≡ stored before = stored_opened nothing tool number before in
     let faces : (n : ℕ) → face_of now.sessions n ≡ face_of before.sessions n = λ n. faces_opened nothing tool number n before in
     let live : nothing ≡ false = no_command now number entry.asked request is in
-    let was : told_at entry.side (answer_at entry.side (inner before entry)) (missed_at entry.side (inner before entry)) ≡ Some given =
-    sym (ap (λ (g : Answer). told_at entry.side g entry.missed) told.answer ∙ ap (λ (m : Option Answer). told_at entry.side (answer_at entry.side (inner before entry)) m) told.missed) ∙ heard in
+    let was : reported_at entry.side (answer_at entry.side (inner before entry)) (missed_at entry.side (inner before entry)) ≡ Some given =
+    sym (ap (λ (g : Answer). reported_at entry.side g entry.missed) reported.answer ∙ ap (λ (m : Option Answer). reported_at entry.side (answer_at entry.side (inner before entry)) m) reported.missed) ∙ heard in
     let left : EffectLeaves (effect (where_done entry.asked number now) number request) (is_lost entry.side) number (stored now) (stored (after_entry before entry)) (holds_of now) (holds_of (after_entry before entry)) =
     found_live (session_of number now.sessions) (EffectLeaves (effect (where_done entry.asked number now) number request) (is_lost entry.side) number (stored now) (stored (after_entry before entry)) (holds_of now) (holds_of (after_entry before entry)))
     (opened_live nothing tool number before live) (λ found there. turn_left now number entry.asked entry.side request given (record { found = found; is = there }) (opened_one nothing tool number before held.one) is was answered) in

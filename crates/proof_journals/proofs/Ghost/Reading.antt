@@ -11,13 +11,13 @@ use Rattle.proof_journals.proofs.Ghost.Doing.{end_does}
 use Rattle.proof_journals.proofs.Ghost.Ending.{batch_ends}
 use Rattle.proof_journals.specs.Ghost.Doings.{changes_in, own_change, IsWhole, planned}
 use Rattle.proof_journals.specs.Ghost.Invariant.{GhostInvariant}
-use Rattle.proof_journals.specs.Ghost.Reading.{EventsTold, IsTold, own_changes}
+use Rattle.proof_journals.specs.Ghost.OwnChanges.{EventsReported, IsReported, own_changes}
 use Rattle.proof_journals.specs.Ghost.Relation.Views.{Progress}
 use Rattle.proof_journals.specs.Ghost.Rows.Moments.{Row, rows_after_all}
 use Rattle.proof_journals.specs.Ghost.Rows.Timelines.{IsPlanned, Migration}
 use Rattle.proof_journals.specs.Ghost.Rows.Views.{GhostRows}
 use Rattle.proof_journals.specs.Scenes.{SessionHold, Stored, no_hold}
-use Rattle.server_model.specs.Showing.{ReadEvent, after_last, read_from, events_given, events_read}
+use Rattle.server_model.specs.Listings.{ReadEvent, after_last, read_from, events_given, events_read}
 use Rattle.server_model.specs.States.{is_of}
 use Rattle.server_model.proofs.LockedRows.Tests.{are_one, are_same}
 
@@ -48,27 +48,27 @@ first_of : (log : List RowEvent) (place : ℕ) (event : RowEvent) (part : List R
 first_of log place event part is = let e : place ≡ place + 0 = omega arith in ap (slice_get log) e ∙ is.at 0
 
 -- one event more in front
-abbrev told_first : RowEvent → EventsTold → EventsTold
-told_first event told = record { events = event ∷ told.events; next = told.next }
+abbrev reported_first : RowEvent → EventsReported → EventsReported
+reported_first event reported = record { events = event ∷ reported.events; next = reported.next }
 
-told_none : (name : List ℕ) (log : List RowEvent) (place : ℕ) (part : List RowEvent) → IsPart log place part → IsTold name log place (record { events = []; next = place })
+reported_none : (name : List ℕ) (log : List RowEvent) (place : ℕ) (part : List RowEvent) → IsPart log place part → IsReported name log place (record { events = []; next = place })
 unfolding own_changes changes_in
-told_none name log place part is = let size = is.size in record { steps = 0; sum = omega arith; within = omega (arith, size); are = refl }
+reported_none name log place part is = let size = is.size in record { steps = 0; sum = omega arith; within = omega (arith, size); are = refl }
 
 not_own : (name : List ℕ) (tables : List (List ℕ)) (event : RowEvent) (b : Bool) → bytes_eq event.table name ≡ b → list_any (bytes_eq name) tables ≡ true → list_any (bytes_eq event.table) tables ≡ false → cond b (event.change ∷ []) [] ≡ []
 not_own name tables event true same named none =
     absurd (true≢false (sym (subst (λ (n : List ℕ). list_any (bytes_eq n) tables ≡ true) (sym (are_same event.table name same)) named) ∙ none))
 not_own name tables event false same named none = refl
 
-told_more : (name : List ℕ) (log : List RowEvent) (place : ℕ) (event : RowEvent) (told : EventsTold) → slice_get log place ≡ Some event → IsTold name log (place + 1) told → IsTold name log place (told_first event told)
+reported_more : (name : List ℕ) (log : List RowEvent) (place : ℕ) (event : RowEvent) (reported : EventsReported) → slice_get log place ≡ Some event → IsReported name log (place + 1) reported → IsReported name log place (reported_first event reported)
 unfolding own_changes changes_in
-told_more name log place event told there rest =
+reported_more name log place event reported there rest =
     let sum = rest.sum in
     record { steps = suc rest.steps; sum = omega (arith, sum); within = rest.within; are = rw there (ap (λ (cs : List Change). own_change name (Some event) ++ cs) rest.are) }
 
-told_past : (name : List ℕ) (log : List RowEvent) (place : ℕ) (event : RowEvent) (told : EventsTold) → slice_get log place ≡ Some event → own_change name (Some event) ≡ [] → IsTold name log (place + 1) told → IsTold name log place told
+reported_past : (name : List ℕ) (log : List RowEvent) (place : ℕ) (event : RowEvent) (reported : EventsReported) → slice_get log place ≡ Some event → own_change name (Some event) ≡ [] → IsReported name log (place + 1) reported → IsReported name log place reported
 unfolding changes_in
-told_past name log place event told there none rest =
+reported_past name log place event reported there none rest =
     let sum = rest.sum in
     record { steps = suc rest.steps; sum = omega (arith, sum); within = rest.within; are = rest.are ∙ sym (rw there (ap (λ (cs : List Change). cs ++ changes_in name log (place + 1) rest.steps) none)) }
 
@@ -78,43 +78,43 @@ events_in given = map (λ (read : ReadEvent). read.event) given
 
 -- as many as were asked for: what is told ends behind the last of them
 full_by : (name : List ℕ) (tables : List (List ℕ)) (log : List RowEvent) (n place last : ℕ) (event : RowEvent) (part : List RowEvent) (others : List ReadEvent) (b : Bool) → is_of tables event ≡ b → list_any (bytes_eq name) tables ≡ true → IsPart log place (event ∷ part)
-    → length (take (suc n) (cond b (record { event = event; behind = place + 1 } ∷ others) others)) ≡ suc n
-    → ((m d : ℕ) → length (take (suc m) others) ≡ suc m → IsTold name log (place + 1) (record { events = events_in (take (suc m) others); next = after_last d (take (suc m) others) }))
-    → IsTold name log place (record { events = events_in (take (suc n) (cond b (record { event = event; behind = place + 1 } ∷ others) others)); next = after_last last (take (suc n) (cond b (record { event = event; behind = place + 1 } ∷ others) others)) })
+    → length (take (suc n) (cond b (record { event = event; following = place + 1 } ∷ others) others)) ≡ suc n
+    → ((m d : ℕ) → length (take (suc m) others) ≡ suc m → IsReported name log (place + 1) (record { events = events_in (take (suc m) others); next = after_last d (take (suc m) others) }))
+    → IsReported name log place (record { events = events_in (take (suc n) (cond b (record { event = event; following = place + 1 } ∷ others) others)); next = after_last last (take (suc n) (cond b (record { event = event; following = place + 1 } ∷ others) others)) })
 full_by name tables log zero place last event part others true is named at full rest =
-    told_more name log place event (record { events = []; next = place + 1 }) (first_of log place event part at) (told_none name log (place + 1) part (next_part log place event part at))
+    reported_more name log place event (record { events = []; next = place + 1 }) (first_of log place event part at) (reported_none name log (place + 1) part (next_part log place event part at))
 full_by name tables log (suc n) place last event part others true is named at full rest =
-    told_more name log place event (record { events = events_in (take (suc n) others); next = after_last (place + 1) (take (suc n) others) }) (first_of log place event part at) (rest n (place + 1) (let less : length (take (suc n) others) ≡ suc n = omega (arith, full) in less))
+    reported_more name log place event (record { events = events_in (take (suc n) others); next = after_last (place + 1) (take (suc n) others) }) (first_of log place event part at) (rest n (place + 1) (let less : length (take (suc n) others) ≡ suc n = omega (arith, full) in less))
 full_by name tables log n place last event part others false is named at full rest =
-    told_past name log place event (record { events = events_in (take (suc n) others); next = after_last last (take (suc n) others) }) (first_of log place event part at) (not_own name tables event (bytes_eq event.table name) refl named is) (rest n last full)
+    reported_past name log place event (record { events = events_in (take (suc n) others); next = after_last last (take (suc n) others) }) (first_of log place event part at) (not_own name tables event (bytes_eq event.table name) refl named is) (rest n last full)
 
-full_told : (name : List ℕ) (tables : List (List ℕ)) (log : List RowEvent) (part : List RowEvent) (place : ℕ) → list_any (bytes_eq name) tables ≡ true → IsPart log place part → (n last : ℕ) → length (take (suc n) (read_from tables place part)) ≡ suc n
-    → IsTold name log place (record { events = events_in (take (suc n) (read_from tables place part)); next = after_last last (take (suc n) (read_from tables place part)) })
+full_reported : (name : List ℕ) (tables : List (List ℕ)) (log : List RowEvent) (part : List RowEvent) (place : ℕ) → list_any (bytes_eq name) tables ≡ true → IsPart log place part → (n last : ℕ) → length (take (suc n) (read_from tables place part)) ≡ suc n
+    → IsReported name log place (record { events = events_in (take (suc n) (read_from tables place part)); next = after_last last (take (suc n) (read_from tables place part)) })
 unfolding read_from
-full_told name tables log [] place named is n last full = absurd (let no : ⊥ = omega (arith, full) in no)
-full_told name tables log (event ∷ part) place named is n last full =
-    full_by name tables log n place last event part (read_from tables (place + 1) part) (is_of tables event) refl named is full (full_told name tables log part (place + 1) named (next_part log place event part is))
+full_reported name tables log [] place named is n last full = absurd (let no : ⊥ = omega (arith, full) in no)
+full_reported name tables log (event ∷ part) place named is n last full =
+    full_by name tables log n place last event part (read_from tables (place + 1) part) (is_of tables event) refl named is full (full_reported name tables log part (place + 1) named (next_part log place event part is))
 
 -- fewer than were asked for: what is told ends at the log's end
 short_by : (name : List ℕ) (tables : List (List ℕ)) (log : List RowEvent) (n place : ℕ) (event : RowEvent) (part : List RowEvent) (others : List ReadEvent) (b : Bool) → is_of tables event ≡ b → list_any (bytes_eq name) tables ≡ true → IsPart log place (event ∷ part)
-    → length (take (suc n) (cond b (record { event = event; behind = place + 1 } ∷ others) others)) < suc n → ((m : ℕ) → length (take m others) < m → IsTold name log (place + 1) (record { events = events_in (take m others); next = length log }))
-    → IsTold name log place (record { events = events_in (take (suc n) (cond b (record { event = event; behind = place + 1 } ∷ others) others)); next = length log })
+    → length (take (suc n) (cond b (record { event = event; following = place + 1 } ∷ others) others)) < suc n → ((m : ℕ) → length (take m others) < m → IsReported name log (place + 1) (record { events = events_in (take m others); next = length log }))
+    → IsReported name log place (record { events = events_in (take (suc n) (cond b (record { event = event; following = place + 1 } ∷ others) others)); next = length log })
 short_by name tables log n place event part others true is named at less rest =
-    told_more name log place event (record { events = events_in (take n others); next = length log }) (first_of log place event part at) (rest n (omega (arith, less)))
+    reported_more name log place event (record { events = events_in (take n others); next = length log }) (first_of log place event part at) (rest n (omega (arith, less)))
 short_by name tables log n place event part others false is named at less rest =
-    told_past name log place event (record { events = events_in (take (suc n) others); next = length log }) (first_of log place event part at) (not_own name tables event (bytes_eq event.table name) refl named is) (rest (suc n) less)
+    reported_past name log place event (record { events = events_in (take (suc n) others); next = length log }) (first_of log place event part at) (not_own name tables event (bytes_eq event.table name) refl named is) (rest (suc n) less)
 
-told_end : (name : List ℕ) (log : List RowEvent) (place : ℕ) → IsPart log place [] → IsTold name log place (record { events = []; next = length log })
+reported_end : (name : List ℕ) (log : List RowEvent) (place : ℕ) → IsPart log place [] → IsReported name log place (record { events = []; next = length log })
 unfolding own_changes changes_in
-told_end name log place is = let size = is.size in record { steps = 0; sum = omega (arith, size); within = omega arith; are = refl }
+reported_end name log place is = let size = is.size in record { steps = 0; sum = omega (arith, size); within = omega arith; are = refl }
 
-short_told : (name : List ℕ) (tables : List (List ℕ)) (log : List RowEvent) (part : List RowEvent) (place : ℕ) → list_any (bytes_eq name) tables ≡ true → IsPart log place part → (n : ℕ) → length (take n (read_from tables place part)) < n
-    → IsTold name log place (record { events = events_in (take n (read_from tables place part)); next = length log })
+short_reported : (name : List ℕ) (tables : List (List ℕ)) (log : List RowEvent) (part : List RowEvent) (place : ℕ) → list_any (bytes_eq name) tables ≡ true → IsPart log place part → (n : ℕ) → length (take n (read_from tables place part)) < n
+    → IsReported name log place (record { events = events_in (take n (read_from tables place part)); next = length log })
 unfolding read_from
-short_told name tables log part place named is zero less = absurd (let no : ⊥ = omega (arith, less) in no)
-short_told name tables log [] place named is (suc n) less = told_end name log place is
-short_told name tables log (event ∷ part) place named is (suc n) less =
-    short_by name tables log n place event part (read_from tables (place + 1) part) (is_of tables event) refl named is less (short_told name tables log part (place + 1) named (next_part log place event part is))
+short_reported name tables log part place named is zero less = absurd (let no : ⊥ = omega (arith, less) in no)
+short_reported name tables log [] place named is (suc n) less = reported_end name log place is
+short_reported name tables log (event ∷ part) place named is (suc n) less =
+    short_by name tables log n place event part (read_from tables (place + 1) part) (is_of tables event) refl named is less (short_reported name tables log part (place + 1) named (next_part log place event part is))
 
 -- as many or fewer
 pub taken_length : (n : ℕ) (given : List ReadEvent) → length (take n given) ≤ n
@@ -124,18 +124,18 @@ taken_length (suc n) (read ∷ given) = let less : length (take n given) ≤ n =
 
 -- *ReadLog tells what the log has*, of the table among its tables, one event at least being asked for
 pub reads : (name : List ℕ) (tables : List (List ℕ)) (log : List RowEvent) (limit position : ℕ) → list_any (bytes_eq name) tables ≡ true → position ≤ length log
-    → IsTold name log position (record { events = events_in (take (suc limit) (read_from tables position (drop position log))); next = cond (length (take (suc limit) (read_from tables position (drop position log))) == suc limit) (after_last 0 (take (suc limit) (read_from tables position (drop position log)))) (length log) })
+    → IsReported name log position (record { events = events_in (take (suc limit) (read_from tables position (drop position log))); next = cond (length (take (suc limit) (read_from tables position (drop position log))) == suc limit) (after_last 0 (take (suc limit) (read_from tables position (drop position log)))) (length log) })
 reads name tables log limit position named within = at (length (take (suc limit) (read_from tables position (drop position log))) == suc limit) refl where
   at : (b : Bool) → (length (take (suc limit) (read_from tables position (drop position log))) == suc limit) ≡ b
-      → IsTold name log position (record { events = events_in (take (suc limit) (read_from tables position (drop position log))); next = cond b (after_last 0 (take (suc limit) (read_from tables position (drop position log)))) (length log) })
-  at true is = full_told name tables log (drop position log) position named (part_of log position within) limit 0 (are_one (length (take (suc limit) (read_from tables position (drop position log)))) (suc limit) is)
+      → IsReported name log position (record { events = events_in (take (suc limit) (read_from tables position (drop position log))); next = cond b (after_last 0 (take (suc limit) (read_from tables position (drop position log)))) (length log) })
+  at true is = full_reported name tables log (drop position log) position named (part_of log position within) limit 0 (are_one (length (take (suc limit) (read_from tables position (drop position log)))) (suc limit) is)
   at false is =
       let all : length (take (suc limit) (read_from tables position (drop position log))) ≤ suc limit = taken_length (suc limit) (read_from tables position (drop position log)) in
-      short_told name tables log (drop position log) position named (part_of log position within) (suc limit) (grind (arith, nat_tests, all, is))
+      short_reported name tables log (drop position log) position named (part_of log position within) (suc limit) (grind (arith, nat_tests, all, is))
 
 -- *The log is read*: what is planned for the events told is what is to be done up to the next position.
-pub read_whole : (m : Migration) (log : List RowEvent) (position : ℕ) (told : EventsTold) → IsTold m.name log position told → IsWhole m log position (length log) told.next (planned m (own_changes m.name told.events))
-read_whole m log position told is = record { steps = is.steps; sum = is.sum; within = is.within; are = ap (planned m) is.are }
+pub read_whole : (m : Migration) (log : List RowEvent) (position : ℕ) (reported : EventsReported) → IsReported m.name log position reported → IsWhole m log position (length log) reported.next (planned m (own_changes m.name reported.events))
+read_whole m log position reported is = record { steps = is.steps; sum = is.sum; within = is.within; are = ap (planned m) is.are }
 
 -- *The log is read with no event of the table*: the position moves.
 pub position_moves : (m : Migration) (rows : List Row) (done : Row → Bool) (taken : List Row) (progress : Progress Row) (ghost : GhostRows) (copier applier : ℕ) (now : Stored) (hold : ℕ → SessionHold) (next : ℕ) → IsPlanned m rows → GhostInvariant m rows done (λ _. false) taken progress (record ghost { batch = [] }) copier applier now hold

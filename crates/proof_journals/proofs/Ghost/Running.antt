@@ -1,7 +1,7 @@
 -- Runs keep the tool's invariant, turn by turn.
 use Rattle.std.proofs.Common.{◌≡◌, ℕ, List, [], ◌∷◌, length, Some, None, Result, Ok, Err, refl, sym, ap, ◌∙◌, subst}
 use Rattle.std.specs.Prelude.{find}
-use Rattle.base_values.specs.GhoSchema.Clustering.{clustered_place}
+use Rattle.base_values.specs.GhoSchema.ClusteredKey.{clustered_place}
 use Rattle.base_values.specs.GhoSchema.Rows.{key_of, key_places}
 use Rattle.base_values.specs.declared.event.Change.{Change}
 use Rattle.table_store.specs.Databases.{find_table}
@@ -9,35 +9,35 @@ use Rattle.table_store.specs.RowLists.{is_at}
 use Rattle.server_model.specs.declared.answer.Answer.{Answer}
 use Rattle.server_model.specs.declared.work.StatementResult.{StatementResult}
 use Rattle.server_model.specs.Answers.{refuses}
-use Rattle.server_model.specs.Jobs.{after_events}
+use Rattle.server_model.specs.Operations.{after_events}
 use Rattle.server_model.specs.Rows.{rows_met}
-use Rattle.server_model.specs.Saying.{TableResult, result_or_refusal, tells, updates}
+use Rattle.server_model.specs.StatementResults.{TableResult, result_or_refusal, tells, updates}
 use Rattle.tool_program.specs.EventApplier.Appliers.{Doing}
 use Rattle.tool_program.specs.EventApplier.Appliers.Doing.{Putting, Removing, Changing}
 use Rattle.proof_journals.specs.Scenes.{SessionHold, Stored}
 use Rattle.proof_journals.specs.Ghost.Rows.Moments.{Row, rows_at}
 use Rattle.proof_journals.specs.Ghost.Rows.Timelines.{IsPlanned, Migration}
 use Rattle.proof_journals.specs.Ghost.Rows.Views.{view_of}
-use Rattle.proof_journals.specs.Ghost.Holding.{Clustered}
+use Rattle.proof_journals.specs.Ghost.HeldKeys.{Clustered}
 use Rattle.proof_journals.specs.Ghost.Doings.{planned}
 use Rattle.proof_journals.specs.Ghost.Invariant.{IsServed}
 use Rattle.proof_journals.specs.Ghost.Laws.{RunsKeep}
-use Rattle.proof_journals.specs.Ghost.Reading.{own_changes}
-use Rattle.proof_journals.specs.Ghost.Running.{KeptTool, KeptAt, ToolMoment, ToolStands, ToolTurn, ApplierStays, CopierStays}
-use Rattle.proof_journals.specs.Ghost.Running.ApplyPlan.{Resting, Planned, Returning}
-use Rattle.proof_journals.specs.Ghost.Running.ToolStands.{at_rest, at_work, halfway, returns}
-use Rattle.proof_journals.specs.Ghost.Running.ToolTurn.{other_commits, other_does_single, other_goes_on, tables_move, chunk_begins, row_copies, chunk_commits, range_ends, chunk_is_lost, chunk_repeats, batch_is_read, batch_is_passed, row_is_put, row_is_removed, row_is_changed, unfit_row_is_missed, change_is_refused, refused_row_is_removed, row_returns, batch_commits, batch_repeats, batch_is_lost}
+use Rattle.proof_journals.specs.Ghost.OwnChanges.{own_changes}
+use Rattle.proof_journals.specs.Ghost.ToolTurns.{KeptTool, KeptAt, ToolMoment, ToolStands, ToolTurn, ApplierStays, CopierStays}
+use Rattle.proof_journals.specs.Ghost.ToolTurns.ApplyPlan.{Resting, Planned, Returning}
+use Rattle.proof_journals.specs.Ghost.ToolTurns.ToolStands.{at_rest, at_work, halfway, returns}
+use Rattle.proof_journals.specs.Ghost.ToolTurns.ToolTurn.{other_commits, other_does_single, other_goes_on, tables_move, chunk_begins, row_copies, chunk_commits, range_ends, chunk_is_lost, chunk_repeats, batch_is_read, batch_is_passed, row_is_put, row_is_removed, row_is_changed, unfit_row_is_missed, change_is_refused, refused_row_is_removed, row_returns, batch_commits, batch_repeats, batch_is_lost}
 use Rattle.proof_journals.specs.Ghost.Statements.{by_key, update_at}
 use Rattle.proof_journals.specs.Ghost.Tool.{ApplyState, CopyState, AfterStatement, AfterRemoval}
 use Rattle.proof_journals.specs.Ghost.Tool.AfterRemoval.{gone_whole, gone_half}
 use Rattle.proof_journals.specs.Ghost.Tool.CopyState.{Waiting}
 use Rattle.proof_journals.specs.Ghost.Tool.ApplyState.{Idle, Whole, Half}
-use Rattle.proof_journals.proofs.Ghost.Granting.{job_served}
+use Rattle.proof_journals.proofs.Ghost.Granting.{operation_served}
 use Rattle.proof_journals.proofs.Ghost.Keeping.{view_found}
 use Rattle.proof_journals.proofs.Ghost.Placed as placed
 use Rattle.proof_journals.proofs.Ghost.Saying.{applier_says}
 use Rattle.proof_journals.proofs.Ghost.Tooling.{client_commits, tool_begins, tool_commits_batch, tool_commits_chunk, tool_copied, tool_copies, tool_loses_batch, tool_loses_chunk, tool_moves, tool_passes, tool_puts, tool_puts_second, tool_reads, tool_refused, tool_repeats_batch, tool_repeats_chunk, tool_rests}
-use Rattle.proof_journals.specs.Ghost.Fitting.{EventsFit}
+use Rattle.proof_journals.specs.Ghost.FittingEvents.{EventsFit}
 use Rattle.base_values.specs.declared.event.RowEvent.{RowEvent}
 use Rattle.base_values.specs.declared.mysql_errors.TheConstants.{ER_DUP_ENTRY}
 
@@ -162,13 +162,13 @@ turn_keeps m at rows place copier applier plan is before after served stands (ot
       tool = client_commits m at rows before.copy apply kept.progress kept.ghost copier applier number before.stored after.stored before.hold after.hold plan served
           kept.tool not_copier not_applier none commits.besides commits.tables commits.log;
     })) stands
-turn_keeps m at rows place copier applier plan is before after served stands (other_does_single number middle own job not_copier not_applier sound given named mine besides none commits copy stays) =
+turn_keeps m at rows place copier applier plan is before after served stands (other_does_single number middle own operation not_copier not_applier sound given named mine besides none commits copy stays) =
     stands_over m at rows copier applier before after stays (λ apply kept.
     kept_at m at rows copier applier after before.copy apply before.position copy stays.1 (record {
       progress = record (kept.progress) { end = length after.stored.log };
       ghost = kept.ghost;
       here = kept.here;
-      tool = client_commits m at rows before.copy apply kept.progress kept.ghost copier applier number before.stored after.stored middle after.hold plan (job_served before.stored before.hold middle number job own served sound given named mine besides)
+      tool = client_commits m at rows before.copy apply kept.progress kept.ghost copier applier number before.stored after.stored middle after.hold plan (operation_served before.stored before.hold middle number operation own served sound given named mine besides)
           (tool_rests m at rows before.copy apply kept.progress kept.ghost copier applier number before.stored before.hold middle own kept.tool not_copier not_applier besides) not_copier not_applier none commits.besides commits.tables commits.log;
     })) stands
 turn_keeps m at rows place copier applier plan is before after served stands (other_goes_on number own not_copier not_applier besides stored copy stays) =
@@ -196,7 +196,7 @@ turn_keeps m at rows place copier applier plan is before after served stands (ch
       here = kept.here;
       tool = tool_begins m at rows low high top keys apply kept.progress kept.ghost copier applier before.stored before.hold after.hold own kept.tool besides within apart wrote chunk;
     })) stands
-turn_keeps m at rows place copier applier plan is before after served stands (row_copies own job low high top keys n key row made taking next does done named found imaged copy stays) =
+turn_keeps m at rows place copier applier plan is before after served stands (row_copies own operation low high top keys n key row made taking next does done named found imaged copy stays) =
     stands_over m at rows copier applier before after stays (λ apply was.
     let kept = copy_at m at rows copier applier before _ apply taking was in
     let tool = kept.tool in
@@ -204,7 +204,7 @@ turn_keeps m at rows place copier applier plan is before after served stands (ro
       progress = _;
       ghost = _;
       here = kept.here;
-      tool = tool_copies m at rows low high top keys n apply kept.progress kept.ghost copier applier before.stored before.hold after.hold own job key row made plan served tool next does done.given named done.besides
+      tool = tool_copies m at rows low high top keys n apply kept.progress kept.ghost copier applier before.stored before.hold after.hold own operation key row made plan served tool next does done.given named done.besides
           (subst (λ (i : ℕ). find (is_at (key_places m.schema) key) (rows_at m.name (key_places m.schema) rows before.stored.log i) ≡ Some row) (sym tool.kept.joined.under_way.end) found) imaged;
     })) stands
 turn_keeps m at rows place copier applier plan is before after served stands (chunk_commits low high top keys taking commits copy stays) =
@@ -243,42 +243,42 @@ turn_keeps m at rows place copier applier plan is before after served stands (ch
       here = kept.here;
       tool = tool_repeats_chunk m at rows low high top keys n apply kept.progress kept.ghost copier applier before.stored after.stored before.hold after.hold plan served kept.tool commits.besides commits.tables commits.log;
     })) stands
-turn_keeps m at rows place copier applier plan is before after served stands (batch_is_read told resting read stored hold copy planned_so stays) =
+turn_keeps m at rows place copier applier plan is before after served stands (batch_is_read reported resting read stored hold copy planned_so stays) =
     let kept = rests_at m at rows copier applier before resting stands in
-    at_work told.next (planned m (own_changes m.name told.events)) planned_so
-    (still_at m at rows copier applier before after before.copy _ before.position stored copy stays (subst (λ (h : ℕ → SessionHold). KeptTool m at rows before.copy (Whole told.next (planned m (own_changes m.name told.events))) before.position copier applier before.stored h) (sym hold) (record {
+    at_work reported.next (planned m (own_changes m.name reported.events)) planned_so
+    (still_at m at rows copier applier before after before.copy _ before.position stored copy stays (subst (λ (h : ℕ → SessionHold). KeptTool m at rows before.copy (Whole reported.next (planned m (own_changes m.name reported.events))) before.position copier applier before.stored h) (sym hold) (record {
       progress = kept.progress;
       ghost = kept.ghost;
       here = kept.here;
-      tool = tool_reads m at rows before.copy kept.progress kept.ghost copier applier before.stored before.hold told kept.tool (rw kept.here read);
+      tool = tool_reads m at rows before.copy kept.progress kept.ghost copier applier before.stored before.hold reported kept.tool (rw kept.here read);
     })))
-turn_keeps m at rows place copier applier plan is before after served stands (batch_is_passed told resting read none stored hold copy planned_so moves) =
+turn_keeps m at rows place copier applier plan is before after served stands (batch_is_passed reported resting read none stored hold copy planned_so moves) =
     let kept = rests_at m at rows copier applier before resting stands in
     at_rest planned_so
-    (still_at m at rows copier applier before after before.copy Idle told.next stored copy moves (subst (λ (h : ℕ → SessionHold). KeptTool m at rows before.copy Idle told.next copier applier before.stored h) (sym hold) (record {
+    (still_at m at rows copier applier before after before.copy Idle reported.next stored copy moves (subst (λ (h : ℕ → SessionHold). KeptTool m at rows before.copy Idle reported.next copier applier before.stored h) (sym hold) (record {
       progress = _;
       ghost = _;
       here = refl;
-      tool = tool_passes m at rows before.copy kept.progress kept.ghost copier applier before.stored before.hold told plan kept.tool (rw kept.here read) none;
+      tool = tool_passes m at rows before.copy kept.progress kept.ghost copier applier before.stored before.hold reported plan kept.tool (rw kept.here read) none;
     })))
-turn_keeps m at rows place copier applier plan is before after served stands (row_is_put own job next row made rest planned_was imaged does done copy planned_so stays) =
+turn_keeps m at rows place copier applier plan is before after served stands (row_is_put own operation next row made rest planned_was imaged does done copy planned_so stays) =
     puts_at (ToolStands m at rows copier applier after) m at rows copier applier before next row rest planned_was
     (λ kept. at_work next rest planned_so (after_statement m at rows copier applier before after _ (Whole next rest) _ own kept done.stored copy stays
-    (tool_puts m at rows before.copy kept.progress kept.ghost copier applier before.stored before.hold after.hold own job next row made rest plan served kept.tool imaged does done.given done.besides)))
+    (tool_puts m at rows before.copy kept.progress kept.ghost copier applier before.stored before.hold after.hold own operation next row made rest plan served kept.tool imaged does done.given done.besides)))
     (λ old kept. at_work next rest planned_so (after_statement m at rows copier applier before after _ (Whole next rest) _ own kept done.stored copy stays
-    (tool_puts_second m at rows before.copy kept.progress kept.ghost copier applier before.stored before.hold after.hold own job next old row made rest plan served kept.tool imaged does done.given done.besides)))
+    (tool_puts_second m at rows before.copy kept.progress kept.ghost copier applier before.stored before.hold after.hold own operation next old row made rest plan served kept.tool imaged does done.given done.besides)))
     stands
-turn_keeps m at rows place copier applier plan is before after served stands (row_is_removed own job next row rest planned_was does done copy planned_so stays) =
+turn_keeps m at rows place copier applier plan is before after served stands (row_is_removed own operation next row rest planned_was does done copy planned_so stays) =
     let kept = works_at m at rows copier applier before next (Removing row ∷ rest) planned_was tt stands in
     after_removal m at rows copier applier before after next row rest _ _ own kept done.stored copy stays planned_so
-    (placed.row_is_removed m at rows before.copy kept.progress kept.ghost copier applier before.stored before.hold after.hold own job next row rest place plan is served kept.tool does done.given done.besides)
-turn_keeps m at rows place copier applier plan is before after served stands (row_is_changed own job next old row made rest planned_was imaged does answered done copy planned_so stays) =
+    (placed.row_is_removed m at rows before.copy kept.progress kept.ghost copier applier before.stored before.hold after.hold own operation next row rest place plan is served kept.tool does done.given done.besides)
+turn_keeps m at rows place copier applier plan is before after served stands (row_is_changed own operation next old row made rest planned_was imaged does answered done copy planned_so stays) =
     let kept = works_at m at rows copier applier before next (Changing old row ∷ rest) planned_was tt stands in
-    let says = applier_says m rows _ _ _ kept.progress kept.ghost copier applier before.stored before.hold job (update_at place (key_of (key_places m.schema) old) made) served kept.tool.kept does.table does.does in
+    let statement_result = applier_says m rows _ _ _ kept.progress kept.ghost copier applier before.stored before.hold operation (update_at place (key_of (key_places m.schema) old) made) served kept.tool.kept does.table does.does in
     at_work next rest planned_so (after_statement m at rows copier applier before after _ (Whole next rest) _ own kept done.stored copy stays
-    (placed.row_is_changed m at rows before.copy kept.progress kept.ghost copier applier before.stored before.hold after.hold own job next old row made rest place plan is served kept.tool imaged does done.given done.besides
-    (λ refused. answered (ap (λ (s : StatementResult). s.answer) says.said ∙ ap (λ (t : TableResult). t.answer) refused))))
-turn_keeps m at rows place copier applier plan is before after served stands (unfit_row_is_missed own job next old row fault rest planned_was does none done copy planned_so stays) =
+    (placed.row_is_changed m at rows before.copy kept.progress kept.ghost copier applier before.stored before.hold after.hold own operation next old row made rest place plan is served kept.tool imaged does done.given done.besides
+    (λ refused. answered (ap (λ (s : StatementResult). s.answer) statement_result.said ∙ ap (λ (t : TableResult). t.answer) refused))))
+turn_keeps m at rows place copier applier plan is before after served stands (unfit_row_is_missed own operation next old row fault rest planned_was does none done copy planned_so stays) =
     let kept = works_at m at rows copier applier before next (Changing old row ∷ rest) planned_was tt stands in
     let tool = kept.tool in
     let invariant = tool.kept in
@@ -286,26 +286,26 @@ turn_keeps m at rows place copier applier plan is before after served stands (un
     ap (λ (w : List RowEvent). find_table m.new.name (after_events before.stored.tables w)) invariant.batch
     ∙ view_found m.new kept.ghost.committed kept.ghost.batch before.stored.tables served.well_formed (subst (EventsFit before.stored.tables) invariant.batch (served.fits applier)) invariant.new in
     at_work next rest planned_so (after_statement m at rows copier applier before after _ (Whole next rest) _ own kept done.stored copy stays
-    (placed.unfit_row_is_missed m at rows before.copy kept.progress kept.ghost copier applier before.stored before.hold after.hold own job next old row fault rest place plan is served kept.tool does done.given done.besides (none (view_of m kept.ghost) seen)))
-turn_keeps m at rows place copier applier plan is before after served stands (change_is_refused own job next old row made rest planned_was does answered done copy stays) =
+    (placed.unfit_row_is_missed m at rows before.copy kept.progress kept.ghost copier applier before.stored before.hold after.hold own operation next old row fault rest place plan is served kept.tool does done.given done.besides (none (view_of m kept.ghost) seen)))
+turn_keeps m at rows place copier applier plan is before after served stands (change_is_refused own operation next old row made rest planned_was does answered done copy stays) =
     let kept = works_at m at rows copier applier before next (Changing old row ∷ rest) planned_was tt stands in
-    let says = applier_says m rows _ _ _ kept.progress kept.ghost copier applier before.stored before.hold job (update_at place (key_of (key_places m.schema) old) made) served kept.tool.kept does.table does.does in
+    let statement_result = applier_says m rows _ _ _ kept.progress kept.ghost copier applier before.stored before.hold operation (update_at place (key_of (key_places m.schema) old) made) served kept.tool.kept does.table does.does in
     at_work next (Changing old row ∷ rest) (stays.0 ∙ planned_was)
     (still_at m at rows copier applier before after before.copy _ before.position done.stored copy stays.1 (record {
       progress = _;
       ghost = _;
       here = kept.here;
-      tool = tool_refused m at rows before.copy kept.progress kept.ghost copier applier before.stored before.hold after.hold own job (update_at place (key_of (key_places m.schema) old) made) next (Changing old row ∷ rest) served kept.tool does done.given done.besides
-          (update_refused m (view_of m kept.ghost) place (key_of (key_places m.schema) old) made (sym (ap (λ (s : StatementResult). s.answer) says.said) ∙ answered));
+      tool = tool_refused m at rows before.copy kept.progress kept.ghost copier applier before.stored before.hold after.hold own operation (update_at place (key_of (key_places m.schema) old) made) next (Changing old row ∷ rest) served kept.tool does done.given done.besides
+          (update_refused m (view_of m kept.ghost) place (key_of (key_places m.schema) old) made (sym (ap (λ (s : StatementResult). s.answer) statement_result.said) ∙ answered));
     }))
-turn_keeps m at rows place copier applier plan is before after served stands (refused_row_is_removed own job next old row rest planned_was does done copy planned_so stays) =
+turn_keeps m at rows place copier applier plan is before after served stands (refused_row_is_removed own operation next old row rest planned_was does done copy planned_so stays) =
     let kept = works_at m at rows copier applier before next (Changing old row ∷ rest) planned_was tt stands in
     returns next old row rest planned_so (after_statement m at rows copier applier before after _ (Half next old row rest) _ own kept done.stored copy stays
-    (placed.refused_row_is_removed m at rows before.copy kept.progress kept.ghost copier applier before.stored before.hold after.hold own job next old row rest place plan is served kept.tool does done.given done.besides))
-turn_keeps m at rows place copier applier plan is before after served stands (row_returns own job next old row made rest returning imaged does done copy planned_so stays) =
+    (placed.refused_row_is_removed m at rows before.copy kept.progress kept.ghost copier applier before.stored before.hold after.hold own operation next old row rest place plan is served kept.tool does done.given done.besides))
+turn_keeps m at rows place copier applier plan is before after served stands (row_returns own operation next old row made rest returning imaged does done copy planned_so stays) =
     let kept = returns_at m at rows copier applier before next old row rest returning stands in
     at_work next rest planned_so (after_statement m at rows copier applier before after _ (Whole next rest) _ own kept done.stored copy stays
-    (tool_puts_second m at rows before.copy kept.progress kept.ghost copier applier before.stored before.hold after.hold own job next old row made rest plan served kept.tool imaged does done.given done.besides))
+    (tool_puts_second m at rows before.copy kept.progress kept.ghost copier applier before.stored before.hold after.hold own operation next old row made rest plan served kept.tool imaged does done.given done.besides))
 turn_keeps m at rows place copier applier plan is before after served stands (batch_commits next planned_was commits copy planned_so moves) =
     let kept = works_at m at rows copier applier before next [] planned_was tt stands in
     at_rest planned_so (kept_at m at rows copier applier after before.copy Idle next copy moves (record {

@@ -12,9 +12,9 @@ use Rattle.base_values.specs.declared.event.Change.{Change}
 use Rattle.table_store.specs.Databases.{Database, find_table}
 use Rattle.std.proofs.lemmas.Bool.{true≢false}
 use Rattle.server_model.specs.declared.work.Work.{Work}
-use Rattle.proof_journals.proofs.Ghost.Joining.{none_among, none_locked, table_stands}
+use Rattle.proof_journals.proofs.Ghost.Joining.{none_among, none_locked, table_exists}
 use Rattle.proof_journals.proofs.Ghost.Keeping.{view_found}
-use Rattle.proof_journals.specs.Ghost.Fitting.{EventsFit}
+use Rattle.proof_journals.specs.Ghost.FittingEvents.{EventsFit}
 use Rattle.proof_journals.specs.Ghost.Invariant.{GhostInvariant, IsServed}
 use Rattle.proof_journals.specs.Ghost.Joined.{IsJoined}
 use Rattle.proof_journals.specs.Ghost.Tool.{start_places, no_ghost}
@@ -27,30 +27,30 @@ use Rattle.proof_journals.specs.Ghost.Rows.UnderWay.{IsUnderWay}
 use Rattle.proof_journals.specs.Ghost.Rows.Views.{chunk_view, GhostRows, is_done, is_left, view_of}
 use Rattle.proof_journals.proofs.Kept.{none_apart}
 use Rattle.proof_journals.specs.Scenes.{Besides, SessionHold, Stored, no_hold}
-use Rattle.server_model.specs.Jobs.{Job, after_events, events_of, job_needs, job_says}
-use Rattle.server_model.specs.Needing.{needs}
-use Rattle.server_model.specs.Saying.{tells}
+use Rattle.server_model.specs.Operations.{Operation, after_events, events_of, operation_needs, operation_result}
+use Rattle.server_model.specs.Needs.{needs}
+use Rattle.server_model.specs.StatementResults.{tells}
 
 -- a session's statement on the new table, of which it sees these rows
-pub record Says (schema : Schema) (rows : List Row) (tables : Database) (task : Job) (work : Work) : Type 0 where
-  pub said : job_says tables task ≡ record { answer = (tells schema rows work).answer; events = events_of schema.name (tells schema rows work).changes }
-  pub needed : job_needs tables task ≡ needs schema rows work
+pub record Says (schema : Schema) (rows : List Row) (tables : Database) (task : Operation) (work : Work) : Type 0 where
+  pub said : operation_result tables task ≡ record { answer = (tells schema rows work).answer; events = events_of schema.name (tells schema rows work).changes }
+  pub needed : operation_needs tables task ≡ needs schema rows work
 
-says_on : (schema : Schema) (rows : List Row) (tables : Database) (task : Job) (work : Work) → task.table ≡ schema.name → task.work schema ≡ work → find_table schema.name tables ≡ Some (record { schema = schema; rows = rows }) → Says schema rows tables task work
-unfolding job_says job_needs
+says_on : (schema : Schema) (rows : List Row) (tables : Database) (task : Operation) (work : Work) → task.table ≡ schema.name → task.work schema ≡ work → find_table schema.name tables ≡ Some (record { schema = schema; rows = rows }) → Says schema rows tables task work
+unfolding operation_result operation_needs
 says_on schema rows tables task work name is found =
     let there : find_table task.table tables ≡ Some (record { schema = schema; rows = rows }) = ap (λ (n : List ℕ). find_table n tables) name ∙ found in
     record { said = rw (there, is, name) refl; needed = rw (there, is) refl }
 
 -- *What the applier's statement says, and the locks that it needs*
-pub applier_says : (m : Migration) (rows : List Row) (done half : Row → Bool) (taken : List Row) (progress : Progress Row) (ghost : GhostRows) (copier applier : ℕ) (now : Stored) (hold : ℕ → SessionHold) (task : Job) (work : Work) → IsServed now hold → GhostInvariant m rows done half taken progress ghost copier applier now hold
+pub applier_says : (m : Migration) (rows : List Row) (done half : Row → Bool) (taken : List Row) (progress : Progress Row) (ghost : GhostRows) (copier applier : ℕ) (now : Stored) (hold : ℕ → SessionHold) (task : Operation) (work : Work) → IsServed now hold → GhostInvariant m rows done half taken progress ghost copier applier now hold
     → task.table ≡ m.new.name → task.work m.new ≡ work → Says m.new (view_of m ghost) (after_events now.tables (hold applier).writes) task work
 applier_says m rows done half taken progress ghost copier applier now hold task work served kept name is =
     says_on m.new (view_of m ghost) (after_events now.tables (hold applier).writes) task work name is
     (ap (λ (w : List RowEvent). find_table m.new.name (after_events now.tables w)) kept.batch ∙ view_found m.new ghost.committed ghost.batch now.tables served.well_formed (subst (EventsFit now.tables) kept.batch (served.fits applier)) kept.new)
 
 -- *What CopyRow says, and the locks that it needs*
-pub copier_says : (m : Migration) (rows : List Row) (done half : Row → Bool) (taken : List Row) (progress : Progress Row) (ghost : GhostRows) (copier applier : ℕ) (now : Stored) (hold : ℕ → SessionHold) (task : Job) (work : Work) → IsServed now hold → GhostInvariant m rows done half taken progress ghost copier applier now hold
+pub copier_says : (m : Migration) (rows : List Row) (done half : Row → Bool) (taken : List Row) (progress : Progress Row) (ghost : GhostRows) (copier applier : ℕ) (now : Stored) (hold : ℕ → SessionHold) (task : Operation) (work : Work) → IsServed now hold → GhostInvariant m rows done half taken progress ghost copier applier now hold
     → task.table ≡ m.new.name → task.work m.new ≡ work → Says m.new (chunk_view m ghost) (after_events now.tables (hold copier).writes) task work
 copier_says m rows done half taken progress ghost copier applier now hold task work served kept name is =
     says_on m.new (chunk_view m ghost) (after_events now.tables (hold copier).writes) task work name is
@@ -120,4 +120,4 @@ pub ends_altered : (m : Migration) (rows : List Row) (half : Row → Bool) (take
 ends_altered m rows half taken progress ghost copier applier now hold planned kept all =
     let is : IsUnderWay m rows now.log (is_done None) half progress ghost = kept.joined.under_way in
     subst (λ (n : ℕ). converted_rows m.columns (rows_at m.name (key_places m.schema) rows now.log n) ≡ Some ghost.committed) is.end
-    (ghost_is_altered m rows now.log half progress ghost (table_stands m rows now.log (is_done None) half progress ghost progress.end planned is) is.table.ascends planned.same_key (all ∙ sym is.end) is.are)
+    (ghost_is_altered m rows now.log half progress ghost (table_exists m rows now.log (is_done None) half progress ghost progress.end planned is) is.table.ascends planned.same_key (all ∙ sym is.end) is.are)

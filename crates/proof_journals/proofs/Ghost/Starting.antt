@@ -6,7 +6,7 @@ use Rattle.std.specs.Ordering.{is_eq, is_le}
 use Rattle.std.specs.Str.{bytes_eq}
 use Rattle.std.proofs.Math.Bool.{or-true}
 use Rattle.std.proofs.lemmas.Cmp.{tied_itself}
-use Rattle.base_values.specs.Comparing.{compare_keys}
+use Rattle.base_values.specs.KeyOrder.{compare_keys}
 use Rattle.base_values.proofs.Orders.{keys_total}
 use Rattle.base_values.specs.declared.span.Bound.{Bound}
 use Rattle.base_values.specs.declared.span.Bound.TheVariants.{Closed}
@@ -17,10 +17,10 @@ use Rattle.base_values.specs.RowConversion.ConvertedRows.{converted_rows}
 use Rattle.table_store.specs.Databases.{find_table}
 use Rattle.proof_journals.proofs.Ghost.Chunks.{below_end, keys_taken, last_passes, length_keys, passing, span_given}
 use Rattle.proof_journals.proofs.Ghost.Copying.{key_stands}
-use Rattle.proof_journals.proofs.Ghost.Joining.{table_stands}
+use Rattle.proof_journals.proofs.Ghost.Joining.{table_exists}
 use Rattle.proof_journals.proofs.Ghost.Ranges.{in_range, tied}
 use Rattle.proof_journals.proofs.Ghost.Saying.{ends_altered, starts_keep}
-use Rattle.proof_journals.specs.Ghost.Holding.{Clustered}
+use Rattle.proof_journals.specs.Ghost.HeldKeys.{Clustered}
 use Rattle.proof_journals.specs.Ghost.Tool.{start_places, no_ghost, SomeRow, ApplyState, HoldsSpan, InChunk, ToolInvariant, half_in}
 use Rattle.proof_journals.specs.Ghost.Tool.ApplyState.{Idle}
 use Rattle.proof_journals.specs.Ghost.Tool.CopyState.{Taking, Waiting}
@@ -75,26 +75,26 @@ cut_within places low end n rows (x ∷ xs) are less =
     let named : last_of [] (take (suc n) (keys_of places (x ∷ xs))) ≡ last_of (key_of places x) (keys_of places (take n xs)) = ap (last_of (key_of places x)) (keys_taken places n xs) in
     ap (λ (k : Row). is_le (compare_keys k end)) named ∙ below_end low end (last_of (key_of places x) (keys_of places (take n xs))) (last_passes (λ k. has (record { low = low; high = Closed end }) k ≡ true) places x n xs all)
 
-told_within : (places : List ℕ) (low : Bound) (end : Row) (n : ℕ) (rows : List Row) (b : Bool) → nat_lt (suc n) (length (keys_of places (filter (λ row. has (record { low = low; high = Closed end }) (key_of places row)) rows))) ≡ b
+reported_within : (places : List ℕ) (low : Bound) (end : Row) (n : ℕ) (rows : List Row) (b : Bool) → nat_lt (suc n) (length (keys_of places (filter (λ row. has (record { low = low; high = Closed end }) (key_of places row)) rows))) ≡ b
     → is_le (compare_keys (cond b (last_of [] (take (suc n) (keys_of places (filter (λ row. has (record { low = low; high = Closed end }) (key_of places row)) rows)))) end) end) ≡ true
-told_within places low end n rows true is =
+reported_within places low end n rows true is =
     let xs : List Row = filter (λ row. has (record { low = low; high = Closed end }) (key_of places row)) rows in
     let long = length_keys places xs in
     let less : suc n < length (keys_of places xs) = grind (arith, Rattle.std.proofs.lemmas.Bool.Decides.nat_tests) in
     cut_within places low end n rows xs refl (omega (arith, less, long))
-told_within places low end n rows false is = tied end
+reported_within places low end n rows false is = tied end
 
 -- *What BeginSpan tells is a chunk*, where the share lock is on the span that it was asked for
-pub chunk_told : (m : Migration) (at : Clustered m.schema) (rows : List Row) (now : Stored) (own : SessionHold) (low : Bound) (end : Row) (n : ℕ) (b : Bool) → Ascends (key_places m.schema) (rows_at m.name (key_places m.schema) rows now.log (length now.log)) → HoldsSpan m at (record { low = low; high = Closed end }) own
+pub chunk_reported : (m : Migration) (at : Clustered m.schema) (rows : List Row) (now : Stored) (own : SessionHold) (low : Bound) (end : Row) (n : ℕ) (b : Bool) → Ascends (key_places m.schema) (rows_at m.name (key_places m.schema) rows now.log (length now.log)) → HoldsSpan m at (record { low = low; high = Closed end }) own
     → nat_lt (suc n) (length (keys_of (key_places m.schema) (filter (λ row. has (record { low = low; high = Closed end }) (key_of (key_places m.schema) row)) (rows_at m.name (key_places m.schema) rows now.log (length now.log))))) ≡ b
     → InChunk m at rows now own low (cond b (last_of [] (take (suc n) (keys_of (key_places m.schema) (filter (λ row. has (record { low = low; high = Closed end }) (key_of (key_places m.schema) row)) (rows_at m.name (key_places m.schema) rows now.log (length now.log)))))) end)
     (take (suc n) (keys_of (key_places m.schema) (filter (λ row. has (record { low = low; high = Closed end }) (key_of (key_places m.schema) row)) (rows_at m.name (key_places m.schema) rows now.log (length now.log)))))
-chunk_told m at rows now own low end n b ascends holds is =
+chunk_reported m at rows now own low end n b ascends holds is =
     record {
       far = end;
-      within = told_within (key_places m.schema) low end n (rows_at m.name (key_places m.schema) rows now.log (length now.log)) b is;
+      within = reported_within (key_places m.schema) low end n (rows_at m.name (key_places m.schema) rows now.log (length now.log)) b is;
       holds = holds;
-      told = span_given (key_places m.schema) low end n (rows_at m.name (key_places m.schema) rows now.log (length now.log)) b ascends is;
+      reported = span_given (key_places m.schema) low end n (rows_at m.name (key_places m.schema) rows now.log (length now.log)) b ascends is;
     }
 
 -- *A row stands at each key told.*
@@ -104,11 +104,11 @@ among_at [] n key at = absurd cc
 among_at (first ∷ keys) zero key at = let one : first ≡ key = cc in rw (ap (λ (k : Row). is_eq (compare_keys key k)) one ∙ ap is_eq (tied_itself keys_total key)) refl
 among_at (first ∷ keys) (suc n) key at = rw (among_at keys n key at) (or-true _)
 
-pub key_told : (m : Migration) (at : Clustered m.schema) (rows : List Row) (low : Bound) (high top : Row) (keys : List Row) (n : ℕ) (apply : ApplyState) (progress : Progress Row) (ghost : GhostRows) (copier applier : ℕ) (now : Stored) (hold : ℕ → SessionHold) (k : ℕ) (key : Row) → IsPlanned m rows → ToolInvariant m at rows (Taking low high top keys n) apply progress ghost copier applier now hold
+pub key_reported : (m : Migration) (at : Clustered m.schema) (rows : List Row) (low : Bound) (high top : Row) (keys : List Row) (n : ℕ) (apply : ApplyState) (progress : Progress Row) (ghost : GhostRows) (copier applier : ℕ) (now : Stored) (hold : ℕ → SessionHold) (k : ℕ) (key : Row) → IsPlanned m rows → ToolInvariant m at rows (Taking low high top keys n) apply progress ghost copier applier now hold
     → slice_get keys k ≡ Some key → SomeRow (key_places m.schema) key (rows_at m.name (key_places m.schema) rows now.log (length now.log))
-key_told m at rows low high top keys n apply progress ghost copier applier now hold k key planned tool next =
+key_reported m at rows low high top keys n apply progress ghost copier applier now hold k key planned tool next =
     let chunk : InChunk m at rows now (hold copier) low high keys = tool.copying in
     let all : List Row = rows_at m.name (key_places m.schema) rows now.log (length now.log) in
     key_stands m rows all (record { low = low; high = Closed high }) key
-    (table_stands m rows now.log _ _ progress ghost (length now.log) planned tool.kept.joined.under_way).ascends
-    (subst (λ (ks : List Row). is_among ks key ≡ true) chunk.told (among_at keys k key next))
+    (table_exists m rows now.log _ _ progress ghost (length now.log) planned tool.kept.joined.under_way).ascends
+    (subst (λ (ks : List Row). is_among ks key ≡ true) chunk.reported (among_at keys k key next))

@@ -4,7 +4,7 @@ use Rattle.std.proofs.Math.Bool.{or-true}
 use Rattle.std.proofs.lemmas.Bool.{true≢false}
 use Rattle.std.specs.List.{AllByRecursion, list_any}
 use Rattle.base_values.specs.declared.value.Value.{Value}
-use Rattle.base_values.specs.Comparing.{compare_keys}
+use Rattle.base_values.specs.KeyOrder.{compare_keys}
 use Rattle.base_values.specs.declared.gho_schema.schema.Schema.{Schema}
 use Rattle.base_values.specs.GhoSchema.Rows.{key_of, key_places}
 use Rattle.base_values.specs.GhoSchema.Tables.{IsRow, IsTable, Ascends, clash}
@@ -28,7 +28,7 @@ use Rattle.proof_journals.specs.Ghost.Rows.Moments.{Fits, FitsAll, NoneClashes, 
 use Rattle.server_model.proofs.LockedRows.OneRow.{same_removal}
 use Rattle.server_model.specs.Answers.{refuses}
 use Rattle.server_model.specs.Rows.{change_rows, reaches, rows_met, same_row, stands, without_row}
-use Rattle.server_model.specs.Saying.{change_first, clashes_besides, only, result_or_refusal, tells, updated, updates, with_sets}
+use Rattle.server_model.specs.StatementResults.{change_first, clashes_besides, only, result_or_refusal, tells, updated, updates, with_sets}
 use Rattle.server_model.proofs.LockedRows.WellFormed.{none_besides, with_sets_row}
 use Rattle.server_model.proofs.LockedRows.Standing.{stands-filter, stands-put, other_row}
 use Rattle.server_model.specs.LockedRows.Covering.{IsSound, SetsFit}
@@ -73,11 +73,11 @@ unfolding change_rows
 still_stands places old new other rows differs stood =
     stands-put places other new (without_row old rows) ∙ ap (λ (s : Bool). same_row other new || s) (stands-filter (λ r. not (same_row old r)) other rows ∙ rw (stood, differs) refl) ∙ or-true (same_row other new)
 
-all_stand : (places : List ℕ) (old new : Row) (met rows : List Row) → AllByRecursion (λ other. compare_keys (key_of places old) (key_of places other) ≡ Less) met → AllByRecursion (λ other. stands other rows ≡ true) met
+all_exist : (places : List ℕ) (old new : Row) (met rows : List Row) → AllByRecursion (λ other. compare_keys (key_of places old) (key_of places other) ≡ Less) met → AllByRecursion (λ other. stands other rows ≡ true) met
     → AllByRecursion (λ other. stands other (change_rows places (changes.Update old new) rows) ≡ true) met
-all_stand places old new [] rows less stood = tt
-all_stand places old new (other ∷ met) rows less stood =
-    (still_stands places old new other rows (other_row places old other (same_row old other) refl less.0) stood.0, all_stand places old new met rows less.1 stood.1)
+all_exist places old new [] rows less stood = tt
+all_exist places old new (other ∷ met) rows less stood =
+    (still_stands places old new other rows (other_row places old other (same_row old other) refl less.0) stood.0, all_exist places old new met rows less.1 stood.1)
 
 update_fits : (schema : Schema) → (old new : Row) (rows : List Row) → IsTable schema rows → stands old rows ≡ true → IsRow schema.columns new → clashes_besides schema new old rows ≡ false → Fits schema rows (changes.Update old new)
 update_fits schema old new rows is stood fits none =
@@ -102,11 +102,11 @@ updates_fit schema has sets sound (old ∷ met) rows full ascends stood is =
     let fits : Fits schema rows change = update_fits schema old new rows is stood.0 (with_sets_row schema.columns sets old sound full.0) none in
     let same : then ≡ rows_after places change rows = same_change schema has change rows is fits in
     one_first schema change rows then (updates schema sets met then) fits same
-    (updates_fit schema has sets sound met then full.1 ascends.1 (all_stand places old new met rows ascends.0 stood.1) (subst (IsTable schema) (sym same) (change_keeps schema has change rows is fits))))
+    (updates_fit schema has sets sound met then full.1 ascends.1 (all_exist places old new met rows ascends.0 stood.1) (subst (IsTable schema) (sym same) (change_keeps schema has change rows is fits))))
 
-told_fits : (schema : Schema) (rows : List Row) (result : Result (List Change) Answer) → ResultFits schema rows result → FitsAll schema rows (result_or_refusal result).changes
-told_fits schema rows (Ok all) fits = fits
-told_fits schema rows (Err refusal) fits = fits_none schema rows
+reported_fits : (schema : Schema) (rows : List Row) (result : Result (List Change) Answer) → ResultFits schema rows result → FitsAll schema rows (result_or_refusal result).changes
+reported_fits schema rows (Ok all) fits = fits
+reported_fits schema rows (Err refusal) fits = fits_none schema rows
 
 refused_fits : (schema : Schema) (at : _) (met rows : List Row) → FitsAll schema rows (updated schema (Err at) met rows).changes
 refused_fits schema at [] rows = fits_none schema rows
@@ -128,7 +128,7 @@ tells_fit schema has rows (Update reach (Err at)) sound is = refused_fits schema
 tells_fit schema has rows (Update reach (Ok sets)) sound is =
     let places : List ℕ = key_places schema in
     let met : List Row = rows_met schema reach rows in
-    told_fits schema rows (updates schema sets met rows)
+    reported_fits schema rows (updates schema sets met rows)
     (updates_fit schema has sets sound met rows (all-filter (IsRow schema.columns) (reaches schema reach) rows is.rows_fit) (ascends-filter places (reaches schema reach) rows is.ascends)
     (all-filter (λ other. stands other rows ≡ true) (reaches schema reach) rows (rows_stand places rows rows (all_found places rows is.ascends))) is)
 tells_fit schema has rows (Select reach showing) sound is = fits_none schema rows

@@ -8,7 +8,7 @@ use Rattle.std.specs.Ordering.{is_eq}
 use Rattle.std.proofs.lemmas.Cmp.{tied_itself}
 use Rattle.base_values.specs.declared.value.Value.{Value}
 use Rattle.base_values.specs.declared.value.Value.TheVariants.{Null}
-use Rattle.base_values.specs.Comparing.{compare_keys}
+use Rattle.base_values.specs.KeyOrder.{compare_keys}
 use Rattle.base_values.proofs.Orders.{keys_total, tied_keys}
 use Rattle.base_values.specs.declared.gho_schema.schema.Index.{Index}
 use Rattle.base_values.specs.GhoSchema.Rows.{key_of}

@@ -9,7 +9,7 @@ use Rattle.base_script.specs.declared.statement.Condition.TheVariants as conditi
 use Rattle.base_script.specs.declared.statement.Set.{Set}
 use Rattle.base_values.specs.declared.value.Value.{Value}
 use Rattle.base_values.specs.declared.unfit.Unfit.{Unfit}
-use Rattle.base_values.specs.Storing.{stores}
+use Rattle.base_values.specs.StoredValues.{stores}
 use Rattle.base_values.specs.declared.gho_schema.schema.Schema.{Schema}
 use Rattle.base_values.specs.declared.gho_schema.schema.Column.{Column}
 use Rattle.base_values.specs.declared.row_conversion.map.MapColumn.{MapColumn}
@@ -20,10 +20,10 @@ use Rattle.server_model.specs.declared.answer.Answer.{Answer}
 use Rattle.table_store.proofs.Orders.{Row}
 use Rattle.server_model.specs.declared.work.Work.TheVariants.{Refuse, Replace, Delete, Update}
 use Rattle.proof_journals.proofs.Ghost.Applying.{all_set, at_key}
-use Rattle.proof_journals.specs.Ghost.Holding.{Clustered}
+use Rattle.proof_journals.specs.Ghost.HeldKeys.{Clustered}
 use Rattle.proof_journals.specs.Ghost.Statements.{SameColumns}
 use Rattle.server_model.specs.Answers.{refuses_value}
-use Rattle.server_model.specs.Checking.{◌>>=◌, are_distinct, beside, has_columns, key_from, new_row, places_from, places_named, reach_equal, reach_of, row_from, set_first, sets_from, wanted_each, value_at, with_value, work_of}
+use Rattle.server_model.specs.Checks.{◌>>=◌, are_distinct, beside, has_columns, key_from, new_row, places_from, places_named, reach_equal, reach_of, row_from, set_first, sets_from, wanted_each, value_at, with_value, work_of}
 
 -- the values that a row gives the new columns, before they are stored
 abbrev pub given : List MapColumn → Row → List Value

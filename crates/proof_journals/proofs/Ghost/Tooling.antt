@@ -3,7 +3,7 @@ use Rattle.std.proofs.Common.{◌≡◌, ℕ, suc, Bool, true, false, List, [], 
 use Rattle.std.specs.Prelude.{◌==◌}
 use Rattle.std.specs.List.{slice_get}
 use Rattle.std.specs.Ordering.{is_le}
-use Rattle.base_values.specs.Comparing.{compare_keys}
+use Rattle.base_values.specs.KeyOrder.{compare_keys}
 use Rattle.base_values.specs.declared.span.Bound.{Bound}
 use Rattle.base_values.specs.declared.span.Bound.TheVariants.{Open, Closed}
 use Rattle.base_values.specs.Spans.{has}
@@ -28,10 +28,10 @@ use Rattle.proof_journals.proofs.Ghost.Reading.{position_moves, read_whole}
 use Rattle.proof_journals.proofs.Ghost.Stepping.{refused_keeps}
 use Rattle.proof_journals.specs.Ghost.Doings.{IsHalf, IsWhole, planned}
 use Rattle.proof_journals.specs.Ghost.Given.{IsGiven}
-use Rattle.proof_journals.specs.Ghost.Holding.{Clustered, is_locked}
+use Rattle.proof_journals.specs.Ghost.HeldKeys.{Clustered, is_locked}
 use Rattle.proof_journals.specs.Ghost.Invariant.{GhostInvariant, IsServed, NotOf}
 use Rattle.proof_journals.specs.Ghost.Joined.{IsJoined}
-use Rattle.proof_journals.specs.Ghost.Reading.{EventsTold, IsTold, own_changes}
+use Rattle.proof_journals.specs.Ghost.OwnChanges.{EventsReported, IsReported, own_changes}
 use Rattle.proof_journals.specs.Ghost.Statements.{DoesWork}
 use Rattle.proof_journals.specs.Ghost.Tool.{AfterRemoval, AfterStatement, ApplyStands, ApplyState, CopyStands, CopyState, InChunk, IsIdle, StandsHalf, ToolInvariant, done_in, half_in, taken_in}
 use Rattle.proof_journals.specs.Ghost.Tool.AfterRemoval.{gone_half, gone_whole}
@@ -44,8 +44,8 @@ use Rattle.proof_journals.specs.Ghost.Rows.Views.{chunk_view, GhostRows, ghost_r
 use Rattle.proof_journals.specs.Scenes.{Besides, SessionHold, Stored, no_hold}
 use Rattle.server_model.specs.Answers.{refuses}
 use Rattle.server_model.specs.Chunks.{keys_of}
-use Rattle.server_model.specs.Jobs.{Job, after_events}
-use Rattle.server_model.specs.Saying.{only, tells}
+use Rattle.server_model.specs.Operations.{Operation, after_events}
+use Rattle.server_model.specs.StatementResults.{only, tells}
 use Rattle.server_model.proofs.LockedRows.Finding.{NamesWithin}
 use Rattle.server_model.proofs.LockedRows.Points.{among-within}
 use Rattle.server_model.specs.LockedRows.Agreeing.{Within}
@@ -99,7 +99,7 @@ copy_grows m at rows done' half' next next_half taken other progress later ghost
       far = stands.far;
       within = stands.within;
       holds = stands.holds;
-      told = stands.told ∙ ap (keys_of (key_places m.schema)) (near_same (key_places m.schema) low high stands.far (rows_at m.name (key_places m.schema) rows now.log (length now.log)) (rows_at m.name (key_places m.schema) rows after.log (length after.log)) stands.within
+      reported = stands.reported ∙ ap (keys_of (key_places m.schema)) (near_same (key_places m.schema) low high stands.far (rows_at m.name (key_places m.schema) rows now.log (length now.log)) (rows_at m.name (key_places m.schema) rows after.log (length after.log)) stands.within
           (span_stays m rows done' half' next next_half taken other progress later ghost ghost' copier applier number now after hold holds at (record { low = low; high = Closed stands.far }) planned served kept then differ stands.holds tables));
     })
 
@@ -129,7 +129,7 @@ tool_begins m at rows low high top keys apply progress ghost copier applier now 
     let end : progress.end ≡ length now.log = tool.kept.joined.under_way.end in
     record {
       kept = begins_span m rows (half_in m apply) progress ghost copier applier now hold holds own keys low high top tool.kept tool.other besides within apart wrote
-          (chunk.told ∙ ap (λ (n : ℕ). keys_of (key_places m.schema) (filter (λ row. has (record { low = low; high = Closed high }) (key_of (key_places m.schema) row)) (rows_at m.name (key_places m.schema) rows now.log n))) (sym end));
+          (chunk.reported ∙ ap (λ (n : ℕ). keys_of (key_places m.schema) (filter (λ row. has (record { low = low; high = Closed high }) (key_of (key_places m.schema) row)) (rows_at m.name (key_places m.schema) rows now.log n))) (sym end));
       copying = rw besides.here chunk;
       applying = apply_moves m now progress progress ghost ghost (hold applier) (holds applier) apply (besides.there applier tool.other) refl refl refl refl refl tool.applying;
       two = tool.two;
@@ -137,7 +137,7 @@ tool_begins m at rows low high top keys apply progress ghost copier applier now 
     }
 
 -- *a row of the chunk*
-pub tool_copies : (m : Migration) (at : Clustered m.schema) (rows : List Row) (low : Bound) (high top : Row) (keys : List Row) (n : ℕ) (apply : ApplyState) (progress : Progress Row) (ghost : GhostRows) (copier applier : ℕ) (now : Stored) (hold holds : ℕ → SessionHold) (own : SessionHold) (task : Job) (key row made : Row) → IsPlanned m rows → IsServed now hold
+pub tool_copies : (m : Migration) (at : Clustered m.schema) (rows : List Row) (low : Bound) (high top : Row) (keys : List Row) (n : ℕ) (apply : ApplyState) (progress : Progress Row) (ghost : GhostRows) (copier applier : ℕ) (now : Stored) (hold holds : ℕ → SessionHold) (own : SessionHold) (task : Operation) (key row made : Row) → IsPlanned m rows → IsServed now hold
     → ToolInvariant m at rows (Taking low high top keys n) apply progress ghost copier applier now hold → slice_get keys n ≡ Some key → DoesWork m task (works.Copy made) → IsGiven now hold copier task own → NamesWithin (hold copier).names own.names → Besides copier hold holds own
     → find (is_at (key_places m.schema) key) (rows_at m.name (key_places m.schema) rows now.log progress.end) ≡ Some row → converted_row m.columns row ≡ Ok made
     → ToolInvariant m at rows (Taking low high top keys (suc n)) apply (record progress { copier_holds = is_among (key ∷ take n keys) }) (record ghost { chunk = ghost.chunk ++ (tells m.new (chunk_view m ghost) (works.Copy made)).changes }) copier applier now holds
@@ -145,7 +145,7 @@ tool_copies m at rows low high top keys n apply progress ghost copier applier no
     let chunk : InChunk m at rows now (hold copier) low high keys = tool.copying in
     record {
       kept = copies_next m rows (done_in (Taking low high top keys n)) (half_in m apply) keys n progress ghost copier applier now hold holds own task key row made planned served tool.kept tool.other next is given besides found imaged;
-      copying = rw besides.here (record { far = chunk.far; within = chunk.within; holds = record { among = among-within _ (hold copier).locks own.locks chunk.holds.among given.kept; named = named m.name chunk.holds.named }; told = chunk.told });
+      copying = rw besides.here (record { far = chunk.far; within = chunk.within; holds = record { among = among-within _ (hold copier).locks own.locks chunk.holds.among given.kept; named = named m.name chunk.holds.named }; reported = chunk.reported });
       applying = apply_moves m now progress (record progress { copier_holds = is_among (key ∷ take n keys) }) ghost (record ghost { chunk = ghost.chunk ++ (tells m.new (chunk_view m ghost) (works.Copy made)).changes }) (hold applier) (holds applier) apply (besides.there applier tool.other) refl refl refl refl refl tool.applying;
       two = tool.two;
       other = tool.other;
@@ -200,29 +200,29 @@ tool_repeats_chunk m at rows low high top keys n apply progress ghost copier app
 -- ---- the applier
 
 -- *the log read with events of the table*: what is to be done is planned
-pub tool_reads : (m : Migration) (at : Clustered m.schema) (rows : List Row) (copy : CopyState) (progress : Progress Row) (ghost : GhostRows) (copier applier : ℕ) (now : Stored) (hold : ℕ → SessionHold) (told : EventsTold) → ToolInvariant m at rows copy Idle progress ghost copier applier now hold → IsTold m.name now.log progress.position told
-    → ToolInvariant m at rows copy (Whole told.next (planned m (own_changes m.name told.events))) progress ghost copier applier now hold
-tool_reads m at rows copy progress ghost copier applier now hold told tool is =
+pub tool_reads : (m : Migration) (at : Clustered m.schema) (rows : List Row) (copy : CopyState) (progress : Progress Row) (ghost : GhostRows) (copier applier : ℕ) (now : Stored) (hold : ℕ → SessionHold) (reported : EventsReported) → ToolInvariant m at rows copy Idle progress ghost copier applier now hold → IsReported m.name now.log progress.position reported
+    → ToolInvariant m at rows copy (Whole reported.next (planned m (own_changes m.name reported.events))) progress ghost copier applier now hold
+tool_reads m at rows copy progress ghost copier applier now hold reported tool is =
     let idle : IsIdle progress ghost (hold applier) = tool.applying in
-    let whole : IsWhole m now.log progress.position (length now.log) told.next (planned m (own_changes m.name told.events)) = read_whole m now.log progress.position told is in
+    let whole : IsWhole m now.log progress.position (length now.log) reported.next (planned m (own_changes m.name reported.events)) = read_whole m now.log progress.position reported is in
     record {
       kept = tool.kept;
       copying = tool.copying;
-      applying = subst (λ (e : ℕ). IsWhole m now.log progress.reached e told.next (planned m (own_changes m.name told.events))) (sym tool.kept.joined.under_way.end) (subst (λ (r : ℕ). IsWhole m now.log r (length now.log) told.next (planned m (own_changes m.name told.events))) (sym idle.reached) whole);
+      applying = subst (λ (e : ℕ). IsWhole m now.log progress.reached e reported.next (planned m (own_changes m.name reported.events))) (sym tool.kept.joined.under_way.end) (subst (λ (r : ℕ). IsWhole m now.log r (length now.log) reported.next (planned m (own_changes m.name reported.events))) (sym idle.reached) whole);
       two = tool.two;
       other = tool.other;
     }
 
 -- *the log read with none*: the position moves
-pub tool_passes : (m : Migration) (at : Clustered m.schema) (rows : List Row) (copy : CopyState) (progress : Progress Row) (ghost : GhostRows) (copier applier : ℕ) (now : Stored) (hold : ℕ → SessionHold) (told : EventsTold) → IsPlanned m rows → ToolInvariant m at rows copy Idle progress ghost copier applier now hold → IsTold m.name now.log progress.position told → planned m (own_changes m.name told.events) ≡ []
-    → ToolInvariant m at rows copy Idle (record progress { position = told.next; reached = told.next; applier_holds = λ _. false }) (record ghost { batch = [] }) copier applier now hold
-tool_passes m at rows copy progress ghost copier applier now hold told plan tool is none =
+pub tool_passes : (m : Migration) (at : Clustered m.schema) (rows : List Row) (copy : CopyState) (progress : Progress Row) (ghost : GhostRows) (copier applier : ℕ) (now : Stored) (hold : ℕ → SessionHold) (reported : EventsReported) → IsPlanned m rows → ToolInvariant m at rows copy Idle progress ghost copier applier now hold → IsReported m.name now.log progress.position reported → planned m (own_changes m.name reported.events) ≡ []
+    → ToolInvariant m at rows copy Idle (record progress { position = reported.next; reached = reported.next; applier_holds = λ _. false }) (record ghost { batch = [] }) copier applier now hold
+tool_passes m at rows copy progress ghost copier applier now hold reported plan tool is none =
     let idle : IsIdle progress ghost (hold applier) = tool.applying in
-    let read : ToolInvariant m at rows copy (Whole told.next (planned m (own_changes m.name told.events))) progress ghost copier applier now hold = tool_reads m at rows copy progress ghost copier applier now hold told tool is in
-    let whole : IsWhole m now.log progress.reached progress.end told.next [] = subst (λ (t : List Doing). IsWhole m now.log progress.reached progress.end told.next t) none read.applying in
+    let read : ToolInvariant m at rows copy (Whole reported.next (planned m (own_changes m.name reported.events))) progress ghost copier applier now hold = tool_reads m at rows copy progress ghost copier applier now hold reported tool is in
+    let whole : IsWhole m now.log progress.reached progress.end reported.next [] = subst (λ (t : List Doing). IsWhole m now.log progress.reached progress.end reported.next t) none read.applying in
     let empty : GhostInvariant m rows (done_in copy) (λ _. false) (taken_in copy) progress (record ghost { batch = [] }) copier applier now hold = subst (λ (b : List Change). GhostInvariant m rows (done_in copy) (λ _. false) (taken_in copy) progress (record ghost { batch = b }) copier applier now hold) idle.empty tool.kept in
     record {
-      kept = position_moves m rows (done_in copy) (taken_in copy) progress ghost copier applier now hold told.next plan empty idle.rests whole;
+      kept = position_moves m rows (done_in copy) (taken_in copy) progress ghost copier applier now hold reported.next plan empty idle.rests whole;
       copying = tool.copying;
       applying = record { rests = idle.rests; reached = refl; empty = refl };
       two = tool.two;
@@ -252,7 +252,7 @@ after_half m at rows copy apply progress ghost changes copier applier now hold h
     }
 
 -- *REPLACE of a row that was written*
-pub tool_puts : (m : Migration) (at : Clustered m.schema) (rows : List Row) (copy : CopyState) (progress : Progress Row) (ghost : GhostRows) (copier applier : ℕ) (now : Stored) (hold holds : ℕ → SessionHold) (own : SessionHold) (task : Job) (next : ℕ) (row made : Row) (rest : List Doing) → IsPlanned m rows → IsServed now hold
+pub tool_puts : (m : Migration) (at : Clustered m.schema) (rows : List Row) (copy : CopyState) (progress : Progress Row) (ghost : GhostRows) (copier applier : ℕ) (now : Stored) (hold holds : ℕ → SessionHold) (own : SessionHold) (task : Operation) (next : ℕ) (row made : Row) (rest : List Doing) → IsPlanned m rows → IsServed now hold
     → ToolInvariant m at rows copy (Whole next (Putting row ∷ rest)) progress ghost copier applier now hold → converted_row m.columns row ≡ Ok made → DoesWork m task (works.Replace made) → IsGiven now hold applier task own → Besides applier hold holds own
     → AfterStatement m at rows copy (Whole next rest) progress ghost (tells m.new (view_of m ghost) (works.Replace made)).changes copier applier now holds own
 tool_puts m at rows copy progress ghost copier applier now hold holds own task next row made rest plan served tool imaged is given besides =
@@ -260,7 +260,7 @@ tool_puts m at rows copy progress ghost copier applier now hold holds own task n
     (put_does m rows (done_in copy) (taken_in copy) progress ghost copier applier now hold holds own task next row made rest plan served tool.kept tool.two tool.applying imaged is given besides)
 
 -- *a batch's UPDATE in place*, not refused
-pub tool_changes : (m : Migration) (at : Clustered m.schema) (rows : List Row) (copy : CopyState) (progress : Progress Row) (ghost : GhostRows) (copier applier : ℕ) (now : Stored) (hold holds : ℕ → SessionHold) (own : SessionHold) (task : Job) (next : ℕ) (before row made : Row) (rest : List Doing) (plan : IsPlanned m rows) → IsServed now hold
+pub tool_changes : (m : Migration) (at : Clustered m.schema) (rows : List Row) (copy : CopyState) (progress : Progress Row) (ghost : GhostRows) (copier applier : ℕ) (now : Stored) (hold holds : ℕ → SessionHold) (own : SessionHold) (task : Operation) (next : ℕ) (before row made : Row) (rest : List Doing) (plan : IsPlanned m rows) → IsServed now hold
     → ToolInvariant m at rows copy (Whole next (Changing before row ∷ rest)) progress ghost copier applier now hold → converted_row m.columns row ≡ Ok made → DoesWork m task (update_work m rows plan (key_of (key_places m.schema) before) made) → IsGiven now hold applier task own → Besides applier hold holds own
     → (tells m.new (view_of m ghost) (update_work m rows plan (key_of (key_places m.schema) before) made) ≡ only (refuses ER_DUP_ENTRY) → ⊥)
     → AfterStatement m at rows copy (Whole next rest) progress ghost (tells m.new (view_of m ghost) (update_work m rows plan (key_of (key_places m.schema) before) made)).changes copier applier now holds own
@@ -269,7 +269,7 @@ tool_changes m at rows copy progress ghost copier applier now hold holds own tas
     (change_does m rows (done_in copy) (taken_in copy) progress ghost copier applier now hold holds own task next before row made rest plan served tool.kept tool.two tool.applying imaged is given besides done)
 
 -- *a batch's UPDATE of a row that has no image*, answered Ok(0)
-pub tool_changes_none : (m : Migration) (at : Clustered m.schema) (rows : List Row) (copy : CopyState) (progress : Progress Row) (ghost : GhostRows) (copier applier : ℕ) (now : Stored) (hold holds : ℕ → SessionHold) (own : SessionHold) (task : Job) (next : ℕ) (before row : Row) (fault : _) (rest : List Doing) (plan : IsPlanned m rows) → IsServed now hold
+pub tool_changes_none : (m : Migration) (at : Clustered m.schema) (rows : List Row) (copy : CopyState) (progress : Progress Row) (ghost : GhostRows) (copier applier : ℕ) (now : Stored) (hold holds : ℕ → SessionHold) (own : SessionHold) (task : Operation) (next : ℕ) (before row : Row) (fault : _) (rest : List Doing) (plan : IsPlanned m rows) → IsServed now hold
     → ToolInvariant m at rows copy (Whole next (Changing before row ∷ rest)) progress ghost copier applier now hold → DoesWork m task (unfit_work m rows plan (key_of (key_places m.schema) before) fault) → IsGiven now hold applier task own → Besides applier hold holds own → ghost_row m (view_of m ghost) (key_of (key_places m.schema) before) ≡ None
     → AfterStatement m at rows copy (Whole next rest) progress ghost (tells m.new (view_of m ghost) (unfit_work m rows plan (key_of (key_places m.schema) before) fault)).changes copier applier now holds own
 tool_changes_none m at rows copy progress ghost copier applier now hold holds own task next before row fault rest plan served tool is given besides none =
@@ -277,7 +277,7 @@ tool_changes_none m at rows copy progress ghost copier applier now hold holds ow
     (unfit_does m rows (done_in copy) (taken_in copy) progress ghost copier applier now hold holds own task next before row fault rest plan served tool.kept tool.two tool.applying is given besides none)
 
 -- *UPDATE refused with ER_DUP_ENTRY*
-pub tool_refused : (m : Migration) (at : Clustered m.schema) (rows : List Row) (copy : CopyState) (progress : Progress Row) (ghost : GhostRows) (copier applier : ℕ) (now : Stored) (hold holds : ℕ → SessionHold) (own : SessionHold) (task : Job) (work : Work) (next : ℕ) (todo : List Doing) → IsServed now hold
+pub tool_refused : (m : Migration) (at : Clustered m.schema) (rows : List Row) (copy : CopyState) (progress : Progress Row) (ghost : GhostRows) (copier applier : ℕ) (now : Stored) (hold holds : ℕ → SessionHold) (own : SessionHold) (task : Operation) (work : Work) (next : ℕ) (todo : List Doing) → IsServed now hold
     → ToolInvariant m at rows copy (Whole next todo) progress ghost copier applier now hold → DoesWork m task work → IsGiven now hold applier task own → Besides applier hold holds own → (tells m.new (view_of m ghost) work).changes ≡ []
     → ToolInvariant m at rows copy (Whole next todo) (record progress { applier_holds = is_locked m.new own.locks }) (record ghost { batch = ghost.batch ++ [] }) copier applier now holds
 tool_refused m at rows copy progress ghost copier applier now hold holds own task work next todo served tool is given besides none =
@@ -290,7 +290,7 @@ tool_refused m at rows copy progress ghost copier applier now hold holds own tas
     }
 
 -- *the DELETE behind it*
-pub tool_removes_again : (m : Migration) (at : Clustered m.schema) (rows : List Row) (copy : CopyState) (progress : Progress Row) (ghost : GhostRows) (copier applier : ℕ) (now : Stored) (hold holds : ℕ → SessionHold) (own : SessionHold) (task : Job) (next : ℕ) (before row : Row) (rest : List Doing) (plan : IsPlanned m rows) → IsServed now hold
+pub tool_removes_again : (m : Migration) (at : Clustered m.schema) (rows : List Row) (copy : CopyState) (progress : Progress Row) (ghost : GhostRows) (copier applier : ℕ) (now : Stored) (hold holds : ℕ → SessionHold) (own : SessionHold) (task : Operation) (next : ℕ) (before row : Row) (rest : List Doing) (plan : IsPlanned m rows) → IsServed now hold
     → ToolInvariant m at rows copy (Whole next (Changing before row ∷ rest)) progress ghost copier applier now hold → DoesWork m task (delete_work m rows plan (key_of (key_places m.schema) before)) → IsGiven now hold applier task own → Besides applier hold holds own
     → AfterStatement m at rows copy (Half next before row rest) progress ghost (tells m.new (view_of m ghost) (delete_work m rows plan (key_of (key_places m.schema) before))).changes copier applier now holds own
 tool_removes_again m at rows copy progress ghost copier applier now hold holds own task next before row rest plan served tool is given besides =
@@ -302,7 +302,7 @@ removed_then : (m : Migration) (at : Clustered m.schema) (rows : List Row) (copy
 removed_then m at rows copy apply progress ghost changes copier applier now hold holds own next row rest tool besides (wholly done) = gone_whole (after_whole m at rows copy apply progress ghost changes copier applier now hold holds own next rest tool besides done)
 removed_then m at rows copy apply progress ghost changes copier applier now hold holds own next row rest tool besides (halfway new more is done) = gone_half new more is (after_half m at rows copy apply progress ghost changes copier applier now hold holds own next row new more tool besides done)
 
-pub tool_removes : (m : Migration) (at : Clustered m.schema) (rows : List Row) (copy : CopyState) (progress : Progress Row) (ghost : GhostRows) (copier applier : ℕ) (now : Stored) (hold holds : ℕ → SessionHold) (own : SessionHold) (task : Job) (next : ℕ) (row : Row) (rest : List Doing) (plan : IsPlanned m rows) → IsServed now hold
+pub tool_removes : (m : Migration) (at : Clustered m.schema) (rows : List Row) (copy : CopyState) (progress : Progress Row) (ghost : GhostRows) (copier applier : ℕ) (now : Stored) (hold holds : ℕ → SessionHold) (own : SessionHold) (task : Operation) (next : ℕ) (row : Row) (rest : List Doing) (plan : IsPlanned m rows) → IsServed now hold
     → ToolInvariant m at rows copy (Whole next (Removing row ∷ rest)) progress ghost copier applier now hold → DoesWork m task (delete_work m rows plan (key_of (key_places m.schema) row)) → IsGiven now hold applier task own → Besides applier hold holds own
     → AfterRemoval m at rows copy progress ghost (tells m.new (view_of m ghost) (delete_work m rows plan (key_of (key_places m.schema) row))).changes copier applier now holds own next row rest
 tool_removes m at rows copy progress ghost copier applier now hold holds own task next row rest plan served tool is given besides =
@@ -310,7 +310,7 @@ tool_removes m at rows copy progress ghost copier applier now hold holds own tas
     (remove_does m rows (done_in copy) (taken_in copy) progress ghost copier applier now hold holds own task next row rest plan served tool.kept tool.two tool.applying is given besides)
 
 -- *the REPLACE behind a DELETE*
-pub tool_puts_second : (m : Migration) (at : Clustered m.schema) (rows : List Row) (copy : CopyState) (progress : Progress Row) (ghost : GhostRows) (copier applier : ℕ) (now : Stored) (hold holds : ℕ → SessionHold) (own : SessionHold) (task : Job) (next : ℕ) (before row made : Row) (rest : List Doing) → IsPlanned m rows → IsServed now hold
+pub tool_puts_second : (m : Migration) (at : Clustered m.schema) (rows : List Row) (copy : CopyState) (progress : Progress Row) (ghost : GhostRows) (copier applier : ℕ) (now : Stored) (hold holds : ℕ → SessionHold) (own : SessionHold) (task : Operation) (next : ℕ) (before row made : Row) (rest : List Doing) → IsPlanned m rows → IsServed now hold
     → ToolInvariant m at rows copy (Half next before row rest) progress ghost copier applier now hold → converted_row m.columns row ≡ Ok made → DoesWork m task (works.Replace made) → IsGiven now hold applier task own → Besides applier hold holds own
     → AfterStatement m at rows copy (Whole next rest) progress ghost (tells m.new (view_of m ghost) (works.Replace made)).changes copier applier now holds own
 tool_puts_second m at rows copy progress ghost copier applier now hold holds own task next before row made rest plan served tool imaged is given besides =
@@ -392,7 +392,7 @@ tool_moves m at rows copy apply progress ghost copier applier now after hold too
     } where
       copy_moved : (c : CopyState) → CopyStands m at rows now (hold copier) c → CopyStands m at rows after (hold copier) c
       copy_moved (Waiting left) stands = stands
-      copy_moved (Taking low high top keys n) stands = record { far = stands.far; within = stands.within; holds = stands.holds; told = rw log stands.told }
+      copy_moved (Taking low high top keys n) stands = record { far = stands.far; within = stands.within; holds = stands.holds; reported = rw log stands.reported }
 
       apply_moved : (a : ApplyState) → ApplyStands m now progress ghost (hold applier) a → ApplyStands m after progress ghost (hold applier) a
       apply_moved Idle stands = stands

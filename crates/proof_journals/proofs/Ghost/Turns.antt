@@ -19,11 +19,11 @@ use Rattle.server_model.specs.declared.entry.Entry.{Entry}
 use Rattle.server_model.specs.declared.request.Request.{Request}
 use Rattle.server_model.specs.declared.request.Request.TheVariants as requests
 use Rattle.server_model.specs.Along.{Along}
-use Rattle.server_model.specs.Effects.{all_stand, begins, created, effect_unless, defined, dropped, is_outside, locks_if, nothing_needed, renamed_or, result_effect}
+use Rattle.server_model.specs.Effects.{all_exist, begins, created, effect_unless, defined, dropped, is_outside, locks_if, nothing_needed, renamed_or, result_effect}
 use Rattle.server_model.specs.Entries.{is_command, is_client}
-use Rattle.server_model.specs.Jobs.{Job, table_of, job_of, says, job_says, job_needs, after_events, copy_job}
-use Rattle.server_model.specs.Locking.{need, need_within, blocker}
-use Rattle.server_model.specs.Serving.{at_rest, called_unless, calls, counting, does, done, goes_on, holding, is_over, leaves, locking, loses, polled_of, polled_over, polled_unless, polls, serves, unlocking, without_waiting}
+use Rattle.server_model.specs.Operations.{Operation, table_of, operation_of, statement_result, operation_result, operation_needs, after_events, copy_operation}
+use Rattle.server_model.specs.Blockers.{need, need_within, blocker}
+use Rattle.server_model.specs.PlainServer.{at_rest, called_unless, calls, counting, does, done, goes_on, holding, is_over, leaves, locking, loses, polled_of, polled_over, polled_unless, polls, serves, unlocking, without_waiting}
 use Rattle.server_model.specs.States.{State, is_in_transaction, opened, session_of, view, waiting_of, with_session, writes_of}
 use Rattle.tool_program.specs.JournalWords.Journals.{after_entry, opens, state_after}
 use Rattle.server_model.specs.LockedRows.Databases.{IsWellFormedDatabase, TaskSound}
@@ -33,7 +33,7 @@ use Rattle.server_model.proofs.LockedRows.Stables.{statement_sound}
 use Rattle.server_model.proofs.LockedRows.Tests.{are_one}
 use Rattle.proof_journals.specs.Scenes.{Scene, SessionHold, no_hold}
 use Rattle.proof_journals.specs.Holdings.{Face, face_in, face_of}
-use Rattle.proof_journals.specs.Turns.{about, scene_state, AtRest, IsTold, IsAllowed, IsSceneRun}
+use Rattle.proof_journals.specs.Turns.{about, scene_state, AtRest, IsReported, IsAllowed, IsSceneRun}
 use Rattle.proof_journals.proofs.Faces.{faces_opened, faces_with, faces_without, opened_live}
 use Rattle.proof_journals.proofs.Held.{hold_in, holding_face, rests_face, locking_face, unlocking_face}
 use Rattle.proof_journals.proofs.Journals.{state_more, journal_holds, found_live, stored_opened}
@@ -41,7 +41,7 @@ use Rattle.proof_journals.proofs.Tooling.{copies_sound, names_two}
 use Rattle.proof_journals.proofs.Words.{names_left, names_last}
 use Rattle.proof_journals.proofs.ServerTurns.Agreements.{along_front, others_agree_law}
 use Rattle.proof_journals.proofs.ServerTurns.Others.{at_wait, entry_faces}
-use Rattle.proof_journals.specs.Ghost.Fitting.{IsFitting}
+use Rattle.proof_journals.specs.Ghost.FittingEvents.{IsFitting}
 use Rattle.proof_journals.specs.Ghost.Laws.{WritesFit}
 use Rattle.proof_journals.proofs.Ghost.Fitting.{fitting_begin, fitting_others, fitting_task, fitting_end, well_formed_events}
 
@@ -83,15 +83,15 @@ unfolding loses
 own_gone state number = subst (FaceFits state.tables) (sym (faces_without number state.sessions).here) (fitting_begin state.tables)
 
 -- a job that is granted
-job_fits : (now : State) (number : ℕ) (own : Own now number) (names : List (List ℕ)) (seen : Database) (job : Database → Job) → seen ≡ after_events now.tables (hold_in own.found).writes → TaskSound (job (after_events now.tables (hold_in own.found).writes)) (after_events now.tables (hold_in own.found).writes)
-    → list_any (bytes_eq (job (after_events now.tables (hold_in own.found).writes)).table) ((hold_in own.found).names ++ names) ≡ true
-    → IsFitting ((hold_in own.found).names ++ names) ((hold_in own.found).locks ++ job_needs seen (job seen)) ((hold_in own.found).writes ++ (job_says seen (job seen)).events) now.tables
-job_fits now number own names seen job same sound mine =
+operation_fits : (now : State) (number : ℕ) (own : Own now number) (names : List (List ℕ)) (seen : Database) (operation : Database → Operation) → seen ≡ after_events now.tables (hold_in own.found).writes → TaskSound (operation (after_events now.tables (hold_in own.found).writes)) (after_events now.tables (hold_in own.found).writes)
+    → list_any (bytes_eq (operation (after_events now.tables (hold_in own.found).writes)).table) ((hold_in own.found).names ++ names) ≡ true
+    → IsFitting ((hold_in own.found).names ++ names) ((hold_in own.found).locks ++ operation_needs seen (operation seen)) ((hold_in own.found).writes ++ (operation_result seen (operation seen)).events) now.tables
+operation_fits now number own names seen operation same sound mine =
     let hold : SessionHold = hold_in own.found in
     let view : Database = after_events now.tables hold.writes in
-    subst (λ (d : Database). IsFitting (hold.names ++ names) (hold.locks ++ job_needs d (job d)) (hold.writes ++ (job_says d (job d)).events) now.tables) (sym same)
-    (fitting_task hold.names (hold.names ++ names) hold.locks (hold.locks ++ job_needs view (job view)) hold.writes now.tables (job view) own.fits own.well_formed sound (names_left hold.names names)
-    (within-left hold.locks hold.locks (job_needs view (job view)) (within-itself hold.locks)) mine (within-right (job_needs view (job view)) hold.locks (job_needs view (job view)) (within-itself (job_needs view (job view)))))
+    subst (λ (d : Database). IsFitting (hold.names ++ names) (hold.locks ++ operation_needs d (operation d)) (hold.writes ++ (operation_result d (operation d)).events) now.tables) (sym same)
+    (fitting_task hold.names (hold.names ++ names) hold.locks (hold.locks ++ operation_needs view (operation view)) hold.writes now.tables (operation view) own.fits own.well_formed sound (names_left hold.names names)
+    (within-left hold.locks hold.locks (operation_needs view (operation view)) (within-itself hold.locks)) mine (within-right (operation_needs view (operation view)) hold.locks (operation_needs view (operation view)) (within-itself (operation_needs view (operation view)))))
 
 -- more names and locks, and nothing written
 quiet_fits : (now : State) (number : ℕ) (own : Own now number) (names : List (List ℕ)) (locks : List Lock) → IsFitting ((hold_in own.found).names ++ names) ((hold_in own.found).locks ++ locks) ((hold_in own.found).writes ++ []) now.tables
@@ -120,10 +120,10 @@ own_effect now w number own false busy seen requests.Begin same quiet rests = ow
 own_effect now w number own false busy seen requests.Commit same quiet rests = own_rests now number own _
 own_effect now w number own false busy seen requests.Rollback same quiet rests = own_rests now number own now.tables
 own_effect now w number own false busy seen (requests.Do statement) same quiet rests = at busy where
-  at : (b : Bool) → OwnFits (does (result_effect b (need_within seen (requests.Do statement)) (says seen statement)) (at_wait now w) number).after number
+  at : (b : Bool) → OwnFits (does (result_effect b (need_within seen (requests.Do statement)) (statement_result seen statement)) (at_wait now w) number).after number
   at true =
-      own_grows now w number own (need_within seen (requests.Do statement)) (says seen statement).events
-      (job_fits now number own (table_of statement ∷ []) seen (λ d. job_of statement) same (statement_sound (after_events now.tables (hold_in own.found).writes) statement (seen_well_formed now number own)) (names_last (hold_in own.found).names (table_of statement)))
+      own_grows now w number own (need_within seen (requests.Do statement)) (statement_result seen statement).events
+      (operation_fits now number own (table_of statement ∷ []) seen (λ d. operation_of statement) same (statement_sound (after_events now.tables (hold_in own.found).writes) statement (seen_well_formed now number own)) (names_last (hold_in own.found).names (table_of statement)))
   at false = own_rests now number own _
 own_effect now w number own false busy seen (requests.Ends table) same quiet rests = own_still now number own
 own_effect now w number own false busy seen (requests.ChunkEnd table low top size) same quiet rests = own_still now number own
@@ -134,12 +134,12 @@ own_effect now w number own false busy seen (requests.BeginSpan table span size)
       own_grows now w number own (need_within seen (requests.BeginSpan table span size)) []
       (quiet_fits now number own (need_within seen (requests.BeginSpan table span size)).names (need_within seen (requests.BeginSpan table span size)).locks)
 own_effect now w number own false busy seen (requests.CopyRow from into map key) same quiet rests = at busy where
-  at : (b : Bool) → OwnFits (does (result_effect b (need_within seen (requests.CopyRow from into map key)) (job_says seen (copy_job seen from into map key))) (at_wait now w) number).after number
+  at : (b : Bool) → OwnFits (does (result_effect b (need_within seen (requests.CopyRow from into map key)) (operation_result seen (copy_operation seen from into map key))) (at_wait now w) number).after number
   at true =
-      own_grows now w number own (need_within seen (requests.CopyRow from into map key)) (job_says seen (copy_job seen from into map key)).events
-      (job_fits now number own (from ∷ into ∷ []) seen (λ d. copy_job d from into map key) same (copies_sound (after_events now.tables (hold_in own.found).writes) from into map key (seen_well_formed now number own)) (names_two (hold_in own.found).names from into))
+      own_grows now w number own (need_within seen (requests.CopyRow from into map key)) (operation_result seen (copy_operation seen from into map key)).events
+      (operation_fits now number own (from ∷ into ∷ []) seen (λ d. copy_operation d from into map key) same (copies_sound (after_events now.tables (hold_in own.found).writes) from into map key (seen_well_formed now number own)) (names_two (hold_in own.found).names from into))
   at false = own_rests now number own _
-own_effect now w number own false busy seen (requests.LockTables names) same quiet rests = at (all_stand names now.tables) where
+own_effect now w number own false busy seen (requests.LockTables names) same quiet rests = at (all_exist names now.tables) where
   at : (b : Bool) → OwnFits (does (locks_if b names) (at_wait now w) number).after number
   at true = own_changes now number own now.tables (locking names) _ (λ s. refl) (locking_face names own.found) own.fits
   at false = own_still now number own
@@ -241,13 +241,13 @@ own_entry limits scene journal entry run allowed fits = at (is_command entry.ask
 -- EACH JOURNAL
 
 -- the next entry of a run is allowed, and its front is a run
-pub along_next : {E : Type 0} (keeps : List E → E → Type 0) (before front : List E) (entry : E) (behind : List E) → Along keeps before (front ++ entry ∷ behind) → keeps (before ++ front) entry
-along_next keeps before [] entry behind all = subst (λ (b : List _). keeps b entry) (sym (append-nil before)) all.0
-along_next keeps before (first ∷ front) entry behind all = subst (λ (b : List _). keeps b entry) (append_assoc before (first ∷ []) front) (along_next keeps (before ++ first ∷ []) front entry behind all.1)
+pub along_next : {E : Type 0} (keeps : List E → E → Type 0) (before front : List E) (entry : E) (following : List E) → Along keeps before (front ++ entry ∷ following) → keeps (before ++ front) entry
+along_next keeps before [] entry following all = subst (λ (b : List _). keeps b entry) (sym (append-nil before)) all.0
+along_next keeps before (first ∷ front) entry following all = subst (λ (b : List _). keeps b entry) (append_assoc before (first ∷ []) front) (along_next keeps (before ++ first ∷ []) front entry following all.1)
 
 pub run_front : (limits : Limits) (scene : Scene) (journal more : List Entry) → IsSceneRun limits scene (journal ++ more) → IsSceneRun limits scene journal
 run_front limits scene journal more run =
-    record { well_formed = run.well_formed; migrated = run.migrated; told = along_front (IsTold limits scene) [] journal more run.told; allowed = along_front (IsAllowed limits scene) [] journal more run.allowed }
+    record { well_formed = run.well_formed; migrated = run.migrated; reported = along_front (IsReported limits scene) [] journal more run.reported; allowed = along_front (IsAllowed limits scene) [] journal more run.allowed }
 
 -- all sessions' writes fit
 abbrev AllFit : State → Type 0

@@ -13,19 +13,19 @@ use Rattle.server_model.specs.declared.request.Request.{Request}
 use Rattle.server_model.specs.Effects.{Effect, effect}
 use Rattle.server_model.specs.Effects.Effect.{Rests, Grows, Writes, Forgets, Moves, Locks, Unlocks}
 use Rattle.server_model.specs.Entries.{is_command, is_client, is_cut}
-use Rattle.server_model.specs.Locking.{need, blocker}
-use Rattle.server_model.specs.Serving.{called_unless, calls, counting, does, done, forgets, is_over, leaves, polled_of, polled_over, polled_unless, polls, serves, without_waiting}
+use Rattle.server_model.specs.Blockers.{need, blocker}
+use Rattle.server_model.specs.PlainServer.{called_unless, calls, counting, does, done, forgets, is_over, leaves, polled_of, polled_over, polled_unless, polls, serves, without_waiting}
 use Rattle.server_model.specs.States.{State, opened, polls_of, session_of, waiting_of, with_session}
 use Rattle.tool_program.specs.JournalWords.Journals.{after_entry, opens, opens_if}
 use Rattle.proof_journals.specs.Scenes.{Scene, Besides, SessionHold, no_hold}
 use Rattle.proof_journals.specs.Holdings.{face_in, stored}
-use Rattle.proof_journals.specs.Turns.{about, answer_at, inner, missed_at, request_of, scene_state, told_at}
+use Rattle.proof_journals.specs.Turns.{about, answer_at, inner, missed_at, request_of, scene_state, reported_at}
 use Rattle.proof_journals.proofs.Faces.{faces_opened, opened_live}
 use Rattle.proof_journals.proofs.Journals.{state_more, found_live, no_command, stored_opened}
 use Rattle.proof_journals.proofs.Tooling.{final}
 use Rattle.proof_journals.proofs.Waiting.{IsDone, done_answers}
 use Rattle.proof_journals.specs.Ghost.Laws.{CutsAreLeft, EffectsAnswer, UndoneIsLeft}
-use Rattle.proof_journals.specs.Ghost.Leaving.{effect_answer, told_done, undone_hold, unless_lost, was_done, where_done}
+use Rattle.proof_journals.specs.Ghost.EffectStates.{effect_answer, reported_done, undone_hold, unless_lost, was_done, where_done}
 use Rattle.proof_journals.proofs.Ghost.Leaving.{There, changed_so, hold_found, holds_of, resting_hold, rests_so, same_so, stored_final}
 
 -- WHAT IS ANSWERED
@@ -69,19 +69,19 @@ served_answer now number Poll request is answered = at (waiting_of number now.wa
 served_answer now number (Command word) request is answered = absurd cc
 served_answer now number Cut request is answered = absurd (let no : false ≡ true = answered in cc)
 
-turn_answer : (now : State) (number : ℕ) (asked : Asked) (side : Option Side) (request : Request) (given : Answer) → about now number asked ≡ Some request → told_at side (answer_at side (serves now number asked).answer) (missed_at side (serves now number asked).answer) ≡ Some given
+turn_answer : (now : State) (number : ℕ) (asked : Asked) (side : Option Side) (request : Request) (given : Answer) → about now number asked ≡ Some request → reported_at side (answer_at side (serves now number asked).answer) (missed_at side (serves now number asked).answer) ≡ Some given
     → was_done given ≡ true → given ≡ effect_answer (effect (where_done asked number now) number request)
-turn_answer now number asked None request given is told answered =
+turn_answer now number asked None request given is reported answered =
     let same : (serves now number asked).answer ≡ given = cc in sym same ∙ served_answer now number asked request is (ap was_done same ∙ answered)
-turn_answer now number asked (Some Before) request given is told answered = absurd cc
-turn_answer now number asked (Some After) request given is told answered =
+turn_answer now number asked (Some Before) request given is reported answered = absurd cc
+turn_answer now number asked (Some After) request given is reported answered =
     let same : (serves now number asked).answer ≡ given = cc in sym same ∙ served_answer now number asked request is (ap was_done same ∙ answered)
 
 pub effects_answer : EffectsAnswer
-effects_answer limits scene journal entry request given run told is heard answered =
+effects_answer limits scene journal entry request given run reported is heard answered =
     let before : State = scene_state limits scene journal in
-    let was : told_at entry.side (answer_at entry.side (inner before entry)) (missed_at entry.side (inner before entry)) ≡ Some given =
-    sym (ap (λ (g : Answer). told_at entry.side g entry.missed) told.answer ∙ ap (λ (m : Option Answer). told_at entry.side (answer_at entry.side (inner before entry)) m) told.missed) ∙ heard in
+    let was : reported_at entry.side (answer_at entry.side (inner before entry)) (missed_at entry.side (inner before entry)) ≡ Some given =
+    sym (ap (λ (g : Answer). reported_at entry.side g entry.missed) reported.answer ∙ ap (λ (m : Option Answer). reported_at entry.side (answer_at entry.side (inner before entry)) m) reported.missed) ∙ heard in
     turn_answer (opens entry before) entry.session entry.asked entry.side request given is was answered
 
 -- WHAT WAS NOT DONE
@@ -141,7 +141,7 @@ lost_left : (now : State) (number : ℕ) → Left now number no_hold (final true
 lost_left now number = record { stays = stored_final true number now; besides = same_so now number true now.tables now.log now.waiting }
 
 undone_turn : (now : State) (number : ℕ) (asked : Asked) (side : Option Side) (request : Request) → There now number → is_cut asked ≡ false → about now number asked ≡ Some request
-    → told_done (told_at side (answer_at side (serves now number asked).answer) (missed_at side (serves now number asked).answer)) ≡ false → Left now number (undone_hold side (answer_at side (serves now number asked).answer) (holds_of now number)) (leaves side now number asked)
+    → reported_done (reported_at side (answer_at side (serves now number asked).answer) (missed_at side (serves now number asked).answer)) ≡ false → Left now number (undone_hold side (answer_at side (serves now number asked).answer) (holds_of now number)) (leaves side now number asked)
 undone_turn now number asked None request there cut is none = undone_served now number asked request false there cut is none
 undone_turn now number asked (Some Before) request there cut is none = lost_left now number
 undone_turn now number asked (Some After) request there cut is none = undone_served now number asked request true there cut is none
@@ -152,26 +152,26 @@ opened_left nothing tool number before own after left =
     let holds : holds_of (opens_if nothing tool number before) ≡ holds_of before = λ i n. (faces_opened nothing tool number n before i).hold in
     record { stays = left.stays ∙ stored_opened nothing tool number before; besides = subst (λ (h : ℕ → SessionHold). Besides number h (holds_of after) own) holds left.besides }
 
-behind : (limits : Limits) (scene : Scene) (journal : List Entry) (entry : Entry) (own : SessionHold) → Left (scene_state limits scene journal) entry.session own (after_entry (scene_state limits scene journal) entry)
+following : (limits : Limits) (scene : Scene) (journal : List Entry) (entry : Entry) (own : SessionHold) → Left (scene_state limits scene journal) entry.session own (after_entry (scene_state limits scene journal) entry)
     → (stored (scene_state limits scene (journal ++ entry ∷ [])) ≡ stored (scene_state limits scene journal)) × Besides entry.session (holds_of (scene_state limits scene journal)) (holds_of (scene_state limits scene (journal ++ entry ∷ []))) own
-behind limits scene journal entry own left = rw (state_more (opened limits scene.opening) journal entry) (left.stays, left.besides)
+following limits scene journal entry own left = rw (state_more (opened limits scene.opening) journal entry) (left.stays, left.besides)
 
 pub undone_is_left : UndoneIsLeft
-undone_is_left limits scene journal entry request run told cut is none =
+undone_is_left limits scene journal entry request run reported cut is none =
     let before : State = scene_state limits scene journal in
     let number : ℕ = entry.session in
     let nothing : Bool = is_command entry.asked in
     let tool : Bool = not (is_client entry.actor) in
     let now : State = opens entry before in
     let live : nothing ≡ false = no_command now number entry.asked request is in
-    let was : told_at entry.side entry.answer entry.missed ≡ told_at entry.side (answer_at entry.side (inner before entry)) (missed_at entry.side (inner before entry)) =
-    ap (λ (g : Answer). told_at entry.side g entry.missed) told.answer ∙ ap (λ (m : Option Answer). told_at entry.side (answer_at entry.side (inner before entry)) m) told.missed in
+    let was : reported_at entry.side entry.answer entry.missed ≡ reported_at entry.side (answer_at entry.side (inner before entry)) (missed_at entry.side (inner before entry)) =
+    ap (λ (g : Answer). reported_at entry.side g entry.missed) reported.answer ∙ ap (λ (m : Option Answer). reported_at entry.side (answer_at entry.side (inner before entry)) m) reported.missed in
     let left : Left now number (undone_hold entry.side (answer_at entry.side (inner before entry)) (holds_of now number)) (after_entry before entry) =
     found_live (session_of number now.sessions) (Left now number (undone_hold entry.side (answer_at entry.side (inner before entry)) (holds_of now number)) (after_entry before entry)) (opened_live nothing tool number before live)
-    (λ found there. undone_turn now number entry.asked entry.side request (record { found = found; is = there }) cut is (sym (ap told_done was) ∙ none)) in
+    (λ found there. undone_turn now number entry.asked entry.side request (record { found = found; is = there }) cut is (sym (ap reported_done was) ∙ none)) in
     let own : holds_of now number ≡ holds_of before number = λ i. (faces_opened nothing tool number number before i).hold in
-    behind limits scene journal entry (undone_hold entry.side entry.answer (holds_of before number))
-    (subst (λ (a : Answer). Left before number (undone_hold entry.side a (holds_of before number)) (after_entry before entry)) (sym told.answer)
+    following limits scene journal entry (undone_hold entry.side entry.answer (holds_of before number))
+    (subst (λ (a : Answer). Left before number (undone_hold entry.side a (holds_of before number)) (after_entry before entry)) (sym reported.answer)
     (subst (λ (h : SessionHold). Left before number (undone_hold entry.side (answer_at entry.side (inner before entry)) h) (after_entry before entry)) own
     (opened_left nothing tool number before (undone_hold entry.side (answer_at entry.side (inner before entry)) (holds_of now number)) (after_entry before entry) left)))
 
@@ -185,5 +185,5 @@ cut_turn now number (Command word) side is none = absurd cc
 pub cuts_are_left : CutsAreLeft
 cuts_are_left limits scene journal entry is none =
     let before : State = scene_state limits scene journal in
-    behind limits scene journal entry no_hold
+    following limits scene journal entry no_hold
     (opened_left (is_command entry.asked) (not (is_client entry.actor)) entry.session before no_hold (after_entry before entry) (cut_turn (opens entry before) entry.session entry.asked entry.side is none))

@@ -5,7 +5,7 @@ use Rattle.std.specs.Str.{bytes_eq}
 use Rattle.base_values.specs.declared.event.RowEvent.{RowEvent}
 use Rattle.base_values.specs.declared.event.Change.{Change}
 use Rattle.proof_journals.proofs.Ghost.Ending.{walk_joins}
-use Rattle.proof_journals.proofs.Ghost.Joining.{table_stands}
+use Rattle.proof_journals.proofs.Ghost.Joining.{table_exists}
 use Rattle.proof_journals.proofs.Ghost.Saying.{step_keeps}
 use Rattle.proof_journals.specs.Ghost.Doings.{changes_in, own_change, NextDue, OthersOnly, planned}
 use Rattle.proof_journals.specs.Ghost.Invariant.{GhostInvariant}
@@ -50,7 +50,7 @@ due_later name log from steps change rest here due =
       there = ap (slice_get log) (sym place) ∙ due.there;
       named = due.named;
       is = due.is;
-      behind = due.behind ∙ ap (λ (n : ℕ). changes_in name log (n + 1) due.left) place;
+      following = due.following ∙ ap (λ (n : ℕ). changes_in name log (n + 1) due.left) place;
     }
 
 due_now : (name : List ℕ) (log : List RowEvent) (from steps : ℕ) (event : RowEvent) → slice_get log from ≡ Some event → bytes_eq event.table name ≡ true → NextDue name log from (suc steps) event.change (changes_in name log (from + 1) steps)
@@ -65,7 +65,7 @@ due_now name log from steps event there named =
       there = ap (slice_get log) zero_more ∙ there;
       named = named;
       is = refl;
-      behind = ap (λ (n : ℕ). changes_in name log (n + 1) steps) (sym zero_more);
+      following = ap (λ (n : ℕ). changes_in name log (n + 1) steps) (sym zero_more);
     }
 
 due_by : (name : List ℕ) (log : List RowEvent) (from steps : ℕ) (change : Change) (rest : List Change) (found : Option RowEvent) → slice_get log from ≡ found → own_change name found ++ changes_in name log (from + 1) steps ≡ change ∷ rest
@@ -108,7 +108,7 @@ is_due m rows done half taken progress ghost copier applier now hold i event cha
       step = one;
       named = subst (λ (e : RowEvent). bytes_eq e.table m.name ≡ true) same named;
       is = subst (λ (e : RowEvent). e.change ≡ change) same is;
-      table = table_stands m rows now.log done half progress ghost i planned kept.joined.under_way;
+      table = table_exists m rows now.log done half progress ghost i planned kept.joined.under_way;
     }
 
 -- what the next event of the table gives: the invariant at its place, and that it is due there
@@ -123,7 +123,7 @@ pub record Comes (m : Migration) (rows : List Row) (done : Row → Bool) (taken 
   pub named : bytes_eq event.table m.name ≡ true
   pub is : event.change ≡ change
   pub due : IsDue m rows now.log place change
-  pub behind : rest ≡ changes_in m.name now.log (place + 1) left
+  pub following : rest ≡ changes_in m.name now.log (place + 1) left
   pub from : progress.reached ≤ place
 
 -- *The walk to the next event of the table*
@@ -146,7 +146,7 @@ walks m rows done taken progress ghost copier applier now hold steps change rest
       named = next.named;
       is = next.is;
       due = is_due m rows done (λ _. false) taken progress ghost copier applier now hold (progress.reached + next.others) next.event change planned kept (omega (arith, within, sum)) next.there next.named next.is;
-      behind = next.behind;
+      following = next.following;
       from = omega arith;
     }
 

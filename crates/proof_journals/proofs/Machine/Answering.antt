@@ -6,7 +6,7 @@ use Rattle.base_values.specs.declared.span.Span.{Span}
 use Rattle.base_values.specs.declared.span.Bound.{Bound}
 use Rattle.base_values.specs.declared.span.Bound.TheVariants.{Open, Closed, Free}
 use Rattle.base_values.specs.declared.value.Value.{Value}
-use Rattle.base_values.specs.Storing.{AreOfKinds}
+use Rattle.base_values.specs.StoredValues.{AreOfKinds}
 use Rattle.base_values.specs.declared.gho_schema.schema.Schema.{Schema}
 use Rattle.base_values.specs.GhoSchema.Rows.{key_places}
 use Rattle.table_store.specs.Databases.{TableRows, find_table}
@@ -22,9 +22,9 @@ use Rattle.server_model.specs.Chunks.{keys_of, keys_in, ends_of, last_of, chunk_
 use Rattle.server_model.specs.Conditions.{key_kinds}
 use Rattle.server_model.specs.Entries.{is_client, is_command}
 use Rattle.server_model.specs.States.{State, session_of, is_in_transaction, view, waiting_of}
-use Rattle.server_model.specs.Locking.{need, need_within, blocker}
+use Rattle.server_model.specs.Blockers.{need, need_within, blocker}
 use Rattle.server_model.specs.Effects.{of_table, begins, effect_within, effect_unless, is_outside}
-use Rattle.server_model.specs.Serving.{does, done, called_unless, calls, is_over, polled_over, polled_unless, polled_of, polls, serves, without_waiting}
+use Rattle.server_model.specs.PlainServer.{does, done, called_unless, calls, is_over, polled_over, polled_unless, polled_of, polls, serves, without_waiting}
 use Rattle.server_model.specs.LockedRows.Covering.{IsWellFormedTable}
 use Rattle.server_model.specs.LockedRows.Databases.{WhereFound, IsWellFormedDatabase}
 use Rattle.plan_data.specs.PlanData.{PlanData, old_schema}
@@ -33,8 +33,8 @@ use Rattle.proof_journals.specs.Scenes.{Stored}
 use Rattle.proof_journals.specs.Turns.{request_of}
 use Rattle.proof_journals.proofs.Journals.{stored_opened, opened_waits}
 use Rattle.proof_journals.specs.Machine.Standings.{standing_of, IsAbout, is_called, is_polled}
-use Rattle.proof_journals.specs.Machine.Tabling.{schema_of}
-use Rattle.proof_journals.specs.Machine.Keying.{IsKey, IsClosedKey, IsKeyed, AnswersKeys}
+use Rattle.proof_journals.specs.Machine.MigrationTables.{schema_of}
+use Rattle.proof_journals.specs.Machine.TableKeys.{IsKey, IsClosedKey, IsKeyed, AnswersKeys}
 use Rattle.proof_journals.proofs.Machine.Seated.{IsKnown, IsServed, own_waiting, own_given, own_missed}
 use Rattle.proof_journals.proofs.Machine.Keys.{AreKeys, table_keys, last_typed, end_typed, first_typed, chunk_typed}
 

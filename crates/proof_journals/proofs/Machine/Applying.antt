@@ -32,7 +32,7 @@ planned_same applier position hint step events = refl
 
 batch_more : (journal more : List Entry) (applier : Applier) (step : ApplyStep) (batch : Batch) → IsBatch journal applier batch → IsBatch (journal ++ more) (record applier { step = step }) batch
 batch_more journal more applier step batch is =
-    record { events = is.events; next = is.next; told = answer_more journal more batch.read _ is.told; counted = is.counted ∙ ap length (sym (planned_same applier applier.position applier.hint step is.events)) }
+    record { events = is.events; next = is.next; reported = answer_more journal more batch.read _ is.reported; counted = is.counted ∙ ap length (sym (planned_same applier applier.position applier.hint step is.events)) }
 
 known_more : (journal more : List Entry) (applier : Applier) (step : ApplyStep) → BatchKnown journal applier step → BatchKnown (journal ++ more) (record applier { step = step }) step
 known_more journal more applier Reading is = tt
@@ -60,14 +60,14 @@ module _ (journal : List Entry) (entry : Entry) (applier : Applier) where
   more = journal ++ entry ∷ []
 
   -- behind the log that was read
-  reads : (turn : ℕ) (events : List RowEvent) (behind : ℕ) (standing : Standing) → turn ≡ length journal + 1 → entry.answer ≡ answers.Events events behind → standing.busy ≡ false → standing.locked ≡ [] → standing.waits ≡ None
-      → ApplierStands more (read_batch (record applier { step = Reading }) (batch_of turn (record applier { step = Reading }) events behind)) standing
-  reads turn events behind standing turns is busy locked waits = at (length (planned (record applier { step = Reading }) events) == 0) refl where
+  reads : (turn : ℕ) (events : List RowEvent) (following : ℕ) (standing : Standing) → turn ≡ length journal + 1 → entry.answer ≡ answers.Events events following → standing.busy ≡ false → standing.locked ≡ [] → standing.waits ≡ None
+      → ApplierStands more (read_batch (record applier { step = Reading }) (batch_of turn (record applier { step = Reading }) events following)) standing
+  reads turn events following standing turns is busy locked waits = at (length (planned (record applier { step = Reading }) events) == 0) refl where
     batch : Batch
-    batch = batch_of turn (record applier { step = Reading }) events behind
+    batch = batch_of turn (record applier { step = Reading }) events following
 
-    told : answer_at more batch.read ≡ Some (answers.Events events behind)
-    told = ap (answer_at more) turns ∙ answer_here journal entry ∙ ap Some is
+    reported : answer_at more batch.read ≡ Some (answers.Events events following)
+    reported = ap (answer_at more) turns ∙ answer_here journal entry ∙ ap Some is
 
     some : (n : ℕ) → (n == 0) ≡ false → 0 < n
     some n off = grind (arith, nat_tests)
@@ -76,7 +76,7 @@ module _ (journal : List Entry) (entry : Entry) (applier : Applier) where
     at true none = rests more applier batch.next batch.hint standing busy locked waits
     at false off = record {
       stands = record { busy = busy; locked = locked; waits = rw waits refl };
-      known = (record { events = events; next = behind; told = told; counted = ap length (sym (planned_same (record applier { step = Reading }) applier.position applier.hint (Beginning batch) events)) }, some (length (planned (record applier { step = Reading }) events)) off);
+      known = (record { events = events; next = following; reported = reported; counted = ap length (sym (planned_same (record applier { step = Reading }) applier.position applier.hint (Beginning batch) events)) }, some (length (planned (record applier { step = Reading }) events)) off);
     }
 
   at_reading : (turn : ℕ) (position limit : ℕ) (tables : _) (answer : Answer) (old : Standing) → turn ≡ length journal + 1 → entry.answer ≡ answer → StandsAt journal applier Reading old
@@ -85,7 +85,7 @@ module _ (journal : List Entry) (entry : Entry) (applier : Applier) where
   at_reading turn position limit tables answers.Lost old turns same is = rests more applier applier.position applier.hint _ refl refl refl
   at_reading turn position limit tables (answers.TimedOut waited) old turns same is = rests more applier applier.position applier.hint _ refl is.stands.locked refl
   at_reading turn position limit tables (answers.Waits by) old turns same is = same_step journal (entry ∷ []) applier Reading old _ is refl refl refl
-  at_reading turn position limit tables (answers.Events events behind) old turns same is = reads turn events behind _ turns same is.stands.busy is.stands.locked refl
+  at_reading turn position limit tables (answers.Events events following) old turns same is = reads turn events following _ turns same is.stands.busy is.stands.locked refl
   at_reading turn position limit tables answer old turns same is = same_step journal (entry ∷ []) applier Reading old _ is refl refl refl
 
   at_beginning : (turn : ℕ) (batch : Batch) (answer : Answer) (old : Standing) → StandsAt journal applier (Beginning batch) old → ApplierStands more (took turn (record applier { step = Beginning batch }) answer) (answered requests.Begin answer old)
@@ -112,7 +112,7 @@ module _ (journal : List Entry) (entry : Entry) (applier : Applier) where
   again batch done part standing is below busy locked waits = record { stands = record { busy = busy; locked = locked; waits = rw waits refl }; known = (batch_more journal (entry ∷ []) applier (Applying batch done part) batch is, below) }
 
   own_batch : (batch : Batch) (step : ApplyStep) → IsBatch journal (record applier { step = step }) batch → IsBatch journal applier batch
-  own_batch batch step is = record { events = is.events; next = is.next; told = is.told; counted = is.counted ∙ ap length (planned_same applier applier.position applier.hint step is.events) }
+  own_batch batch step is = record { events = is.events; next = is.next; reported = is.reported; counted = is.counted ∙ ap length (planned_same applier applier.position applier.hint step is.events) }
 
   at_applying : (turn : ℕ) (batch : Batch) (done : ℕ) (part : Part) (statement : _) (answer : Answer) (old : Standing) → StandsAt journal applier (Applying batch done part) old
       → ApplierStands more (took turn (record applier { step = Applying batch done part }) answer) (answered (requests.Do statement) answer old)

@@ -11,7 +11,7 @@ use Rattle.server_model.specs.declared.session.HeldName.{HeldName}
 use Rattle.server_model.specs.declared.session.Session.{Session}
 use Rattle.server_model.specs.declared.session.Waiting.{Waiting}
 use Rattle.server_model.specs.Entries.{answer_at}
-use Rattle.server_model.specs.Reading.{events_in}
+use Rattle.server_model.specs.EarlierAnswers.{events_in}
 use Rattle.server_model.specs.States.{State, session_of, is_in_transaction, holds_tables, is_waiting, waiting_of, has_work, locked_names, kept_names}
 use Rattle.plan_data.specs.PlanData.{PlanData}
 use Rattle.base_values.specs.ToolNames.{old_name}
@@ -25,7 +25,7 @@ use Rattle.tool_program.specs.declared.event_applier.applier.Applier.{Applier}
 use Rattle.tool_program.specs.declared.event_applier.applier.ApplyStep.{ApplyStep}
 use Rattle.tool_program.specs.declared.event_applier.applier.ApplyStep.TheVariants as applying
 use Rattle.tool_program.specs.EventApplier.Appliers as appliers
-use Rattle.tool_program.specs.EventApplier.Appliers.{Doing, planned, doing_in, says}
+use Rattle.tool_program.specs.EventApplier.Appliers.{Doing, planned, doing_in, statement_result}
 use Rattle.tool_program.specs.declared.cutover_core.cutover.Clearing.{Clearing as Cleared}
 use Rattle.tool_program.specs.declared.cutover_core.cutover.Clearing.TheVariants.{Looking, Drops}
 use Rattle.tool_program.specs.declared.cutover_core.cutover.CutOver.{CutOver}
@@ -130,7 +130,7 @@ unless_called false call request is = is
 
 copier_at : (journal : List Entry) (copier : Copier) (range : CopyRange) (step : CopyStep) (request : Request) → copiers.call_at journal copier range step ≡ Some request → copier_asks step request ≡ true
 copier_at journal copier range copying.Choosing request is = some_request (λ r. copier_asks copying.Choosing r ≡ true) _ request is refl
-copier_at journal copier range (copying.Spanning told size) request is = some_request (λ r. copier_asks (copying.Spanning told size) r ≡ true) _ request is refl
+copier_at journal copier range (copying.Spanning reported size) request is = some_request (λ r. copier_asks (copying.Spanning reported size) r ≡ true) _ request is refl
 copier_at journal copier range (copying.Committing chunk) request is = some_request (λ r. copier_asks (copying.Committing chunk) r ≡ true) _ request is refl
 copier_at journal copier range (copying.Copying chunk copied) request is = at (copiers.key_at journal (copying.Copying chunk copied)) is where
   at : (key : Option (List Value)) → copiers.copies copier key ≡ Some request → copier_asks (copying.Copying chunk copied) request ≡ true
@@ -156,10 +156,10 @@ applier_next journal applier applying.Reading known = refl
 applier_next journal applier (applying.Beginning batch) known = refl
 applier_next journal applier (applying.Committing batch) known = refl
 applier_next journal applier (applying.Applying batch done part) known =
-    let events : events_in (answer_at journal batch.read) ≡ known.0.events = ap events_in known.0.told in
+    let events : events_in (answer_at journal batch.read) ≡ known.0.events = ap events_in known.0.reported in
     let below : done < length (planned applier (events_in (answer_at journal batch.read))) = subst (λ (e : List RowEvent). done < length (planned applier e)) (sym events) (subst (λ (n : ℕ). done < n) known.0.counted known.1) in
     slice_some (planned applier (events_in (answer_at journal batch.read))) done below (applier_asks (applying.Applying batch done part) (appliers.call_at journal applier (applying.Applying batch done part)) ≡ true)
-    (λ doing is. ap (λ (o : Option Doing). applier_asks (applying.Applying batch done part) (says applier (doing_in part o))) is)
+    (λ doing is. ap (λ (o : Option Doing). applier_asks (applying.Applying batch done part) (statement_result applier (doing_in part o))) is)
 
 setup_asks : (plan : PlanData) (setup : Setup) (request : Request) → setup_call plan setup ≡ Some request → inspector_asks request ≡ true
 setup_asks plan Listing request is = some_request (λ r. inspector_asks r ≡ true) _ request is refl

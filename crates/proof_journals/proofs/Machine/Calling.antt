@@ -37,12 +37,12 @@ use Rattle.tool_program.specs.CutoverCore.Attempts.{exchange}
 use Rattle.tool_program.specs.CutoverCore.CutOvers.{is_resting}
 use Rattle.tool_program.specs.Operators.{is_throttled}
 use Rattle.tool_program.specs.Programs.{in_transaction, tool_call, tool_asks, copy_call, may_begin, rolls_back, given, IsFollowed, Follows}
-use Rattle.tool_program.specs.Tools.{Work, Course, SettingUp, Migrating, Moment, is_reverting, moment}
+use Rattle.tool_program.specs.Tools.{Work, ToolPhase, SettingUp, Migrating, Moment, is_reverting, moment}
 use Rattle.proof_journals.specs.Turns.{request_of}
 use Rattle.proof_journals.proofs.Journals.{opened_waits}
 use Rattle.proof_journals.proofs.Faces.{busy_face}
 use Rattle.proof_journals.specs.Machine.Standings.{Standing, free, standing, standing_of, MayTake, opened_for}
-use Rattle.proof_journals.specs.Machine.Machines.{inspector_asks, copier_asks, copier_busy, applier_asks, applier_busy, ApplierStands, held, renaming, CourseStands}
+use Rattle.proof_journals.specs.Machine.Machines.{inspector_asks, copier_asks, copier_busy, applier_asks, applier_busy, ApplierStands, held, renaming, ToolPhaseStands}
 use Rattle.proof_journals.specs.Machine.Scripts.{WordFits, LinesFit}
 use Rattle.proof_journals.specs.Machine.Laws.{AnswersTellStandings, MachinesStand, IsCalledWell, GivenCallsComeWell}
 use Rattle.proof_journals.proofs.Machine.Seated.{IsKnown, IsServed, all_known, IsOpened, is_opened, others_stand, own_stands, own_heard}
@@ -94,7 +94,7 @@ insp_comes standing locked request busy kind = absurd cc
 
 copy_comes : (standing : Standing) (locked : Bool) (step : CopyStep) (request : Request) → standing.busy ≡ copier_busy step → locked ≡ false → copier_asks step request ≡ true → Comes standing locked request
 copy_comes standing locked copying.Choosing (requests.ChunkEnd table low top size) busy none kind = tt
-copy_comes standing locked (copying.Spanning told most) (requests.BeginSpan table span size) busy none kind = (busy, none)
+copy_comes standing locked (copying.Spanning reported most) (requests.BeginSpan table span size) busy none kind = (busy, none)
 copy_comes standing locked (copying.Copying chunk copied) (requests.CopyRow from into map key) busy none kind = busy
 copy_comes standing locked (copying.Committing chunk) requests.Commit busy none kind = busy
 copy_comes standing locked step request busy none kind = absurd cc
@@ -177,22 +177,22 @@ module _ (plan : PlanData) (journal : List Entry) (is : IsTogether plan journal)
   unfolding appliers.next
   applied work request stands asks = ap (applier_asks work.applier.step) (apply_called plan journal work request asks) ∙ applier_next journal work.applier work.applier.step stands.known
 
-  call_comes : (actor : Actor) (request : Request) (course : Course) → now.tool.course ≡ course → CourseStands journal (standing_of plan journal) (is_reverting now.tool.reason) course → (standing_of plan journal actor).waits ≡ None
-      → tool_call plan now.server journal now.tool course actor ≡ Some request → ComesIn plan journal actor request
-  call_comes Insp request (SettingUp setup tries) course at idle call locked none some = insp_comes (standing_of plan journal Insp) locked request at.inspector.busy (setup_next plan (is_reverting now.tool.reason) setup request call)
-  call_comes Insp request (Migrating work) course at idle call locked none some = insp_comes (standing_of plan journal Insp) locked request at.inspector.busy (inspector_next work.cutover request call).0
-  call_comes Copy request (Migrating work) course at idle call locked none some =
+  call_comes : (actor : Actor) (request : Request) (tool_phase : ToolPhase) → now.tool.tool_phase ≡ tool_phase → ToolPhaseStands journal (standing_of plan journal) (is_reverting now.tool.reason) tool_phase → (standing_of plan journal actor).waits ≡ None
+      → tool_call plan now.server journal now.tool tool_phase actor ≡ Some request → ComesIn plan journal actor request
+  call_comes Insp request (SettingUp setup tries) tool_phase at idle call locked none some = insp_comes (standing_of plan journal Insp) locked request at.inspector.busy (setup_next plan (is_reverting now.tool.reason) setup request call)
+  call_comes Insp request (Migrating work) tool_phase at idle call locked none some = insp_comes (standing_of plan journal Insp) locked request at.inspector.busy (inspector_next work.cutover request call).0
+  call_comes Copy request (Migrating work) tool_phase at idle call locked none some =
       reverting_or (ComesWell (standing_of plan journal Copy).busy locked request) (is_reverting now.tool.reason) (rolls_back now.server (live_session journal Copy)) (copy_call plan now.server journal now.tool work) request call
       (λ reverting back. back_comes Copy request back locked none some)
       (λ going asks. going_stands (ComesWell (standing_of plan journal Copy).busy locked request) at.copier going
       (λ stands. copy_comes (standing_of plan journal Copy) locked work.copier.step request stands.busy (none stands.locked)
       (copier_next journal work.copier request (unless_called (copiers.starts work.copier && is_throttled plan now.server now.tool.operator) (copiers.next journal work.copier) request asks))))
-  call_comes Apply request (Migrating work) course at idle call locked none some =
+  call_comes Apply request (Migrating work) tool_phase at idle call locked none some =
       reverting_or (ComesWell (standing_of plan journal Apply).busy locked request) (is_reverting now.tool.reason) (rolls_back now.server (live_session journal Apply)) (Rattle.tool_program.specs.Programs.apply_call plan now.server journal now.tool work) request call
       (λ reverting back. back_comes Apply request back locked none some)
       (λ going asks. going_stands (ComesWell (standing_of plan journal Apply).busy locked request) at.applier going
       (λ stands. apply_comes (standing_of plan journal Apply) locked work.applier.step request stands.stands.busy (none stands.stands.locked) (applied work request stands asks)))
-  call_comes Lock request (Migrating work) course at idle call locked none some =
+  call_comes Lock request (Migrating work) tool_phase at idle call locked none some =
       subst (λ (s : Standing). ComesWell s.busy locked request) (sym at.locker)
       (lock_comes work.cutover.table work.cutover.hold work.cutover.phase locked request (is_held work.cutover.hold at.locker) waits_none
       (locker_next work.cutover request at.phase waits_none (unless_called (is_resting work.cutover.phase && not (may_begin plan now.server now.tool work)) (cutovers.next Locker work.cutover) request call)))
@@ -205,7 +205,7 @@ module _ (plan : PlanData) (journal : List Entry) (is : IsTogether plan journal)
       is_held Nothing is = none (ap (λ (s : Standing). s.locked) is)
       is_held WaitsToGuard is = none (ap (λ (s : Standing). s.locked) is)
       is_held WaitsToLock is = none (ap (λ (s : Standing). s.locked) is)
-  call_comes Ren request (Migrating work) course at idle call locked none some =
+  call_comes Ren request (Migrating work) tool_phase at idle call locked none some =
       subst (λ (s : Standing). ComesWell s.busy locked request) (sym at.renamer) (ren_comes work.cutover.table work.cutover.renamer_waits locked request (renamer_next work.cutover request call))
   call_comes actor request (SettingUp setup tries) same at idle call locked none some = absurd cc
   call_comes actor request (Migrating work) same at idle call locked none some = absurd cc
@@ -218,7 +218,7 @@ module _ (plan : PlanData) (journal : List Entry) (is : IsTogether plan journal)
       no same = cc
     by (calls_so other called idle call) =
         let one : other ≡ request = cc in
-        opened_comes plan journal actor request n (is_opened plan journal actor n is.known may) idle (call_comes actor request now.tool.course refl is.stands idle (call ∙ ap Some one))
+        opened_comes plan journal actor request n (is_opened plan journal actor n is.known may) idle (call_comes actor request now.tool.tool_phase refl is.stands idle (call ∙ ap Some one))
 
 -- a client's line
 client_called : (plan : PlanData) (journal : List Entry) (c : ℕ) (request : Request) (n : ℕ) → ClientsTogether plan journal → client_asks plan journal c ≡ Some (Call request) → MayTake journal n (live_session journal (Client c)) → IsCalledWell (opened_for plan journal (Client c) n) n request
@@ -238,7 +238,7 @@ client_called plan journal c request n is gives may = by (client_next plan journ
 pub given_calls : GivenCallsComeWell
 unfolding given
 given_calls plan journal (Client c) request n fit faithful follows gives may = client_called plan journal c request n (all_clients plan journal fit faithful follows) gives may
-given_calls plan journal Op request n fit faithful follows gives may = absurd (no (Rattle.std.specs.List.slice_get (Rattle.tool_program.specs.JournalWords.Keeping.words_of plan) (moment plan journal).tool.operator.taken) gives) where
+given_calls plan journal Op request n fit faithful follows gives may = absurd (no (Rattle.std.specs.List.slice_get (Rattle.tool_program.specs.JournalWords.KeptPlans.words_of plan) (moment plan journal).tool.operator.taken) gives) where
   no : (word : Option Rattle.base_script.specs.declared.operator.OperatorWord.OperatorWord) → Rattle.tool_program.specs.Programs.commands word ≡ Some (Call request) → ⊥
   no None same = cc
   no (Some word) same = cc

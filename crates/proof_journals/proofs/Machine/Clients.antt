@@ -143,15 +143,15 @@ line_stands client old now asked side answer missed is next has fits lost = by n
         missed_so (Command word) called = lost_stands client line lines left _ None
         missed_so Cut called = absurd (called refl)
   heard line lines left going about other same called None at =
-      subst (ClientStands (client_after (became_in client.waits other None answer missed) client)) (sym (has (word_asks line.word) about)) (told other called) where
+      subst (ClientStands (client_after (became_in client.waits other None answer missed) client)) (sym (has (word_asks line.word) about)) (reported other called) where
         fit : LinesFit (is_inside client.lines) (line ∷ lines)
         fit = subst (LinesFit (is_inside client.lines)) left (is.left going)
 
-        told : (one : Asked) → (one ≡ Cut → ⊥) → ClientStands (client_after (became_in client.waits one None answer missed) client) (answered (word_asks line.word) answer old)
-        told (Call request) called = heard_stands client line lines left line.word refl answer old is.busy is.locked fit (fits (word_asks line.word) about at)
-        told Poll called = heard_stands client line lines left line.word refl answer old is.busy is.locked fit (fits (word_asks line.word) about at)
-        told (Command word) called = heard_stands client line lines left line.word refl answer old is.busy is.locked fit (fits (word_asks line.word) about at)
-        told Cut called = absurd (called refl)
+        reported : (one : Asked) → (one ≡ Cut → ⊥) → ClientStands (client_after (became_in client.waits one None answer missed) client) (answered (word_asks line.word) answer old)
+        reported (Call request) called = heard_stands client line lines left line.word refl answer old is.busy is.locked fit (fits (word_asks line.word) about at)
+        reported Poll called = heard_stands client line lines left line.word refl answer old is.busy is.locked fit (fits (word_asks line.word) about at)
+        reported (Command word) called = heard_stands client line lines left line.word refl answer old is.busy is.locked fit (fits (word_asks line.word) about at)
+        reported Cut called = absurd (called refl)
 
   by : Next client asked → ClientStands (client_after (became_in client.waits asked side answer missed) client) now
   by (calls_line line lines going off left same) = heard line lines left going (is_called same (is.free off)) asked refl (λ cut. call_cut (sym same ∙ cut)) side refl where

@@ -39,14 +39,14 @@ at_choosing turn copier table low top size (answers.Waits by) old is = record { 
 at_choosing turn copier table low top size (answers.End end) old is = record { busy = is.busy; locked = is.locked; waits = refl }
 at_choosing turn copier table low top size answer old is = record { busy = is.busy; locked = is.locked; waits = refl }
 
-at_spanning : (turn : ℕ) (copier : Copier) (told most : ℕ) (table : List ℕ) (span : _) (size : ℕ) (answer : Answer) (old : Standing) → CopierStands (Spanning told most) old
-    → CopierStands (took turn (record copier { step = Spanning told most }) answer).step (answered (requests.BeginSpan table span size) answer old)
+at_spanning : (turn : ℕ) (copier : Copier) (reported most : ℕ) (table : List ℕ) (span : _) (size : ℕ) (answer : Answer) (old : Standing) → CopierStands (Spanning reported most) old
+    → CopierStands (took turn (record copier { step = Spanning reported most }) answer).step (answered (requests.BeginSpan table span size) answer old)
 unfolding took
-at_spanning turn copier told most table span size answers.Lost old is = record { busy = refl; locked = refl; waits = refl }
-at_spanning turn copier told most table span size (answers.TimedOut waited) old is = record { busy = refl; locked = is.locked; waits = refl }
-at_spanning turn copier told most table span size (answers.Waits by) old is = record { busy = is.busy; locked = is.locked; waits = refl }
-at_spanning turn copier told most table span size (answers.Keys keys end) old is = record { busy = sym (begun_busy _); locked = is.locked; waits = refl }
-at_spanning turn copier told most table span size answer old is = record { busy = is.busy; locked = is.locked; waits = refl }
+at_spanning turn copier reported most table span size answers.Lost old is = record { busy = refl; locked = refl; waits = refl }
+at_spanning turn copier reported most table span size (answers.TimedOut waited) old is = record { busy = refl; locked = is.locked; waits = refl }
+at_spanning turn copier reported most table span size (answers.Waits by) old is = record { busy = is.busy; locked = is.locked; waits = refl }
+at_spanning turn copier reported most table span size (answers.Keys keys end) old is = record { busy = sym (begun_busy _); locked = is.locked; waits = refl }
+at_spanning turn copier reported most table span size answer old is = record { busy = is.busy; locked = is.locked; waits = refl }
 
 at_copying : (turn : ℕ) (copier : Copier) (chunk : Chunk) (copied : ℕ) (from into : List ℕ) (map : _) (key : _) (answer : Answer) (old : Standing) → CopierStands (Copying chunk copied) old
     → CopierStands (took turn (record copier { step = Copying chunk copied }) answer).step (answered (requests.CopyRow from into map key) answer old)
@@ -67,7 +67,7 @@ at_committing turn copier chunk answer old is = record { busy = is.busy; locked 
 
 by_step : (turn : ℕ) (copier : Copier) (step : CopyStep) (request : Request) (answer : Answer) (old : Standing) → CopierStands step old → copier_asks step request ≡ true → CopierStands (took turn (record copier { step = step }) answer).step (answered request answer old)
 by_step turn copier Choosing (requests.ChunkEnd table low top size) answer old is asks = at_choosing turn copier table low top size answer old is
-by_step turn copier (Spanning told most) (requests.BeginSpan table span size) answer old is asks = at_spanning turn copier told most table span size answer old is
+by_step turn copier (Spanning reported most) (requests.BeginSpan table span size) answer old is asks = at_spanning turn copier reported most table span size answer old is
 by_step turn copier (Copying chunk copied) (requests.CopyRow from into map key) answer old is asks = at_copying turn copier chunk copied from into map key answer old is
 by_step turn copier (Committing chunk) requests.Commit answer old is asks = at_committing turn copier chunk answer old is
 by_step turn copier step request answer old is asks = absurd cc

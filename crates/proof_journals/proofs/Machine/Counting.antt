@@ -26,7 +26,7 @@ use Rattle.tool_program.specs.CutoverCore.CutOvers.{is_bad}
 use Rattle.tool_program.specs.Setups.{Setup, Listing, setup_after}
 use Rattle.server_model.specs.Entries.{is_command}
 use Rattle.tool_program.specs.Operators.{Operator, commanded}
-use Rattle.tool_program.specs.Tools.{Work, Course, SettingUp, Migrating, Reason, CopyUnfit, ApplyUnfit, Spent, Panicked, Tool, Moment, first_reason, stopped, is_renamed, reverts, spends, is_reverting, working, copy_after, apply_after, attempt_after, is_failure, drains, course_of, setup_took, copy_took, apply_took, actor_took, turn_counts, resizes, command_took, asked_took, took, moment}
+use Rattle.tool_program.specs.Tools.{Work, ToolPhase, SettingUp, Migrating, Reason, CopyUnfit, ApplyUnfit, Spent, Panicked, Tool, Moment, first_reason, stopped, is_renamed, reverts, spends, is_reverting, working, copy_after, apply_after, attempt_after, is_failure, drains, tool_phase_of, setup_took, copy_took, apply_took, actor_took, turn_counts, resizes, command_took, asked_took, took, moment}
 use Rattle.proof_journals.proofs.Sentry.Inductions.{moment_more}
 
 -- ONE TURN MORE
@@ -42,8 +42,8 @@ abbrev base : Tool → Base
 base tool = record { turns = tool.turns; operator = tool.operator }
 
 reverts_turns : (reason : Reason) (tool : Tool) → base (reverts reason tool) ≡ base tool
-reverts_turns reason tool = by (is_renamed tool.course) where
-  by : (b : Bool) → base (cond b tool (record tool { reason = first_reason tool.reason reason; course = stopped tool.course })) ≡ base tool
+reverts_turns reason tool = by (is_renamed tool.tool_phase) where
+  by : (b : Bool) → base (cond b tool (record tool { reason = first_reason tool.reason reason; tool_phase = stopped tool.tool_phase })) ≡ base tool
   by true = refl
   by false = refl
 
@@ -71,44 +71,44 @@ apply_turns plan work (Unfit place number) applier tool = reverts_turns (ApplyUn
 
 setup_turns : (plan : PlanData) (setup : Setup) (tries : List ℕ) (answer : Answer) (tool : Tool) → base (setup_took plan setup tries answer tool) ≡ base tool
 setup_turns plan setup tries answer tool = by (is_bad answer) where
-  by : (b : Bool) → base (cond b (spends plan tasks.Setup (tries ++ tool.turns ∷ []) (record tool { course = SettingUp Listing (tries ++ tool.turns ∷ []) })) (record tool { course = course_of plan tool.operator.size (setup_after plan.table setup answer) tries })) ≡ base tool
-  by true = spends_turns plan tasks.Setup (tries ++ tool.turns ∷ []) (record tool { course = SettingUp Listing (tries ++ tool.turns ∷ []) })
+  by : (b : Bool) → base (cond b (spends plan tasks.Setup (tries ++ tool.turns ∷ []) (record tool { tool_phase = SettingUp Listing (tries ++ tool.turns ∷ []) })) (record tool { tool_phase = tool_phase_of plan tool.operator.size (setup_after plan.table setup answer) tries })) ≡ base tool
+  by true = spends_turns plan tasks.Setup (tries ++ tool.turns ∷ []) (record tool { tool_phase = SettingUp Listing (tries ++ tool.turns ∷ []) })
   by false = refl
 
 unless_turns : (held : Bool) (tool after : Tool) → base after ≡ base tool → base (cond held tool after) ≡ base tool
 unless_turns true tool after same = refl
 unless_turns false tool after same = same
 
-actor_turns : (plan : PlanData) (actor : Actor) (answer : Answer) (course : Course) (tool : Tool) → base (actor_took plan actor answer course tool) ≡ base tool
+actor_turns : (plan : PlanData) (actor : Actor) (answer : Answer) (tool_phase : ToolPhase) (tool : Tool) → base (actor_took plan actor answer tool_phase tool) ≡ base tool
 actor_turns plan Insp answer (SettingUp setup tries) tool = unless_turns (is_reverting tool.reason) tool (setup_took plan setup tries answer tool) (setup_turns plan setup tries answer tool)
 actor_turns plan Insp answer (Migrating work) tool = attempt_turns plan (is_failure work.cutover.phase (cutovers.took Inspector work.cutover answer).phase) work (cutovers.took Inspector work.cutover answer) tool
 actor_turns plan Copy answer (Migrating work) tool = unless_turns (is_reverting tool.reason) tool (copy_took plan answer work tool) (copy_turns plan work (copiers.progress work.copier answer) (copiers.took tool.turns work.copier answer) tool)
 actor_turns plan Apply answer (Migrating work) tool = unless_turns (is_reverting tool.reason) tool (apply_took plan answer work tool) (apply_turns plan work (appliers.progress work.applier answer) (appliers.took tool.turns work.applier answer) tool)
 actor_turns plan Lock answer (Migrating work) tool = attempt_turns plan (is_failure work.cutover.phase (cutovers.took Locker work.cutover answer).phase) work (cutovers.took Locker work.cutover answer) tool
 actor_turns plan Ren answer (Migrating work) tool = attempt_turns plan (is_failure work.cutover.phase (cutovers.took Renamer work.cutover answer).phase) work (cutovers.took Renamer work.cutover answer) tool
-actor_turns plan actor answer course tool = refl
+actor_turns plan actor answer tool_phase tool = refl
 
-drains_turns : (plan : PlanData) (course : Course) (tool : Tool) → base (drains plan course tool) ≡ base tool
+drains_turns : (plan : PlanData) (tool_phase : ToolPhase) (tool : Tool) → base (drains plan tool_phase tool) ≡ base tool
 drains_turns plan (SettingUp setup tries) tool = refl
 drains_turns plan (Migrating work) tool = attempt_turns plan (is_failure work.cutover.phase (cutovers.applier_turn work.applier.hint work.cutover).phase) work (cutovers.applier_turn work.applier.hint work.cutover) tool
 
 counts_turns : (plan : PlanData) (actor : Actor) (tool : Tool) → base (turn_counts plan actor tool) ≡ base tool
-counts_turns plan Apply tool = drains_turns plan tool.course tool
+counts_turns plan Apply tool = drains_turns plan tool.tool_phase tool
 counts_turns plan actor tool = refl
 
 -- a command is counted
 command_base : (word : OperatorWord) (tool : Tool) → base (command_took word tool) ≡ record { turns = tool.turns; operator = commanded word tool.operator }
-command_base Panic tool = reverts_turns (Panicked tool.turns) (record tool { operator = commanded Panic tool.operator; course = resizes Panic tool.course })
+command_base Panic tool = reverts_turns (Panicked tool.turns) (record tool { operator = commanded Panic tool.operator; tool_phase = resizes Panic tool.tool_phase })
 command_base word tool = refl
 
 -- nothing else is
 asked_base : (plan : PlanData) (state : State) (entry : Entry) (asked : Asked) (tool : Tool) → is_command asked ≡ false → base (asked_took plan state entry asked tool) ≡ base tool
 asked_base plan state entry (Command word) tool called = absurd cc
 asked_base plan state entry Cut tool called = by (has_work state entry.session) where
-  by : (b : Bool) → base (cond b (actor_took plan entry.actor answers.Lost tool.course tool) tool) ≡ base tool
-  by true = actor_turns plan entry.actor answers.Lost tool.course tool
+  by : (b : Bool) → base (cond b (actor_took plan entry.actor answers.Lost tool.tool_phase tool) tool) ≡ base tool
+  by true = actor_turns plan entry.actor answers.Lost tool.tool_phase tool
   by false = refl
-asked_base plan state entry asked tool called = counts_turns plan entry.actor (actor_took plan entry.actor entry.answer tool.course tool) ∙ actor_turns plan entry.actor entry.answer tool.course tool
+asked_base plan state entry asked tool called = counts_turns plan entry.actor (actor_took plan entry.actor entry.answer tool.tool_phase tool) ∙ actor_turns plan entry.actor entry.answer tool.tool_phase tool
 
 asked_turns : (plan : PlanData) (state : State) (entry : Entry) (asked : Asked) (tool : Tool) → (asked_took plan state entry asked tool).turns ≡ tool.turns
 asked_turns plan state entry (Command word) tool = ap (λ (b : Base). b.turns) (command_base word tool)

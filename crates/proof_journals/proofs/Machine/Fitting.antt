@@ -7,8 +7,8 @@ use Rattle.std.proofs.Math.Bool.{or-true}
 use Rattle.std.proofs.lemmas.Bool.{false≢true}
 use Rattle.base_values.specs.declared.value.Value.{Value}
 use Rattle.base_values.specs.GhoSchema.Rows.{key_places}
-use Rattle.server_locks.specs.MetadataLocks.Granting.{holds, blocker_of_name, blocker_of_names}
-use Rattle.server_locks.specs.RowLocks.Granting.{blocker_of_set}
+use Rattle.server_locks.specs.MetadataLocks.Grants.{holds, blocker_of_name, blocker_of_names}
+use Rattle.server_locks.specs.RowLocks.Grants.{blocker_of_set}
 use Rattle.table_store.specs.Databases.{TableRows, Database, find_table, has_table, rename_tables}
 use Rattle.base_script.specs.declared.script.ScriptWord.TheVariants as words
 use Rattle.server_model.specs.declared.answer.Answer.{Answer}
@@ -21,12 +21,12 @@ use Rattle.server_model.specs.declared.session.Session.{Session}
 use Rattle.server_model.specs.declared.session.Waiting.{Waiting}
 use Rattle.server_model.specs.declared.work.StatementResult.{StatementResult}
 use Rattle.server_model.specs.Chunks.{span_keys, keys_of, ends_of}
-use Rattle.server_model.specs.Showing.{events_read}
-use Rattle.server_model.specs.Jobs.{says, job_says, copy_job}
+use Rattle.server_model.specs.Listings.{events_read}
+use Rattle.server_model.specs.Operations.{statement_result, operation_result, copy_operation}
 use Rattle.server_model.specs.States.{State, session_of, is_in_transaction, locked_names, names_held, view, waiting_of, waiters}
-use Rattle.server_model.specs.Locking.{need, need_within, blocker}
-use Rattle.server_model.specs.Effects.{of_table, result_effect, begins, all_stand, locks_if, created, dropped, renamed_or, defined, effect_within, effect_unless, is_outside}
-use Rattle.server_model.specs.Serving.{does, done, called_unless, calls, is_over, polled_over, polled_unless, polled_of, polls, without_waiting}
+use Rattle.server_model.specs.Blockers.{need, need_within, blocker}
+use Rattle.server_model.specs.Effects.{of_table, result_effect, begins, all_exist, locks_if, created, dropped, renamed_or, defined, effect_within, effect_unless, is_outside}
+use Rattle.server_model.specs.PlainServer.{does, done, called_unless, calls, is_over, polled_over, polled_unless, polled_of, polls, without_waiting}
 use Rattle.proof_journals.specs.Turns.{request_of}
 use Rattle.proof_journals.proofs.Names.{as_held}
 use Rattle.proof_journals.proofs.Replies.{IsReply, line_replies_so, copied_replies}
@@ -61,8 +61,8 @@ module _ (state : State) (number : ℕ) where
   within_fits requests.Commit = refl
   within_fits requests.Rollback = refl
   within_fits (requests.Do statement) =
-      do_fits (view number state) (is_in_transaction (session_of number state.sessions)) (requests.Do statement) (need_within (view number state) (requests.Do statement)) (says (view number state) statement)
-      (statement_fits (requests.Do statement) refl (λ count. refl) (λ rows. refl) refl (says (view number state) statement).answer (line_replies_so (view number state) (words.Do statement)))
+      do_fits (view number state) (is_in_transaction (session_of number state.sessions)) (requests.Do statement) (need_within (view number state) (requests.Do statement)) (statement_result (view number state) statement)
+      (statement_fits (requests.Do statement) refl (λ count. refl) (λ rows. refl) refl (statement_result (view number state) statement).answer (line_replies_so (view number state) (words.Do statement)))
   within_fits (requests.Ends table) = at (find_table table state.tables) where
     at : (found : Option TableRows) → serves_to (requests.Ends table) (of_table found (λ t. ends_of (keys_of (key_places t.schema) t.rows))) ≡ true
     at None = refl
@@ -76,9 +76,9 @@ module _ (state : State) (number : ℕ) where
     at None = refl
     at (Some t) = refl
   within_fits (requests.CopyRow from into map key) =
-      do_fits (view number state) (is_in_transaction (session_of number state.sessions)) (requests.CopyRow from into map key) (need_within (view number state) (requests.CopyRow from into map key)) (job_says (view number state) (copy_job (view number state) from into map key))
-      (statement_fits (requests.CopyRow from into map key) refl (λ count. refl) (λ rows. refl) refl (job_says (view number state) (copy_job (view number state) from into map key)).answer (copied_replies (view number state) from into map key))
-  within_fits (requests.LockTables names) = at (all_stand names state.tables) where
+      do_fits (view number state) (is_in_transaction (session_of number state.sessions)) (requests.CopyRow from into map key) (need_within (view number state) (requests.CopyRow from into map key)) (operation_result (view number state) (copy_operation (view number state) from into map key))
+      (statement_fits (requests.CopyRow from into map key) refl (λ count. refl) (λ rows. refl) refl (operation_result (view number state) (copy_operation (view number state) from into map key)).answer (copied_replies (view number state) from into map key))
+  within_fits (requests.LockTables names) = at (all_exist names state.tables) where
     at : (b : Bool) → serves_to (requests.LockTables names) (does (locks_if b names) state number).answer ≡ true
     at true = refl
     at false = refl

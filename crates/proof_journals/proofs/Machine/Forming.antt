@@ -2,7 +2,7 @@
 use Rattle.std.proofs.Common.{◌≡◌, ◌≤◌, ℕ, ◌==◌, Bool, true, false, cond, List, Option, Some, None, refl, sym, ◌∙◌, subst, arith}
 use Rattle.base_script.specs.declared.script.ScriptWord.{ScriptWord}
 use Rattle.base_script.specs.declared.script.ScriptWord.TheVariants as words
-use Rattle.base_values.specs.GhoSchema.Clustering.{clustered_among}
+use Rattle.base_values.specs.GhoSchema.ClusteredKey.{clustered_among}
 use Rattle.base_values.specs.GhoSchema.Names.{same_name}
 use Rattle.table_store.specs.Databases.{Database}
 use Rattle.base_values.specs.SchemaRules.Valid.{IsValid}
@@ -24,7 +24,7 @@ use Rattle.tool_program.specs.declared.event_applier.applier.ApplyStep.{ApplySte
 use Rattle.tool_program.specs.declared.event_applier.applier.ApplyStep.TheVariants as applying
 use Rattle.tool_program.specs.declared.event_applier.applier.Batch.{Batch}
 use Rattle.tool_program.specs.EventApplier.Appliers as appliers
-use Rattle.tool_program.specs.EventApplier.Appliers.{Doing, says, doing_at}
+use Rattle.tool_program.specs.EventApplier.Appliers.{Doing, statement_result, doing_at}
 use Rattle.tool_program.specs.declared.cutover_core.cutover.Clearing.{Clearing as Cleared}
 use Rattle.tool_program.specs.declared.cutover_core.cutover.Clearing.TheVariants.{Looking, Drops}
 use Rattle.tool_program.specs.declared.cutover_core.cutover.CutOver.{CutOver}
@@ -37,9 +37,9 @@ use Rattle.tool_program.specs.declared.cutover_core.cutover.Stage.TheVariants.{L
 use Rattle.tool_program.specs.CutoverCore.Attempts as cutovers
 use Rattle.tool_program.specs.CutoverCore.Attempts.{exchange, clears, is_free, unlocks}
 use Rattle.tool_program.specs.Setups.{Setup, Listing, Clearing, MakingLog, MakingGhost, Marking, Reaching, Ready, setup_call}
-use Rattle.tool_program.specs.Tools.{Course, SettingUp, Migrating, stopped, moment}
+use Rattle.tool_program.specs.Tools.{ToolPhase, SettingUp, Migrating, stopped, moment}
 use Rattle.tool_program.proofs.OnlineCalls.Keeping.{Keeps, always}
-use Rattle.proof_journals.specs.Machine.Forming.{IsFitting}
+use Rattle.proof_journals.specs.Machine.FormedPlans.{IsFitting}
 use Rattle.proof_journals.specs.Machine.Laws.{has_keys}
 use Rattle.proof_journals.specs.Machine.Machines.{copier_asks}
 use Rattle.proof_journals.proofs.Machine.Asking.{some_request, unless_called}
@@ -142,9 +142,9 @@ exchange_formed plan tables table fit same = subst (λ (t : List ℕ). IsWellFor
 
 -- THE APPLIER
 
-abbrev pub CourseBatched : PlanData → Course → Type 0
-CourseBatched plan (SettingUp setup tries) = Unit {0}
-CourseBatched plan (Migrating work) = work.applier.batch ≡ plan.options.dml_batch_size
+abbrev pub ToolPhaseBatched : PlanData → ToolPhase → Type 0
+ToolPhaseBatched plan (SettingUp setup tries) = Unit {0}
+ToolPhaseBatched plan (Migrating work) = work.applier.batch ≡ plan.options.dml_batch_size
 
 pub read_batch_same : (applier : Applier) (batch : Batch) → (appliers.read_batch applier batch).batch ≡ applier.batch
 read_batch_same applier batch = by (batch.statements == 0) where
@@ -166,11 +166,11 @@ took_batch turn applier answers.Lost = refl
 took_batch turn applier (answers.TimedOut waited) = refl
 took_batch turn applier answer = took_at turn applier applier.step answer
 
-batched_stops : (plan : PlanData) (course : Course) → CourseBatched plan course → CourseBatched plan (stopped course)
+batched_stops : (plan : PlanData) (tool_phase : ToolPhase) → ToolPhaseBatched plan tool_phase → ToolPhaseBatched plan (stopped tool_phase)
 batched_stops plan (SettingUp setup tries) at = tt
 batched_stops plan (Migrating work) at = at
 
-batched_keeps : (plan : PlanData) → Keeps plan (CourseBatched plan)
+batched_keeps : (plan : PlanData) → Keeps plan (ToolPhaseBatched plan)
 batched_keeps plan = record {
   stops = batched_stops plan;
   sets = λ setup tries. tt;
@@ -182,14 +182,14 @@ batched_keeps plan = record {
   resized = λ size work at. at;
 }
 
-pub batched : (plan : PlanData) (journal : List Entry) → CourseBatched plan (moment plan journal).tool.course
-batched plan journal = always plan (CourseBatched plan) (batched_keeps plan) journal
+pub batched : (plan : PlanData) (journal : List Entry) → ToolPhaseBatched plan (moment plan journal).tool.tool_phase
+batched plan journal = always plan (ToolPhaseBatched plan) (batched_keeps plan) journal
 
 pub applier_formed : (plan : PlanData) (tables : Database) (journal : List Entry) (applier : Applier) (step : ApplyStep) → IsFitting plan → applier.batch ≡ plan.options.dml_batch_size → IsWellFormed tables (appliers.call_at journal applier step)
 applier_formed plan tables journal applier applying.Reading fit same = subst (λ (n : ℕ). 1 ≤ n) (sym same) fit.batch
 applier_formed plan tables journal applier (applying.Beginning batch) fit same = tt
 applier_formed plan tables journal applier (applying.Applying batch done part) fit same = at (doing_at journal applier (applying.Applying batch done part)) where
-  at : (doing : Option Doing) → IsWellFormed tables (says applier doing)
+  at : (doing : Option Doing) → IsWellFormed tables (statement_result applier doing)
   at None = tt
   at (Some doing) = tt
 applier_formed plan tables journal applier (applying.Committing batch) fit same = tt
@@ -203,7 +203,7 @@ next_call journal applier = refl
 pub copier_formed : (tables : Database) (step : CopyStep) (request : Request) → copier_asks step request ≡ true → (has_keys request ≡ true → IsWellFormed tables request) → IsWellFormed tables request
 copier_formed tables (copying.Committing chunk) requests.Commit kind keyed = tt
 copier_formed tables copying.Choosing (requests.ChunkEnd table low top size) kind keyed = keyed refl
-copier_formed tables (copying.Spanning told most) (requests.BeginSpan table span size) kind keyed = keyed refl
+copier_formed tables (copying.Spanning reported most) (requests.BeginSpan table span size) kind keyed = keyed refl
 copier_formed tables (copying.Copying chunk copied) (requests.CopyRow from into map key) kind keyed = keyed refl
 copier_formed tables step request kind keyed = absurd cc
 

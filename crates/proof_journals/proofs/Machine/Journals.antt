@@ -36,10 +36,10 @@ use Rattle.tool_program.specs.CutoverCore.Attempts.{exchange}
 use Rattle.tool_program.specs.CutoverCore.CutOvers.{is_resting, is_done}
 use Rattle.tool_program.specs.Operators.{is_throttled}
 use Rattle.tool_program.specs.Programs.{waits, calls, tool_call, tool_asks, copy_call, apply_call, may_read, may_begin, rolls_back, given, IsFollowed, IsGiven, Follows}
-use Rattle.tool_program.specs.Tools.{Work, Course, SettingUp, Migrating, Tool, Moment, is_reverting, actor_took, asked_took, took, after_turn, moment}
+use Rattle.tool_program.specs.Tools.{Work, ToolPhase, SettingUp, Migrating, Tool, Moment, is_reverting, actor_took, asked_took, took, after_turn, moment}
 use Rattle.server_model.proofs.LockedRows.Tests.{same_bytes}
 use Rattle.proof_journals.specs.Machine.Standings.{Standing, free, standing_in, standing_of, answered, answers_to, IsAbout, is_called, is_polled}
-use Rattle.proof_journals.specs.Machine.Machines.{Stands, inspector_asks, inspector_waits, copier_asks, copier_busy, applier_asks, ApplierStands, both_names, held, WorkStands, CourseStands}
+use Rattle.proof_journals.specs.Machine.Machines.{Stands, inspector_asks, inspector_waits, copier_asks, copier_busy, applier_asks, ApplierStands, both_names, held, WorkStands, ToolPhaseStands}
 use Rattle.proof_journals.proofs.Machine.Seated.{IsKnown, IsServed, known_begins, known_more, state_more, others_stand, own_stands, own_fits, own_prompt, own_lost, own_session}
 use Rattle.proof_journals.proofs.Machine.Fitting.{IsPrompt}
 use Rattle.proof_journals.proofs.Machine.Counting.{turns_more}
@@ -60,17 +60,17 @@ pub record IsTogether (plan : PlanData) (journal : List Entry) : Type 0 where
   pub known : IsKnown plan journal
   pub server : (moment plan journal).server ≡ state_at plan journal
   pub turns : (moment plan journal).tool.turns ≡ length journal
-  pub stands : CourseStands journal (standing_of plan journal) (is_reverting (moment plan journal).tool.reason) (moment plan journal).tool.course
+  pub stands : ToolPhaseStands journal (standing_of plan journal) (is_reverting (moment plan journal).tool.reason) (moment plan journal).tool.tool_phase
 
 -- what an actor of the tool asks in a turn: its machine's call, where it doesn't wait; else a poll
 pub data Asking (plan : PlanData) (journal : List Entry) (actor : Actor) (asked : Asked) : Type 0 where
-  calls_so : (request : Request) → asked ≡ Call request → (standing_of plan journal actor).waits ≡ None → tool_call plan (moment plan journal).server journal (moment plan journal).tool (moment plan journal).tool.course actor ≡ Some request → Asking plan journal actor asked
+  calls_so : (request : Request) → asked ≡ Call request → (standing_of plan journal actor).waits ≡ None → tool_call plan (moment plan journal).server journal (moment plan journal).tool (moment plan journal).tool.tool_phase actor ≡ Some request → Asking plan journal actor asked
   polls_so : (request : Request) → asked ≡ Poll → (standing_of plan journal actor).waits ≡ Some request → Asking plan journal actor asked
 
 pub asking : (plan : PlanData) (journal : List Entry) (actor : Actor) (asked : Asked) → (moment plan journal).server ≡ state_at plan journal → tool_asks plan journal (moment plan journal) actor ≡ Some asked → Asking plan journal actor asked
 asking plan journal actor asked server is = by (waits (moment plan journal).server (live_session journal actor)) refl is where
   call : Option Request
-  call = tool_call plan (moment plan journal).server journal (moment plan journal).tool (moment plan journal).tool.course actor
+  call = tool_call plan (moment plan journal).server journal (moment plan journal).tool (moment plan journal).tool.tool_phase actor
 
   called : (one : Option Request) → call ≡ one → waits (moment plan journal).server (live_session journal actor) ≡ false → calls one ≡ Some asked → Asking plan journal actor asked
   called None none idle is = absurd cc
@@ -84,7 +84,7 @@ asking plan journal actor asked server is = by (waits (moment plan journal).serv
 
 -- a command is the operator's
 pub never_commands : (plan : PlanData) (journal : List Entry) (actor : Actor) (word : OperatorWord) → tool_asks plan journal (moment plan journal) actor ≡ Some (Command word) → ⊥
-never_commands plan journal actor word is = by (waits (moment plan journal).server (live_session journal actor)) (tool_call plan (moment plan journal).server journal (moment plan journal).tool (moment plan journal).tool.course actor) is where
+never_commands plan journal actor word is = by (waits (moment plan journal).server (live_session journal actor)) (tool_call plan (moment plan journal).server journal (moment plan journal).tool (moment plan journal).tool.tool_phase actor) is where
   by : (b : Bool) (call : Option Request) → cond b (Some Poll) (calls call) ≡ Some (Command word) → ⊥
   by true call is = cc
   by false None is = cc
@@ -129,7 +129,7 @@ module _ (plan : PlanData) (journal : List Entry) (entry : Entry) (is : IsTogeth
   turn_is = ap (λ (n : ℕ). n + 1) is.turns
 
   abbrev Together : Tool → Type 0
-  Together after = CourseStands more now_has (is_reverting after.reason) after.course
+  Together after = ToolPhaseStands more now_has (is_reverting after.reason) after.tool_phase
 
   others : (a : Actor) → same_actor entry.actor a ≡ false → now_has a ≡ has a
   others a differ = others_stand plan journal entry is.known served a differ
@@ -155,7 +155,7 @@ module _ (plan : PlanData) (journal : List Entry) (entry : Entry) (is : IsTogeth
     no same = cc
 
   -- while the setup goes on the others aren't asked
-  setup_none : (actor : Actor) → has actor ≡ free → ((request : Request) → tool_call plan now.server journal now.tool now.tool.course actor ≡ Some request → ⊥) → Asking plan journal actor entry.asked → ⊥
+  setup_none : (actor : Actor) → has actor ≡ free → ((request : Request) → tool_call plan now.server journal now.tool now.tool.tool_phase actor ≡ Some request → ⊥) → Asking plan journal actor entry.asked → ⊥
   setup_none actor rests none (calls_so request asks idle call) = none request call
   setup_none actor rests none (polls_so request asks some) = some_not_none actor request rests some
 
@@ -164,14 +164,14 @@ module _ (plan : PlanData) (journal : List Entry) (entry : Entry) (is : IsTogeth
 
   -- THE COPIER
 
-  pub copy_about : (work : Work) → now.tool.course ≡ Migrating work → WorkStands journal (is_reverting now.tool.reason) has work → is_reverting now.tool.reason ≡ false → Asking plan journal Copy entry.asked
+  pub copy_about : (work : Work) → now.tool.tool_phase ≡ Migrating work → WorkStands journal (is_reverting now.tool.reason) has work → is_reverting now.tool.reason ≡ false → Asking plan journal Copy entry.asked
       → (P : Type 0) → ((request : Request) → IsAbout request (has Copy) entry.asked → copier_asks work.copier.step request ≡ true → P) → P
-  copy_about work course at going (calls_so request asks idle call) P then =
+  copy_about work tool_phase at going (calls_so request asks idle call) P then =
       then request (is_called asks idle)
       (copier_next journal work.copier request
       (unless_called (copiers.starts work.copier && is_throttled plan now.server now.tool.operator) (copiers.next journal work.copier) request
-      (ap (λ (b : Bool). cond b (rolls_back now.server (live_session journal Copy)) (copy_call plan now.server journal now.tool work)) (sym going) ∙ ap (λ (c : Course). tool_call plan now.server journal now.tool c Copy) (sym course) ∙ call)))
-  copy_about work course at going (polls_so request asks some) P then = then request (is_polled asks some) (by at.copier) where
+      (ap (λ (b : Bool). cond b (rolls_back now.server (live_session journal Copy)) (copy_call plan now.server journal now.tool work)) (sym going) ∙ ap (λ (c : ToolPhase). tool_call plan now.server journal now.tool c Copy) (sym tool_phase) ∙ call)))
+  copy_about work tool_phase at going (polls_so request asks some) P then = then request (is_polled asks some) (by at.copier) where
     by : (is_reverting now.tool.reason ≡ true) ⊎ Stands (copier_asks work.copier.step) (copier_busy work.copier.step) [] (has Copy) → copier_asks work.copier.step request ≡ true
     by (inl reverting) = going_not reverting going
     by (inr stands) = waits_asks (copier_asks work.copier.step) (has Copy).waits request stands.waits some
@@ -182,13 +182,13 @@ module _ (plan : PlanData) (journal : List Entry) (entry : Entry) (is : IsTogeth
     by (inl reverting) = going_not reverting going
     by (inr stands) = stands
 
-  copy_asked : entry.actor ≡ Copy → Asking plan journal Copy entry.asked → (course : Course) → now.tool.course ≡ course → CourseStands journal has (is_reverting now.tool.reason) course → Together (actor_took plan Copy entry.answer course tool)
-  copy_asked same asks (SettingUp setup tries) course at = absurd (setup_none Copy at.copier (λ request call. absurd (none-some request (ap (λ (c : Course). tool_call plan now.server journal now.tool c Copy) (sym course) ∙ call))) asks)
-  copy_asked same asks (Migrating work) course at =
-      copy_turn plan journal entry has now_has entry.answer work tool course (others_same Copy same) at
-      (λ going. copy_about work course at going asks (Stands (copier_asks (copiers.took tool.turns work.copier entry.answer).step) (copier_busy (copiers.took tool.turns work.copier entry.answer).step) [] (now_has Copy))
+  copy_asked : entry.actor ≡ Copy → Asking plan journal Copy entry.asked → (tool_phase : ToolPhase) → now.tool.tool_phase ≡ tool_phase → ToolPhaseStands journal has (is_reverting now.tool.reason) tool_phase → Together (actor_took plan Copy entry.answer tool_phase tool)
+  copy_asked same asks (SettingUp setup tries) tool_phase at = absurd (setup_none Copy at.copier (λ request call. absurd (none-some request (ap (λ (c : ToolPhase). tool_call plan now.server journal now.tool c Copy) (sym tool_phase) ∙ call))) asks)
+  copy_asked same asks (Migrating work) tool_phase at =
+      copy_turn plan journal entry has now_has entry.answer work tool tool_phase (others_same Copy same) at
+      (λ going. copy_about work tool_phase at going asks (Stands (copier_asks (copiers.took tool.turns work.copier entry.answer).step) (copier_busy (copiers.took tool.turns work.copier entry.answer).step) [] (now_has Copy))
       (λ request is_about kind. subst (Stands (copier_asks (copiers.took tool.turns work.copier entry.answer).step) (copier_busy (copiers.took tool.turns work.copier entry.answer).step) []) (sym (has_now Copy request same is_about)) (copier_stands tool.turns work.copier request entry.answer (has Copy) (copier_had work at going) kind)))
-      (λ going place number unfit. copy_about work course at going asks (Stands (copier_asks work.copier.step) (copier_busy work.copier.step) [] (now_has Copy))
+      (λ going place number unfit. copy_about work tool_phase at going asks (Stands (copier_asks work.copier.step) (copier_busy work.copier.step) [] (now_has Copy))
       (λ request is_about kind. subst (Stands (copier_asks work.copier.step) (copier_busy work.copier.step) []) (sym (has_now Copy request same is_about)) (copier_unfit work.copier request entry.answer (has Copy) place number (copier_had work at going) kind unfit)))
 
   -- THE APPLIER
@@ -199,33 +199,33 @@ module _ (plan : PlanData) (journal : List Entry) (entry : Entry) (is : IsTogeth
     by (inl reverting) = going_not reverting going
     by (inr stands) = stands
 
-  pub apply_about : (work : Work) → now.tool.course ≡ Migrating work → WorkStands journal (is_reverting now.tool.reason) has work → is_reverting now.tool.reason ≡ false → Asking plan journal Apply entry.asked
+  pub apply_about : (work : Work) → now.tool.tool_phase ≡ Migrating work → WorkStands journal (is_reverting now.tool.reason) has work → is_reverting now.tool.reason ≡ false → Asking plan journal Apply entry.asked
       → (P : Type 0) → ((request : Request) → IsAbout request (has Apply) entry.asked → applier_asks work.applier.step request ≡ true → P) → P
   unfolding appliers.next
-  apply_about work course at going (calls_so request asks idle call) P then =
+  apply_about work tool_phase at going (calls_so request asks idle call) P then =
       let one : request ≡ appliers.next journal work.applier = apply_called plan journal work request
-      (ap (λ (b : Bool). cond b (rolls_back now.server (live_session journal Apply)) (apply_call plan now.server journal now.tool work)) (sym going) ∙ ap (λ (c : Course). tool_call plan now.server journal now.tool c Apply) (sym course) ∙ call) in
+      (ap (λ (b : Bool). cond b (rolls_back now.server (live_session journal Apply)) (apply_call plan now.server journal now.tool work)) (sym going) ∙ ap (λ (c : ToolPhase). tool_call plan now.server journal now.tool c Apply) (sym tool_phase) ∙ call) in
       then request (is_called asks idle) (ap (applier_asks work.applier.step) one ∙ applier_next journal work.applier work.applier.step (applier_had work at going).known)
-  apply_about work course at going (polls_so request asks some) P then = then request (is_polled asks some) (waits_asks (applier_asks work.applier.step) (has Apply).waits request (applier_had work at going).stands.waits some)
+  apply_about work tool_phase at going (polls_so request asks some) P then = then request (is_polled asks some) (waits_asks (applier_asks work.applier.step) (has Apply).waits request (applier_had work at going).stands.waits some)
 
-  apply_asked : entry.actor ≡ Apply → Asking plan journal Apply entry.asked → (course : Course) → now.tool.course ≡ course → CourseStands journal has (is_reverting now.tool.reason) course → Together (actor_took plan Apply entry.answer course tool)
-  apply_asked same asks (SettingUp setup tries) course at = absurd (setup_none Apply at.applier (λ request call. absurd (none-some request (ap (λ (c : Course). tool_call plan now.server journal now.tool c Apply) (sym course) ∙ call))) asks)
-  apply_asked same asks (Migrating work) course at =
-      apply_turn plan journal entry has now_has entry.answer work tool course (others_same Apply same) at
-      (λ going. apply_about work course at going asks (ApplierStands more (appliers.took tool.turns work.applier entry.answer) (now_has Apply))
+  apply_asked : entry.actor ≡ Apply → Asking plan journal Apply entry.asked → (tool_phase : ToolPhase) → now.tool.tool_phase ≡ tool_phase → ToolPhaseStands journal has (is_reverting now.tool.reason) tool_phase → Together (actor_took plan Apply entry.answer tool_phase tool)
+  apply_asked same asks (SettingUp setup tries) tool_phase at = absurd (setup_none Apply at.applier (λ request call. absurd (none-some request (ap (λ (c : ToolPhase). tool_call plan now.server journal now.tool c Apply) (sym tool_phase) ∙ call))) asks)
+  apply_asked same asks (Migrating work) tool_phase at =
+      apply_turn plan journal entry has now_has entry.answer work tool tool_phase (others_same Apply same) at
+      (λ going. apply_about work tool_phase at going asks (ApplierStands more (appliers.took tool.turns work.applier entry.answer) (now_has Apply))
       (λ request is_about kind. subst (ApplierStands more (appliers.took tool.turns work.applier entry.answer)) (sym (has_now Apply request same is_about)) (applier_stands journal entry work.applier tool.turns request (has Apply) turn_is (applier_had work at going) kind)))
-      (λ going place number unfit. apply_about work course at going asks (ApplierStands more work.applier (now_has Apply))
+      (λ going place number unfit. apply_about work tool_phase at going asks (ApplierStands more work.applier (now_has Apply))
       (λ request is_about kind. subst (ApplierStands more work.applier) (sym (has_now Apply request same is_about)) (applier_unfit journal entry work.applier request (has Apply) place number (applier_had work at going) kind unfit)))
 
   -- THE LOCKER
 
-  pub lock_about : (work : Work) → now.tool.course ≡ Migrating work → WorkStands journal (is_reverting now.tool.reason) has work → Asking plan journal Lock entry.asked
+  pub lock_about : (work : Work) → now.tool.tool_phase ≡ Migrating work → WorkStands journal (is_reverting now.tool.reason) has work → Asking plan journal Lock entry.asked
       → (P : Type 0) → ((request : Request) → IsAbout request (has Lock) entry.asked → LockerAsks work.cutover.table work.cutover.hold work.cutover.phase request → P) → P
-  lock_about work course at (calls_so request asks idle call) P then =
+  lock_about work tool_phase at (calls_so request asks idle call) P then =
       then request (is_called asks idle)
       (locker_next work.cutover request at.phase (ap (λ (s : Standing). s.waits) (sym at.locker) ∙ idle)
-      (unless_called (is_resting work.cutover.phase && not (may_begin plan now.server now.tool work)) (cutovers.next Locker work.cutover) request (ap (λ (c : Course). tool_call plan now.server journal now.tool c Lock) (sym course) ∙ call)))
-  lock_about work course at (polls_so request asks some) P then =
+      (unless_called (is_resting work.cutover.phase && not (may_begin plan now.server now.tool work)) (cutovers.next Locker work.cutover) request (ap (λ (c : ToolPhase). tool_call plan now.server journal now.tool c Lock) (sym tool_phase) ∙ call)))
+  lock_about work tool_phase at (polls_so request asks some) P then =
       then request (is_polled asks some) (locker_waits work.cutover.table work.cutover.hold work.cutover.phase request (ap (λ (s : Standing). s.waits) (sym at.locker) ∙ some))
 
   -- the sentry is dropped at once
@@ -255,24 +255,24 @@ module _ (plan : PlanData) (journal : List Entry) (entry : Entry) (is : IsTogeth
       no : None ≡ Some request → ⊥
       no same = cc
 
-  lock_asked : entry.actor ≡ Lock → Asking plan journal Lock entry.asked → (course : Course) → now.tool.course ≡ course → CourseStands journal has (is_reverting now.tool.reason) course → Together (actor_took plan Lock entry.answer course tool)
-  lock_asked same asks (SettingUp setup tries) course at = absurd (setup_none Lock at.locker (λ request call. absurd (none-some request (ap (λ (c : Course). tool_call plan now.server journal now.tool c Lock) (sym course) ∙ call))) asks)
-  lock_asked same asks (Migrating work) course at =
-      lock_about work course at asks (Together (actor_took plan Lock entry.answer (Migrating work) tool))
+  lock_asked : entry.actor ≡ Lock → Asking plan journal Lock entry.asked → (tool_phase : ToolPhase) → now.tool.tool_phase ≡ tool_phase → ToolPhaseStands journal has (is_reverting now.tool.reason) tool_phase → Together (actor_took plan Lock entry.answer tool_phase tool)
+  lock_asked same asks (SettingUp setup tries) tool_phase at = absurd (setup_none Lock at.locker (λ request call. absurd (none-some request (ap (λ (c : ToolPhase). tool_call plan now.server journal now.tool c Lock) (sym tool_phase) ∙ call))) asks)
+  lock_asked same asks (Migrating work) tool_phase at =
+      lock_about work tool_phase at asks (Together (actor_took plan Lock entry.answer (Migrating work) tool))
       (λ request is_about kind. lock_turn plan journal entry has now_has entry.answer work tool (others_same Lock same) at
       (subst (Rattle.proof_journals.proofs.Machine.CuttingOver.LockerStands work.cutover.table _ _) (ap (answered request entry.answer) (sym at.locker) ∙ sym (has_now Lock request same is_about))
       (locker_stands work.cutover.table work.cutover.hold work.cutover.phase request entry.answer at.phase kind (fits Lock request same is_about) (λ drops. lock_prompt work request same at is_about kind drops))))
 
   -- THE RENAMER
 
-  pub ren_about : (work : Work) → now.tool.course ≡ Migrating work → WorkStands journal (is_reverting now.tool.reason) has work → Asking plan journal Ren entry.asked → (P : Type 0) → ((request : Request) → IsAbout request (has Ren) entry.asked → request ≡ exchange work.cutover.table → P) → P
-  ren_about work course at (calls_so request asks idle call) P then = then request (is_called asks idle) (renamer_next work.cutover request (ap (λ (c : Course). tool_call plan now.server journal now.tool c Ren) (sym course) ∙ call))
-  ren_about work course at (polls_so request asks some) P then = then request (is_polled asks some) (renamer_waits work.cutover.table work.cutover.renamer_waits request (ap (λ (s : Standing). s.waits) (sym at.renamer) ∙ some))
+  pub ren_about : (work : Work) → now.tool.tool_phase ≡ Migrating work → WorkStands journal (is_reverting now.tool.reason) has work → Asking plan journal Ren entry.asked → (P : Type 0) → ((request : Request) → IsAbout request (has Ren) entry.asked → request ≡ exchange work.cutover.table → P) → P
+  ren_about work tool_phase at (calls_so request asks idle call) P then = then request (is_called asks idle) (renamer_next work.cutover request (ap (λ (c : ToolPhase). tool_call plan now.server journal now.tool c Ren) (sym tool_phase) ∙ call))
+  ren_about work tool_phase at (polls_so request asks some) P then = then request (is_polled asks some) (renamer_waits work.cutover.table work.cutover.renamer_waits request (ap (λ (s : Standing). s.waits) (sym at.renamer) ∙ some))
 
-  ren_asked : entry.actor ≡ Ren → Asking plan journal Ren entry.asked → (course : Course) → now.tool.course ≡ course → CourseStands journal has (is_reverting now.tool.reason) course → Together (actor_took plan Ren entry.answer course tool)
-  ren_asked same asks (SettingUp setup tries) course at = absurd (setup_none Ren at.renamer (λ request call. absurd (none-some request (ap (λ (c : Course). tool_call plan now.server journal now.tool c Ren) (sym course) ∙ call))) asks)
-  ren_asked same asks (Migrating work) course at =
-      ren_about work course at asks (Together (actor_took plan Ren entry.answer (Migrating work) tool))
+  ren_asked : entry.actor ≡ Ren → Asking plan journal Ren entry.asked → (tool_phase : ToolPhase) → now.tool.tool_phase ≡ tool_phase → ToolPhaseStands journal has (is_reverting now.tool.reason) tool_phase → Together (actor_took plan Ren entry.answer tool_phase tool)
+  ren_asked same asks (SettingUp setup tries) tool_phase at = absurd (setup_none Ren at.renamer (λ request call. absurd (none-some request (ap (λ (c : ToolPhase). tool_call plan now.server journal now.tool c Ren) (sym tool_phase) ∙ call))) asks)
+  ren_asked same asks (Migrating work) tool_phase at =
+      ren_about work tool_phase at asks (Together (actor_took plan Ren entry.answer (Migrating work) tool))
       (λ request is_about kind. ren_turn plan journal entry has now_has entry.answer work tool (others_same Ren same) at
       (has_now Ren request same is_about ∙ ap (λ (r : Request). answered r entry.answer (has Ren)) kind ∙ ap (answered (exchange work.cutover.table) entry.answer) at.renamer ∙ renamer_has work.cutover.table work.cutover.renamer_waits entry.answer))
 
@@ -309,17 +309,17 @@ module _ (plan : PlanData) (journal : List Entry) (entry : Entry) (is : IsTogeth
   free_lists (Finishing clearing) hold answer none = tt
   free_lists Finished hold answer none = tt
 
-  insp_asked : entry.actor ≡ Insp → Asking plan journal Insp entry.asked → (course : Course) → now.tool.course ≡ course → CourseStands journal has (is_reverting now.tool.reason) course → Together (actor_took plan Insp entry.answer course tool)
-  insp_asked same (calls_so request asks idle call) (SettingUp setup tries) course at =
-      setup_turn plan journal entry has now_has entry.answer setup tries tool course (others_same Insp same) at
-      (insp_stands request same (is_called asks idle) (setup_next plan (is_reverting now.tool.reason) setup request (ap (λ (c : Course). tool_call plan now.server journal now.tool c Insp) (sym course) ∙ call)) at.inspector)
-  insp_asked same (polls_so request asks some) (SettingUp setup tries) course at =
-      setup_turn plan journal entry has now_has entry.answer setup tries tool course (others_same Insp same) at
+  insp_asked : entry.actor ≡ Insp → Asking plan journal Insp entry.asked → (tool_phase : ToolPhase) → now.tool.tool_phase ≡ tool_phase → ToolPhaseStands journal has (is_reverting now.tool.reason) tool_phase → Together (actor_took plan Insp entry.answer tool_phase tool)
+  insp_asked same (calls_so request asks idle call) (SettingUp setup tries) tool_phase at =
+      setup_turn plan journal entry has now_has entry.answer setup tries tool tool_phase (others_same Insp same) at
+      (insp_stands request same (is_called asks idle) (setup_next plan (is_reverting now.tool.reason) setup request (ap (λ (c : ToolPhase). tool_call plan now.server journal now.tool c Insp) (sym tool_phase) ∙ call)) at.inspector)
+  insp_asked same (polls_so request asks some) (SettingUp setup tries) tool_phase at =
+      setup_turn plan journal entry has now_has entry.answer setup tries tool tool_phase (others_same Insp same) at
       (insp_stands request same (is_polled asks some) (waits_are_asks request (waits_asks inspector_waits (has Insp).waits request at.inspector.waits some)) at.inspector)
-  insp_asked same (calls_so request asks idle call) (Migrating work) course at =
-      let next = inspector_next work.cutover request (ap (λ (c : Course). tool_call plan now.server journal now.tool c Insp) (sym course) ∙ call) in
+  insp_asked same (calls_so request asks idle call) (Migrating work) tool_phase at =
+      let next = inspector_next work.cutover request (ap (λ (c : ToolPhase). tool_call plan now.server journal now.tool c Insp) (sym tool_phase) ∙ call) in
       insp_turn plan journal entry has now_has entry.answer work tool (others_same Insp same) at (insp_stands request same (is_called asks idle) next.0 at.inspector) (free_lists work.cutover.phase work.cutover.hold entry.answer next.1)
-  insp_asked same (polls_so request asks some) (Migrating work) course at =
+  insp_asked same (polls_so request asks some) (Migrating work) tool_phase at =
       let kind : inspector_waits request ≡ true = waits_asks inspector_waits (has Insp).waits request at.inspector.waits some in
       insp_turn plan journal entry has now_has entry.answer work tool (others_same Insp same) at (insp_stands request same (is_polled asks some) (waits_are_asks request kind) at.inspector)
       (waits_no_list work.cutover.phase work.cutover.hold request entry.answer kind (fits Insp request same (is_polled asks some)))
@@ -328,7 +328,7 @@ module _ (plan : PlanData) (journal : List Entry) (entry : Entry) (is : IsTogeth
 
   -- a turn of a client's, or of the operator's
   all_still : (actor : Actor) → entry.actor ≡ actor → ((a : Actor) → same_actor a Op ≡ false → is_client a ≡ false → same_actor actor a ≡ false) → Together tool
-  all_still actor same apart = still plan journal entry has now_has (is_reverting now.tool.reason) now.tool.course (λ a one two. others_same actor same a (apart a one two)) is.stands
+  all_still actor same apart = still plan journal entry has now_has (is_reverting now.tool.reason) now.tool.tool_phase (λ a one two. others_same actor same a (apart a one two)) is.stands
 
   client_apart : (c : ℕ) (a : Actor) → same_actor a Op ≡ false → is_client a ≡ false → same_actor (Client c) a ≡ false
   client_apart c Op one two = refl
@@ -355,52 +355,52 @@ module _ (plan : PlanData) (journal : List Entry) (entry : Entry) (is : IsTogeth
   no_lists (Finishing clearing) hold = tt
   no_lists Finished hold = tt
 
-  copy_lost : entry.asked ≡ Cut → entry.actor ≡ Copy → (course : Course) → now.tool.course ≡ course → CourseStands journal has (is_reverting now.tool.reason) course → Together (actor_took plan Copy answers.Lost course tool)
+  copy_lost : entry.asked ≡ Cut → entry.actor ≡ Copy → (tool_phase : ToolPhase) → now.tool.tool_phase ≡ tool_phase → ToolPhaseStands journal has (is_reverting now.tool.reason) tool_phase → Together (actor_took plan Copy answers.Lost tool_phase tool)
   unfolding copiers.took copiers.progress
-  copy_lost cut same (SettingUp setup tries) course at =
-      subst (λ (c : Course). CourseStands more now_has (is_reverting now.tool.reason) c) (sym course)
+  copy_lost cut same (SettingUp setup tries) tool_phase at =
+      subst (λ (c : ToolPhase). ToolPhaseStands more now_has (is_reverting now.tool.reason) c) (sym tool_phase)
       (record { inspector = subst (Stands inspector_waits false []) (sym (others_same Copy same Insp refl)) at.inspector; copier = lost_now cut Copy same; applier = others_same Copy same Apply refl ∙ at.applier; locker = others_same Copy same Lock refl ∙ at.locker; renamer = others_same Copy same Ren refl ∙ at.renamer })
-  copy_lost cut same (Migrating work) course at =
-      copy_turn plan journal entry has now_has answers.Lost work tool course (others_same Copy same) at (λ going. free_stands _ (now_has Copy) (lost_now cut Copy same)) (λ going place number unfit. absurd cc)
+  copy_lost cut same (Migrating work) tool_phase at =
+      copy_turn plan journal entry has now_has answers.Lost work tool tool_phase (others_same Copy same) at (λ going. free_stands _ (now_has Copy) (lost_now cut Copy same)) (λ going place number unfit. absurd cc)
 
-  apply_lost : entry.asked ≡ Cut → entry.actor ≡ Apply → (course : Course) → now.tool.course ≡ course → CourseStands journal has (is_reverting now.tool.reason) course → Together (actor_took plan Apply answers.Lost course tool)
+  apply_lost : entry.asked ≡ Cut → entry.actor ≡ Apply → (tool_phase : ToolPhase) → now.tool.tool_phase ≡ tool_phase → ToolPhaseStands journal has (is_reverting now.tool.reason) tool_phase → Together (actor_took plan Apply answers.Lost tool_phase tool)
   unfolding appliers.took appliers.progress
-  apply_lost cut same (SettingUp setup tries) course at =
-      subst (λ (c : Course). CourseStands more now_has (is_reverting now.tool.reason) c) (sym course)
+  apply_lost cut same (SettingUp setup tries) tool_phase at =
+      subst (λ (c : ToolPhase). ToolPhaseStands more now_has (is_reverting now.tool.reason) c) (sym tool_phase)
       (record { inspector = subst (Stands inspector_waits false []) (sym (others_same Apply same Insp refl)) at.inspector; copier = others_same Apply same Copy refl ∙ at.copier; applier = lost_now cut Apply same; locker = others_same Apply same Lock refl ∙ at.locker; renamer = others_same Apply same Ren refl ∙ at.renamer })
-  apply_lost cut same (Migrating work) course at =
-      apply_turn plan journal entry has now_has answers.Lost work tool course (others_same Apply same) at (λ going. record { stands = free_stands _ (now_has Apply) (lost_now cut Apply same); known = tt }) (λ going place number unfit. absurd cc)
+  apply_lost cut same (Migrating work) tool_phase at =
+      apply_turn plan journal entry has now_has answers.Lost work tool tool_phase (others_same Apply same) at (λ going. record { stands = free_stands _ (now_has Apply) (lost_now cut Apply same); known = tt }) (λ going place number unfit. absurd cc)
 
-  lock_lost : entry.asked ≡ Cut → entry.actor ≡ Lock → (course : Course) → now.tool.course ≡ course → CourseStands journal has (is_reverting now.tool.reason) course → Together (actor_took plan Lock answers.Lost course tool)
-  lock_lost cut same (SettingUp setup tries) course at =
-      subst (λ (c : Course). CourseStands more now_has (is_reverting now.tool.reason) c) (sym course)
+  lock_lost : entry.asked ≡ Cut → entry.actor ≡ Lock → (tool_phase : ToolPhase) → now.tool.tool_phase ≡ tool_phase → ToolPhaseStands journal has (is_reverting now.tool.reason) tool_phase → Together (actor_took plan Lock answers.Lost tool_phase tool)
+  lock_lost cut same (SettingUp setup tries) tool_phase at =
+      subst (λ (c : ToolPhase). ToolPhaseStands more now_has (is_reverting now.tool.reason) c) (sym tool_phase)
       (record { inspector = subst (Stands inspector_waits false []) (sym (others_same Lock same Insp refl)) at.inspector; copier = others_same Lock same Copy refl ∙ at.copier; applier = others_same Lock same Apply refl ∙ at.applier; locker = lost_now cut Lock same; renamer = others_same Lock same Ren refl ∙ at.renamer })
-  lock_lost cut same (Migrating work) course at =
+  lock_lost cut same (Migrating work) tool_phase at =
       lock_turn plan journal entry has now_has answers.Lost work tool (others_same Lock same) at (subst (Rattle.proof_journals.proofs.Machine.CuttingOver.LockerStands work.cutover.table _ _) (sym (lost_now cut Lock same)) (locker_lost work.cutover.table work.cutover.hold work.cutover.phase at.phase))
 
-  ren_lost : entry.asked ≡ Cut → entry.actor ≡ Ren → (course : Course) → now.tool.course ≡ course → CourseStands journal has (is_reverting now.tool.reason) course → Together (actor_took plan Ren answers.Lost course tool)
-  ren_lost cut same (SettingUp setup tries) course at =
-      subst (λ (c : Course). CourseStands more now_has (is_reverting now.tool.reason) c) (sym course)
+  ren_lost : entry.asked ≡ Cut → entry.actor ≡ Ren → (tool_phase : ToolPhase) → now.tool.tool_phase ≡ tool_phase → ToolPhaseStands journal has (is_reverting now.tool.reason) tool_phase → Together (actor_took plan Ren answers.Lost tool_phase tool)
+  ren_lost cut same (SettingUp setup tries) tool_phase at =
+      subst (λ (c : ToolPhase). ToolPhaseStands more now_has (is_reverting now.tool.reason) c) (sym tool_phase)
       (record { inspector = subst (Stands inspector_waits false []) (sym (others_same Ren same Insp refl)) at.inspector; copier = others_same Ren same Copy refl ∙ at.copier; applier = others_same Ren same Apply refl ∙ at.applier; locker = others_same Ren same Lock refl ∙ at.locker; renamer = lost_now cut Ren same })
-  ren_lost cut same (Migrating work) course at = ren_turn plan journal entry has now_has answers.Lost work tool (others_same Ren same) at (lost_now cut Ren same)
+  ren_lost cut same (Migrating work) tool_phase at = ren_turn plan journal entry has now_has answers.Lost work tool (others_same Ren same) at (lost_now cut Ren same)
 
-  insp_lost : entry.asked ≡ Cut → entry.actor ≡ Insp → (course : Course) → now.tool.course ≡ course → CourseStands journal has (is_reverting now.tool.reason) course → Together (actor_took plan Insp answers.Lost course tool)
-  insp_lost cut same (SettingUp setup tries) course at = setup_turn plan journal entry has now_has answers.Lost setup tries tool course (others_same Insp same) at (free_stands _ (now_has Insp) (lost_now cut Insp same))
-  insp_lost cut same (Migrating work) course at =
+  insp_lost : entry.asked ≡ Cut → entry.actor ≡ Insp → (tool_phase : ToolPhase) → now.tool.tool_phase ≡ tool_phase → ToolPhaseStands journal has (is_reverting now.tool.reason) tool_phase → Together (actor_took plan Insp answers.Lost tool_phase tool)
+  insp_lost cut same (SettingUp setup tries) tool_phase at = setup_turn plan journal entry has now_has answers.Lost setup tries tool tool_phase (others_same Insp same) at (free_stands _ (now_has Insp) (lost_now cut Insp same))
+  insp_lost cut same (Migrating work) tool_phase at =
       insp_turn plan journal entry has now_has answers.Lost work tool (others_same Insp same) at (free_stands _ (now_has Insp) (lost_now cut Insp same)) (no_lists work.cutover.phase work.cutover.hold)
 
-  worked_lost : entry.asked ≡ Cut → (actor : Actor) → entry.actor ≡ actor → Together (actor_took plan actor answers.Lost tool.course tool)
+  worked_lost : entry.asked ≡ Cut → (actor : Actor) → entry.actor ≡ actor → Together (actor_took plan actor answers.Lost tool.tool_phase tool)
   worked_lost cut Op same = all_still Op same operator_apart
   worked_lost cut (Client c) same = all_still (Client c) same (client_apart c)
-  worked_lost cut Insp same = insp_lost cut same now.tool.course refl is.stands
-  worked_lost cut Copy same = copy_lost cut same now.tool.course refl is.stands
-  worked_lost cut Apply same = apply_lost cut same now.tool.course refl is.stands
-  worked_lost cut Lock same = lock_lost cut same now.tool.course refl is.stands
-  worked_lost cut Ren same = ren_lost cut same now.tool.course refl is.stands
+  worked_lost cut Insp same = insp_lost cut same now.tool.tool_phase refl is.stands
+  worked_lost cut Copy same = copy_lost cut same now.tool.tool_phase refl is.stands
+  worked_lost cut Apply same = apply_lost cut same now.tool.tool_phase refl is.stands
+  worked_lost cut Lock same = lock_lost cut same now.tool.tool_phase refl is.stands
+  worked_lost cut Ren same = ren_lost cut same now.tool.tool_phase refl is.stands
 
   -- who had nothing has nothing
   idle_lost : entry.asked ≡ Cut → has_work now.server entry.session ≡ false → Together tool
-  idle_lost cut idle = still plan journal entry has now_has (is_reverting now.tool.reason) now.tool.course (λ a one two. by a (same_actor entry.actor a) refl) is.stands where
+  idle_lost cut idle = still plan journal entry has now_has (is_reverting now.tool.reason) now.tool.tool_phase (λ a one two. by a (same_actor entry.actor a) refl) is.stands where
     had : has entry.actor ≡ free
     had = ap (standing_in (state_at plan journal)) (own_session plan journal entry is.known served (ap is_cut cut)) ∙ idle_stands (state_at plan journal) entry.session (ap (λ (s : State). has_work s entry.session) (sym is.server) ∙ idle)
 
@@ -413,16 +413,16 @@ module _ (plan : PlanData) (journal : List Entry) (entry : Entry) (is : IsTogeth
   -- EVERY TURN
 
   asked_turn : (actor : Actor) → entry.actor ≡ actor → given plan journal actor ≡ Some entry.asked → (entry.asked ≡ Cut → ⊥) → ((word : OperatorWord) → entry.asked ≡ Command word → ⊥)
-      → Together (Rattle.tool_program.specs.Tools.turn_counts plan actor (actor_took plan actor entry.answer tool.course tool))
+      → Together (Rattle.tool_program.specs.Tools.turn_counts plan actor (actor_took plan actor entry.answer tool.tool_phase tool))
   unfolding given
   asked_turn (Client c) same gives called commanded = all_still (Client c) same (client_apart c)
   asked_turn Op same gives called commanded = all_still Op same operator_apart
-  asked_turn Insp same gives called commanded = insp_asked same (asking plan journal Insp entry.asked is.server gives) now.tool.course refl is.stands
-  asked_turn Copy same gives called commanded = copy_asked same (asking plan journal Copy entry.asked is.server gives) now.tool.course refl is.stands
+  asked_turn Insp same gives called commanded = insp_asked same (asking plan journal Insp entry.asked is.server gives) now.tool.tool_phase refl is.stands
+  asked_turn Copy same gives called commanded = copy_asked same (asking plan journal Copy entry.asked is.server gives) now.tool.tool_phase refl is.stands
   asked_turn Apply same gives called commanded =
-      drained plan journal entry has now_has (actor_took plan Apply entry.answer tool.course tool) (apply_asked same (asking plan journal Apply entry.asked is.server gives) now.tool.course refl is.stands)
-  asked_turn Lock same gives called commanded = lock_asked same (asking plan journal Lock entry.asked is.server gives) now.tool.course refl is.stands
-  asked_turn Ren same gives called commanded = ren_asked same (asking plan journal Ren entry.asked is.server gives) now.tool.course refl is.stands
+      drained plan journal entry has now_has (actor_took plan Apply entry.answer tool.tool_phase tool) (apply_asked same (asking plan journal Apply entry.asked is.server gives) now.tool.tool_phase refl is.stands)
+  asked_turn Lock same gives called commanded = lock_asked same (asking plan journal Lock entry.asked is.server gives) now.tool.tool_phase refl is.stands
+  asked_turn Ren same gives called commanded = ren_asked same (asking plan journal Ren entry.asked is.server gives) now.tool.tool_phase refl is.stands
 
   commanded_turn : (actor : Actor) (word : OperatorWord) → entry.actor ≡ actor → given plan journal actor ≡ Some (Command word) → Together (Rattle.tool_program.specs.Tools.command_took word tool)
   unfolding given
@@ -437,7 +437,7 @@ module _ (plan : PlanData) (journal : List Entry) (entry : Entry) (is : IsTogeth
   all_turns : (asked : Asked) → entry.asked ≡ asked → IsGiven plan journal entry asked → Together (asked_took plan now.server entry asked tool)
   all_turns (Command word) asks gives = commanded_turn entry.actor word refl gives
   all_turns Cut asks gives = by (has_work now.server entry.session) refl where
-    by : (b : Bool) → has_work now.server entry.session ≡ b → Together (cond b (actor_took plan entry.actor answers.Lost tool.course tool) tool)
+    by : (b : Bool) → has_work now.server entry.session ≡ b → Together (cond b (actor_took plan entry.actor answers.Lost tool.tool_phase tool) tool)
     by true worked = worked_lost asks entry.actor refl
     by false idle = idle_lost asks idle
   all_turns (Call request) asks gives = asked_turn entry.actor refl (gives ∙ ap Some (sym asks)) (λ cut. call_cut (sym asks ∙ cut)) (λ word command. call_command (sym asks ∙ command)) where
@@ -459,7 +459,7 @@ module _ (plan : PlanData) (journal : List Entry) (entry : Entry) (is : IsTogeth
     known = known_more plan journal entry is.known served;
     server = ap (λ (m : Moment). m.server) (moment_more plan journal entry) ∙ ap (λ (s : State). after_entry s entry) is.server ∙ sym (state_more plan journal entry);
     turns = turns_more plan journal entry ∙ ap (λ (n : ℕ). n + 1) is.turns ∙ sym (length_push journal entry);
-    stands = subst (λ (m : Moment). CourseStands more now_has (is_reverting m.tool.reason) m.tool.course) (sym (moment_more plan journal entry)) (all_turns entry.asked refl run.followed.given);
+    stands = subst (λ (m : Moment). ToolPhaseStands more now_has (is_reverting m.tool.reason) m.tool.tool_phase) (sym (moment_more plan journal entry)) (all_turns entry.asked refl run.followed.given);
   }
 
 pub together_begins : (plan : PlanData) → IsTogether plan []

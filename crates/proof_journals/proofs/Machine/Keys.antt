@@ -13,10 +13,10 @@ use Rattle.base_values.specs.declared.span.Bound.{Bound}
 use Rattle.base_values.specs.declared.span.Bound.TheVariants.{Closed}
 use Rattle.base_values.specs.declared.span.Span.{Span}
 use Rattle.base_values.specs.Spans.{has}
-use Rattle.base_values.specs.Storing.{IsOfKind, AreOfKinds, stores, in_range, text_within, bytes_within, text_number, as_number, lowest, highest, character_count}
+use Rattle.base_values.specs.StoredValues.{IsOfKind, AreOfKinds, stores, in_range, text_within, bytes_within, text_number, as_number, lowest, highest, character_count}
 use Rattle.base_values.specs.declared.gho_schema.schema.Column.{Column}
 use Rattle.base_values.specs.declared.gho_schema.schema.Schema.{Schema}
-use Rattle.base_values.specs.GhoSchema.Clustering.{is_not_null}
+use Rattle.base_values.specs.GhoSchema.ClusteredKey.{is_not_null}
 use Rattle.base_values.specs.GhoSchema.Rows.{key_of, key_places}
 use Rattle.base_values.specs.GhoSchema.Tables.{IsRow}
 use Rattle.table_store.specs.Databases.{TableRows, rows_in}

@@ -13,7 +13,7 @@ use Rattle.server_model.specs.declared.request.Request.{Request}
 use Rattle.server_model.specs.declared.request.Request.TheVariants as requests
 use Rattle.plan_data.specs.PlanData.{PlanData}
 use Rattle.tool_program.specs.JournalWords.Clients.{client_at, client_asks, word_asks}
-use Rattle.tool_program.specs.JournalWords.Keeping.{words_of}
+use Rattle.tool_program.specs.JournalWords.KeptPlans.{words_of}
 use Rattle.tool_program.specs.JournalWords.Sessions.{live_session}
 use Rattle.tool_program.specs.ChunkCopier.Copiers as copiers
 use Rattle.tool_program.specs.EventApplier.Appliers as appliers
@@ -22,16 +22,16 @@ use Rattle.tool_program.specs.CutoverCore.Attempts as cutovers
 use Rattle.tool_program.specs.CutoverCore.CutOvers.{is_resting}
 use Rattle.tool_program.specs.Operators.{is_throttled}
 use Rattle.tool_program.specs.Programs.{in_transaction, calls, commands, waits, tool_call, tool_asks, copy_call, apply_call, may_begin, rolls_back, given}
-use Rattle.tool_program.specs.Tools.{Work, Course, SettingUp, Migrating, Moment, is_reverting, moment}
-use Rattle.tool_program.proofs.OnlineCalls.Machines.{CourseIsNamed, named}
+use Rattle.tool_program.specs.Tools.{Work, ToolPhase, SettingUp, Migrating, Moment, is_reverting, moment}
+use Rattle.tool_program.proofs.OnlineCalls.Machines.{ToolPhaseIsNamed, named}
 use Rattle.proof_journals.specs.Machine.Standings.{opened_for}
-use Rattle.proof_journals.specs.Machine.Forming.{IsFitting}
+use Rattle.proof_journals.specs.Machine.FormedPlans.{IsFitting}
 use Rattle.proof_journals.specs.Machine.Laws.{has_keys, IsCalledWell, GivenCallsMayBeMade}
 use Rattle.proof_journals.proofs.Machine.Asking.{some_request, unless_called, copier_next, renamer_next}
 use Rattle.proof_journals.proofs.Machine.Clients.{Next, calls_line, polls_line, client_next}
 use Rattle.proof_journals.proofs.Machine.Journals.{apply_called}
 use Rattle.proof_journals.proofs.Machine.Calling.{given_calls, reverting_or}
-use Rattle.proof_journals.proofs.Machine.Forming.{setup_formed, inspector_formed, locker_formed, exchange_formed, CourseBatched, batched, applier_formed, copier_formed, word_formed}
+use Rattle.proof_journals.proofs.Machine.Forming.{setup_formed, inspector_formed, locker_formed, exchange_formed, ToolPhaseBatched, batched, applier_formed, copier_formed, word_formed}
 
 module _ (plan : PlanData) (journal : List Entry) (tables : Database) (fit : IsFitting plan) where
   abbrev now : Moment
@@ -45,7 +45,7 @@ module _ (plan : PlanData) (journal : List Entry) (tables : Database) (fit : IsF
   unfolding appliers.next
   applied work request same asks = subst (IsWellFormed tables) (sym (apply_called plan journal work request asks)) (applier_formed plan tables journal work.applier work.applier.step fit same)
 
-  call_formed : (actor : Actor) (request : Request) (course : Course) → CourseIsNamed plan course → CourseBatched plan course → (actor ≡ Copy → has_keys request ≡ true → IsWellFormed tables request) → tool_call plan now.server journal now.tool course actor ≡ Some request → IsWellFormed tables request
+  call_formed : (actor : Actor) (request : Request) (tool_phase : ToolPhase) → ToolPhaseIsNamed plan tool_phase → ToolPhaseBatched plan tool_phase → (actor ≡ Copy → has_keys request ≡ true → IsWellFormed tables request) → tool_call plan now.server journal now.tool tool_phase actor ≡ Some request → IsWellFormed tables request
   call_formed Insp request (SettingUp setup tries) names sized keyed call = setup_formed plan tables (is_reverting now.tool.reason) setup request fit call
   call_formed Insp request (Migrating work) names sized keyed call = inspector_formed tables work.cutover request call
   call_formed Copy request (Migrating work) names sized keyed call =
@@ -62,11 +62,11 @@ module _ (plan : PlanData) (journal : List Entry) (tables : Database) (fit : IsF
   call_formed actor request (Migrating work) names sized keyed call = absurd cc
 
   asked_formed : (actor : Actor) (request : Request) → (actor ≡ Copy → has_keys request ≡ true → IsWellFormed tables request) → tool_asks plan journal now actor ≡ Some (Call request) → IsWellFormed tables request
-  asked_formed actor request keyed asks = by (waits now.server (live_session journal actor)) (tool_call plan now.server journal now.tool now.tool.course actor) refl asks where
-    by : (b : Bool) (call : Option Request) → tool_call plan now.server journal now.tool now.tool.course actor ≡ call → cond b (Some Poll) (calls call) ≡ Some (Call request) → IsWellFormed tables request
+  asked_formed actor request keyed asks = by (waits now.server (live_session journal actor)) (tool_call plan now.server journal now.tool now.tool.tool_phase actor) refl asks where
+    by : (b : Bool) (call : Option Request) → tool_call plan now.server journal now.tool now.tool.tool_phase actor ≡ call → cond b (Some Poll) (calls call) ≡ Some (Call request) → IsWellFormed tables request
     by true call same is = absurd cc
     by false None same is = absurd cc
-    by false (Some one) same is = call_formed actor request now.tool.course (named plan journal) (batched plan journal) keyed (let eq : one ≡ request = cc in same ∙ ap Some eq)
+    by false (Some one) same is = call_formed actor request now.tool.tool_phase (named plan journal) (batched plan journal) keyed (let eq : one ≡ request = cc in same ∙ ap Some eq)
 
   line_formed : (c : ℕ) (request : Request) → client_asks plan journal c ≡ Some (Call request) → IsWellFormed tables request
   line_formed c request gives = by (client_next plan journal c (Call request) gives) where

@@ -48,26 +48,26 @@ use Rattle.tool_program.specs.CutoverCore.CutOvers.{is_bad}
 use Rattle.tool_program.specs.Programs.{given, IsGiven, tool_call, tool_asks, Follows}
 use Rattle.tool_program.specs.Operators as operators
 use Rattle.tool_program.specs.Setups.{Setup, Listing, Clearing, MakingLog, MakingGhost, Marking, Reaching, Ready, setup_call, setup_step}
-use Rattle.tool_program.specs.Tools.{Work, Course, SettingUp, Migrating, Panicked, Tool, Moment, stopped, spends, resizes, is_renamed, is_reverting, course_of, actor_took, turn_counts, command_took, asked_took, took, moment}
-use Rattle.tool_program.proofs.OnlineCalls.Machines.{CourseIsNamed, named}
+use Rattle.tool_program.specs.Tools.{Work, ToolPhase, SettingUp, Migrating, Panicked, Tool, Moment, stopped, spends, resizes, is_renamed, is_reverting, tool_phase_of, actor_took, turn_counts, command_took, asked_took, took, moment}
+use Rattle.tool_program.proofs.OnlineCalls.Machines.{ToolPhaseIsNamed, named}
 use Rattle.proof_journals.proofs.Actors.{live_more, same_actor_is, same_actor_itself}
-use Rattle.proof_journals.proofs.Joined.{told_answer}
+use Rattle.proof_journals.proofs.Joined.{reported_answer}
 use Rattle.proof_journals.proofs.Linking.{waiting_more}
 use Rattle.server_model.proofs.LockedRows.Tests.{same_bytes, are_same, turned_bytes}
 use Rattle.proof_journals.specs.Machine.Standings.{Standing, free, standing_in, standing_of, answered, gives, serves_to, IsAbout, is_called, is_polled}
-use Rattle.proof_journals.specs.Machine.Machines.{inspector_waits, waits_so, CourseStands, WorkStands}
-use Rattle.proof_journals.specs.Machine.Forming.{IsFitting}
-use Rattle.proof_journals.specs.Machine.Tabling.{schema_of, ghost_schema, past_ghost, SetupTables, CourseTables, TableStands}
+use Rattle.proof_journals.specs.Machine.Machines.{inspector_waits, waits_so, ToolPhaseStands, WorkStands}
+use Rattle.proof_journals.specs.Machine.FormedPlans.{IsFitting}
+use Rattle.proof_journals.specs.Machine.MigrationTables.{schema_of, ghost_schema, past_ghost, SetupTables, ToolPhaseTables, TableExists}
 use Rattle.proof_journals.proofs.Machine.Asking.{WaitsWith, some_request}
 use Rattle.proof_journals.proofs.Machine.CuttingOver.{LockerAsks}
 use Rattle.proof_journals.proofs.Machine.Journals.{IsRun, all_runs, Asking, calls_so, polls_so, asking, lock_about, ren_about}
 use Rattle.proof_journals.proofs.Machine.Lifting.{spends_keeps, reverts_keeps, drains_keeps}
-use Rattle.proof_journals.proofs.Machine.Phases.{DropsOther, IsUndone, CourseUndone, SeesGhost, EndsNot, lost_ends, undone_took, undone_counts, undone_commanded}
+use Rattle.proof_journals.proofs.Machine.Phases.{DropsOther, IsUndone, ToolPhaseUndone, SeesGhost, EndsNot, lost_ends, undone_took, undone_counts, undone_commanded}
 use Rattle.proof_journals.proofs.Machine.Polling.{given_idle, given_waits, waits_same}
 use Rattle.proof_journals.proofs.Machine.Renaming.{renamed_or_stays, lists_found}
 use Rattle.proof_journals.proofs.Machine.Schemas.{keeps_table, schema_stays, schema_rests}
 use Rattle.proof_journals.proofs.Machine.Seated.{IsServed, others_stand, own_stands, own_heard, own_lost, own_given, own_missed, own_waiting}
-use Rattle.proof_journals.proofs.Machine.Tabling.{IsTabled, tabled_more, tabled_begins, quiet_stay, past_keeps, Passes, passed, makes, step_past, step_waits, Behind, waits_on, rests, behind}
+use Rattle.proof_journals.proofs.Machine.Tabling.{IsTabled, tabled_more, tabled_begins, quiet_stay, past_keeps, Passes, passed, makes, step_past, step_waits, Following, waits_on, rests, following}
 use Rattle.proof_journals.proofs.Sentry.Inductions.{moment_more}
 
 -- NAMES
@@ -148,46 +148,46 @@ record ReadyBy (plan : PlanData) (actor : Actor) (setup : Setup) (answer : Answe
   good : is_bad answer ≡ false
   is : setup_step plan.table setup answer ≡ Ready position range
 
-abbrev IfReady : PlanData → Actor → Setup → Answer → Course → Type 0
+abbrev IfReady : PlanData → Actor → Setup → Answer → ToolPhase → Type 0
 IfReady plan actor setup answer (SettingUp other tries) = Unit {0}
 IfReady plan actor setup answer (Migrating work) = ReadyBy plan actor setup answer
 
 module _ (plan : PlanData) (actor : Actor) (setup : Setup) (answer : Answer) where
-  abbrev Then : Bool → Course → Type 0
-  Then b course = IfReady plan actor setup answer course
+  abbrev Then : Bool → ToolPhase → Type 0
+  Then b tool_phase = IfReady plan actor setup answer tool_phase
 
-  ready_back : (b : Bool) (course : Course) → Then b course → Then true (stopped course)
+  ready_back : (b : Bool) (tool_phase : ToolPhase) → Then b tool_phase → Then true (stopped tool_phase)
   ready_back b (SettingUp other tries) is = tt
   ready_back b (Migrating work) is = is
 
-  ready_course : (size : ℕ) (tries : List ℕ) → actor ≡ Insp → is_bad answer ≡ false → (next : Setup) → setup_step plan.table setup answer ≡ next → IfReady plan actor setup answer (course_of plan size next tries)
-  ready_course size tries insp good (Ready position range) is = record { position = position; range = range; insp = insp; good = good; is = is }
-  ready_course size tries insp good Listing is = tt
-  ready_course size tries insp good (Clearing left) is = tt
-  ready_course size tries insp good MakingLog is = tt
-  ready_course size tries insp good MakingGhost is = tt
-  ready_course size tries insp good Marking is = tt
-  ready_course size tries insp good (Reaching position) is = tt
+  ready_tool_phase : (size : ℕ) (tries : List ℕ) → actor ≡ Insp → is_bad answer ≡ false → (next : Setup) → setup_step plan.table setup answer ≡ next → IfReady plan actor setup answer (tool_phase_of plan size next tries)
+  ready_tool_phase size tries insp good (Ready position range) is = record { position = position; range = range; insp = insp; good = good; is = is }
+  ready_tool_phase size tries insp good Listing is = tt
+  ready_tool_phase size tries insp good (Clearing left) is = tt
+  ready_tool_phase size tries insp good MakingLog is = tt
+  ready_tool_phase size tries insp good MakingGhost is = tt
+  ready_tool_phase size tries insp good Marking is = tt
+  ready_tool_phase size tries insp good (Reaching position) is = tt
 
-  ready_insp : actor ≡ Insp → (tries : List ℕ) (tool : Tool) → tool.course ≡ SettingUp setup tries → IfReady plan actor setup answer (actor_took plan Insp answer (SettingUp setup tries) tool).course
+  ready_insp : actor ≡ Insp → (tries : List ℕ) (tool : Tool) → tool.tool_phase ≡ SettingUp setup tries → IfReady plan actor setup answer (actor_took plan Insp answer (SettingUp setup tries) tool).tool_phase
   ready_insp insp tries tool same = by (is_reverting tool.reason) (is_bad answer) refl where
     by : (a b : Bool) → is_bad answer ≡ b
-        → IfReady plan actor setup answer (cond a tool (cond b (spends plan tasks.Setup (tries ++ tool.turns ∷ []) (record tool { course = SettingUp Listing (tries ++ tool.turns ∷ []) })) (record tool { course = course_of plan tool.operator.size (cond b Listing (setup_step plan.table setup answer)) tries }))).course
+        → IfReady plan actor setup answer (cond a tool (cond b (spends plan tasks.Setup (tries ++ tool.turns ∷ []) (record tool { tool_phase = SettingUp Listing (tries ++ tool.turns ∷ []) })) (record tool { tool_phase = tool_phase_of plan tool.operator.size (cond b Listing (setup_step plan.table setup answer)) tries }))).tool_phase
     by true b bad = subst (IfReady plan actor setup answer) (sym same) tt
-    by false true bad = spends_keeps Then ready_back plan tasks.Setup (tries ++ tool.turns ∷ []) (record tool { course = SettingUp Listing (tries ++ tool.turns ∷ []) }) tt
-    by false false bad = ready_course tool.operator.size tries insp bad (setup_step plan.table setup answer) refl
+    by false true bad = spends_keeps Then ready_back plan tasks.Setup (tries ++ tool.turns ∷ []) (record tool { tool_phase = SettingUp Listing (tries ++ tool.turns ∷ []) }) tt
+    by false false bad = ready_tool_phase tool.operator.size tries insp bad (setup_step plan.table setup answer) refl
 
-  ready_took : (own : Actor) → actor ≡ own → (tries : List ℕ) (tool : Tool) → tool.course ≡ SettingUp setup tries → IfReady plan actor setup answer (actor_took plan own answer (SettingUp setup tries) tool).course
-  ready_took Insp same tries tool course = ready_insp same tries tool course
-  ready_took Op same tries tool course = subst (IfReady plan actor setup answer) (sym course) tt
-  ready_took Copy same tries tool course = subst (IfReady plan actor setup answer) (sym course) tt
-  ready_took Apply same tries tool course = subst (IfReady plan actor setup answer) (sym course) tt
-  ready_took Lock same tries tool course = subst (IfReady plan actor setup answer) (sym course) tt
-  ready_took Ren same tries tool course = subst (IfReady plan actor setup answer) (sym course) tt
-  ready_took (Client c) same tries tool course = subst (IfReady plan actor setup answer) (sym course) tt
+  ready_took : (own : Actor) → actor ≡ own → (tries : List ℕ) (tool : Tool) → tool.tool_phase ≡ SettingUp setup tries → IfReady plan actor setup answer (actor_took plan own answer (SettingUp setup tries) tool).tool_phase
+  ready_took Insp same tries tool tool_phase = ready_insp same tries tool tool_phase
+  ready_took Op same tries tool tool_phase = subst (IfReady plan actor setup answer) (sym tool_phase) tt
+  ready_took Copy same tries tool tool_phase = subst (IfReady plan actor setup answer) (sym tool_phase) tt
+  ready_took Apply same tries tool tool_phase = subst (IfReady plan actor setup answer) (sym tool_phase) tt
+  ready_took Lock same tries tool tool_phase = subst (IfReady plan actor setup answer) (sym tool_phase) tt
+  ready_took Ren same tries tool tool_phase = subst (IfReady plan actor setup answer) (sym tool_phase) tt
+  ready_took (Client c) same tries tool tool_phase = subst (IfReady plan actor setup answer) (sym tool_phase) tt
 
-  ready_counts : (own : Actor) (tool : Tool) → IfReady plan actor setup answer tool.course → IfReady plan actor setup answer (turn_counts plan own tool).course
-  ready_counts Apply tool is = drains_keeps Then ready_back plan tool.course tool refl (λ b work tries at. at) is
+  ready_counts : (own : Actor) (tool : Tool) → IfReady plan actor setup answer tool.tool_phase → IfReady plan actor setup answer (turn_counts plan own tool).tool_phase
+  ready_counts Apply tool is = drains_keeps Then ready_back plan tool.tool_phase tool refl (λ b work tries at. at) is
   ready_counts Op tool is = is
   ready_counts Insp tool is = is
   ready_counts Copy tool is = is
@@ -195,13 +195,13 @@ module _ (plan : PlanData) (actor : Actor) (setup : Setup) (answer : Answer) whe
   ready_counts Ren tool is = is
   ready_counts (Client c) tool is = is
 
-  ready_resized : (size : ℕ) (course : Course) → Then false course → Then false (resizes (ChunkSize size) course)
+  ready_resized : (size : ℕ) (tool_phase : ToolPhase) → Then false tool_phase → Then false (resizes (ChunkSize size) tool_phase)
   ready_resized size (SettingUp other tries) is = tt
   ready_resized size (Migrating work) is = is
 
-  ready_commanded : (word : OperatorWord) (tool : Tool) → IfReady plan actor setup answer tool.course → IfReady plan actor setup answer (command_took word tool).course
-  ready_commanded Panic tool is = reverts_keeps Then ready_back (Panicked tool.turns) (record tool { operator = operators.commanded Panic tool.operator; course = tool.course }) is
-  ready_commanded (ChunkSize size) tool is = ready_resized size tool.course is
+  ready_commanded : (word : OperatorWord) (tool : Tool) → IfReady plan actor setup answer tool.tool_phase → IfReady plan actor setup answer (command_took word tool).tool_phase
+  ready_commanded Panic tool is = reverts_keeps Then ready_back (Panicked tool.turns) (record tool { operator = operators.commanded Panic tool.operator; tool_phase = tool.tool_phase }) is
+  ready_commanded (ChunkSize size) tool is = ready_resized size tool.tool_phase is
   ready_commanded Throttle tool is = is
   ready_commanded NoThrottle tool is = is
   ready_commanded Unpostpone tool is = is
@@ -239,14 +239,14 @@ pub record Unmarked (plan : PlanData) (journal : List Entry) (work : Work) : Typ
   pub undone : IsUndone work.cutover.phase
   pub waits : (request : Request) → (standing_of plan journal Insp).waits ≡ Some request → KeepsGhost plan.table request
 
-abbrev pub IfUnmarked : PlanData → List Entry → Course → Type 0
+abbrev pub IfUnmarked : PlanData → List Entry → ToolPhase → Type 0
 IfUnmarked plan journal (SettingUp setup tries) = Unit {0}
 IfUnmarked plan journal (Migrating work) = Unmarked plan journal work
 
 pub record IsMarking (plan : PlanData) (journal : List Entry) : Type 0 where
   pub tabled : IsTabled plan journal
   pub agree : Agrees plan journal
-  pub course : (is_marked plan journal ≡ true) ⊎ IfUnmarked plan journal (moment plan journal).tool.course
+  pub tool_phase : (is_marked plan journal ≡ true) ⊎ IfUnmarked plan journal (moment plan journal).tool.tool_phase
 
 pub history_more : (plan : PlanData) (journal : List Entry) (entry : Entry) → is_marked plan (journal ++ entry ∷ []) ≡ (is_marked plan journal || list_any is_alter (entry_adds plan journal entry))
 unfolding history
@@ -304,7 +304,7 @@ module _ (plan : PlanData) (journal : List Entry) (entry : Entry) (is : IsTabled
   marked_on marked = history_more plan journal entry ∙ or_left (is_marked plan journal) (list_any is_alter (entry_adds plan journal entry)) marked
 
   marked_here : (table : List ℕ) → table ≡ plan.table → entry.actor ≡ Ren → IsAbout (exchange table) (has Ren) entry.asked → (count : ℕ) → answer_in entry.asked entry.side entry.answer entry.missed ≡ Some (answers.Ok count) → is_marked plan more ≡ true
-  marked_here table own same is_about count told = history_more plan journal entry ∙ or_right (is_marked plan journal) (list_any is_alter (entry_adds plan journal entry)) here where
+  marked_here table own same is_about count reported = history_more plan journal entry ∙ or_right (is_marked plan journal) (list_any is_alter (entry_adds plan journal entry)) here where
     about_is : IsAbout (exchange table) (has Ren) entry.asked → histories.about journal entry ≡ Some (exchange table)
     about_is (is_called asks none) = ap (λ (a : Asked). histories.asked_about a (request_waiting journal entry.actor)) asks
     about_is (is_polled asks some) = ap (λ (a : Asked). histories.asked_about a (request_waiting journal entry.actor)) asks ∙ ap (request_waiting journal) same ∙ agree Ren ∙ some
@@ -315,23 +315,23 @@ module _ (plan : PlanData) (journal : List Entry) (entry : Entry) (is : IsTabled
     here : list_any is_alter (entry_adds plan journal entry) ≡ true
     here =
         ap (λ (a : Actor). list_any is_alter (adds plan journal entry a)) same ∙ ap (λ (r : Option Request). list_any is_alter (alters plan r (answer_in entry.asked entry.side entry.answer entry.missed))) (about_is is_about)
-        ∙ ap (λ (t : Option Answer). list_any is_alter (alters plan (Some (exchange table)) t)) told ∙ ap (λ (b : Bool). list_any is_alter (cond b (Alter ∷ []) [])) away
+        ∙ ap (λ (t : Option Answer). list_any is_alter (alters plan (Some (exchange table)) t)) reported ∙ ap (λ (b : Bool). list_any is_alter (cond b (Alter ∷ []) [])) away
 
-  table_own : (work : Work) → now.tool.course ≡ Migrating work → work.cutover.table ≡ plan.table
-  table_own work course = (subst (CourseIsNamed plan) course (named plan journal)).cutover
+  table_own : (work : Work) → now.tool.tool_phase ≡ Migrating work → work.cutover.table ≡ plan.table
+  table_own work tool_phase = (subst (ToolPhaseIsNamed plan) tool_phase (named plan journal)).cutover
 
-  work_stands : (work : Work) → now.tool.course ≡ Migrating work → WorkStands journal (is_reverting now.tool.reason) has work
-  work_stands work course = subst (CourseStands journal has (is_reverting now.tool.reason)) course is.all.tool.stands
+  work_stands : (work : Work) → now.tool.tool_phase ≡ Migrating work → WorkStands journal (is_reverting now.tool.reason) has work
+  work_stands work tool_phase = subst (ToolPhaseStands journal has (is_reverting now.tool.reason)) tool_phase is.all.tool.stands
 
-  marks_asked : (work : Work) → now.tool.course ≡ Migrating work → entry.actor ≡ Ren → Asking plan journal Ren entry.asked → (count : ℕ) → answer_in entry.asked entry.side entry.answer entry.missed ≡ Some (answers.Ok count) → is_marked plan more ≡ true
-  marks_asked work course same asks count told =
-      ren_about plan journal entry is.all.tool run work course (work_stands work course) asks (is_marked plan more ≡ true)
-      (λ request is_about kind. marked_here work.cutover.table (table_own work course) same (subst (λ (r : Request). IsAbout r (has Ren) entry.asked) kind is_about) count told)
+  marks_asked : (work : Work) → now.tool.tool_phase ≡ Migrating work → entry.actor ≡ Ren → Asking plan journal Ren entry.asked → (count : ℕ) → answer_in entry.asked entry.side entry.answer entry.missed ≡ Some (answers.Ok count) → is_marked plan more ≡ true
+  marks_asked work tool_phase same asks count reported =
+      ren_about plan journal entry is.all.tool run work tool_phase (work_stands work tool_phase) asks (is_marked plan more ≡ true)
+      (λ request is_about kind. marked_here work.cutover.table (table_own work tool_phase) same (subst (λ (r : Request). IsAbout r (has Ren) entry.asked) kind is_about) count reported)
 
-  marks : (work : Work) → now.tool.course ≡ Migrating work → entry.actor ≡ Ren → (asked : Asked) → entry.asked ≡ asked → given plan journal Ren ≡ Some asked ⊎ (asked ≡ Cut) → (count : ℕ) → answer_in entry.asked entry.side entry.answer entry.missed ≡ Some (answers.Ok count) → is_marked plan more ≡ true
+  marks : (work : Work) → now.tool.tool_phase ≡ Migrating work → entry.actor ≡ Ren → (asked : Asked) → entry.asked ≡ asked → given plan journal Ren ≡ Some asked ⊎ (asked ≡ Cut) → (count : ℕ) → answer_in entry.asked entry.side entry.answer entry.missed ≡ Some (answers.Ok count) → is_marked plan more ≡ true
   unfolding given
-  marks work course same asked asks (inl gives) count told = marks_asked work course same (asking plan journal Ren entry.asked is.all.tool.server (gives ∙ ap Some (sym asks))) count told
-  marks work course same asked asks (inr cut) count told = absurd (no (sym (ap (λ (a : Asked). answer_in a entry.side entry.answer entry.missed) (asks ∙ cut)) ∙ told)) where
+  marks work tool_phase same asked asks (inl gives) count reported = marks_asked work tool_phase same (asking plan journal Ren entry.asked is.all.tool.server (gives ∙ ap Some (sym asks))) count reported
+  marks work tool_phase same asked asks (inr cut) count reported = absurd (no (sym (ap (λ (a : Asked). answer_in a entry.side entry.answer entry.missed) (asks ∙ cut)) ∙ reported)) where
     no : None ≡ Some (answers.Ok count) → ⊥
     no both = cc
 
@@ -343,27 +343,27 @@ module _ (plan : PlanData) (journal : List Entry) (entry : Entry) (is : IsTabled
     by None at = at
     by (Some side) at = absurd (heard (own_missed plan journal entry is.all.tool.known served side at))
 
-  told_heard : entry.side ≡ None → (entry.asked ≡ Cut → ⊥) → answer_in entry.asked entry.side entry.answer entry.missed ≡ Some entry.answer
-  told_heard no_side called = ap (λ (s : Option Side). answer_in entry.asked s entry.answer entry.missed) no_side ∙ by entry.asked called where
+  reported_heard : entry.side ≡ None → (entry.asked ≡ Cut → ⊥) → answer_in entry.asked entry.side entry.answer entry.missed ≡ Some entry.answer
+  reported_heard no_side called = ap (λ (s : Option Side). answer_in entry.asked s entry.answer entry.missed) no_side ∙ by entry.asked called where
     by : (a : Asked) → (a ≡ Cut → ⊥) → answer_in a None entry.answer entry.missed ≡ Some entry.answer
     by Cut called = absurd (called refl)
     by (Call request) called = refl
     by Poll called = refl
     by (Command word) called = refl
 
-  decide : (told : Option Answer) → answer_in entry.asked entry.side entry.answer entry.missed ≡ told
+  decide : (reported : Option Answer) → answer_in entry.asked entry.side entry.answer entry.missed ≡ reported
       → ((count : ℕ) × (answer_in entry.asked entry.side entry.answer entry.missed ≡ Some (answers.Ok count))) ⊎ ((count : ℕ) → answer_in entry.asked entry.side entry.answer entry.missed ≡ Some (answers.Ok count) → ⊥)
   decide (Some (answers.Ok count)) at = inl (count, at)
-  decide told at = inr (λ count same. let both : told ≡ Some (answers.Ok count) = sym at ∙ same in cc)
+  decide reported at = inr (λ count same. let both : reported ≡ Some (answers.Ok count) = sym at ∙ same in cc)
 
   -- WHERE THE RENAME ISN'T TOLD DONE
 
-  module _ (untold : entry.actor ≡ Ren → (count : ℕ) → answer_in entry.asked entry.side entry.answer entry.missed ≡ Some (answers.Ok count) → ⊥) (work : Work) (course : now.tool.course ≡ Migrating work) (going : Unmarked plan journal work) where
+  module _ (untold : entry.actor ≡ Ren → (count : ℕ) → answer_in entry.asked entry.side entry.answer entry.missed ≡ Some (answers.Ok count) → ⊥) (work : Work) (tool_phase : now.tool.tool_phase ≡ Migrating work) (going : Unmarked plan journal work) where
     own_table : work.cutover.table ≡ plan.table
-    own_table = table_own work course
+    own_table = table_own work tool_phase
 
     stands : WorkStands journal (is_reverting now.tool.reason) has work
-    stands = work_stands work course
+    stands = work_stands work tool_phase
 
     about_own : (actor : Actor) (request : Request) → entry.actor ≡ actor → IsAbout request (has actor) entry.asked → IsAbout request (has entry.actor) entry.asked
     about_own actor request same is_about = subst (λ (a : Actor). IsAbout request (has a) entry.asked) (sym same) is_about
@@ -372,8 +372,8 @@ module _ (plan : PlanData) (journal : List Entry) (entry : Entry) (is : IsTabled
     ghost_kept actor request same is_about keeps = schema_stays plan journal entry served (own_waiting plan journal entry is.all.tool.known served) (ghost_name plan.table) request (about_own actor request same is_about) keeps
 
     -- what the inspector asks
-    insp_safe : (request : Request) → tool_call plan now.server journal now.tool now.tool.course Insp ≡ Some request → KeepsGhost plan.table request
-    insp_safe request call = subst (λ (t : List ℕ). KeepsGhost t request) own_table (inspector_keeps work.cutover request (ap (λ (c : Course). tool_call plan now.server journal now.tool c Insp) (sym course) ∙ call) going.undone)
+    insp_safe : (request : Request) → tool_call plan now.server journal now.tool now.tool.tool_phase Insp ≡ Some request → KeepsGhost plan.table request
+    insp_safe request call = subst (λ (t : List ℕ). KeepsGhost t request) own_table (inspector_keeps work.cutover request (ap (λ (c : ToolPhase). tool_call plan now.server journal now.tool c Insp) (sym tool_phase) ∙ call) going.undone)
 
     insp_kept : entry.actor ≡ Insp → Asking plan journal Insp entry.asked → schema_of (ghost_name plan.table) (state_at plan more).tables ≡ schema_of (ghost_name plan.table) (state_at plan journal).tables
     insp_kept same (calls_so request asks idle call) = ghost_kept Insp request same (is_called asks idle) (insp_safe request call)
@@ -381,10 +381,10 @@ module _ (plan : PlanData) (journal : List Entry) (entry : Entry) (is : IsTabled
 
     ren_kept : entry.actor ≡ Ren → (request : Request) → IsAbout request (has Ren) entry.asked → request ≡ exchange work.cutover.table → schema_of (ghost_name plan.table) (state_at plan more).tables ≡ schema_of (ghost_name plan.table) (state_at plan journal).tables
     ren_kept same request is_about kind =
-        by (renamed_or_stays plan journal entry served (own_waiting plan journal entry is.all.tool.known served) (ghost_name plan.table) _ (subst (λ (r : Request). IsAbout r (has entry.actor) entry.asked) kind (about_own Ren request same is_about)) (told_answer (state_at plan journal) entry run.answered)) where
+        by (renamed_or_stays plan journal entry served (own_waiting plan journal entry is.all.tool.known served) (ghost_name plan.table) _ (subst (λ (r : Request). IsAbout r (has entry.actor) entry.asked) kind (about_own Ren request same is_about)) (reported_answer (state_at plan journal) entry run.answered)) where
           by : ((count : ℕ) × (answer_in entry.asked entry.side entry.answer entry.missed ≡ Some (answers.Ok count))) ⊎ (schema_of (ghost_name plan.table) (state_at plan more).tables ≡ schema_of (ghost_name plan.table) (state_at plan journal).tables)
               → schema_of (ghost_name plan.table) (state_at plan more).tables ≡ schema_of (ghost_name plan.table) (state_at plan journal).tables
-          by (inl told) = absurd (untold same told.0 told.1)
+          by (inl reported) = absurd (untold same reported.0 reported.1)
           by (inr stays) = stays
 
     ghost_asked : (actor : Actor) → entry.actor ≡ actor → given plan journal actor ≡ Some entry.asked → (entry.asked ≡ Cut → ⊥) → ((word : OperatorWord) → entry.asked ≡ Command word → ⊥) → schema_of (ghost_name plan.table) (state_at plan more).tables ≡ schema_of (ghost_name plan.table) (state_at plan journal).tables
@@ -395,10 +395,10 @@ module _ (plan : PlanData) (journal : List Entry) (entry : Entry) (is : IsTabled
     ghost_asked Apply same gives called commands = quiet_stay plan journal entry is.all is.quiet run Apply same refl gives called commands (ghost_name plan.table)
     ghost_asked Insp same gives called commands = insp_kept same (asking plan journal Insp entry.asked is.all.tool.server gives)
     ghost_asked Lock same gives called commands =
-        lock_about plan journal entry is.all.tool run work course stands (asking plan journal Lock entry.asked is.all.tool.server gives) (schema_of (ghost_name plan.table) (state_at plan more).tables ≡ schema_of (ghost_name plan.table) (state_at plan journal).tables)
+        lock_about plan journal entry is.all.tool run work tool_phase stands (asking plan journal Lock entry.asked is.all.tool.server gives) (schema_of (ghost_name plan.table) (state_at plan more).tables ≡ schema_of (ghost_name plan.table) (state_at plan journal).tables)
         (λ request is_about kind. ghost_kept Lock request same is_about (subst (λ (t : List ℕ). KeepsGhost t request) own_table (locker_keeps work.cutover.table work.cutover.hold work.cutover.phase request kind)))
     ghost_asked Ren same gives called commands =
-        ren_about plan journal entry is.all.tool run work course stands (asking plan journal Ren entry.asked is.all.tool.server gives) (schema_of (ghost_name plan.table) (state_at plan more).tables ≡ schema_of (ghost_name plan.table) (state_at plan journal).tables)
+        ren_about plan journal entry is.all.tool run work tool_phase stands (asking plan journal Ren entry.asked is.all.tool.server gives) (schema_of (ghost_name plan.table) (state_at plan more).tables ≡ schema_of (ghost_name plan.table) (state_at plan journal).tables)
         (λ request is_about kind. ren_kept same request is_about kind)
 
     ghost_stays : (asked : Asked) → entry.asked ≡ asked → IsGiven plan journal entry asked → schema_of (ghost_name plan.table) (state_at plan more).tables ≡ schema_of (ghost_name plan.table) (state_at plan journal).tables
@@ -464,7 +464,7 @@ module _ (plan : PlanData) (journal : List Entry) (entry : Entry) (is : IsTabled
 
     ends_asked : (actor : Actor) → entry.actor ≡ actor → given plan journal actor ≡ Some entry.asked → (entry.asked ≡ Cut → ⊥) → EndsNot actor (Migrating work) entry.answer
     unfolding given
-    ends_asked Ren same gives called = λ count ok. untold same count (told_heard (side_heard (λ lost. not_lost count (sym lost ∙ ok))) called ∙ ap Some ok) where
+    ends_asked Ren same gives called = λ count ok. untold same count (reported_heard (side_heard (λ lost. not_lost count (sym lost ∙ ok))) called ∙ ap Some ok) where
       not_lost : (count : ℕ) → answers.Lost ≡ answers.Ok count → ⊥
       not_lost count both = cc
     ends_asked Insp same gives called = lists_ghost (asking plan journal Insp entry.asked is.all.tool.server gives) same
@@ -474,19 +474,19 @@ module _ (plan : PlanData) (journal : List Entry) (entry : Entry) (is : IsTabled
     ends_asked Lock same gives called = tt
     ends_asked (Client c) same gives called = tt
 
-    undone_now : CourseUndone tool.course
-    undone_now = subst CourseUndone (sym course) going.undone
+    undone_now : ToolPhaseUndone tool.tool_phase
+    undone_now = subst ToolPhaseUndone (sym tool_phase) going.undone
 
-    undone_asked : given plan journal entry.actor ≡ Some entry.asked → (entry.asked ≡ Cut → ⊥) → CourseUndone (turn_counts plan entry.actor (actor_took plan entry.actor entry.answer tool.course tool)).course
+    undone_asked : given plan journal entry.actor ≡ Some entry.asked → (entry.asked ≡ Cut → ⊥) → ToolPhaseUndone (turn_counts plan entry.actor (actor_took plan entry.actor entry.answer tool.tool_phase tool)).tool_phase
     undone_asked gives called =
-        undone_counts plan entry.actor (actor_took plan entry.actor entry.answer tool.course tool)
-        (undone_took plan entry.actor entry.answer tool.course tool refl (subst (λ (c : Course). EndsNot entry.actor c entry.answer) (sym course) (ends_asked entry.actor refl gives called)) undone_now)
+        undone_counts plan entry.actor (actor_took plan entry.actor entry.answer tool.tool_phase tool)
+        (undone_took plan entry.actor entry.answer tool.tool_phase tool refl (subst (λ (c : ToolPhase). EndsNot entry.actor c entry.answer) (sym tool_phase) (ends_asked entry.actor refl gives called)) undone_now)
 
-    undone_more : (asked : Asked) → entry.asked ≡ asked → IsGiven plan journal entry asked → CourseUndone (asked_took plan now.server entry asked tool).course
+    undone_more : (asked : Asked) → entry.asked ≡ asked → IsGiven plan journal entry asked → ToolPhaseUndone (asked_took plan now.server entry asked tool).tool_phase
     undone_more (Command word) asks gives = undone_commanded word tool undone_now
     undone_more Cut asks gives = by (has_work now.server entry.session) where
-      by : (b : Bool) → CourseUndone (cond b (actor_took plan entry.actor answers.Lost tool.course tool) tool).course
-      by true = undone_took plan entry.actor answers.Lost tool.course tool refl (lost_ends entry.actor tool.course) undone_now
+      by : (b : Bool) → ToolPhaseUndone (cond b (actor_took plan entry.actor answers.Lost tool.tool_phase tool) tool).tool_phase
+      by true = undone_took plan entry.actor answers.Lost tool.tool_phase tool refl (lost_ends entry.actor tool.tool_phase) undone_now
       by false = undone_now
     undone_more (Call request) asks gives = undone_asked (gives ∙ ap Some (sym asks)) (λ cut. no (sym asks ∙ cut)) where
       no : Call request ≡ Cut → ⊥
@@ -495,35 +495,35 @@ module _ (plan : PlanData) (journal : List Entry) (entry : Entry) (is : IsTabled
       no : Poll ≡ Cut → ⊥
       no same = cc
 
-    goes_on : (next : Course) → CourseUndone next → IfUnmarked plan more next
+    goes_on : (next : ToolPhase) → ToolPhaseUndone next → IfUnmarked plan more next
     goes_on (SettingUp setup tries) undone = tt
     goes_on (Migrating other) undone = record { ghost = ghost_stays entry.asked refl run.followed.given ∙ going.ghost; undone = undone; waits = waits_safe }
 
-    unmarked_more : IfUnmarked plan more (moment plan more).tool.course
+    unmarked_more : IfUnmarked plan more (moment plan more).tool.tool_phase
     unfolding took
-    unmarked_more = subst (λ (m : Moment). IfUnmarked plan more m.tool.course) (sym (moment_more plan journal entry)) (goes_on (asked_took plan now.server entry entry.asked tool).course (undone_more entry.asked refl run.followed.given))
+    unmarked_more = subst (λ (m : Moment). IfUnmarked plan more m.tool.tool_phase) (sym (moment_more plan journal entry)) (goes_on (asked_took plan now.server entry entry.asked tool).tool_phase (undone_more entry.asked refl run.followed.given))
 
   -- BEHIND THE SETUP
 
-  module _ (setup : Setup) (tries : List ℕ) (course : now.tool.course ≡ SettingUp setup tries) where
+  module _ (setup : Setup) (tries : List ℕ) (tool_phase : now.tool.tool_phase ≡ SettingUp setup tries) where
     at_setup : SetupTables plan (state_at plan journal).tables has setup
-    at_setup = subst (CourseTables plan (state_at plan journal).tables has) course is.tables
+    at_setup = subst (ToolPhaseTables plan (state_at plan journal).tables has) tool_phase is.tables
 
     ready_with : ReadyBy plan entry.actor setup entry.answer → (request : Request) → IsAbout request (has entry.actor) entry.asked → setup_call plan setup ≡ Some request
         → (schema_of (ghost_name plan.table) (state_at plan more).tables ≡ Some (ghost_schema plan)) × ((other : Request) → (now_has Insp).waits ≡ Some other → KeepsGhost plan.table other)
-    ready_with ready request is_about call = (passes (step_past plan.table setup entry.answer (ap past_ghost ready.is)), λ other some. waits_none other (behind request entry.answer (has entry.actor)) (ap (λ (a : Actor). (now_has a).waits) ready.insp ∙ some)) where
+    ready_with ready request is_about call = (passes (step_past plan.table setup entry.answer (ap past_ghost ready.is)), λ other some. waits_none other (following request entry.answer (has entry.actor)) (ap (λ (a : Actor). (now_has a).waits) ready.insp ∙ some)) where
       not_marking : Marking ≡ Ready ready.position ready.range → ⊥
       not_marking both = cc
 
       passes : Passes setup entry.answer → schema_of (ghost_name plan.table) (state_at plan more).tables ≡ Some (ghost_schema plan)
       passes (passed past) =
           schema_stays plan journal entry served (own_waiting plan journal entry is.all.tool.known served) (ghost_name plan.table) request is_about (past_keeps plan setup request past call) ∙ at_setup.ghost past
-      passes (makes count at_making told) = absurd (not_marking (sym (ap (λ (s : Setup). setup_step plan.table s entry.answer) at_making ∙ ap (setup_step plan.table MakingGhost) told) ∙ ready.is))
+      passes (makes count at_making reported) = absurd (not_marking (sym (ap (λ (s : Setup). setup_step plan.table s entry.answer) at_making ∙ ap (setup_step plan.table MakingGhost) reported) ∙ ready.is))
 
       no_request : None ≡ Some request → ⊥
       no_request both = cc
 
-      waits_none : (other : Request) → Behind request entry.answer (has entry.actor) → (now_has entry.actor).waits ≡ Some other → KeepsGhost plan.table other
+      waits_none : (other : Request) → Following request entry.answer (has entry.actor) → (now_has entry.actor).waits ≡ Some other → KeepsGhost plan.table other
       waits_none other (rests none) some = absurd (no (sym none ∙ ap (λ (s : Standing). s.waits) (sym (own_stands plan journal entry is.all.tool.known served request is_about)) ∙ some)) where
         no : None ≡ Some other → ⊥
         no both = cc
@@ -536,19 +536,19 @@ module _ (plan : PlanData) (journal : List Entry) (entry : Entry) (is : IsTabled
     ready_asked : ReadyBy plan entry.actor setup entry.answer → Asking plan journal Insp entry.asked
         → (schema_of (ghost_name plan.table) (state_at plan more).tables ≡ Some (ghost_schema plan)) × ((other : Request) → (now_has Insp).waits ≡ Some other → KeepsGhost plan.table other)
     ready_asked ready (calls_so request asks idle call) =
-        ready_with ready request (subst (λ (a : Actor). IsAbout request (has a) entry.asked) (sym ready.insp) (is_called asks idle)) (unreverted (is_reverting now.tool.reason) (setup_call plan setup) request (ap (λ (c : Course). tool_call plan now.server journal now.tool c Insp) (sym course) ∙ call))
+        ready_with ready request (subst (λ (a : Actor). IsAbout request (has a) entry.asked) (sym ready.insp) (is_called asks idle)) (unreverted (is_reverting now.tool.reason) (setup_call plan setup) request (ap (λ (c : ToolPhase). tool_call plan now.server journal now.tool c Insp) (sym tool_phase) ∙ call))
     ready_asked ready (polls_so request asks some) = ready_with ready request (subst (λ (a : Actor). IsAbout request (has a) entry.asked) (sym ready.insp) (is_polled asks some)) (at_setup.waits request some)
 
-    set_off : (answer : Answer) (next : Course) → CourseUndone next → IfReady plan entry.actor setup answer next
+    set_off : (answer : Answer) (next : ToolPhase) → ToolPhaseUndone next → IfReady plan entry.actor setup answer next
         → (ReadyBy plan entry.actor setup answer → (schema_of (ghost_name plan.table) (state_at plan more).tables ≡ Some (ghost_schema plan)) × ((other : Request) → (now_has Insp).waits ≡ Some other → KeepsGhost plan.table other)) → IfUnmarked plan more next
     set_off answer (SettingUp other more_tries) undone ready then = tt
     set_off answer (Migrating work) undone ready then = let bits = then ready in record { ghost = bits.0; undone = undone; waits = bits.1 }
 
-    undone_setup : CourseUndone tool.course
-    undone_setup = subst CourseUndone (sym course) tt
+    undone_setup : ToolPhaseUndone tool.tool_phase
+    undone_setup = subst ToolPhaseUndone (sym tool_phase) tt
 
-    ready_setup : (answer : Answer) → IfReady plan entry.actor setup answer tool.course
-    ready_setup answer = subst (IfReady plan entry.actor setup answer) (sym course) tt
+    ready_setup : (answer : Answer) → IfReady plan entry.actor setup answer tool.tool_phase
+    ready_setup answer = subst (IfReady plan entry.actor setup answer) (sym tool_phase) tt
 
     ends_setup : (actor : Actor) (answer : Answer) → EndsNot actor (SettingUp setup tries) answer
     ends_setup Ren answer = tt
@@ -559,33 +559,33 @@ module _ (plan : PlanData) (journal : List Entry) (entry : Entry) (is : IsTabled
     ends_setup Lock answer = tt
     ends_setup (Client c) answer = tt
 
-    undone_so : (answer : Answer) → CourseUndone (actor_took plan entry.actor answer tool.course tool).course
-    undone_so answer = undone_took plan entry.actor answer tool.course tool refl (subst (λ (c : Course). EndsNot entry.actor c answer) (sym course) (ends_setup entry.actor answer)) undone_setup
+    undone_so : (answer : Answer) → ToolPhaseUndone (actor_took plan entry.actor answer tool.tool_phase tool).tool_phase
+    undone_so answer = undone_took plan entry.actor answer tool.tool_phase tool refl (subst (λ (c : ToolPhase). EndsNot entry.actor c answer) (sym tool_phase) (ends_setup entry.actor answer)) undone_setup
 
-    ready_so : (answer : Answer) → IfReady plan entry.actor setup answer (actor_took plan entry.actor answer tool.course tool).course
-    ready_so answer = subst (λ (c : Course). IfReady plan entry.actor setup answer (actor_took plan entry.actor answer c tool).course) (sym course) (ready_took plan entry.actor setup answer entry.actor refl tries tool course)
+    ready_so : (answer : Answer) → IfReady plan entry.actor setup answer (actor_took plan entry.actor answer tool.tool_phase tool).tool_phase
+    ready_so answer = subst (λ (c : ToolPhase). IfReady plan entry.actor setup answer (actor_took plan entry.actor answer c tool).tool_phase) (sym tool_phase) (ready_took plan entry.actor setup answer entry.actor refl tries tool tool_phase)
 
     never_ready : ReadyBy plan entry.actor setup answers.Lost → (schema_of (ghost_name plan.table) (state_at plan more).tables ≡ Some (ghost_schema plan)) × ((other : Request) → (now_has Insp).waits ≡ Some other → KeepsGhost plan.table other)
     never_ready ready = absurd (true≢false ready.good)
 
-    asked_off : given plan journal entry.actor ≡ Some entry.asked → IfUnmarked plan more (turn_counts plan entry.actor (actor_took plan entry.actor entry.answer tool.course tool)).course
+    asked_off : given plan journal entry.actor ≡ Some entry.asked → IfUnmarked plan more (turn_counts plan entry.actor (actor_took plan entry.actor entry.answer tool.tool_phase tool)).tool_phase
     asked_off gives =
-        set_off entry.answer (turn_counts plan entry.actor (actor_took plan entry.actor entry.answer tool.course tool)).course
-        (undone_counts plan entry.actor (actor_took plan entry.actor entry.answer tool.course tool) (undone_so entry.answer)) (ready_counts plan entry.actor setup entry.answer entry.actor (actor_took plan entry.actor entry.answer tool.course tool) (ready_so entry.answer))
+        set_off entry.answer (turn_counts plan entry.actor (actor_took plan entry.actor entry.answer tool.tool_phase tool)).tool_phase
+        (undone_counts plan entry.actor (actor_took plan entry.actor entry.answer tool.tool_phase tool) (undone_so entry.answer)) (ready_counts plan entry.actor setup entry.answer entry.actor (actor_took plan entry.actor entry.answer tool.tool_phase tool) (ready_so entry.answer))
         (λ ready. ready_asked ready (asking plan journal Insp entry.asked is.all.tool.server (insp_given plan journal entry.asked (subst (λ (a : Actor). given plan journal a ≡ Some entry.asked) ready.insp gives))))
 
-    off_more : (asked : Asked) → entry.asked ≡ asked → IsGiven plan journal entry asked → IfUnmarked plan more (asked_took plan now.server entry asked tool).course
-    off_more (Command word) asks gives = set_off answers.Lost (command_took word tool).course (undone_commanded word tool undone_setup) (ready_commanded plan entry.actor setup answers.Lost word tool (ready_setup answers.Lost)) never_ready
+    off_more : (asked : Asked) → entry.asked ≡ asked → IsGiven plan journal entry asked → IfUnmarked plan more (asked_took plan now.server entry asked tool).tool_phase
+    off_more (Command word) asks gives = set_off answers.Lost (command_took word tool).tool_phase (undone_commanded word tool undone_setup) (ready_commanded plan entry.actor setup answers.Lost word tool (ready_setup answers.Lost)) never_ready
     off_more Cut asks gives = by (has_work now.server entry.session) where
-      by : (b : Bool) → IfUnmarked plan more (cond b (actor_took plan entry.actor answers.Lost tool.course tool) tool).course
-      by true = set_off answers.Lost (actor_took plan entry.actor answers.Lost tool.course tool).course (undone_so answers.Lost) (ready_so answers.Lost) never_ready
-      by false = set_off answers.Lost tool.course undone_setup (ready_setup answers.Lost) never_ready
+      by : (b : Bool) → IfUnmarked plan more (cond b (actor_took plan entry.actor answers.Lost tool.tool_phase tool) tool).tool_phase
+      by true = set_off answers.Lost (actor_took plan entry.actor answers.Lost tool.tool_phase tool).tool_phase (undone_so answers.Lost) (ready_so answers.Lost) never_ready
+      by false = set_off answers.Lost tool.tool_phase undone_setup (ready_setup answers.Lost) never_ready
     off_more (Call request) asks gives = asked_off (gives ∙ ap Some (sym asks))
     off_more Poll asks gives = asked_off (gives ∙ ap Some (sym asks))
 
-    setup_more : IfUnmarked plan more (moment plan more).tool.course
+    setup_more : IfUnmarked plan more (moment plan more).tool.tool_phase
     unfolding took
-    setup_more = subst (λ (m : Moment). IfUnmarked plan more m.tool.course) (sym (moment_more plan journal entry)) (off_more entry.asked refl run.followed.given)
+    setup_more = subst (λ (m : Moment). IfUnmarked plan more m.tool.tool_phase) (sym (moment_more plan journal entry)) (off_more entry.asked refl run.followed.given)
 
   -- ONE TURN MORE
 
@@ -595,42 +595,42 @@ module _ (plan : PlanData) (journal : List Entry) (entry : Entry) (is : IsTabled
   given_or_cut Poll gives same = inl (subst (λ (a : Actor). given plan journal a ≡ Some Poll) same gives)
   given_or_cut (Command word) gives same = inl (subst (λ (a : Actor). given plan journal a ≡ Some (Command word)) same gives)
 
-  course_more : (course : Course) → now.tool.course ≡ course → IfUnmarked plan journal course → (is_marked plan more ≡ true) ⊎ IfUnmarked plan more (moment plan more).tool.course
-  course_more (SettingUp setup tries) at un = inr (setup_more setup tries at)
-  course_more (Migrating work) at un = by (same_actor entry.actor Ren) refl (decide (answer_in entry.asked entry.side entry.answer entry.missed) refl) where
+  tool_phase_more : (tool_phase : ToolPhase) → now.tool.tool_phase ≡ tool_phase → IfUnmarked plan journal tool_phase → (is_marked plan more ≡ true) ⊎ IfUnmarked plan more (moment plan more).tool.tool_phase
+  tool_phase_more (SettingUp setup tries) at un = inr (setup_more setup tries at)
+  tool_phase_more (Migrating work) at un = by (same_actor entry.actor Ren) refl (decide (answer_in entry.asked entry.side entry.answer entry.missed) refl) where
     by : (b : Bool) → same_actor entry.actor Ren ≡ b → ((count : ℕ) × (answer_in entry.asked entry.side entry.answer entry.missed ≡ Some (answers.Ok count))) ⊎ ((count : ℕ) → answer_in entry.asked entry.side entry.answer entry.missed ≡ Some (answers.Ok count) → ⊥)
-        → (is_marked plan more ≡ true) ⊎ IfUnmarked plan more (moment plan more).tool.course
-    by false differ told = inr (unmarked_more (λ ren count ok. absurd (true≢false (sym (ap (λ (a : Actor). same_actor a Ren) ren ∙ same_actor_itself Ren) ∙ differ))) work at un)
+        → (is_marked plan more ≡ true) ⊎ IfUnmarked plan more (moment plan more).tool.tool_phase
+    by false differ reported = inr (unmarked_more (λ ren count ok. absurd (true≢false (sym (ap (λ (a : Actor). same_actor a Ren) ren ∙ same_actor_itself Ren) ∙ differ))) work at un)
     by true same (inr untold) = inr (unmarked_more (λ ren count ok. untold count ok) work at un)
-    by true same (inl told) =
+    by true same (inl reported) =
         let ren : entry.actor ≡ Ren = same_actor_is entry.actor Ren same in
-        inl (marks work at ren entry.asked refl (given_or_cut entry.asked run.followed.given ren) told.0 told.1)
+        inl (marks work at ren entry.asked refl (given_or_cut entry.asked run.followed.given ren) reported.0 reported.1)
 
-  marking_course : (is_marked plan journal ≡ true) ⊎ IfUnmarked plan journal now.tool.course → (is_marked plan more ≡ true) ⊎ IfUnmarked plan more (moment plan more).tool.course
-  marking_course (inl marked) = inl (marked_on marked)
-  marking_course (inr un) = course_more now.tool.course refl un
+  marking_tool_phase : (is_marked plan journal ≡ true) ⊎ IfUnmarked plan journal now.tool.tool_phase → (is_marked plan more ≡ true) ⊎ IfUnmarked plan more (moment plan more).tool.tool_phase
+  marking_tool_phase (inl marked) = inl (marked_on marked)
+  marking_tool_phase (inr un) = tool_phase_more now.tool.tool_phase refl un
 
 -- WHOLE JOURNALS
 
 pub marking_more : (plan : PlanData) (journal : List Entry) (entry : Entry) → IsRun plan journal entry → IsMarking plan journal → IsMarking plan (journal ++ entry ∷ [])
-marking_more plan journal entry run is = record { tabled = tabled_more plan journal entry run is.tabled; agree = agree_more plan journal entry is.tabled is.agree run; course = marking_course plan journal entry is.tabled is.agree run is.course }
+marking_more plan journal entry run is = record { tabled = tabled_more plan journal entry run is.tabled; agree = agree_more plan journal entry is.tabled is.agree run; tool_phase = marking_tool_phase plan journal entry is.tabled is.agree run is.tool_phase }
 
-pub marking_begins : (plan : PlanData) → IsFitting plan → TableStands plan → IsMarking plan []
+pub marking_begins : (plan : PlanData) → IsFitting plan → TableExists plan → IsMarking plan []
 unfolding moment live_session request_waiting
-marking_begins plan fit stands = record { tabled = tabled_begins plan fit stands; agree = λ a. refl; course = inr tt }
+marking_begins plan fit stands = record { tabled = tabled_begins plan fit stands; agree = λ a. refl; tool_phase = inr tt }
 
-pub all_marking : (plan : PlanData) (journal : List Entry) → IsFitting plan → TableStands plan → IsFaithful plan journal → Follows plan journal → IsMarking plan journal
+pub all_marking : (plan : PlanData) (journal : List Entry) → IsFitting plan → TableExists plan → IsFaithful plan journal → Follows plan journal → IsMarking plan journal
 unfolding Follows
 all_marking plan journal fit stands faithful follows =
     Along-keeps (IsRun plan) (IsMarking plan) (λ before entry run is. marking_more plan before entry run is) [] journal (all_runs plan [] journal faithful follows) (marking_begins plan fit stands)
 
 -- *The cut-over is done only behind the mark*
-pub done_marked : (plan : PlanData) (journal : List Entry) → IsMarking plan journal → is_renamed (moment plan journal).tool.course ≡ true → is_marked plan journal ≡ true
-done_marked plan journal is renamed = by is.course where
-  undone : (course : Course) → IfUnmarked plan journal course → is_renamed course ≡ true → ⊥
+pub done_marked : (plan : PlanData) (journal : List Entry) → IsMarking plan journal → is_renamed (moment plan journal).tool.tool_phase ≡ true → is_marked plan journal ≡ true
+done_marked plan journal is renamed = by is.tool_phase where
+  undone : (tool_phase : ToolPhase) → IfUnmarked plan journal tool_phase → is_renamed tool_phase ≡ true → ⊥
   undone (SettingUp setup tries) un renamed = false≢true renamed
   undone (Migrating work) un renamed = true≢false (sym renamed ∙ un.undone.undone)
 
-  by : (is_marked plan journal ≡ true) ⊎ IfUnmarked plan journal (moment plan journal).tool.course → is_marked plan journal ≡ true
+  by : (is_marked plan journal ≡ true) ⊎ IfUnmarked plan journal (moment plan journal).tool.tool_phase → is_marked plan journal ≡ true
   by (inl marked) = marked
-  by (inr un) = absurd (undone (moment plan journal).tool.course un renamed)
+  by (inr un) = absurd (undone (moment plan journal).tool.tool_phase un renamed)

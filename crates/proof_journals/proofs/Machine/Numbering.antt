@@ -12,9 +12,9 @@ use Rattle.server_model.specs.declared.request.Request.{Request}
 use Rattle.server_model.specs.declared.session.Waiting.{Waiting}
 use Rattle.server_model.specs.Entries.{is_command}
 use Rattle.server_model.specs.States.{State, session_of, waiting_of}
-use Rattle.server_model.specs.Locking.{need, blocker}
+use Rattle.server_model.specs.Blockers.{need, blocker}
 use Rattle.server_model.specs.Effects.{Effect, Rests, Grows, Writes, Forgets, Moves, Locks, Unlocks, effect}
-use Rattle.server_model.specs.Serving.{does, done, called_unless, calls, is_over, polled_over, polled_unless, polled_of, polls, loses, leaves, serves, without_waiting}
+use Rattle.server_model.specs.PlainServer.{does, done, called_unless, calls, is_over, polled_over, polled_unless, polled_of, polls, loses, leaves, serves, without_waiting}
 use Rattle.plan_data.specs.PlanData.{PlanData}
 use Rattle.tool_program.specs.JournalWords.Journals.{opens, opens_if, state_after, state_at}
 use Rattle.tool_program.specs.JournalWords.Sessions.{sessions_named, KeepsSessions}

@@ -26,7 +26,7 @@ use Rattle.tool_program.specs.CutoverCore.CutOvers as cuts
 use Rattle.tool_program.specs.CutoverCore.CutOvers.{is_bad, is_done, begun, locker_phase, locker_stage, renamer_phase, waits_phase, failed, inspector_phase, inspector_stage, finishing, left_at_end, sentry_alone, drained, ended, applier_turn, reverted}
 use Rattle.tool_program.specs.Operators.{commanded}
 use Rattle.tool_program.specs.Setups.{Setup, Listing, Clearing, MakingLog, MakingGhost, Marking, Reaching, Ready, setup_after}
-use Rattle.tool_program.specs.Tools.{Work, Course, SettingUp, Migrating, Panicked, Tool, stopped, spends, is_reverting, is_failure, course_of, copy_took, apply_took, actor_took, turn_counts, resizes, command_took}
+use Rattle.tool_program.specs.Tools.{Work, ToolPhase, SettingUp, Migrating, Panicked, Tool, stopped, spends, is_reverting, is_failure, tool_phase_of, copy_took, apply_took, actor_took, turn_counts, resizes, command_took}
 use Rattle.proof_journals.proofs.Machine.Lifting.{reverts_keeps, spends_keeps, attempt_keeps, copy_keeps, apply_keeps, drains_keeps}
 
 -- what an attempt's end drops isn't the new table
@@ -123,14 +123,14 @@ undone_inspector cutover Resting answer sees is = is
 
 -- THE TOOL
 
-abbrev pub CourseUndone : Course → Type 0
-CourseUndone (SettingUp setup tries) = Unit {0}
-CourseUndone (Migrating work) = IsUndone work.cutover.phase
+abbrev pub ToolPhaseUndone : ToolPhase → Type 0
+ToolPhaseUndone (SettingUp setup tries) = Unit {0}
+ToolPhaseUndone (Migrating work) = IsUndone work.cutover.phase
 
-abbrev Undone : Bool → Course → Type 0
-Undone b course = CourseUndone course
+abbrev Undone : Bool → ToolPhase → Type 0
+Undone b tool_phase = ToolPhaseUndone tool_phase
 
-undone_back : (b : Bool) (course : Course) → Undone b course → Undone true (stopped course)
+undone_back : (b : Bool) (tool_phase : ToolPhase) → Undone b tool_phase → Undone true (stopped tool_phase)
 unfolding reverted
 undone_back b (SettingUp setup tries) is = tt
 undone_back b (Migrating work) is = undone_ended work.cutover.phase is
@@ -139,59 +139,59 @@ undone_drain : (b : Bool) (work : Work) (tries : List ℕ) → Undone b (Migrati
 unfolding applier_turn
 undone_drain b work tries is = undone_drained work.cutover work.applier.hint work.cutover.phase is
 
-undone_course : (plan : PlanData) (size : ℕ) (setup : Setup) (tries : List ℕ) → CourseUndone (course_of plan size setup tries)
-undone_course plan size (Ready position range) tries = record { undone = refl; other = tt }
-undone_course plan size Listing tries = tt
-undone_course plan size (Clearing left) tries = tt
-undone_course plan size MakingLog tries = tt
-undone_course plan size MakingGhost tries = tt
-undone_course plan size Marking tries = tt
-undone_course plan size (Reaching position) tries = tt
+undone_tool_phase : (plan : PlanData) (size : ℕ) (setup : Setup) (tries : List ℕ) → ToolPhaseUndone (tool_phase_of plan size setup tries)
+undone_tool_phase plan size (Ready position range) tries = record { undone = refl; other = tt }
+undone_tool_phase plan size Listing tries = tt
+undone_tool_phase plan size (Clearing left) tries = tt
+undone_tool_phase plan size MakingLog tries = tt
+undone_tool_phase plan size MakingGhost tries = tt
+undone_tool_phase plan size Marking tries = tt
+undone_tool_phase plan size (Reaching position) tries = tt
 
 -- what the answers that end it must not be
-abbrev pub EndsNot : Actor → Course → Answer → Type 0
+abbrev pub EndsNot : Actor → ToolPhase → Answer → Type 0
 EndsNot Ren (Migrating work) answer = (count : ℕ) → answer ≡ answers.Ok count → ⊥
 EndsNot Insp (Migrating work) answer = SeesGhost work.cutover answer
-EndsNot actor course answer = Unit {0}
+EndsNot actor tool_phase answer = Unit {0}
 
-pub lost_ends : (actor : Actor) (course : Course) → EndsNot actor course answers.Lost
+pub lost_ends : (actor : Actor) (tool_phase : ToolPhase) → EndsNot actor tool_phase answers.Lost
 lost_ends Ren (Migrating work) = λ count same. cc
 lost_ends Ren (SettingUp setup tries) = tt
 lost_ends Insp (Migrating work) = λ tables same. absurd cc
 lost_ends Insp (SettingUp setup tries) = tt
-lost_ends Op course = tt
-lost_ends Copy course = tt
-lost_ends Apply course = tt
-lost_ends Lock course = tt
-lost_ends (Client c) course = tt
+lost_ends Op tool_phase = tt
+lost_ends Copy tool_phase = tt
+lost_ends Apply tool_phase = tt
+lost_ends Lock tool_phase = tt
+lost_ends (Client c) tool_phase = tt
 
-pub undone_took : (plan : PlanData) (actor : Actor) (answer : Answer) (course : Course) (tool : Tool) → tool.course ≡ course → EndsNot actor course answer → CourseUndone course → CourseUndone (actor_took plan actor answer course tool).course
+pub undone_took : (plan : PlanData) (actor : Actor) (answer : Answer) (tool_phase : ToolPhase) (tool : Tool) → tool.tool_phase ≡ tool_phase → EndsNot actor tool_phase answer → ToolPhaseUndone tool_phase → ToolPhaseUndone (actor_took plan actor answer tool_phase tool).tool_phase
 unfolding cuts.took
 undone_took plan Insp answer (SettingUp setup tries) tool same ends is = by (is_reverting tool.reason) (is_bad answer) where
   by : (a b : Bool)
-      → CourseUndone (cond a tool (cond b (spends plan tasks.Setup (tries ++ tool.turns ∷ []) (record tool { course = SettingUp Listing (tries ++ tool.turns ∷ []) })) (record tool { course = course_of plan tool.operator.size (setup_after plan.table setup answer) tries }))).course
-  by true b = subst CourseUndone (sym same) tt
-  by false true = spends_keeps Undone undone_back plan tasks.Setup (tries ++ tool.turns ∷ []) (record tool { course = SettingUp Listing (tries ++ tool.turns ∷ []) }) tt
-  by false false = undone_course plan tool.operator.size (setup_after plan.table setup answer) tries
+      → ToolPhaseUndone (cond a tool (cond b (spends plan tasks.Setup (tries ++ tool.turns ∷ []) (record tool { tool_phase = SettingUp Listing (tries ++ tool.turns ∷ []) })) (record tool { tool_phase = tool_phase_of plan tool.operator.size (setup_after plan.table setup answer) tries }))).tool_phase
+  by true b = subst ToolPhaseUndone (sym same) tt
+  by false true = spends_keeps Undone undone_back plan tasks.Setup (tries ++ tool.turns ∷ []) (record tool { tool_phase = SettingUp Listing (tries ++ tool.turns ∷ []) }) tt
+  by false false = undone_tool_phase plan tool.operator.size (setup_after plan.table setup answer) tries
 undone_took plan Insp answer (Migrating work) tool same ends is =
     attempt_keeps Undone undone_back plan (is_failure work.cutover.phase (cuts.took Inspector work.cutover answer).phase) work (cuts.took Inspector work.cutover answer) tool (λ tries. undone_inspector work.cutover work.cutover.phase answer ends is)
 undone_took plan Copy answer (Migrating work) tool same ends is = by (is_reverting tool.reason) where
-  by : (b : Bool) → CourseUndone (cond b tool (copy_took plan answer work tool)).course
-  by true = subst CourseUndone (sym same) is
-  by false = copy_keeps Undone undone_back plan work (copiers.progress work.copier answer) (copiers.took tool.turns work.copier answer) tool (λ place number unfit. subst CourseUndone (sym same) is) (λ tries. is)
+  by : (b : Bool) → ToolPhaseUndone (cond b tool (copy_took plan answer work tool)).tool_phase
+  by true = subst ToolPhaseUndone (sym same) is
+  by false = copy_keeps Undone undone_back plan work (copiers.progress work.copier answer) (copiers.took tool.turns work.copier answer) tool (λ place number unfit. subst ToolPhaseUndone (sym same) is) (λ tries. is)
 undone_took plan Apply answer (Migrating work) tool same ends is = by (is_reverting tool.reason) where
-  by : (b : Bool) → CourseUndone (cond b tool (apply_took plan answer work tool)).course
-  by true = subst CourseUndone (sym same) is
-  by false = apply_keeps Undone undone_back plan work (appliers.progress work.applier answer) (appliers.took tool.turns work.applier answer) tool (λ place number unfit. subst CourseUndone (sym same) is) (λ tries. is)
+  by : (b : Bool) → ToolPhaseUndone (cond b tool (apply_took plan answer work tool)).tool_phase
+  by true = subst ToolPhaseUndone (sym same) is
+  by false = apply_keeps Undone undone_back plan work (appliers.progress work.applier answer) (appliers.took tool.turns work.applier answer) tool (λ place number unfit. subst ToolPhaseUndone (sym same) is) (λ tries. is)
 undone_took plan Lock answer (Migrating work) tool same ends is =
     attempt_keeps Undone undone_back plan (is_failure work.cutover.phase (cuts.took Locker work.cutover answer).phase) work (cuts.took Locker work.cutover answer) tool (λ tries. undone_locker work.cutover.phase answer is)
 undone_took plan Ren answer (Migrating work) tool same ends is =
     attempt_keeps Undone undone_back plan (is_failure work.cutover.phase (cuts.took Renamer work.cutover answer).phase) work (cuts.took Renamer work.cutover answer) tool (λ tries. undone_renamer work.cutover.phase answer ends is)
-undone_took plan actor answer (SettingUp setup tries) tool same ends is = subst CourseUndone (sym same) is
-undone_took plan actor answer (Migrating work) tool same ends is = subst CourseUndone (sym same) is
+undone_took plan actor answer (SettingUp setup tries) tool same ends is = subst ToolPhaseUndone (sym same) is
+undone_took plan actor answer (Migrating work) tool same ends is = subst ToolPhaseUndone (sym same) is
 
-pub undone_counts : (plan : PlanData) (actor : Actor) (tool : Tool) → CourseUndone tool.course → CourseUndone (turn_counts plan actor tool).course
-undone_counts plan Apply tool is = drains_keeps Undone undone_back plan tool.course tool refl undone_drain is
+pub undone_counts : (plan : PlanData) (actor : Actor) (tool : Tool) → ToolPhaseUndone tool.tool_phase → ToolPhaseUndone (turn_counts plan actor tool).tool_phase
+undone_counts plan Apply tool is = drains_keeps Undone undone_back plan tool.tool_phase tool refl undone_drain is
 undone_counts plan Op tool is = is
 undone_counts plan Insp tool is = is
 undone_counts plan Copy tool is = is
@@ -199,13 +199,13 @@ undone_counts plan Lock tool is = is
 undone_counts plan Ren tool is = is
 undone_counts plan (Client c) tool is = is
 
-undone_resized : (size : ℕ) (course : Course) → CourseUndone course → CourseUndone (resizes (ChunkSize size) course)
+undone_resized : (size : ℕ) (tool_phase : ToolPhase) → ToolPhaseUndone tool_phase → ToolPhaseUndone (resizes (ChunkSize size) tool_phase)
 undone_resized size (SettingUp setup tries) is = tt
 undone_resized size (Migrating work) is = is
 
-pub undone_commanded : (word : OperatorWord) (tool : Tool) → CourseUndone tool.course → CourseUndone (command_took word tool).course
-undone_commanded Panic tool is = reverts_keeps Undone undone_back (Panicked tool.turns) (record tool { operator = commanded Panic tool.operator; course = tool.course }) is
-undone_commanded (ChunkSize size) tool is = undone_resized size tool.course is
+pub undone_commanded : (word : OperatorWord) (tool : Tool) → ToolPhaseUndone tool.tool_phase → ToolPhaseUndone (command_took word tool).tool_phase
+undone_commanded Panic tool is = reverts_keeps Undone undone_back (Panicked tool.turns) (record tool { operator = commanded Panic tool.operator; tool_phase = tool.tool_phase }) is
+undone_commanded (ChunkSize size) tool is = undone_resized size tool.tool_phase is
 undone_commanded Throttle tool is = is
 undone_commanded NoThrottle tool is = is
 undone_commanded Unpostpone tool is = is

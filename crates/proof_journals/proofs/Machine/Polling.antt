@@ -20,14 +20,14 @@ use Rattle.server_model.specs.States.{waiting_of}
 use Rattle.plan_data.specs.PlanData.{PlanData}
 use Rattle.tool_program.specs.JournalWords.Clients.{client_at, client_asks}
 use Rattle.tool_program.specs.JournalWords.Journals.{state_at, IsFaithful}
-use Rattle.tool_program.specs.JournalWords.Keeping.{words_of}
+use Rattle.tool_program.specs.JournalWords.KeptPlans.{words_of}
 use Rattle.tool_program.specs.JournalWords.Sessions.{session_left, live_session}
 use Rattle.tool_program.specs.Programs.{commands, tool_asks, given, IsGiven, Follows}
 use Rattle.tool_program.specs.Tools.{moment}
 use Rattle.proof_journals.specs.Turns.{request_of}
 use Rattle.proof_journals.proofs.Actors.{same_actor_is, same_actor_itself, live_more}
 use Rattle.proof_journals.specs.Machine.Standings.{Standing, free, standing_in, standing_of, answered, IsAbout, is_called, is_polled}
-use Rattle.proof_journals.specs.Machine.Forming.{IsFitting}
+use Rattle.proof_journals.specs.Machine.FormedPlans.{IsFitting}
 use Rattle.proof_journals.specs.Machine.Laws.{has_keys, GivenPollsMayBeMade}
 use Rattle.proof_journals.proofs.Machine.Seated.{IsServed, others_stand, own_stands, own_lost}
 use Rattle.proof_journals.proofs.Machine.Asking.{WaitsWith, some_request}

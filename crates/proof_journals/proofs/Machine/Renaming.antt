@@ -24,9 +24,9 @@ use Rattle.server_model.specs.declared.request.Request.TheVariants as requests
 use Rattle.server_model.specs.declared.session.Waiting.{Waiting}
 use Rattle.server_model.specs.Effects.{defined, effect_unless, is_outside, renamed_or}
 use Rattle.server_model.specs.Entries.{is_client, is_command}
-use Rattle.server_model.specs.Locking.{blocker, need}
-use Rattle.server_model.specs.Serving.{Served, called_unless, calls, does, done, is_over, leaves, loses, polled_of, polled_over, polled_unless, polls, serves, without_waiting}
-use Rattle.server_model.specs.Showing.{placed_name, tables_shown}
+use Rattle.server_model.specs.Blockers.{blocker, need}
+use Rattle.server_model.specs.PlainServer.{Served, called_unless, calls, does, done, is_over, leaves, loses, polled_of, polled_over, polled_unless, polls, serves, without_waiting}
+use Rattle.server_model.specs.Listings.{placed_name, tables_shown}
 use Rattle.server_model.specs.States.{State, is_in_transaction, session_of, view, waiting_of}
 use Rattle.plan_data.specs.PlanData.{PlanData}
 use Rattle.tool_program.specs.JournalWords.Histories.{answer_in}
@@ -34,9 +34,9 @@ use Rattle.tool_program.specs.JournalWords.Journals.{state_at, opens}
 use Rattle.tool_program.specs.CutoverCore.Attempts.{has_name}
 use Rattle.proof_journals.specs.Scenes.{Stored}
 use Rattle.proof_journals.specs.Turns.{inner, missed_at, request_of}
-use Rattle.proof_journals.proofs.Joined.{told_missed}
+use Rattle.proof_journals.proofs.Joined.{reported_missed}
 use Rattle.proof_journals.proofs.Journals.{stored_opened, opened_waits}
-use Rattle.proof_journals.specs.Machine.Tabling.{schema_of}
+use Rattle.proof_journals.specs.Machine.MigrationTables.{schema_of}
 use Rattle.proof_journals.specs.Machine.Standings.{standing_of, IsAbout, is_called, is_polled}
 use Rattle.proof_journals.proofs.Machine.Seated.{IsServed, state_more}
 
@@ -163,21 +163,21 @@ module _ (plan : PlanData) (journal : List Entry) (entry : Entry) (served : IsSe
       (polled_renames name open_now entry.session pairs (ap (λ (w : List Waiting). request_of (waiting_of entry.session w)) (opened_waits (is_command entry.asked) (not (is_client entry.actor)) entry.session now) ∙ same_waits (ap is_command same) ∙ some))
 
   -- what is told of it
-  told_so : (request : Request) → IsAbout request (standing_of plan journal entry.actor) entry.asked → (side : Option Side) (answer : Answer) (missed : Option Answer) → answer_in entry.asked side answer missed ≡ answer_in Poll side answer missed
-  told_so request (is_called same none) side answer missed = ap (λ (a : Asked). answer_in a side answer missed) same ∙ by side where
+  reported_so : (request : Request) → IsAbout request (standing_of plan journal entry.actor) entry.asked → (side : Option Side) (answer : Answer) (missed : Option Answer) → answer_in entry.asked side answer missed ≡ answer_in Poll side answer missed
+  reported_so request (is_called same none) side answer missed = ap (λ (a : Asked). answer_in a side answer missed) same ∙ by side where
     by : (side : Option Side) → answer_in (Call request) side answer missed ≡ answer_in Poll side answer missed
     by None = refl
     by (Some Before) = refl
     by (Some After) = refl
-  told_so request (is_polled same some) side answer missed = ap (λ (a : Asked). answer_in a side answer missed) same
+  reported_so request (is_polled same some) side answer missed = ap (λ (a : Asked). answer_in a side answer missed) same
 
   -- *A RENAME was done*, as the entry tells, or the schema under the name is as it was
   pub renamed_or_stays : (name : List ℕ) (pairs : List Pair) → IsAbout (requests.Rename pairs) (standing_of plan journal entry.actor) entry.asked → entry.answer ≡ Rattle.proof_journals.specs.Turns.answer_at entry.side (inner now entry)
       → ((count : ℕ) × (answer_in entry.asked entry.side entry.answer entry.missed ≡ Some (answers.Ok count))) ⊎ (schema_of name (state_at plan more).tables ≡ schema_of name now.tables)
   unfolding loses
-  renamed_or_stays name pairs about told = by entry.side refl (served_renames name pairs about) where
+  renamed_or_stays name pairs about reported = by entry.side refl (served_renames name pairs about) where
     missed : entry.missed ≡ missed_at entry.side (inner now entry)
-    missed = told_missed now entry served.answered
+    missed = reported_missed now entry served.answered
 
     same_now : schema_of name open_now.tables ≡ schema_of name now.tables
     same_now = ap (schema_of name) opened_tables
@@ -188,11 +188,11 @@ module _ (plan : PlanData) (journal : List Entry) (entry : Entry) (served : IsSe
     by : (side : Option Side) → entry.side ≡ side → Renames name open_now (serves open_now entry.session entry.asked)
         → ((count : ℕ) × (answer_in entry.asked entry.side entry.answer entry.missed ≡ Some (answers.Ok count))) ⊎ (schema_of name (state_at plan more).tables ≡ schema_of name now.tables)
     by None at (inl ok) =
-        inl (ok.0, told_so (requests.Rename pairs) about entry.side entry.answer entry.missed ∙ ap (λ (s : Option Side). answer_in Poll s entry.answer entry.missed) at ∙ ap Some (told ∙ ap (λ (s : Option Side). Rattle.proof_journals.specs.Turns.answer_at s (inner now entry)) at ∙ ok.1))
+        inl (ok.0, reported_so (requests.Rename pairs) about entry.side entry.answer entry.missed ∙ ap (λ (s : Option Side). answer_in Poll s entry.answer entry.missed) at ∙ ap Some (reported ∙ ap (λ (s : Option Side). Rattle.proof_journals.specs.Turns.answer_at s (inner now entry)) at ∙ ok.1))
     by None at (inr same) = inr (left_more None at same)
     by (Some Before) at renames = inr (left_more (Some Before) at refl)
     by (Some After) at (inl ok) =
-        inl (ok.0, told_so (requests.Rename pairs) about entry.side entry.answer entry.missed ∙ ap (λ (s : Option Side). answer_in Poll s entry.answer entry.missed) at ∙ missed ∙ ap (λ (s : Option Side). missed_at s (inner now entry)) at ∙ ap Some ok.1)
+        inl (ok.0, reported_so (requests.Rename pairs) about entry.side entry.answer entry.missed ∙ ap (λ (s : Option Side). answer_in Poll s entry.answer entry.missed) at ∙ missed ∙ ap (λ (s : Option Side). missed_at s (inner now entry)) at ∙ ap Some ok.1)
     by (Some After) at (inr same) = inr (left_more (Some After) at same)
 
   -- *The tables that are listed* have each that stands

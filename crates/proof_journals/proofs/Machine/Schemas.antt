@@ -20,11 +20,11 @@ use Rattle.server_model.specs.declared.request.Request.TheVariants as requests
 use Rattle.server_model.specs.declared.session.Waiting.{Waiting}
 use Rattle.server_model.specs.declared.work.StatementResult.{StatementResult}
 use Rattle.server_model.specs.Entries.{is_client, is_command}
-use Rattle.server_model.specs.Jobs.{says, job_says, copy_job, after_events, change_table}
+use Rattle.server_model.specs.Operations.{statement_result, operation_result, copy_operation, after_events, change_table}
 use Rattle.server_model.specs.States.{State, session_of, is_in_transaction, view, waiting_of, writes_of}
-use Rattle.server_model.specs.Locking.{need, need_within, blocker}
-use Rattle.server_model.specs.Effects.{result_effect, begins, all_stand, locks_if, created, dropped, defined, effect_within, effect_unless, is_outside}
-use Rattle.server_model.specs.Serving.{Served, does, done, called_unless, calls, is_over, polled_over, polled_unless, polled_of, polls, loses, leaves, serves, without_waiting}
+use Rattle.server_model.specs.Blockers.{need, need_within, blocker}
+use Rattle.server_model.specs.Effects.{result_effect, begins, all_exist, locks_if, created, dropped, defined, effect_within, effect_unless, is_outside}
+use Rattle.server_model.specs.PlainServer.{Served, does, done, called_unless, calls, is_over, polled_over, polled_unless, polled_of, polls, loses, leaves, serves, without_waiting}
 use Rattle.plan_data.specs.PlanData.{PlanData}
 use Rattle.tool_program.specs.JournalWords.Journals.{opens, state_at, may_lose}
 use Rattle.proof_journals.specs.Scenes.{Stored}
@@ -33,7 +33,7 @@ use Rattle.proof_journals.proofs.Journals.{stored_opened, opened_waits}
 use Rattle.proof_journals.proofs.Moves.{after_other, drop_moves}
 use Rattle.server_model.proofs.LockedRows.Finding.{change_if, found_after}
 use Rattle.server_model.proofs.LockedRows.Tests.{same_bytes, nor_left, nor_right}
-use Rattle.proof_journals.specs.Machine.Tabling.{schema_of}
+use Rattle.proof_journals.specs.Machine.MigrationTables.{schema_of}
 use Rattle.proof_journals.specs.Machine.Standings.{standing_of, IsAbout, is_called, is_polled}
 use Rattle.proof_journals.proofs.Machine.Seated.{IsServed, state_more}
 
@@ -106,7 +106,7 @@ within_same : (name : List ℕ) (state : State) (number : ℕ) (request : Reques
 within_same name state number requests.Begin keeps = refl
 within_same name state number requests.Commit keeps = schema_events name state.tables (writes_of (session_of number state.sessions) ++ [])
 within_same name state number requests.Rollback keeps = refl
-within_same name state number (requests.Do statement) keeps = resulted_same name state number (need_within (view number state) (requests.Do statement)) (says (view number state) statement) (is_in_transaction (session_of number state.sessions))
+within_same name state number (requests.Do statement) keeps = resulted_same name state number (need_within (view number state) (requests.Do statement)) (statement_result (view number state) statement) (is_in_transaction (session_of number state.sessions))
 within_same name state number (requests.Ends table) keeps = refl
 within_same name state number (requests.ChunkEnd table low top size) keeps = refl
 within_same name state number (requests.BeginSpan table span size) keeps = at (find_table table state.tables) where
@@ -114,8 +114,8 @@ within_same name state number (requests.BeginSpan table span size) keeps = at (f
   at None = refl
   at (Some t) = refl
 within_same name state number (requests.CopyRow from into columns key) keeps =
-    resulted_same name state number (need_within (view number state) (requests.CopyRow from into columns key)) (job_says (view number state) (copy_job (view number state) from into columns key)) (is_in_transaction (session_of number state.sessions))
-within_same name state number (requests.LockTables names) keeps = at (all_stand names state.tables) where
+    resulted_same name state number (need_within (view number state) (requests.CopyRow from into columns key)) (operation_result (view number state) (copy_operation (view number state) from into columns key)) (is_in_transaction (session_of number state.sessions))
+within_same name state number (requests.LockTables names) keeps = at (all_exist names state.tables) where
   at : (b : Bool) → Same name state (does (locks_if b names) state number)
   at true = refl
   at false = refl

@@ -19,7 +19,7 @@ use Rattle.std.specs.List.{list_any}
 use Rattle.std.specs.Str.{bytes_eq}
 use Rattle.server_model.specs.Entries.{same_actor, is_client, is_command, is_cut}
 use Rattle.server_model.specs.States.{State, session_of, connected, new_session, waiting_of, is_live}
-use Rattle.server_model.specs.Serving.{calls, serves, leaves}
+use Rattle.server_model.specs.PlainServer.{calls, serves, leaves}
 use Rattle.plan_data.specs.PlanData.{PlanData}
 use Rattle.tool_program.specs.JournalWords.Journals.{may_lose, opening, opens, opens_if, after_entry, state_after, state_at, IsAnswered}
 use Rattle.tool_program.specs.JournalWords.Histories.{waits_after}
@@ -27,7 +27,7 @@ use Rattle.tool_program.specs.JournalWords.Sessions.{session_left, live_session,
 use Rattle.proof_journals.specs.Turns.{request_of, inner, answer_at}
 use Rattle.proof_journals.specs.Holdings.{face_in, face_of}
 use Rattle.proof_journals.proofs.Actors.{same_actor_itself, live_more, Placed, Commands, GoesOn, Begins, placed, SessionsKnown, sessions_begin, sessions_more, live_cases, others_differ, named_less, named_differs}
-use Rattle.proof_journals.proofs.Joined.{told_answer}
+use Rattle.proof_journals.proofs.Joined.{reported_answer}
 use Rattle.proof_journals.proofs.Journals.{opened_waits}
 use Rattle.proof_journals.proofs.Waiting.{waits_there, waits_called, waits_polled}
 use Rattle.proof_journals.proofs.Journals.{state_more as after_more}
@@ -131,7 +131,7 @@ module _ (plan : PlanData) (journal : List Entry) (entry : Entry) (known : IsKno
   at = placed journal entry served.seated
 
   answer_is : entry.answer ≡ answer_at entry.side (inner now entry)
-  answer_is = told_answer now entry served.answered
+  answer_is = reported_answer now entry served.answered
 
   abbrev more : List Entry
   more = journal ++ entry ∷ []

@@ -17,11 +17,11 @@ use Rattle.server_model.specs.declared.session.Session.{Session}
 use Rattle.server_model.specs.declared.session.Waiting.{Waiting}
 use Rattle.server_model.specs.declared.work.StatementResult.{StatementResult}
 use Rattle.server_model.specs.Chunks.{span_keys}
-use Rattle.server_model.specs.Jobs.{says, job_says, copy_job}
+use Rattle.server_model.specs.Operations.{statement_result, operation_result, copy_operation}
 use Rattle.server_model.specs.States.{State, session_of, with_session, is_in_transaction, locked_names, view, waiting_of}
-use Rattle.server_model.specs.Locking.{need, need_within, blocker}
-use Rattle.server_model.specs.Effects.{Effect, Rests, Grows, Writes, Forgets, Moves, Locks, Unlocks, result_effect, begins, all_stand, locks_if, created, dropped, renamed_or, defined, nothing_needed, effect_within, effect_unless, is_outside, effect}
-use Rattle.server_model.specs.Serving.{Served, does, done, called_unless, calls, is_over, polled_over, polled_unless, polled_of, polls, loses, leaves, serves, without_waiting, holding, at_rest, locking, unlocking, counting}
+use Rattle.server_model.specs.Blockers.{need, need_within, blocker}
+use Rattle.server_model.specs.Effects.{Effect, Rests, Grows, Writes, Forgets, Moves, Locks, Unlocks, result_effect, begins, all_exist, locks_if, created, dropped, renamed_or, defined, nothing_needed, effect_within, effect_unless, is_outside, effect}
+use Rattle.server_model.specs.PlainServer.{Served, does, done, called_unless, calls, is_over, polled_over, polled_unless, polled_of, polls, loses, leaves, serves, without_waiting, holding, at_rest, locking, unlocking, counting}
 use Rattle.proof_journals.specs.Holdings.{Face}
 use Rattle.proof_journals.specs.Turns.{request_of}
 use Rattle.proof_journals.proofs.Faces.{changed_here, changed_there, gone_there}
@@ -91,7 +91,7 @@ module _ (state : State) (number : ℕ) (found : Session) (is : session_of numbe
   within requests.Begin = grown state number found nothing_needed [] is
   within requests.Commit = rested state number found is
   within requests.Rollback = rested state number found is
-  within (requests.Do statement) = resulted state number found (need_within (view number state) (requests.Do statement)) (says (view number state) statement) (is_in_transaction (session_of number state.sessions)) is same_busy
+  within (requests.Do statement) = resulted state number found (need_within (view number state) (requests.Do statement)) (statement_result (view number state) statement) (is_in_transaction (session_of number state.sessions)) is same_busy
   within (requests.Ends table) = stays
   within (requests.ChunkEnd table low top size) = stays
   within (requests.BeginSpan table span size) = at (find_table table state.tables) where
@@ -99,8 +99,8 @@ module _ (state : State) (number : ℕ) (found : Session) (is : session_of numbe
     at None = stays
     at (Some t) = grown state number found (need_within (view number state) (requests.BeginSpan table span size)) [] is
   within (requests.CopyRow from into map key) =
-      resulted state number found (need_within (view number state) (requests.CopyRow from into map key)) (job_says (view number state) (copy_job (view number state) from into map key)) (is_in_transaction (session_of number state.sessions)) is same_busy
-  within (requests.LockTables names) = at (all_stand names state.tables) where
+      resulted state number found (need_within (view number state) (requests.CopyRow from into map key)) (operation_result (view number state) (copy_operation (view number state) from into map key)) (is_in_transaction (session_of number state.sessions)) is same_busy
+  within (requests.LockTables names) = at (all_exist names state.tables) where
     at : (b : Bool) → Left state number found (requests.LockTables names) (does (locks_if b names) state number)
     at true = changed number (locking names) state.sessions found found.in_transaction (locked_names found.names ++ names) (λ s. refl) is refl (ap (λ (f : Face). f.locked) (locking_face names found))
     at false = stays

@@ -25,12 +25,12 @@ use Rattle.plan_data.specs.PlanData.{PlanData}
 use Rattle.tool_program.specs.JournalWords.Clients.{Reached, client_asks, client_at, after_turn, client_after, became, new_client, script_of, word_asks}
 use Rattle.tool_program.specs.JournalWords.Journals.{state_at, opens, may_lose}
 use Rattle.tool_program.specs.Programs.{given, IsGiven, Follows}
-use Rattle.tool_program.specs.Tools.{Course, SettingUp, Migrating, moment, is_reverting}
+use Rattle.tool_program.specs.Tools.{ToolPhase, SettingUp, Migrating, moment, is_reverting}
 use Rattle.tool_program.proofs.OnlineCalls.Given as online
 use Rattle.proof_journals.specs.Plans.{client_names, limits_of}
 use Rattle.proof_journals.specs.Scenes.{NamesTable}
-use Rattle.proof_journals.specs.Turns.{IsAllowed, IsTold, MayAsk, ToolAsks, AllOther, AtRest, RenamesSo, about, request_of, is_busy}
-use Rattle.proof_journals.proofs.Joined.{told_answer, told_missed}
+use Rattle.proof_journals.specs.Turns.{IsAllowed, IsReported, MayAsk, ToolAsks, AllOther, AtRest, RenamesSo, about, request_of, is_busy}
+use Rattle.proof_journals.proofs.Joined.{reported_answer, reported_missed}
 use Rattle.proof_journals.proofs.Journals.{JournalHolds, step, begins, opened_waits}
 use Rattle.proof_journals.proofs.Naming.{script_lines}
 use Rattle.proof_journals.proofs.Openings.{opening_well_formed}
@@ -40,8 +40,8 @@ use Rattle.proof_journals.proofs.Faces.{busy_face}
 use Rattle.tool_program.specs.declared.cutover_core.cutover.Hold.{Hold}
 use Rattle.tool_program.specs.declared.cutover_core.cutover.Hold.TheVariants.{Nothing, WaitsToGuard, WaitsToLock, Locks}
 use Rattle.proof_journals.specs.Machine.Standings.{Standing, standing_of}
-use Rattle.proof_journals.specs.Machine.Machines.{CourseStands, held, renaming}
-use Rattle.proof_journals.specs.Machine.Forming.{IsFitting}
+use Rattle.proof_journals.specs.Machine.Machines.{ToolPhaseStands, held, renaming}
+use Rattle.proof_journals.specs.Machine.FormedPlans.{IsFitting}
 use Rattle.proof_journals.specs.Machine.Laws.{TablesStayTables}
 use Rattle.proof_journals.proofs.Machine.Clients.{Next, calls_line, polls_line, client_next}
 use Rattle.proof_journals.proofs.Machine.Journals.{IsRun, all_runs}
@@ -128,17 +128,17 @@ renaming_rests table true = refl
 renaming_rests table false = refl
 
 -- an actor that defines tables is in no transaction
-pub defines_out : (plan : PlanData) (journal : List Entry) (reverting : Bool) (course : Course) (actor : Actor) → CourseStands journal (standing_of plan journal) reverting course → may_define actor ≡ true → (standing_of plan journal actor).busy ≡ false
+pub defines_out : (plan : PlanData) (journal : List Entry) (reverting : Bool) (tool_phase : ToolPhase) (actor : Actor) → ToolPhaseStands journal (standing_of plan journal) reverting tool_phase → may_define actor ≡ true → (standing_of plan journal actor).busy ≡ false
 defines_out plan journal reverting (SettingUp setup tries) Insp at may = at.inspector.busy
 defines_out plan journal reverting (Migrating work) Insp at may = at.inspector.busy
 defines_out plan journal reverting (SettingUp setup tries) Lock at may = ap (λ (s : Standing). s.busy) at.locker
 defines_out plan journal reverting (Migrating work) Lock at may = ap (λ (s : Standing). s.busy) at.locker ∙ held_rests work.cutover.table work.cutover.hold
 defines_out plan journal reverting (SettingUp setup tries) Ren at may = ap (λ (s : Standing). s.busy) at.renamer
 defines_out plan journal reverting (Migrating work) Ren at may = ap (λ (s : Standing). s.busy) at.renamer ∙ renaming_rests work.cutover.table work.cutover.renamer_waits
-defines_out plan journal reverting course Op at may = absurd (false≢true may)
-defines_out plan journal reverting course Copy at may = absurd (false≢true may)
-defines_out plan journal reverting course Apply at may = absurd (false≢true may)
-defines_out plan journal reverting course (Client c) at may = absurd (false≢true may)
+defines_out plan journal reverting tool_phase Op at may = absurd (false≢true may)
+defines_out plan journal reverting tool_phase Copy at may = absurd (false≢true may)
+defines_out plan journal reverting tool_phase Apply at may = absurd (false≢true may)
+defines_out plan journal reverting tool_phase (Client c) at may = absurd (false≢true may)
 
 record QuietKnown (plan : PlanData) (journal : List Entry) : Type 0 where
   all : AllTogether plan journal
@@ -163,7 +163,7 @@ module _ (plan : PlanData) (journal : List Entry) (entry : Entry) (fit : IsFitti
     busy_is = ap is_in_transaction open_one.is ∙ busy_face (Some open_one.found) ∙ ap (λ (s : Standing). s.busy) (sym open_one.stands)
 
     by : is_quiet request ≡ false → (b : Bool) → may_define entry.actor ≡ b → (standing_of plan journal entry.actor).busy ≡ false
-    by loud true may = defines_out plan journal (is_reverting (moment plan journal).tool.reason) (moment plan journal).tool.course entry.actor is.all.tool.stands may
+    by loud true may = defines_out plan journal (is_reverting (moment plan journal).tool.reason) (moment plan journal).tool.tool_phase entry.actor is.all.tool.stands may
     by loud false may = absurd (true≢false (sym (quiet may) ∙ loud))
 
   -- of what waits
@@ -205,11 +205,11 @@ module _ (plan : PlanData) (journal : List Entry) (entry : Entry) (fit : IsFitti
     may = may_at entry.asked run.followed.given;
     commands = λ command. run.answered.sides (command_sides entry.asked command);
     rests = rests_at entry.asked refl run.followed.given;
-    renames = λ told. never_renames (about (opens entry now) entry.session entry.asked);
+    renames = λ reported. never_renames (about (opens entry now) entry.session entry.asked);
   }
 
-  told : IsTold (limits_of plan) (scene_for plan) journal entry
-  told = record { answer = told_answer now entry run.answered; missed = told_missed now entry run.answered }
+  reported : IsReported (limits_of plan) (scene_for plan) journal entry
+  reported = record { answer = reported_answer now entry run.answered; missed = reported_missed now entry run.answered }
 
   quiet_more : QuietKnown plan (journal ++ entry ∷ [])
   quiet_more = record {
@@ -224,7 +224,7 @@ stays plan fit before [] runs is holds = tt
 stays plan fit before (entry ∷ journal) runs is holds = (
   holds.holds.kept.well_formed,
   stays plan fit (before ++ entry ∷ []) journal runs.1 (quiet_more plan before entry fit is runs.0)
-      (step (limits_of plan) (scene_for plan) (spare_mine plan) before entry (told plan before entry fit is runs.0, allowed plan before entry fit is runs.0) holds),
+      (step (limits_of plan) (scene_for plan) (spare_mine plan) before entry (reported plan before entry fit is runs.0, allowed plan before entry fit is runs.0) holds),
 )
 
 -- *Tables stay tables*

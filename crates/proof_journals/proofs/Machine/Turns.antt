@@ -20,9 +20,9 @@ use Rattle.tool_program.specs.CutoverCore.CutOvers as cutovers
 use Rattle.tool_program.specs.CutoverCore.CutOvers.{is_bad, is_wait, locker_phase, hold_after, reverted, applier_turn}
 use Rattle.tool_program.specs.Setups.{Setup, Listing, Clearing, MakingLog, MakingGhost, Marking, Reaching, Ready, setup_after}
 use Rattle.tool_program.specs.Operators.{commanded}
-use Rattle.tool_program.specs.Tools.{Work, Course, SettingUp, Migrating, Panicked, Tool, stopped, spends, is_reverting, is_failure, new_work, course_of, copy_took, apply_took, cutover_took, actor_took, drains, resizes, command_took}
+use Rattle.tool_program.specs.Tools.{Work, ToolPhase, SettingUp, Migrating, Panicked, Tool, stopped, spends, is_reverting, is_failure, new_work, tool_phase_of, copy_took, apply_took, cutover_took, actor_took, drains, resizes, command_took}
 use Rattle.proof_journals.specs.Machine.Standings.{Standing, free, answered, answers_to}
-use Rattle.proof_journals.specs.Machine.Machines.{Stands, inspector_asks, inspector_waits, copier_asks, copier_busy, ApplierStands, held, PhaseHolds, renaming, WorkStands, SetupStands, CourseStands}
+use Rattle.proof_journals.specs.Machine.Machines.{Stands, inspector_asks, inspector_waits, copier_asks, copier_busy, ApplierStands, held, PhaseHolds, renaming, WorkStands, SetupStands, ToolPhaseStands}
 use Rattle.proof_journals.proofs.Machine.Applying.{applier_rests}
 use Rattle.proof_journals.proofs.Machine.CuttingOver.{LockerStands, ListsFree, ended_holds, drained_holds, renamer_holds, inspector_holds}
 use Rattle.proof_journals.proofs.Machine.Lifting.{reverts_keeps, spends_keeps, attempt_keeps, copy_keeps, apply_keeps, drains_keeps}
@@ -54,16 +54,16 @@ module _ (plan : PlanData) (journal : List Entry) (entry : Entry) (has now_has :
   abbrev more : List Entry
   more = journal ++ entry ∷ []
 
-  abbrev Now : Bool → Course → Type 0
-  Now b course = CourseStands more now_has b course
+  abbrev Now : Bool → ToolPhase → Type 0
+  Now b tool_phase = ToolPhaseStands more now_has b tool_phase
 
   -- all machines and sessions together behind the turn
   abbrev Together : Tool → Type 0
-  Together tool = Now (is_reverting tool.reason) tool.course
+  Together tool = Now (is_reverting tool.reason) tool.tool_phase
 
   -- A REVERT AND THE DRAIN
 
-  back : (b : Bool) (course : Course) → Now b course → Now true (stopped course)
+  back : (b : Bool) (tool_phase : ToolPhase) → Now b tool_phase → Now true (stopped tool_phase)
   unfolding reverted
   back b (SettingUp setup tries) at = at
   back b (Migrating work) at = record { inspector = at.inspector; copier = inl refl; applier = inl refl; locker = at.locker; phase = ended_holds work.cutover.phase work.cutover.hold at.phase; renamer = at.renamer }
@@ -72,8 +72,8 @@ module _ (plan : PlanData) (journal : List Entry) (entry : Entry) (has now_has :
   unfolding applier_turn
   drain b work tries at = record { inspector = at.inspector; copier = at.copier; applier = at.applier; locker = at.locker; phase = drained_holds work.cutover work.applier.hint work.cutover.phase work.cutover.hold at.phase; renamer = at.renamer }
 
-  pub drained : (tool : Tool) → Together tool → Together (drains plan tool.course tool)
-  drained tool at = drains_keeps Now back plan tool.course tool refl drain at
+  pub drained : (tool : Tool) → Together tool → Together (drains plan tool.tool_phase tool)
+  drained tool at = drains_keeps Now back plan tool.tool_phase tool refl drain at
 
   -- WHAT STAYS
 
@@ -89,7 +89,7 @@ module _ (plan : PlanData) (journal : List Entry) (entry : Entry) (has now_has :
   applier_same b work same (inr is) = inr (subst (ApplierStands more work.applier) (sym same) (applier_rests journal entry work.applier (has Apply) is))
 
   -- nothing changed of what sessions have, nor of the tool
-  pub still : (b : Bool) (course : Course) → ((a : Actor) → same_actor a Op ≡ false → Rattle.server_model.specs.Entries.is_client a ≡ false → now_has a ≡ has a) → CourseStands journal has b course → Now b course
+  pub still : (b : Bool) (tool_phase : ToolPhase) → ((a : Actor) → same_actor a Op ≡ false → Rattle.server_model.specs.Entries.is_client a ≡ false → now_has a ≡ has a) → ToolPhaseStands journal has b tool_phase → Now b tool_phase
   still b (SettingUp setup tries) same at = record {
     inspector = inspector_same (same Insp refl refl) at.inspector;
     copier = same Copy refl refl ∙ at.copier;
@@ -112,7 +112,7 @@ module _ (plan : PlanData) (journal : List Entry) (entry : Entry) (has now_has :
 
   -- THE COPIER
 
-  pub copy_turn : (answer : Answer) (work : Work) (tool : Tool) → tool.course ≡ Migrating work → OthersSame Copy → WorkStands journal (is_reverting tool.reason) has work
+  pub copy_turn : (answer : Answer) (work : Work) (tool : Tool) → tool.tool_phase ≡ Migrating work → OthersSame Copy → WorkStands journal (is_reverting tool.reason) has work
       → (is_reverting tool.reason ≡ false → Stands (copier_asks (copiers.took tool.turns work.copier answer).step) (copier_busy (copiers.took tool.turns work.copier answer).step) [] (now_has Copy))
       → (is_reverting tool.reason ≡ false → (place number : ℕ) → copiers.progress work.copier answer ≡ Unfit place number → Stands (copier_asks work.copier.step) (copier_busy work.copier.step) [] (now_has Copy))
       → Together (actor_took plan Copy answer (Migrating work) tool)
@@ -136,7 +136,7 @@ module _ (plan : PlanData) (journal : List Entry) (entry : Entry) (has now_has :
 
   -- THE APPLIER
 
-  pub apply_turn : (answer : Answer) (work : Work) (tool : Tool) → tool.course ≡ Migrating work → OthersSame Apply → WorkStands journal (is_reverting tool.reason) has work
+  pub apply_turn : (answer : Answer) (work : Work) (tool : Tool) → tool.tool_phase ≡ Migrating work → OthersSame Apply → WorkStands journal (is_reverting tool.reason) has work
       → (is_reverting tool.reason ≡ false → ApplierStands more (appliers.took tool.turns work.applier answer) (now_has Apply))
       → (is_reverting tool.reason ≡ false → (place number : ℕ) → appliers.progress work.applier answer ≡ Unfit place number → ApplierStands more work.applier (now_has Apply))
       → Together (actor_took plan Apply answer (Migrating work) tool)
@@ -213,7 +213,7 @@ module _ (plan : PlanData) (journal : List Entry) (entry : Entry) (has now_has :
     renamer = at.renamer;
   }
 
-  courses : (b : Bool) (size : ℕ) (setup : Setup) (tries : List ℕ) → SetupStands now_has → Now b (course_of plan size setup tries)
+  courses : (b : Bool) (size : ℕ) (setup : Setup) (tries : List ℕ) → SetupStands now_has → Now b (tool_phase_of plan size setup tries)
   courses b size (Ready position range) tries at = begins b size position range at
   courses b size Listing tries at = at
   courses b size (Clearing left) tries at = at
@@ -222,26 +222,26 @@ module _ (plan : PlanData) (journal : List Entry) (entry : Entry) (has now_has :
   courses b size Marking tries at = at
   courses b size (Reaching position) tries at = at
 
-  pub setup_turn : (answer : Answer) (setup : Setup) (tries : List ℕ) (tool : Tool) → tool.course ≡ SettingUp setup tries → OthersSame Insp → SetupStands has → Stands inspector_waits false [] (now_has Insp) → Together (actor_took plan Insp answer (SettingUp setup tries) tool)
+  pub setup_turn : (answer : Answer) (setup : Setup) (tries : List ℕ) (tool : Tool) → tool.tool_phase ≡ SettingUp setup tries → OthersSame Insp → SetupStands has → Stands inspector_waits false [] (now_has Insp) → Together (actor_took plan Insp answer (SettingUp setup tries) tool)
   setup_turn answer setup tries tool is others at stands = by (is_reverting tool.reason) (is_bad answer) where
     now : SetupStands now_has
     now = record { inspector = stands; copier = others Copy refl ∙ at.copier; applier = others Apply refl ∙ at.applier; locker = others Lock refl ∙ at.locker; renamer = others Ren refl ∙ at.renamer }
 
     by : (a b : Bool)
-        → Together (cond a tool (cond b (spends plan tasks.Setup (tries ++ tool.turns ∷ []) (record tool { course = SettingUp Listing (tries ++ tool.turns ∷ []) })) (record tool { course = course_of plan tool.operator.size (setup_after plan.table setup answer) tries })))
+        → Together (cond a tool (cond b (spends plan tasks.Setup (tries ++ tool.turns ∷ []) (record tool { tool_phase = SettingUp Listing (tries ++ tool.turns ∷ []) })) (record tool { tool_phase = tool_phase_of plan tool.operator.size (setup_after plan.table setup answer) tries })))
     by true b = subst (Now (is_reverting tool.reason)) (sym is) now
-    by false true = spends_keeps Now back plan tasks.Setup (tries ++ tool.turns ∷ []) (record tool { course = SettingUp Listing (tries ++ tool.turns ∷ []) }) now
+    by false true = spends_keeps Now back plan tasks.Setup (tries ++ tool.turns ∷ []) (record tool { tool_phase = SettingUp Listing (tries ++ tool.turns ∷ []) }) now
     by false false = courses (is_reverting tool.reason) tool.operator.size (setup_after plan.table setup answer) tries now
 
   -- THE OPERATOR
 
-  resized : (b : Bool) (size : ℕ) (course : Course) → Now b course → Now b (resizes (ChunkSize size) course)
+  resized : (b : Bool) (size : ℕ) (tool_phase : ToolPhase) → Now b tool_phase → Now b (resizes (ChunkSize size) tool_phase)
   resized b size (SettingUp setup tries) at = at
   resized b size (Migrating work) at = record { inspector = at.inspector; copier = at.copier; applier = at.applier; locker = at.locker; phase = at.phase; renamer = at.renamer }
 
   pub command_turn : (word : OperatorWord) (tool : Tool) → Together tool → Together (command_took word tool)
-  command_turn Panic tool at = reverts_keeps Now back (Panicked tool.turns) (record tool { operator = commanded Panic tool.operator; course = tool.course }) at
-  command_turn (ChunkSize size) tool at = resized (is_reverting tool.reason) size tool.course at
+  command_turn Panic tool at = reverts_keeps Now back (Panicked tool.turns) (record tool { operator = commanded Panic tool.operator; tool_phase = tool.tool_phase }) at
+  command_turn (ChunkSize size) tool at = resized (is_reverting tool.reason) size tool.tool_phase at
   command_turn Throttle tool at = at
   command_turn NoThrottle tool at = at
   command_turn Unpostpone tool at = at

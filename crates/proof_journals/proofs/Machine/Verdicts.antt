@@ -32,11 +32,11 @@ verdicts_tell plan journal fit stands faithful follows ended = record {
   reverted = λ unmarked. let found = reverts_for plan journal (moment plan journal).tool (moment plan journal).tool.reason (reverting unmarked) in
       (found.0, ap (λ (b : Bool). cond b (ended_so plan journal (moment plan journal).tool) verdicts.Unfinished) ended ∙ ap (λ (b : Bool). cond b verdicts.Done (reverted_by plan journal (moment plan journal).tool (moment plan journal).tool.reason)) unmarked ∙ found.1);
 } where
-  is_off : list_any is_alter (history plan journal) ≡ false → (b : Bool) → is_renamed (moment plan journal).tool.course ≡ b → b ≡ false
+  is_off : list_any is_alter (history plan journal) ≡ false → (b : Bool) → is_renamed (moment plan journal).tool.tool_phase ≡ b → b ≡ false
   is_off unmarked true renamed = absurd (true≢false (sym (done_marked plan journal (all_marking plan journal fit stands faithful follows) renamed) ∙ unmarked))
   is_off unmarked false renamed = refl
 
   reverting : list_any is_alter (history plan journal) ≡ false → is_reverting (moment plan journal).tool.reason ≡ true
   reverting unmarked =
-      over_reverts (is_renamed (moment plan journal).tool.course) (is_finished (moment plan journal).tool.course) (is_reverting (moment plan journal).tool.reason) (is_calm (moment plan journal).tool.course) (is_tool_busy (moment plan journal).server)
-      (and_parts (is_over (moment plan journal)) (clients_over plan journal) ended).0 (is_off unmarked (is_renamed (moment plan journal).tool.course) refl)
+      over_reverts (is_renamed (moment plan journal).tool.tool_phase) (is_finished (moment plan journal).tool.tool_phase) (is_reverting (moment plan journal).tool.reason) (is_calm (moment plan journal).tool.tool_phase) (is_tool_busy (moment plan journal).server)
+      (and_parts (is_over (moment plan journal)) (clients_over plan journal) ended).0 (is_off unmarked (is_renamed (moment plan journal).tool.tool_phase) refl)

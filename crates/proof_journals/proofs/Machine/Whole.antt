@@ -7,7 +7,7 @@ use Rattle.std.proofs.lemmas.Option.{same_Some}
 use Rattle.base_values.specs.declared.span.Bound.{Bound}
 use Rattle.base_values.specs.declared.span.Bound.TheVariants.{Open, Closed, Free}
 use Rattle.base_values.specs.Spans.{EndOfKinds, SpanOfKinds}
-use Rattle.base_values.specs.Storing.{AreOfKinds}
+use Rattle.base_values.specs.StoredValues.{AreOfKinds}
 use Rattle.base_values.specs.declared.gho_schema.schema.Schema.{Schema}
 use Rattle.table_store.specs.Databases.{TableRows, Database, find_table}
 use Rattle.base_script.specs.declared.actor.Actor.{Actor}
@@ -16,7 +16,7 @@ use Rattle.base_script.specs.declared.actor.Actor.TheVariants.{Op, Insp, Copy, A
 use Rattle.base_script.specs.declared.script.ScriptWord.{ScriptWord}
 use Rattle.base_script.specs.declared.script.ScriptWord.TheVariants as words
 use Rattle.server_model.specs.Along.{Along-keeps}
-use Rattle.server_model.specs.Conditions.{key_kinds, IsMapOf, IfStands, IsWellFormed, MayCall, MayPoll, MayLose}
+use Rattle.server_model.specs.Conditions.{key_kinds, IsMapOf, IfExists, IsWellFormed, MayCall, MayPoll, MayLose}
 use Rattle.server_model.specs.declared.entry.Asked.TheVariants.{Call, Poll}
 use Rattle.server_model.specs.declared.entry.Entry.{Entry}
 use Rattle.server_model.specs.declared.request.Request.{Request}
@@ -25,7 +25,7 @@ use Rattle.server_model.specs.Entries.{is_client}
 use Rattle.plan_data.specs.PlanData.{PlanData, old_schema}
 use Rattle.tool_program.specs.JournalWords.Clients.{client_at, word_asks}
 use Rattle.tool_program.specs.JournalWords.Journals.{state_at, IsFaithful}
-use Rattle.tool_program.specs.JournalWords.Keeping.{words_of}
+use Rattle.tool_program.specs.JournalWords.KeptPlans.{words_of}
 use Rattle.tool_program.specs.JournalWords.Sessions.{live_session}
 use Rattle.tool_program.specs.declared.event_applier.applier.ApplyStep.{ApplyStep}
 use Rattle.tool_program.specs.declared.event_applier.applier.ApplyStep.TheVariants as applying
@@ -40,14 +40,14 @@ use Rattle.tool_program.specs.CutoverCore.Attempts as cutovers
 use Rattle.tool_program.specs.CutoverCore.Attempts.{exchange, unlocks}
 use Rattle.tool_program.specs.CutoverCore.CutOvers.{is_resting}
 use Rattle.tool_program.specs.Programs.{in_transaction, tool_call, tool_asks, apply_call, may_begin, rolls_back, given, Follows}
-use Rattle.tool_program.specs.Tools.{Work, Course, SettingUp, Migrating, is_reverting, moment}
+use Rattle.tool_program.specs.Tools.{Work, ToolPhase, SettingUp, Migrating, is_reverting, moment}
 use Rattle.proof_journals.specs.Scenes.{Stored}
 use Rattle.proof_journals.proofs.Journals.{stored_opened}
 use Rattle.proof_journals.specs.Machine.Standings.{Standing, standing_of, opened_for}
-use Rattle.proof_journals.specs.Machine.Machines.{inspector_asks, applier_asks, ApplierStands, CourseStands}
-use Rattle.proof_journals.specs.Machine.Forming.{IsFitting}
-use Rattle.proof_journals.specs.Machine.Tabling.{schema_of, ghost_schema, TablesStand, CourseTables}
-use Rattle.proof_journals.specs.Machine.Keying.{kinds_of, IsClosedKey, IsKeyed, IsMapped, CourseKeyed}
+use Rattle.proof_journals.specs.Machine.Machines.{inspector_asks, applier_asks, ApplierStands, ToolPhaseStands}
+use Rattle.proof_journals.specs.Machine.FormedPlans.{IsFitting}
+use Rattle.proof_journals.specs.Machine.MigrationTables.{schema_of, ghost_schema, TablesExist, ToolPhaseTables}
+use Rattle.proof_journals.specs.Machine.TableKeys.{kinds_of, IsClosedKey, IsKeyed, IsMapped, ToolPhaseKeyed}
 use Rattle.proof_journals.specs.Machine.Runnable.{IsRunnable}
 use Rattle.proof_journals.specs.Machine.Laws.{has_keys, IsCalledWell, GivenCallsMayBeCalled, GivenPollsMayBeCalled, LossesMayBe}
 use Rattle.proof_journals.proofs.Machine.Asking.{some_request, WaitsWith, unless_called, applier_next, setup_next, inspector_next, renamer_next}
@@ -64,7 +64,7 @@ use Rattle.proof_journals.proofs.Machine.Keyed.{IsKeyedAll, all_keyed, copy_call
 -- WHAT IS KEYED IS WELL FORMED
 
 -- where a schema stands, this holds of it
-stands_so : (P : Schema → Type 0) (schema : Schema) (found : Option TableRows) → option_map (λ table. table.schema) found ≡ Some schema → P schema → IfStands P found
+stands_so : (P : Schema → Type 0) (schema : Schema) (found : Option TableRows) → option_map (λ table. table.schema) found ≡ Some schema → P schema → IfExists P found
 stands_so P schema None is holds = tt
 stands_so P schema (Some table) is holds = let same : table.schema ≡ schema = cc in subst P (sym same) holds
 
@@ -73,13 +73,13 @@ closed_kinds plan (Closed key) is = is
 closed_kinds plan (Open key) is = absurd is
 closed_kinds plan Free is = absurd is
 
-keyed_formed : (plan : PlanData) (tables : Database) (request : Request) → TablesStand plan tables → IsMapped plan → IsKeyed plan request → has_keys request ≡ true → IsWellFormed tables request
+keyed_formed : (plan : PlanData) (tables : Database) (request : Request) → TablesExist plan tables → IsMapped plan → IsKeyed plan request → has_keys request ≡ true → IsWellFormed tables request
 keyed_formed plan tables (requests.ChunkEnd table low top size) stand mapped keyed has =
     (keyed.1, stands_so (λ schema. EndOfKinds low (key_kinds schema) × AreOfKinds top (key_kinds schema)) (old_schema plan) (find_table table tables) (ap (λ (t : List ℕ). schema_of t tables) keyed.0 ∙ stand.old) (keyed.2, keyed.3))
 keyed_formed plan tables (requests.BeginSpan table span size) stand mapped keyed has =
     (keyed.1, stands_so (λ schema. SpanOfKinds span (key_kinds schema)) (old_schema plan) (find_table table tables) (ap (λ (t : List ℕ). schema_of t tables) keyed.0 ∙ stand.old) (record { low = keyed.2; high = closed_kinds plan span.high keyed.3 }))
 keyed_formed plan tables (requests.CopyRow from into map key) stand mapped keyed has =
-    stands_so (λ old. AreOfKinds key (key_kinds old) × IfStands (λ new. IsMapOf map old new) (find_table into tables)) (old_schema plan) (find_table from tables) (ap (λ (t : List ℕ). schema_of t tables) keyed.0 ∙ stand.old)
+    stands_so (λ old. AreOfKinds key (key_kinds old) × IfExists (λ new. IsMapOf map old new) (find_table into tables)) (old_schema plan) (find_table from tables) (ap (λ (t : List ℕ). schema_of t tables) keyed.0 ∙ stand.old)
     (keyed.3, stands_so (λ new. IsMapOf map (old_schema plan) new) (ghost_schema plan) (find_table into tables) (ap (λ (t : List ℕ). schema_of t tables) keyed.1 ∙ stand.ghost) (rw keyed.2 mapped))
 keyed_formed plan tables request stand mapped keyed has = absurd cc
 
@@ -87,19 +87,19 @@ keyed_formed plan tables request stand mapped keyed has = absurd cc
 
 module _ (plan : PlanData) (journal : List Entry) (is : IsKeyedAll plan journal) (mapped : IsMapped plan) where
   -- the two tables stand while rows are left
-  tables_stand_now : (work : Work) → (moment plan journal).tool.course ≡ Migrating work → work.copier.is_copied ≡ false → TablesStand plan (state_at plan journal).tables
-  tables_stand_now work course off = ((subst (CourseTables plan (state_at plan journal).tables (standing_of plan journal)) course is.tabled.tables).going off).tables
+  tables_exist_now : (work : Work) → (moment plan journal).tool.tool_phase ≡ Migrating work → work.copier.is_copied ≡ false → TablesExist plan (state_at plan journal).tables
+  tables_exist_now work tool_phase off = ((subst (ToolPhaseTables plan (state_at plan journal).tables (standing_of plan journal)) tool_phase is.tabled.tables).going off).tables
 
-  copy_formed : (request : Request) (course : Course) → (moment plan journal).tool.course ≡ course → has_keys request ≡ true → tool_call plan (moment plan journal).server journal (moment plan journal).tool course Copy ≡ Some request → IsWellFormed (state_at plan journal).tables request
-  copy_formed request (SettingUp setup tries) course has call = absurd cc
-  copy_formed request (Migrating work) course has call =
-      keyed_formed plan (state_at plan journal).tables request (tables_stand_now work course (copy_uncopied plan journal request work has call)) mapped
-      (copy_called plan journal request (Migrating work) (subst (CourseKeyed plan journal) course is.course) call) has
+  copy_formed : (request : Request) (tool_phase : ToolPhase) → (moment plan journal).tool.tool_phase ≡ tool_phase → has_keys request ≡ true → tool_call plan (moment plan journal).server journal (moment plan journal).tool tool_phase Copy ≡ Some request → IsWellFormed (state_at plan journal).tables request
+  copy_formed request (SettingUp setup tries) tool_phase has call = absurd cc
+  copy_formed request (Migrating work) tool_phase has call =
+      keyed_formed plan (state_at plan journal).tables request (tables_exist_now work tool_phase (copy_uncopied plan journal request work has call)) mapped
+      (copy_called plan journal request (Migrating work) (subst (ToolPhaseKeyed plan journal) tool_phase is.tool_phase) call) has
 
   copy_given : (request : Request) → has_keys request ≡ true → tool_asks plan journal (moment plan journal) Copy ≡ Some (Call request) → IsWellFormed (state_at plan journal).tables request
   copy_given request has gives = by (asking plan journal Copy (Call request) is.tabled.all.tool.server gives) where
     by : Asking plan journal Copy (Call request) → IsWellFormed (state_at plan journal).tables request
-    by (calls_so other same idle call) = let one : other ≡ request = cc in copy_formed request (moment plan journal).tool.course refl has (call ∙ ap Some one)
+    by (calls_so other same idle call) = let one : other ≡ request = cc in copy_formed request (moment plan journal).tool.tool_phase refl has (call ∙ ap Some one)
     by (polls_so other same some) = absurd (no same) where
       no : Call request ≡ Poll → ⊥
       no both = cc
@@ -171,7 +171,7 @@ KeysAreCopiers actor request = has_keys request ≡ true → actor ≡ Copy
 not_keys : (actor : Actor) (request : Request) → has_keys request ≡ false → KeysAreCopiers actor request
 not_keys actor request none has = absurd (true≢false (sym has ∙ none))
 
-call_keys : (plan : PlanData) (journal : List Entry) (actor : Actor) (request : Request) (course : Course) → CourseStands journal (standing_of plan journal) (is_reverting (moment plan journal).tool.reason) course → tool_call plan (moment plan journal).server journal (moment plan journal).tool course actor ≡ Some request → KeysAreCopiers actor request
+call_keys : (plan : PlanData) (journal : List Entry) (actor : Actor) (request : Request) (tool_phase : ToolPhase) → ToolPhaseStands journal (standing_of plan journal) (is_reverting (moment plan journal).tool.reason) tool_phase → tool_call plan (moment plan journal).server journal (moment plan journal).tool tool_phase actor ≡ Some request → KeysAreCopiers actor request
 call_keys plan journal Insp request (SettingUp setup tries) at call = not_keys Insp request (insp_keyless request (setup_next plan (is_reverting (moment plan journal).tool.reason) setup request call))
 call_keys plan journal Insp request (Migrating work) at call = not_keys Insp request (insp_keyless request (inspector_next work.cutover request call).0)
 call_keys plan journal Copy request (Migrating work) at call = λ has. refl
@@ -196,7 +196,7 @@ call_keys plan journal actor request (Migrating work) at call = absurd cc
 tool_keys : (plan : PlanData) (journal : List Entry) (actor : Actor) (request : Request) → AllTogether plan journal → tool_asks plan journal (moment plan journal) actor ≡ Some (Call request) → KeysAreCopiers actor request
 tool_keys plan journal actor request is gives = by (asking plan journal actor (Call request) is.tool.server gives) where
   by : Asking plan journal actor (Call request) → KeysAreCopiers actor request
-  by (calls_so other same idle call) = let one : other ≡ request = cc in call_keys plan journal actor request (moment plan journal).tool.course is.tool.stands (call ∙ ap Some one)
+  by (calls_so other same idle call) = let one : other ≡ request = cc in call_keys plan journal actor request (moment plan journal).tool.tool_phase is.tool.stands (call ∙ ap Some one)
   by (polls_so other same some) = absurd (no same) where
     no : Call request ≡ Poll → ⊥
     no both = cc
@@ -231,18 +231,18 @@ all_keys plan journal fit faithful follows = Along-keeps (IsRun plan) (KeysKnown
 -- POLLS
 
 -- the copier's waiting request
-copy_waits : (plan : PlanData) (journal : List Entry) (request : Request) (course : Course) → IsKeyedAll plan journal → IsMapped plan → (moment plan journal).tool.course ≡ course → (standing_of plan journal Copy).waits ≡ Some request → has_keys request ≡ true → IsWellFormed (state_at plan journal).tables request
-copy_waits plan journal request (SettingUp setup tries) is mapped course some has = absurd (no (sym (ap (λ (s : Standing). s.waits) free_copy) ∙ some)) where
+copy_waits : (plan : PlanData) (journal : List Entry) (request : Request) (tool_phase : ToolPhase) → IsKeyedAll plan journal → IsMapped plan → (moment plan journal).tool.tool_phase ≡ tool_phase → (standing_of plan journal Copy).waits ≡ Some request → has_keys request ≡ true → IsWellFormed (state_at plan journal).tables request
+copy_waits plan journal request (SettingUp setup tries) is mapped tool_phase some has = absurd (no (sym (ap (λ (s : Standing). s.waits) free_copy) ∙ some)) where
   free_copy : standing_of plan journal Copy ≡ Rattle.proof_journals.specs.Machine.Standings.free
-  free_copy = (subst (CourseStands journal (standing_of plan journal) (is_reverting (moment plan journal).tool.reason)) course is.tabled.all.tool.stands).copier
+  free_copy = (subst (ToolPhaseStands journal (standing_of plan journal) (is_reverting (moment plan journal).tool.reason)) tool_phase is.tabled.all.tool.stands).copier
 
   no : None ≡ Some request → ⊥
   no both = cc
-copy_waits plan journal request (Migrating work) is mapped course some has =
-    keyed_formed plan (state_at plan journal).tables request (tables_stand_now plan journal is mapped work course (off work.copier.is_copied refl)) mapped (is.waits Copy request some refl) has where
+copy_waits plan journal request (Migrating work) is mapped tool_phase some has =
+    keyed_formed plan (state_at plan journal).tables request (tables_exist_now plan journal is mapped work tool_phase (off work.copier.is_copied refl)) mapped (is.waits Copy request some refl) has where
       off : (b : Bool) → work.copier.is_copied ≡ b → b ≡ false
       off false copied = refl
-      off true copied = absurd (no (sym ((subst (CourseTables plan (state_at plan journal).tables (standing_of plan journal)) course is.tabled.tables).copied copied) ∙ some)) where
+      off true copied = absurd (no (sym ((subst (ToolPhaseTables plan (state_at plan journal).tables (standing_of plan journal)) tool_phase is.tabled.tables).copied copied) ∙ some)) where
         no : None ≡ Some request → ⊥
         no both = cc
 
@@ -257,7 +257,7 @@ given_polled plan journal actor runs faithful follows gives =
       by formed is request some false none = formed.waits actor request some none (state_at plan journal).tables
       by formed is request some true has =
           let one : actor ≡ Copy = (all_keys plan journal runs.fitting faithful follows).waits actor request some has in
-          copy_waits plan journal request (moment plan journal).tool.course is runs.mapped refl (ap (λ (a : Actor). (standing_of plan journal a).waits) (sym one) ∙ some) has
+          copy_waits plan journal request (moment plan journal).tool.tool_phase is runs.mapped refl (ap (λ (a : Actor). (standing_of plan journal a).waits) (sym one) ∙ some) has
 
 -- LOSSES
 

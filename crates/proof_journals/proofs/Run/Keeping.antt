@@ -13,7 +13,7 @@ use Rattle.server_model.specs.Entries.{is_command}
 use Rattle.plan_data.specs.PlanData.{PlanData}
 use Rattle.tool_program.specs.JournalWords.Journals.{state_at, IsAnswered, IsFaithful}
 use Rattle.tool_program.specs.JournalWords.Clients.{client_asks}
-use Rattle.tool_program.specs.JournalWords.Keeping.{words_of, commands_taken, TakesNext, IsPlanned, KeepsPlan}
+use Rattle.tool_program.specs.JournalWords.KeptPlans.{words_of, commands_taken, TakesNext, IsPlanned, KeepsPlan}
 use Rattle.tool_program.specs.JournalWords.Sessions.{live_session, IsSeated, KeepsSessions}
 use Rattle.tool_program.specs.Tools.{moment}
 use Rattle.tool_program.specs.Programs.{waits, tool_call, calls, commands, tool_asks, given, IsFollowed, Follows}
@@ -73,7 +73,7 @@ asked_by false request asked is = called request asked is
 -- what an actor of the tool asks is no command
 pub tool_asks_none : (plan : PlanData) (journal : List Entry) (actor : Actor) (asked : Asked) → tool_asks plan journal (moment plan journal) actor ≡ Some asked → is_command asked ≡ false
 tool_asks_none plan journal actor asked is =
-    asked_by (waits (moment plan journal).server (live_session journal actor)) (tool_call plan (moment plan journal).server journal (moment plan journal).tool (moment plan journal).tool.course actor) asked is
+    asked_by (waits (moment plan journal).server (live_session journal actor)) (tool_call plan (moment plan journal).server journal (moment plan journal).tool (moment plan journal).tool.tool_phase actor) asked is
 
 -- *What is given is what the plan has the actor ask*
 pub next_of : (plan : PlanData) (journal : List Entry) (actor : Actor) (asked : Asked) → given plan journal actor ≡ Some asked → TakesNext plan journal actor asked

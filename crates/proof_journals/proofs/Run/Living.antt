@@ -15,11 +15,11 @@ use Rattle.server_model.specs.declared.session.Session.{Session}
 use Rattle.server_model.specs.Along.{Along-both, Along-keeps}
 use Rattle.server_model.specs.Entries.{same_actor, is_client, is_command}
 use Rattle.server_model.specs.States.{State, session_of}
-use Rattle.server_model.specs.Serving.{serves, given_at}
+use Rattle.server_model.specs.PlainServer.{serves, given_at}
 use Rattle.plan_data.specs.PlanData.{PlanData}
 use Rattle.tool_program.specs.JournalWords.Journals.{opening, opens, after_entry, state_after, state_at, inner_answer, heard, IsAnswered, IsFaithful, may_lose}
 use Rattle.tool_program.specs.JournalWords.Sessions.{live_session, session_left, sessions_named, IsSeated, KeepsSessions}
-use Rattle.proof_journals.specs.Run.Counting.{AreApart, kind_of}
+use Rattle.proof_journals.specs.Run.Counts.{AreApart, kind_of}
 use Rattle.proof_journals.specs.Run.Laws.{Living, SessionsAreKnown}
 use Rattle.proof_journals.proofs.Run.Turns.{is_lost, kind_left, Leaves, turn_leaves, opened_kind, Opens, opened, entry_turned}
 use Rattle.proof_journals.proofs.Actors.{same_actor_is, live_more, Placed, Commands, GoesOn, Begins, placed, SessionsKnown, sessions_begin, left_own, sessions_more, others_differ}
@@ -43,7 +43,7 @@ heard_left None Poll inner session n cut left = refl
 heard_left None (Command word) inner session n cut left = refl
 heard_left None Cut inner session n cut left = absurd (by inner (cut refl) left)
   where
-    by : (told : Option Answer) → told ≡ None → session_left Cut (heard None told) session ≡ Some n → ⊥
+    by : (reported : Option Answer) → reported ≡ None → session_left Cut (heard None reported) session ≡ Some n → ⊥
     by None is left = cc
     by (Some answer) is left = cc
 

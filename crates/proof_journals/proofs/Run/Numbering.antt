@@ -8,12 +8,12 @@ use Rattle.server_model.specs.declared.request.Request.{Request}
 use Rattle.server_model.specs.declared.request.Request.TheVariants as requests
 use Rattle.server_model.specs.declared.entry.Asked.{Asked}
 use Rattle.server_model.specs.declared.entry.Asked.TheVariants.{Call, Poll, Command, Cut}
-use Rattle.server_model.specs.Showing.{waits_shown}
+use Rattle.server_model.specs.Listings.{waits_shown}
 use Rattle.server_model.specs.States.{State, session_of, is_in_transaction, waiting_of, view}
-use Rattle.server_model.specs.Locking.{need, blocker}
+use Rattle.server_model.specs.Blockers.{need, blocker}
 use Rattle.server_model.specs.Effects.{Effect, Rests, Grows, Writes, Forgets, Moves, Locks, Unlocks, effect_unless, effect, is_outside}
-use Rattle.server_model.specs.Serving.{Served, does, done, called_unless, calls, is_over, polled_over, polled_unless, polled_of, polls, loses, serves, leaves}
-use Rattle.proof_journals.specs.Run.Counting.{numbered}
+use Rattle.server_model.specs.PlainServer.{Served, does, done, called_unless, calls, is_over, polled_over, polled_unless, polled_of, polls, loses, serves, leaves}
+use Rattle.proof_journals.specs.Run.Counts.{numbered}
 
 -- what is served, with another number
 abbrev pub renumbered : ℕ → Served → Served
@@ -68,7 +68,7 @@ over_numbered true by made state number = refl
 over_numbered false by made state number = refl
 
 unless_numbered : (by : Option ℕ) (made : ℕ) (state : State) (number : ℕ) (request : Request) → polled_unless by (numbered made state) number request ≡ renumbered made (polled_unless by state number request)
-unless_numbered None made state number request = done_numbered made (Rattle.server_model.specs.Serving.without_waiting number state) number request
+unless_numbered None made state number request = done_numbered made (Rattle.server_model.specs.PlainServer.without_waiting number state) number request
 unless_numbered (Some by) made state number request = over_numbered (is_over state number) by made state number
 
 polled_numbered : (waiting : Option Waiting) (made : ℕ) (state : State) (number : ℕ) → polled_of waiting (numbered made state) number ≡ renumbered made (polled_of waiting state number)
@@ -88,7 +88,7 @@ pub serves_numbered : (made : ℕ) (state : State) (number : ℕ) (asked : Asked
 serves_numbered made state number (Call request) = calls_numbered made state number request
 serves_numbered made state number Poll = polls_numbered made state number
 serves_numbered made state number (Command word) = refl
-serves_numbered made state number Cut = ap (λ (after : State). Rattle.server_model.specs.Serving.serving Rattle.server_model.specs.declared.answer.Answer.TheVariants.Lost after) (loses_numbered made state number)
+serves_numbered made state number Cut = ap (λ (after : State). Rattle.server_model.specs.PlainServer.serving Rattle.server_model.specs.declared.answer.Answer.TheVariants.Lost after) (loses_numbered made state number)
 
 -- what it leaves
 pub leaves_numbered : (side : Option Side) (made : ℕ) (state : State) (number : ℕ) (asked : Asked) → leaves side (numbered made state) number asked ≡ numbered made (leaves side state number asked)

@@ -19,7 +19,7 @@ use Rattle.server_model.specs.Entries.{is_command}
 use Rattle.server_model.specs.States.{State, has_work}
 use Rattle.plan_data.specs.PlanData.{PlanData}
 use Rattle.tool_program.specs.JournalWords.Journals.{opening, state_after, state_at}
-use Rattle.tool_program.specs.JournalWords.Keeping.{commands_taken}
+use Rattle.tool_program.specs.JournalWords.KeptPlans.{commands_taken}
 use Rattle.tool_program.specs.declared.chunk_copier.copier.Copier.{Copier}
 use Rattle.tool_program.specs.ChunkCopier.Copiers as copiers
 use Rattle.tool_program.specs.declared.event_applier.applier.Applier.{Applier}
@@ -29,7 +29,7 @@ use Rattle.tool_program.specs.declared.cutover_core.cutover.Role.TheVariants.{In
 use Rattle.tool_program.specs.CutoverCore.CutOvers as cutovers
 use Rattle.tool_program.specs.Setups.{Setup, Listing, setup_after}
 use Rattle.tool_program.specs.Operators.{Operator, commanded}
-use Rattle.tool_program.specs.Tools.{Work, Course, SettingUp, Migrating, Reason, CopyUnfit, ApplyUnfit, Spent, Panicked, Tool, Moment, new_tool, first_reason, stopped, is_renamed, reverts, spends, is_reverting, copy_after, apply_after, attempt_after, is_failure, cutover_after, drains, course_of, setup_took, actor_took, turn_counts, resizes, panics, asked_took, took, after_turn, moment}
+use Rattle.tool_program.specs.Tools.{Work, ToolPhase, SettingUp, Migrating, Reason, CopyUnfit, ApplyUnfit, Spent, Panicked, Tool, Moment, new_tool, first_reason, stopped, is_renamed, reverts, spends, is_reverting, copy_after, apply_after, attempt_after, is_failure, cutover_after, drains, tool_phase_of, setup_took, actor_took, turn_counts, resizes, panics, asked_took, took, after_turn, moment}
 
 -- as many turns, and the same operator
 record Rests (before after : Tool) : Type 0 where
@@ -53,9 +53,9 @@ record Takes (asked : Asked) (before after : Tool) : Type 0 where
 
 module _ (plan : PlanData) where
   reverts_rests : (reason : Reason) (tool : Tool) → Rests tool (reverts reason tool)
-  reverts_rests reason tool = by (is_renamed tool.course)
+  reverts_rests reason tool = by (is_renamed tool.tool_phase)
     where
-      by : (renamed : Bool) → Rests tool (if renamed then tool else record tool { reason = first_reason tool.reason reason; course = stopped tool.course })
+      by : (renamed : Bool) → Rests tool (if renamed then tool else record tool { reason = first_reason tool.reason reason; tool_phase = stopped tool.tool_phase })
       by true = record { turns = refl; operator = refl }
       by false = record { turns = refl; operator = refl }
 
@@ -67,9 +67,9 @@ module _ (plan : PlanData) where
       by false = rests_itself tool
 
   -- a failed try, behind a change of the course
-  spent_rests : (task : Task) (tries : List ℕ) (course : Course) (tool : Tool) → Rests tool (spends plan task tries (record tool { course = course }))
-  spent_rests task tries course tool =
-      rests_then tool (record tool { course = course }) (spends plan task tries (record tool { course = course })) (record { turns = refl; operator = refl }) (spends_rests task tries (record tool { course = course }))
+  spent_rests : (task : Task) (tries : List ℕ) (tool_phase : ToolPhase) (tool : Tool) → Rests tool (spends plan task tries (record tool { tool_phase = tool_phase }))
+  spent_rests task tries tool_phase tool =
+      rests_then tool (record tool { tool_phase = tool_phase }) (spends plan task tries (record tool { tool_phase = tool_phase })) (record { turns = refl; operator = refl }) (spends_rests task tries (record tool { tool_phase = tool_phase }))
 
   copy_rests : (work : Work) (progress : Progress) (copier : Copier) (tool : Tool) → Rests tool (copy_after plan work progress copier tool)
   copy_rests work Going copier tool = record { turns = refl; operator = refl }
@@ -93,7 +93,7 @@ module _ (plan : PlanData) where
   cutover_rests : (cutover : CutOver) (work : Work) (tool : Tool) → Rests tool (cutover_after plan cutover work tool)
   cutover_rests cutover work tool = attempt_rests (is_failure work.cutover.phase cutover.phase) work cutover tool
 
-  drains_rests : (course : Course) (tool : Tool) → Rests tool (drains plan course tool)
+  drains_rests : (tool_phase : ToolPhase) (tool : Tool) → Rests tool (drains plan tool_phase tool)
   drains_rests (SettingUp setup tries) tool = rests_itself tool
   drains_rests (Migrating work) tool = cutover_rests (cutovers.applier_turn work.applier.hint work.cutover) work tool
 
@@ -101,7 +101,7 @@ module _ (plan : PlanData) where
   setup_rests setup tries answer tool = by (cutovers.is_bad answer)
     where
       by : (bad : Bool) →
-          Rests tool (if bad then spends plan tasks.Setup (tries ++ tool.turns ∷ []) (record tool { course = SettingUp Listing (tries ++ tool.turns ∷ []) }) else record tool { course = course_of plan tool.operator.size (setup_after plan.table setup answer) tries })
+          Rests tool (if bad then spends plan tasks.Setup (tries ++ tool.turns ∷ []) (record tool { tool_phase = SettingUp Listing (tries ++ tool.turns ∷ []) }) else record tool { tool_phase = tool_phase_of plan tool.operator.size (setup_after plan.table setup answer) tries })
       by true = spent_rests tasks.Setup (tries ++ tool.turns ∷ []) (SettingUp Listing (tries ++ tool.turns ∷ [])) tool
       by false = record { turns = refl; operator = refl }
 
@@ -110,7 +110,7 @@ module _ (plan : PlanData) where
   unless true tool after rests = rests_itself tool
   unless false tool after rests = rests
 
-  actor_rests : (actor : Actor) (answer : Answer) (course : Course) (tool : Tool) → Rests tool (actor_took plan actor answer course tool)
+  actor_rests : (actor : Actor) (answer : Answer) (tool_phase : ToolPhase) (tool : Tool) → Rests tool (actor_took plan actor answer tool_phase tool)
   actor_rests Insp answer (SettingUp setup tries) tool = unless (is_reverting tool.reason) tool (setup_took plan setup tries answer tool) (setup_rests setup tries answer tool)
   actor_rests Insp answer (Migrating work) tool = cutover_rests (cutovers.took Inspector work.cutover answer) work tool
   actor_rests Copy answer (Migrating work) tool =
@@ -121,36 +121,36 @@ module _ (plan : PlanData) where
       (apply_rests work (appliers.progress work.applier answer) (appliers.took tool.turns work.applier answer) tool)
   actor_rests Lock answer (Migrating work) tool = cutover_rests (cutovers.took Locker work.cutover answer) work tool
   actor_rests Ren answer (Migrating work) tool = cutover_rests (cutovers.took Renamer work.cutover answer) work tool
-  actor_rests actor answer course tool = rests_itself tool
+  actor_rests actor answer tool_phase tool = rests_itself tool
 
   counts_rests : (actor : Actor) (tool : Tool) → Rests tool (turn_counts plan actor tool)
-  counts_rests Apply tool = drains_rests tool.course tool
+  counts_rests Apply tool = drains_rests tool.tool_phase tool
   counts_rests actor tool = rests_itself tool
 
   panics_rests : (word : OperatorWord) (tool : Tool) → Rests tool (panics word tool)
   panics_rests Panic tool = reverts_rests (Panicked tool.turns) tool
   panics_rests word tool = rests_itself tool
 
-  answered_rests : (entry : Entry) (tool : Tool) → Rests tool (turn_counts plan entry.actor (actor_took plan entry.actor entry.answer tool.course tool))
+  answered_rests : (entry : Entry) (tool : Tool) → Rests tool (turn_counts plan entry.actor (actor_took plan entry.actor entry.answer tool.tool_phase tool))
   answered_rests entry tool =
-      rests_then tool (actor_took plan entry.actor entry.answer tool.course tool) (turn_counts plan entry.actor (actor_took plan entry.actor entry.answer tool.course tool)) (actor_rests entry.actor entry.answer tool.course tool)
-      (counts_rests entry.actor (actor_took plan entry.actor entry.answer tool.course tool))
+      rests_then tool (actor_took plan entry.actor entry.answer tool.tool_phase tool) (turn_counts plan entry.actor (actor_took plan entry.actor entry.answer tool.tool_phase tool)) (actor_rests entry.actor entry.answer tool.tool_phase tool)
+      (counts_rests entry.actor (actor_took plan entry.actor entry.answer tool.tool_phase tool))
 
   asked_takes : (state : State) (entry : Entry) (asked : Asked) (tool : Tool) → Takes asked tool (asked_took plan state entry asked tool)
   asked_takes state entry (Command word) tool =
-      let rests : Rests (record tool { operator = commanded word tool.operator; course = resizes word tool.course }) (panics word (record tool { operator = commanded word tool.operator; course = resizes word tool.course })) =
-      panics_rests word (record tool { operator = commanded word tool.operator; course = resizes word tool.course }) in
+      let rests : Rests (record tool { operator = commanded word tool.operator; tool_phase = resizes word tool.tool_phase }) (panics word (record tool { operator = commanded word tool.operator; tool_phase = resizes word tool.tool_phase })) =
+      panics_rests word (record tool { operator = commanded word tool.operator; tool_phase = resizes word tool.tool_phase }) in
       record { turns = rests.turns; operator = rests.operator }
   asked_takes state entry Cut tool = by (has_work state entry.session)
     where
-      by : (worked : Bool) → Takes Cut tool (if worked then actor_took plan entry.actor answers.Lost tool.course tool else tool)
-      by true = let rests : Rests tool (actor_took plan entry.actor answers.Lost tool.course tool) = actor_rests entry.actor answers.Lost tool.course tool in record { turns = rests.turns; operator = rests.operator }
+      by : (worked : Bool) → Takes Cut tool (if worked then actor_took plan entry.actor answers.Lost tool.tool_phase tool else tool)
+      by true = let rests : Rests tool (actor_took plan entry.actor answers.Lost tool.tool_phase tool) = actor_rests entry.actor answers.Lost tool.tool_phase tool in record { turns = rests.turns; operator = rests.operator }
       by false = record { turns = refl; operator = refl }
   asked_takes state entry (Call request) tool =
-      let rests : Rests tool (turn_counts plan entry.actor (actor_took plan entry.actor entry.answer tool.course tool)) = answered_rests entry tool in
+      let rests : Rests tool (turn_counts plan entry.actor (actor_took plan entry.actor entry.answer tool.tool_phase tool)) = answered_rests entry tool in
       record { turns = rests.turns; operator = rests.operator }
   asked_takes state entry Poll tool =
-      let rests : Rests tool (turn_counts plan entry.actor (actor_took plan entry.actor entry.answer tool.course tool)) = answered_rests entry tool in
+      let rests : Rests tool (turn_counts plan entry.actor (actor_took plan entry.actor entry.answer tool.tool_phase tool)) = answered_rests entry tool in
       record { turns = rests.turns; operator = rests.operator }
 
   -- a turn counts one
@@ -190,8 +190,8 @@ module _ (plan : PlanData) where
   pub turns_are : (journal : List Entry) → (moment plan journal).tool.turns ≡ length journal
   unfolding moment
   turns_are journal =
-      let behind : (fold (after_turn plan) (record { server = opening plan; tool = new_tool plan }) journal).tool.turns ≡ (new_tool plan).turns + length journal = turns_after journal (record { server = opening plan; tool = new_tool plan }) in
-      omega (arith, behind)
+      let following : (fold (after_turn plan) (record { server = opening plan; tool = new_tool plan }) journal).tool.turns ≡ (new_tool plan).turns + length journal = turns_after journal (record { server = opening plan; tool = new_tool plan }) in
+      omega (arith, following)
 
   taken_behind : (journal : List Entry) (now : Moment) (n : ℕ) → now.tool.operator.taken ≡ n → (fold (after_turn plan) now journal).tool.operator.taken ≡ fold (λ (m : ℕ) (e : Entry). m + cond (is_command e.asked) 1 0) n journal
   taken_behind [] now n is = is

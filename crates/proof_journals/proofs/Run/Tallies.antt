@@ -7,7 +7,7 @@ use Rattle.std.proofs.lemmas.List.Recursion.{is_count_by}
 use Rattle.server_model.specs.declared.session.Session.{Session}
 use Rattle.server_model.specs.declared.session.Waiting.{Waiting}
 use Rattle.server_model.specs.States.{State, session_of, load, is_tool_busy}
-use Rattle.proof_journals.specs.Run.Counting.{is_open, is_busy, busy_count, weight, weigh, others, others_waiting, AreApart, Turned}
+use Rattle.proof_journals.specs.Run.Counts.{is_open, is_busy, busy_count, weight, weigh, others, others_waiting, AreApart, Turned}
 use Rattle.server_model.proofs.LockedRows.Tests.{are_one}
 
 -- a count by recursion

@@ -14,13 +14,13 @@ use Rattle.server_model.specs.declared.request.Request.{Request}
 use Rattle.server_model.specs.declared.entry.Asked.{Asked}
 use Rattle.server_model.specs.declared.entry.Asked.TheVariants.{Call, Poll, Command, Cut}
 use Rattle.server_model.specs.States.{State, session_of, is_live, is_in_transaction, view, with_session, new_session, connected, waiting_of}
-use Rattle.server_model.specs.Locking.{need, blocker}
+use Rattle.server_model.specs.Blockers.{need, blocker}
 use Rattle.server_model.specs.Effects.{Effect, Rests, Grows, Writes, Forgets, Moves, Locks, Unlocks, effect}
-use Rattle.server_model.specs.Serving.{holding, at_rest, locking, unlocking, counting, does, done, without_waiting, called_unless, calls, is_over, polled_over, polled_unless, polled_of, polls, loses, serves, leaves}
+use Rattle.server_model.specs.PlainServer.{holding, at_rest, locking, unlocking, counting, does, done, without_waiting, called_unless, calls, is_over, polled_over, polled_unless, polled_of, polls, loses, serves, leaves}
 use Rattle.server_model.specs.declared.entry.Entry.{Entry}
 use Rattle.server_model.specs.Entries.{is_client, is_command}
 use Rattle.tool_program.specs.JournalWords.Journals.{opens_if, opens, after_entry}
-use Rattle.proof_journals.specs.Run.Counting.{others, others_waiting, AreApart, kind_of, Turned}
+use Rattle.proof_journals.specs.Run.Counts.{others, others_waiting, AreApart, kind_of, Turned}
 use Rattle.server_model.proofs.LockedRows.Tests.{same_number}
 
 -- A CHANGE OF ONE SESSION

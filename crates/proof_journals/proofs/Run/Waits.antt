@@ -14,13 +14,13 @@ use Rattle.server_model.specs.declared.session.Waiting.{Waiting}
 use Rattle.server_model.specs.Along.{Along-both, Along-keeps}
 use Rattle.server_model.specs.Entries.{is_client, is_command}
 use Rattle.server_model.specs.States.{State, session_of, is_waiting, new_session, connected}
-use Rattle.server_model.specs.Serving.{loses, serves, leaves}
+use Rattle.server_model.specs.PlainServer.{loses, serves, leaves}
 use Rattle.plan_data.specs.PlanData.{PlanData}
 use Rattle.tool_program.specs.JournalWords.Journals.{opening, opens_if, opens, after_entry, state_after, state_at, IsAnswered}
 use Rattle.tool_program.specs.JournalWords.Sessions.{IsSeated, KeepsSessions}
 use Rattle.proof_journals.proofs.Actors.{Placed, placed, SessionsKnown, sessions_begin}
 use Rattle.proof_journals.proofs.Journals.{state_more}
-use Rattle.proof_journals.specs.Run.Counting.{numbered, others, others_waiting, kind_of}
+use Rattle.proof_journals.specs.Run.Counts.{numbered, others, others_waiting, kind_of}
 use Rattle.proof_journals.specs.Run.Laws.{Living, NoneWaits, WaitsAreLive}
 use Rattle.proof_journals.proofs.Run.Tallies.{waits_same}
 use Rattle.proof_journals.proofs.Run.Turns.{is_lost, kind_left, Leaves, turn_leaves, entry_turned, others_joined}

@@ -30,11 +30,11 @@ stays t log turn copier applier answer is_t reads none d step = subst (λ s. IsD
 
 pub has_turned : (t : List ℕ) (scene : Scene) (turn : ℕ) (copier : Copier) (applier : Applier) (answer : Answer) (attempt : ℕ) (phase : Phase) → applier.table ≡ t → Knows t scene.log applier → Reads t scene.log applier answer → (IsDraining phase → applier.hint ≢ attempt)
     → ((events : List RowEvent) (next : ℕ) → answer ≡ answers.Events events next → IsDrained t scene.log copier applier → events_of t events ≡ []) → HasTurned t scene copier applier (took turn applier answer) attempt phase
-has_turned t scene turn copier applier answer attempt phase is_t knows reads behind none =
+has_turned t scene turn copier applier answer attempt phase is_t knows reads following none =
     record {
       knows = (knows_took t scene.log turn applier answer is_t knows reads).hint;
       within = (knows_took t scene.log turn applier answer is_t knows reads).within;
-      idle = λ draining same. moved (behind draining) same (hint_moves turn applier answer);
+      idle = λ draining same. moved (following draining) same (hint_moves turn applier answer);
       stays = λ d. stays t scene.log turn copier applier answer is_t reads (λ events next is. none events next is d) d (reading_is applier.step d.idle);
     }
   where

@@ -7,7 +7,7 @@ use Rattle.server_model.specs.declared.answer.Answer.TheVariants as answers
 use Rattle.server_model.specs.declared.request.Request.TheVariants as requests
 use Rattle.tool_program.specs.CutoverCore.Attempts as cutovers
 use Rattle.proof_journals.specs.Sentry.Sentries.{scene, Fits, LockerMay, LockerServes, LocksServes, DropsServes, MayAnswer}
-use Rattle.proof_journals.specs.Sentry.Turning.{LockerCalls, OtherTurn}
+use Rattle.proof_journals.specs.Sentry.TurnResults.{LockerCalls, OtherTurn}
 use Rattle.proof_journals.specs.ServerTurns.Others.{TurnOf}
 use Rattle.proof_journals.specs.Sentry.Turns.{LeavesTables, CallLeaves, LockLeaves, DropLeaves, UnlockLeaves}
 use Rattle.proof_journals.proofs.Sentry.Serving.{takes_lock, drops_sentry, frees_lock, only_frees, waits_on, others_turn}
@@ -29,7 +29,7 @@ use Rattle.tool_program.specs.CutoverCore.Attempts.{locker_call, unlocks, rename
 use Rattle.tool_program.specs.CutoverCore.CutOvers.{is_resting}
 use Rattle.tool_program.specs.JournalWords.Sessions.{live_session}
 use Rattle.tool_program.specs.Tools.{Work, Moment, moment}
-use Rattle.tool_program.specs.Tools.Course.{Migrating}
+use Rattle.tool_program.specs.Tools.ToolPhase.{Migrating}
 use Rattle.tool_program.specs.Programs.{given, tool_call, lock_call, may_begin, calls, waits}
 
 -- THE LOCKER'S CALLS
@@ -76,7 +76,7 @@ asks_poll true option e = refl
 asks_poll false option e = absurd (never_polls option e)
 
 -- what the journal so far gives the locker: its call; and where that makes the sentry, the range is copied
-pub locker_given : (plan : PlanData) (journal : List Entry) (work : Work) (request : Request) → (moment plan journal).tool.course ≡ Migrating work → given plan journal Lock ≡ Some (Call request)
+pub locker_given : (plan : PlanData) (journal : List Entry) (work : Work) (request : Request) → (moment plan journal).tool.tool_phase ≡ Migrating work → given plan journal Lock ≡ Some (Call request)
     → LockerCalls work.cutover.table work.cutover.phase work.cutover.hold request × (work.cutover.phase ≡ Resting → work.copier.is_copied ≡ true)
 unfolding given cutovers.next
 locker_given plan journal work request is e = (locker_calls work.cutover work.cutover.phase request (next_is (is_resting work.cutover.phase) (may_begin plan now.server now.tool work) call), λ rests. copied (may_begin plan now.server now.tool work) refl (begun rests))
@@ -84,11 +84,11 @@ locker_given plan journal work request is e = (locker_calls work.cutover work.cu
     now : Moment
     now = moment plan journal
 
-    asked : tool_call plan now.server journal now.tool now.tool.course Lock ≡ Some request
-    asked = asks_call (waits now.server (live_session journal Lock)) (tool_call plan now.server journal now.tool now.tool.course Lock) request e
+    asked : tool_call plan now.server journal now.tool now.tool.tool_phase Lock ≡ Some request
+    asked = asks_call (waits now.server (live_session journal Lock)) (tool_call plan now.server journal now.tool now.tool.tool_phase Lock) request e
 
     call : lock_call plan now.server now.tool work ≡ Some request
-    call = ap (λ course. tool_call plan now.server journal now.tool course Lock) (sym is) ∙ asked
+    call = ap (λ tool_phase. tool_call plan now.server journal now.tool tool_phase Lock) (sym is) ∙ asked
 
     next_is : (a b : Bool) → cond (a && not b) None (locker_call work.cutover work.cutover.phase) ≡ Some request → locker_call work.cutover work.cutover.phase ≡ Some request
     next_is true true e = e
@@ -187,11 +187,11 @@ waiting_may (Finishing clearing) hold waits fits so = no_claim (MayAnswer Restin
 waiting_may Finished hold waits fits so = no_claim (MayAnswer Resting waits) waits fits so
 
 -- the renamer is called for the RENAME alone
-pub renamer_called : (plan : PlanData) (journal : List Entry) (work : Work) (request : Request) → (moment plan journal).tool.course ≡ Migrating work → given plan journal Ren ≡ Some (Call request) → MayAnswer work.cutover.phase work.cutover.renamer_waits
+pub renamer_called : (plan : PlanData) (journal : List Entry) (work : Work) (request : Request) → (moment plan journal).tool.tool_phase ≡ Migrating work → given plan journal Ren ≡ Some (Call request) → MayAnswer work.cutover.phase work.cutover.renamer_waits
 unfolding given cutovers.next
 renamer_called plan journal work request is e =
     drained_calls work.cutover work.cutover.phase work.cutover.renamer_waits request
-    (ap (λ course. tool_call plan now.server journal now.tool course Ren) (sym is) ∙ asks_call (waits now.server (live_session journal Ren)) (tool_call plan now.server journal now.tool now.tool.course Ren) request e)
+    (ap (λ tool_phase. tool_call plan now.server journal now.tool tool_phase Ren) (sym is) ∙ asks_call (waits now.server (live_session journal Ren)) (tool_call plan now.server journal now.tool now.tool.tool_phase Ren) request e)
   where
     now : Moment
     now = moment plan journal
@@ -201,7 +201,7 @@ pub renamer_polled : (plan : PlanData) (journal : List Entry) (work : Work) → 
     → MayAnswer work.cutover.phase work.cutover.renamer_waits
 unfolding given
 renamer_polled plan journal work e fits agrees =
-    waiting_may work.cutover.phase work.cutover.hold work.cutover.renamer_waits fits (agrees (asks_poll (waits (moment plan journal).server (live_session journal Ren)) (tool_call plan (moment plan journal).server journal (moment plan journal).tool (moment plan journal).tool.course Ren) e))
+    waiting_may work.cutover.phase work.cutover.hold work.cutover.renamer_waits fits (agrees (asks_poll (waits (moment plan journal).server (live_session journal Ren)) (tool_call plan (moment plan journal).server journal (moment plan journal).tool (moment plan journal).tool.tool_phase Ren) e))
 
 -- *Another session's premise*, from the server's laws
 pub other_says : (plan : PlanData) (before after : State) (l r s : ℕ) → l ≢ s → r ≢ s → TurnOf false s before after → OtherTurn plan before after l r s

@@ -9,7 +9,7 @@ use Rattle.base_values.specs.declared.event.RowEvent.{RowEvent}
 use Rattle.base_values.specs.declared.event.Change.TheVariants.{Write}
 use Rattle.std.proofs.Math.Seq.{drop-append-add}
 use Rattle.table_store.specs.Databases.{has_table as has_table_name}
-use Rattle.server_locks.specs.MetadataLocks.Granting.{HeldName, holds, blocker_of_name}
+use Rattle.server_locks.specs.MetadataLocks.Grants.{HeldName, holds, blocker_of_name}
 use Rattle.proof_journals.specs.Sentry.Sentries.{Scene, HasSentry, IsAlone, IsLocked, IsHinted, IsDrained, RenameWaits, MayExchange, AfterLock, AfterHint, AfterDrain, AfterRename, AfterDrop, AfterUnlock, AfterFailure, WhereItWaits, HoldsLock, AtEnd, Guards, OthersHold, OthersTurn, DropsSentry, FreesLock, OnlyFreesLock, KnowsHint, MayAnswer}
 use Rattle.proof_journals.proofs.Sentry.Holding.{refused_shared, waits_after}
 use Rattle.base_values.specs.ToolNames.{log_name, old_name}
@@ -69,10 +69,10 @@ pub still_hinted : (t : List ℕ) (attempt : ℕ) (log events : List RowEvent) �
 still_hinted t attempt log events none hinted =
     record {
       front = hinted.front;
-      behind = hinted.behind ++ events;
-      logged = ap (λ all. all ++ events) hinted.logged ∙ append_assoc hinted.front (record { table = log_name t; change = Write (hint_row attempt) } ∷ hinted.behind) events;
+      following = hinted.following ++ events;
+      logged = ap (λ all. all ++ events) hinted.logged ∙ append_assoc hinted.front (record { table = log_name t; change = Write (hint_row attempt) } ∷ hinted.following) events;
       first = hinted.first;
-      last = no_more t hinted.behind events hinted.last none;
+      last = no_more t hinted.following events hinted.last none;
     }
 
 drained_after : (t : List ℕ) (r s l : ℕ) (before after : Scene) (turn : OthersTurn t r s before after) (copier : Copier) (applier : Applier) → l ≢ s → (blocker_of_name before.held before.waiting s t false ≡ None → ⊥) → IsAlone t before.held l → IsDrained t before.log copier applier → IsDrained t after.log copier applier
@@ -150,7 +150,7 @@ writes_hint t attempt l before after at earlier tables held log =
     record {
       sentry = tables ∙ at.sentry;
       locked = subst (λ locks. IsLocked t locks l) (sym held) at.locked;
-      hinted = record { front = before.log; behind = []; logged = log; first = earlier; last = refl };
+      hinted = record { front = before.log; following = []; logged = log; first = earlier; last = refl };
     }
 
 -- an applier that knows of the attempt's hint row is behind it, so that nothing of the table is unread
@@ -172,26 +172,26 @@ split_at (suc position) (suc front) = further position front (split_at position 
     further position front (inl le) = inl (omega arith)
     further position front (inr more) = inr (more.0, omega (arith, more.1))
 
-applied_after : (t : List ℕ) (attempt position : ℕ) (front behind : List RowEvent) (event : RowEvent) → events_of t behind ≡ [] → ((count : ℕ) → last_hint t 0 (take count front) ≢ attempt) → attempt ≡ last_hint t 0 (take position (front ++ event ∷ behind))
-    → events_of t (drop position (front ++ event ∷ behind)) ≡ []
-applied_after t attempt position front behind event none earlier known = by (split_at position (length front))
+applied_after : (t : List ℕ) (attempt position : ℕ) (front following : List RowEvent) (event : RowEvent) → events_of t following ≡ [] → ((count : ℕ) → last_hint t 0 (take count front) ≢ attempt) → attempt ≡ last_hint t 0 (take position (front ++ event ∷ following))
+    → events_of t (drop position (front ++ event ∷ following)) ≡ []
+applied_after t attempt position front following event none earlier known = by (split_at position (length front))
   where
-    by : (position ≤ length front) ⊎ ((k : ℕ) × (position ≡ length front + suc k)) → events_of t (drop position (front ++ event ∷ behind)) ≡ []
-    by (inl le) = absurd (earlier position (sym (known ∙ ap (last_hint t 0) (take-append-le position front (event ∷ behind) le))))
-    by (inr more) = ap (λ count. events_of t (drop count (front ++ event ∷ behind))) more.1 ∙ ap (events_of t) (drop-append-add front (event ∷ behind) (suc more.0)) ∙ none_after t more.0 behind none
+    by : (position ≤ length front) ⊎ ((k : ℕ) × (position ≡ length front + suc k)) → events_of t (drop position (front ++ event ∷ following)) ≡ []
+    by (inl le) = absurd (earlier position (sym (known ∙ ap (last_hint t 0) (take-append-le position front (event ∷ following) le))))
+    by (inr more) = ap (λ count. events_of t (drop count (front ++ event ∷ following))) more.1 ∙ ap (events_of t) (drop-append-add front (event ∷ following) (suc more.0)) ∙ none_after t more.0 following none
 
 -- the applier's turn in which its position passes the hint row: all is applied
 pub drains : (t : List ℕ) (attempt l : ℕ) (scene : Scene) (copier : Copier) (applier : Applier) → AfterHint t scene attempt l → KnowsHint t scene.log applier → applier.hint ≡ attempt → copier.is_copied ≡ true → applier.position ≤ length scene.log
     → Rattle.tool_program.specs.EventApplier.Appliers.starts applier ≡ true → AfterDrain t scene copier applier l
 drains t attempt l scene copier applier at knows is copied within idle =
     let hint_event : RowEvent = record { table = log_name t; change = Write (hint_row attempt) } in
-    let known : attempt ≡ last_hint t 0 (take applier.position (at.hinted.front ++ hint_event ∷ at.hinted.behind)) = sym is ∙ knows ∙ ap (λ log. last_hint t 0 (take applier.position log)) at.hinted.logged in
+    let known : attempt ≡ last_hint t 0 (take applier.position (at.hinted.front ++ hint_event ∷ at.hinted.following)) = sym is ∙ knows ∙ ap (λ log. last_hint t 0 (take applier.position log)) at.hinted.logged in
     record {
       sentry = at.sentry;
       locked = at.locked;
       drained = record {
         copied = copied;
-        applied = ap (λ log. events_of t (drop applier.position log)) at.hinted.logged ∙ applied_after t attempt applier.position at.hinted.front at.hinted.behind hint_event at.hinted.last at.hinted.first known;
+        applied = ap (λ log. events_of t (drop applier.position log)) at.hinted.logged ∙ applied_after t attempt applier.position at.hinted.front at.hinted.following hint_event at.hinted.last at.hinted.first known;
         within = within;
         idle = idle;
       };

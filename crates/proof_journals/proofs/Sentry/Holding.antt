@@ -3,7 +3,7 @@ use Rattle.std.proofs.Common.{◌≡◌, ◌≢◌, ℕ, Bool, true, false, not,
 use Rattle.std.proofs.lemmas.Bool.{and_parts, false_from_ne_true, false≢true, or_left, or_right, eqb-true, ne_eqb}
 use Rattle.std.specs.Cmp.Lexicographic.{pointwise}
 use Rattle.std.specs.List.{list_any}
-use Rattle.server_locks.specs.MetadataLocks.Granting.{HeldName, has_name, is_on, holds, holding_session, waiting_session, least_holder, least_waiter, blocker_of_name, blocker_of_names, ahead_of}
+use Rattle.server_locks.specs.MetadataLocks.Grants.{HeldName, has_name, is_on, holds, holding_session, waiting_session, least_holder, least_waiter, blocker_of_name, blocker_of_names, ahead_of}
 use Rattle.server_locks.specs.LeastSession.Least.{least}
 use Rattle.server_locks.proofs.LeastSession.Sessions.{none_of}
 use Rattle.server_locks.specs.declared.metadata_locks.request.Waiter.{Waiter}

@@ -11,7 +11,7 @@ use Rattle.base_script.specs.declared.operator.OperatorWord.{OperatorWord}
 use Rattle.base_script.specs.declared.operator.OperatorWord.TheVariants.{ChunkSize, Throttle, NoThrottle, Unpostpone, Panic, Wait}
 use Rattle.tool_program.specs.Tools as tools
 use Rattle.proof_journals.specs.Sentry.Sentries.{scene, MayExchange}
-use Rattle.proof_journals.specs.Sentry.Turning.{Holds, CourseHolds, IsGuarded, WorkTurn, AskedTurn, CourseTurn, IsTurned, told_if, told, session_after, session_next, last_session, WholeIn, MayRename, RenamesAreWhole}
+use Rattle.proof_journals.specs.Sentry.TurnResults.{Holds, ToolPhaseHolds, IsGuarded, WorkTurn, AskedTurn, ToolPhaseTurn, IsTurned, reported_if, reported, session_after, session_next, last_session, WholeIn, MayRename, RenamesAreWhole}
 use Rattle.proof_journals.proofs.Sentry.Guarding.{rename_exchanges}
 use Rattle.proof_journals.proofs.Sentry.Steps.{stops, counted_holds, actor_holds, idle_holds, command_holds, locker_next, renamer_next}
 use Rattle.proof_journals.proofs.Sentry.Lifting.{spends_keeps, reverts_keeps}
@@ -27,8 +27,8 @@ use Rattle.tool_program.specs.Setups.{Setup, setup_after}
 use Rattle.tool_program.specs.Setups.Setup.{Listing, Clearing, MakingLog, MakingGhost, Marking, Reaching, Ready}
 use Rattle.tool_program.specs.CutoverCore.CutOvers.{is_bad}
 use Rattle.tool_program.specs.Operators.{commanded}
-use Rattle.tool_program.specs.Tools.{Work, Course, Tool, Moment, new_tool, new_work, moment, after_turn, is_reverting, drains, course_of, setup_took, spends, actor_took, turn_counts, resizes, command_took, asked_took}
-use Rattle.tool_program.specs.Tools.Course.{SettingUp, Migrating}
+use Rattle.tool_program.specs.Tools.{Work, ToolPhase, Tool, Moment, new_tool, new_work, moment, after_turn, is_reverting, drains, tool_phase_of, setup_took, spends, actor_took, turn_counts, resizes, command_took, asked_took}
+use Rattle.tool_program.specs.Tools.ToolPhase.{SettingUp, Migrating}
 use Rattle.tool_program.specs.Tools.Reason.{Panicked}
 
 -- THE SETUP
@@ -36,7 +36,7 @@ use Rattle.tool_program.specs.Tools.Reason.{Panicked}
 work_begins : (plan : PlanData) (state : State) (l r size position : ℕ) (range : Option KeyRange) → Holds plan state l r (new_work plan size position range)
 work_begins plan state l r size position range = record { fits = (refl, refl); copied = λ is. absurd cc; guards = tt }
 
-setup_begins : (plan : PlanData) (state : State) (l r size : ℕ) (setup : Setup) (tries : List ℕ) → CourseHolds plan state l r (course_of plan size setup tries)
+setup_begins : (plan : PlanData) (state : State) (l r size : ℕ) (setup : Setup) (tries : List ℕ) → ToolPhaseHolds plan state l r (tool_phase_of plan size setup tries)
 setup_begins plan state l r size (Ready position range) tries = work_begins plan state l r size position range
 setup_begins plan state l r size Listing tries = tt
 setup_begins plan state l r size (Clearing left) tries = tt
@@ -45,22 +45,22 @@ setup_begins plan state l r size MakingGhost tries = tt
 setup_begins plan state l r size Marking tries = tt
 setup_begins plan state l r size (Reaching position) tries = tt
 
-setup_actor : (plan : PlanData) (state : State) (l r : ℕ) (setup : Setup) (tries : List ℕ) (tool : Tool) (actor : Actor) (answer : Answer) → tool.course ≡ SettingUp setup tries → CourseHolds plan state l r (actor_took plan actor answer (SettingUp setup tries) tool).course
+setup_actor : (plan : PlanData) (state : State) (l r : ℕ) (setup : Setup) (tries : List ℕ) (tool : Tool) (actor : Actor) (answer : Answer) → tool.tool_phase ≡ SettingUp setup tries → ToolPhaseHolds plan state l r (actor_took plan actor answer (SettingUp setup tries) tool).tool_phase
 setup_actor plan state l r setup tries tool Insp answer is = by (is_reverting tool.reason) (is_bad answer)
   where
-    by : (a b : Bool) → CourseHolds plan state l r (cond a tool (cond b (spends plan causes.Setup (tries ++ tool.turns ∷ []) (record tool { course = SettingUp Listing (tries ++ tool.turns ∷ []) })) (record tool { course = course_of plan tool.operator.size (setup_after plan.table setup answer) tries }))).course
-    by true b = subst (CourseHolds plan state l r) (sym is) tt
-    by false true = spends_keeps (CourseHolds plan state l r) (stops plan state l r) plan causes.Setup (tries ++ tool.turns ∷ []) (record tool { course = SettingUp Listing (tries ++ tool.turns ∷ []) }) tt
+    by : (a b : Bool) → ToolPhaseHolds plan state l r (cond a tool (cond b (spends plan causes.Setup (tries ++ tool.turns ∷ []) (record tool { tool_phase = SettingUp Listing (tries ++ tool.turns ∷ []) })) (record tool { tool_phase = tool_phase_of plan tool.operator.size (setup_after plan.table setup answer) tries }))).tool_phase
+    by true b = subst (ToolPhaseHolds plan state l r) (sym is) tt
+    by false true = spends_keeps (ToolPhaseHolds plan state l r) (stops plan state l r) plan causes.Setup (tries ++ tool.turns ∷ []) (record tool { tool_phase = SettingUp Listing (tries ++ tool.turns ∷ []) }) tt
     by false false = setup_begins plan state l r tool.operator.size (setup_after plan.table setup answer) tries
-setup_actor plan state l r setup tries tool Op answer is = subst (CourseHolds plan state l r) (sym is) tt
-setup_actor plan state l r setup tries tool Copy answer is = subst (CourseHolds plan state l r) (sym is) tt
-setup_actor plan state l r setup tries tool Apply answer is = subst (CourseHolds plan state l r) (sym is) tt
-setup_actor plan state l r setup tries tool Lock answer is = subst (CourseHolds plan state l r) (sym is) tt
-setup_actor plan state l r setup tries tool Ren answer is = subst (CourseHolds plan state l r) (sym is) tt
-setup_actor plan state l r setup tries tool (Client client) answer is = subst (CourseHolds plan state l r) (sym is) tt
+setup_actor plan state l r setup tries tool Op answer is = subst (ToolPhaseHolds plan state l r) (sym is) tt
+setup_actor plan state l r setup tries tool Copy answer is = subst (ToolPhaseHolds plan state l r) (sym is) tt
+setup_actor plan state l r setup tries tool Apply answer is = subst (ToolPhaseHolds plan state l r) (sym is) tt
+setup_actor plan state l r setup tries tool Lock answer is = subst (ToolPhaseHolds plan state l r) (sym is) tt
+setup_actor plan state l r setup tries tool Ren answer is = subst (ToolPhaseHolds plan state l r) (sym is) tt
+setup_actor plan state l r setup tries tool (Client client) answer is = subst (ToolPhaseHolds plan state l r) (sym is) tt
 
-setup_counted : (plan : PlanData) (state : State) (l r : ℕ) (setup : Setup) (tries : List ℕ) (tool : Tool) (actor : Actor) (answer : Answer) → tool.course ≡ SettingUp setup tries → CourseHolds plan state l r (turn_counts plan actor (actor_took plan actor answer (SettingUp setup tries) tool)).course
-setup_counted plan state l r setup tries tool Apply answer is = subst (λ course. CourseHolds plan state l r (drains plan course tool).course) (sym is) (subst (CourseHolds plan state l r) (sym is) tt)
+setup_counted : (plan : PlanData) (state : State) (l r : ℕ) (setup : Setup) (tries : List ℕ) (tool : Tool) (actor : Actor) (answer : Answer) → tool.tool_phase ≡ SettingUp setup tries → ToolPhaseHolds plan state l r (turn_counts plan actor (actor_took plan actor answer (SettingUp setup tries) tool)).tool_phase
+setup_counted plan state l r setup tries tool Apply answer is = subst (λ tool_phase. ToolPhaseHolds plan state l r (drains plan tool_phase tool).tool_phase) (sym is) (subst (ToolPhaseHolds plan state l r) (sym is) tt)
 setup_counted plan state l r setup tries tool Insp answer is = setup_actor plan state l r setup tries tool Insp answer is
 setup_counted plan state l r setup tries tool Op answer is = setup_actor plan state l r setup tries tool Op answer is
 setup_counted plan state l r setup tries tool Copy answer is = setup_actor plan state l r setup tries tool Copy answer is
@@ -68,15 +68,15 @@ setup_counted plan state l r setup tries tool Lock answer is = setup_actor plan 
 setup_counted plan state l r setup tries tool Ren answer is = setup_actor plan state l r setup tries tool Ren answer is
 setup_counted plan state l r setup tries tool (Client client) answer is = setup_actor plan state l r setup tries tool (Client client) answer is
 
-setup_command : (plan : PlanData) (state : State) (l r : ℕ) (setup : Setup) (tries : List ℕ) (tool : Tool) (word : OperatorWord) → tool.course ≡ SettingUp setup tries → CourseHolds plan state l r (command_took word tool).course
+setup_command : (plan : PlanData) (state : State) (l r : ℕ) (setup : Setup) (tries : List ℕ) (tool : Tool) (word : OperatorWord) → tool.tool_phase ≡ SettingUp setup tries → ToolPhaseHolds plan state l r (command_took word tool).tool_phase
 setup_command plan state l r setup tries tool word is = by word
   where
-    same : CourseHolds plan state l r tool.course
-    same = subst (CourseHolds plan state l r) (sym is) tt
+    same : ToolPhaseHolds plan state l r tool.tool_phase
+    same = subst (ToolPhaseHolds plan state l r) (sym is) tt
 
-    by : (word : OperatorWord) → CourseHolds plan state l r (command_took word tool).course
-    by Panic = reverts_keeps (CourseHolds plan state l r) (stops plan state l r) (Panicked tool.turns) (record tool { operator = commanded Panic tool.operator; course = tool.course }) same
-    by (ChunkSize size) = subst (λ course. CourseHolds plan state l r (resizes (ChunkSize size) course)) (sym is) tt
+    by : (word : OperatorWord) → ToolPhaseHolds plan state l r (command_took word tool).tool_phase
+    by Panic = reverts_keeps (ToolPhaseHolds plan state l r) (stops plan state l r) (Panicked tool.turns) (record tool { operator = commanded Panic tool.operator; tool_phase = tool.tool_phase }) same
+    by (ChunkSize size) = subst (λ tool_phase. ToolPhaseHolds plan state l r (resizes (ChunkSize size) tool_phase)) (sym is) tt
     by Throttle = same
     by NoThrottle = same
     by Unpostpone = same
@@ -94,37 +94,37 @@ one_cond : (b : Bool) (n : ℕ) → cond b n n ≡ n
 one_cond true n = refl
 one_cond false n = refl
 
-entry_holds : (plan : PlanData) (before after : State) (l r : ℕ) (entry : Entry) (tool : Tool) (course : Course) (asked : Asked) → tool.course ≡ course → CourseHolds plan before l r course
-    → ((work : Work) → course ≡ Migrating work → AskedTurn plan before after l r work tool.turns entry asked) → CourseHolds plan after (lock_at entry.actor asked l entry.session) (ren_at entry.actor asked r entry.session) (asked_took plan before entry asked tool).course
+entry_holds : (plan : PlanData) (before after : State) (l r : ℕ) (entry : Entry) (tool : Tool) (tool_phase : ToolPhase) (asked : Asked) → tool.tool_phase ≡ tool_phase → ToolPhaseHolds plan before l r tool_phase
+    → ((work : Work) → tool_phase ≡ Migrating work → AskedTurn plan before after l r work tool.turns entry asked) → ToolPhaseHolds plan after (lock_at entry.actor asked l entry.session) (ren_at entry.actor asked r entry.session) (asked_took plan before entry asked tool).tool_phase
 entry_holds plan before after l r entry tool (Migrating work) (Command word) is at turn =
-    subst (λ k. CourseHolds plan after k (cond (same_actor entry.actor Ren) r r) (command_took word tool).course) (sym (one_cond (same_actor entry.actor Lock) l))
-    (subst (λ k. CourseHolds plan after l k (command_took word tool).course) (sym (one_cond (same_actor entry.actor Ren) r))
-    (subst (λ state. CourseHolds plan state l r (command_took word tool).course) (sym (turn work refl)) (command_holds plan before l r work word tool is at)))
+    subst (λ k. ToolPhaseHolds plan after k (cond (same_actor entry.actor Ren) r r) (command_took word tool).tool_phase) (sym (one_cond (same_actor entry.actor Lock) l))
+    (subst (λ k. ToolPhaseHolds plan after l k (command_took word tool).tool_phase) (sym (one_cond (same_actor entry.actor Ren) r))
+    (subst (λ state. ToolPhaseHolds plan state l r (command_took word tool).tool_phase) (sym (turn work refl)) (command_holds plan before l r work word tool is at)))
 entry_holds plan before after l r entry tool (Migrating work) (Call request) is at turn =
-    subst (λ course. CourseHolds plan after (locker_next entry.actor l entry.session) (renamer_next entry.actor r entry.session) (turn_counts plan entry.actor (actor_took plan entry.actor entry.answer course tool)).course) (sym is)
+    subst (λ tool_phase. ToolPhaseHolds plan after (locker_next entry.actor l entry.session) (renamer_next entry.actor r entry.session) (turn_counts plan entry.actor (actor_took plan entry.actor entry.answer tool_phase tool)).tool_phase) (sym is)
     (counted_holds plan before after l r work tool entry entry.actor entry.answer is at (turn work refl))
 entry_holds plan before after l r entry tool (Migrating work) Poll is at turn =
-    subst (λ course. CourseHolds plan after (locker_next entry.actor l entry.session) (renamer_next entry.actor r entry.session) (turn_counts plan entry.actor (actor_took plan entry.actor entry.answer course tool)).course) (sym is)
+    subst (λ tool_phase. ToolPhaseHolds plan after (locker_next entry.actor l entry.session) (renamer_next entry.actor r entry.session) (turn_counts plan entry.actor (actor_took plan entry.actor entry.answer tool_phase tool)).tool_phase) (sym is)
     (counted_holds plan before after l r work tool entry entry.actor entry.answer is at (turn work refl))
 entry_holds plan before after l r entry tool (Migrating work) Cut is at turn = by (has_work before entry.session) (turn work refl)
   where
-    by : (b : Bool) → WorkTurn plan before after l r work tool.turns entry entry.actor (told_if b) → CourseHolds plan after (locker_next entry.actor l entry.session) (renamer_next entry.actor r entry.session) (cond b (actor_took plan entry.actor answers.Lost tool.course tool) tool).course
-    by true told = subst (λ course. CourseHolds plan after (locker_next entry.actor l entry.session) (renamer_next entry.actor r entry.session) (actor_took plan entry.actor answers.Lost course tool).course) (sym is)
-        (actor_holds plan before after l r work tool entry entry.actor answers.Lost is at told)
-    by false told = subst (CourseHolds plan after (locker_next entry.actor l entry.session) (renamer_next entry.actor r entry.session)) (sym is) (idle_holds plan before after l r work tool.turns entry entry.actor at told)
+    by : (b : Bool) → WorkTurn plan before after l r work tool.turns entry entry.actor (reported_if b) → ToolPhaseHolds plan after (locker_next entry.actor l entry.session) (renamer_next entry.actor r entry.session) (cond b (actor_took plan entry.actor answers.Lost tool.tool_phase tool) tool).tool_phase
+    by true reported = subst (λ tool_phase. ToolPhaseHolds plan after (locker_next entry.actor l entry.session) (renamer_next entry.actor r entry.session) (actor_took plan entry.actor answers.Lost tool_phase tool).tool_phase) (sym is)
+        (actor_holds plan before after l r work tool entry entry.actor answers.Lost is at reported)
+    by false reported = subst (ToolPhaseHolds plan after (locker_next entry.actor l entry.session) (renamer_next entry.actor r entry.session)) (sym is) (idle_holds plan before after l r work tool.turns entry entry.actor at reported)
 entry_holds plan before after l r entry tool (SettingUp setup tries) (Command word) is at turn = setup_command plan after (cond (same_actor entry.actor Lock) l l) (cond (same_actor entry.actor Ren) r r) setup tries tool word is
 entry_holds plan before after l r entry tool (SettingUp setup tries) (Call request) is at turn =
-    subst (λ course. CourseHolds plan after (locker_next entry.actor l entry.session) (renamer_next entry.actor r entry.session) (turn_counts plan entry.actor (actor_took plan entry.actor entry.answer course tool)).course) (sym is)
+    subst (λ tool_phase. ToolPhaseHolds plan after (locker_next entry.actor l entry.session) (renamer_next entry.actor r entry.session) (turn_counts plan entry.actor (actor_took plan entry.actor entry.answer tool_phase tool)).tool_phase) (sym is)
     (setup_counted plan after (locker_next entry.actor l entry.session) (renamer_next entry.actor r entry.session) setup tries tool entry.actor entry.answer is)
 entry_holds plan before after l r entry tool (SettingUp setup tries) Poll is at turn =
-    subst (λ course. CourseHolds plan after (locker_next entry.actor l entry.session) (renamer_next entry.actor r entry.session) (turn_counts plan entry.actor (actor_took plan entry.actor entry.answer course tool)).course) (sym is)
+    subst (λ tool_phase. ToolPhaseHolds plan after (locker_next entry.actor l entry.session) (renamer_next entry.actor r entry.session) (turn_counts plan entry.actor (actor_took plan entry.actor entry.answer tool_phase tool)).tool_phase) (sym is)
     (setup_counted plan after (locker_next entry.actor l entry.session) (renamer_next entry.actor r entry.session) setup tries tool entry.actor entry.answer is)
 entry_holds plan before after l r entry tool (SettingUp setup tries) Cut is at turn = by (has_work before entry.session)
   where
-    by : (b : Bool) → CourseHolds plan after (locker_next entry.actor l entry.session) (renamer_next entry.actor r entry.session) (cond b (actor_took plan entry.actor answers.Lost tool.course tool) tool).course
-    by true = subst (λ course. CourseHolds plan after (locker_next entry.actor l entry.session) (renamer_next entry.actor r entry.session) (actor_took plan entry.actor answers.Lost course tool).course) (sym is)
+    by : (b : Bool) → ToolPhaseHolds plan after (locker_next entry.actor l entry.session) (renamer_next entry.actor r entry.session) (cond b (actor_took plan entry.actor answers.Lost tool.tool_phase tool) tool).tool_phase
+    by true = subst (λ tool_phase. ToolPhaseHolds plan after (locker_next entry.actor l entry.session) (renamer_next entry.actor r entry.session) (actor_took plan entry.actor answers.Lost tool_phase tool).tool_phase) (sym is)
         (setup_actor plan after (locker_next entry.actor l entry.session) (renamer_next entry.actor r entry.session) setup tries tool entry.actor answers.Lost is)
-    by false = subst (CourseHolds plan after (locker_next entry.actor l entry.session) (renamer_next entry.actor r entry.session)) (sym is) tt
+    by false = subst (ToolPhaseHolds plan after (locker_next entry.actor l entry.session) (renamer_next entry.actor r entry.session)) (sym is) tt
 
 -- THE INDUCTION
 
@@ -138,7 +138,7 @@ last_more journal entry actor = fold-append (session_next actor) 0 journal (entr
 
 step : (plan : PlanData) (journal : List Entry) (entry : Entry) → IsTurned plan journal entry → IsGuarded plan journal → IsGuarded plan (journal ++ entry ∷ [])
 unfolding tools.took
-step plan journal entry turned guarded = record { course = there }
+step plan journal entry turned guarded = record { tool_phase = there }
   where
     now : Moment
     now = moment plan journal
@@ -155,24 +155,24 @@ step plan journal entry turned guarded = record { course = there }
     after : State
     after = (moment plan (journal ++ entry ∷ [])).server
 
-    taken : (course : Course) → CourseTurn plan now.server after l r course tool.turns entry → (work : Work) → course ≡ Migrating work → AskedTurn plan now.server after l r work tool.turns entry entry.asked
+    taken : (tool_phase : ToolPhase) → ToolPhaseTurn plan now.server after l r tool_phase tool.turns entry → (work : Work) → tool_phase ≡ Migrating work → AskedTurn plan now.server after l r work tool.turns entry entry.asked
     taken (Migrating work) turn other is = subst (λ w. AskedTurn plan now.server after l r w tool.turns entry entry.asked) (same work other is) turn
       where
         same : (a b : Work) → Migrating a ≡ Migrating b → a ≡ b
         same a b e = cc
     taken (SettingUp setup tries) turn other is = absurd cc
 
-    one : CourseHolds plan after (session_next Lock l entry) (session_next Ren r entry) (after_turn plan now entry).tool.course
-    one = entry_holds plan now.server after l r entry tool now.tool.course entry.asked refl guarded.course (taken now.tool.course turned.turn)
+    one : ToolPhaseHolds plan after (session_next Lock l entry) (session_next Ren r entry) (after_turn plan now entry).tool.tool_phase
+    one = entry_holds plan now.server after l r entry tool now.tool.tool_phase entry.asked refl guarded.tool_phase (taken now.tool.tool_phase turned.turn)
 
-    there : CourseHolds plan after (last_session (journal ++ entry ∷ []) Lock) (last_session (journal ++ entry ∷ []) Ren) (moment plan (journal ++ entry ∷ [])).tool.course
-    there = subst (λ m. CourseHolds plan after (last_session (journal ++ entry ∷ []) Lock) (last_session (journal ++ entry ∷ []) Ren) m.tool.course) (sym (moment_more plan journal entry))
-        (subst (λ k. CourseHolds plan after k (last_session (journal ++ entry ∷ []) Ren) (after_turn plan now entry).tool.course) (sym (last_more journal entry Lock))
-        (subst (λ k. CourseHolds plan after (session_next Lock l entry) k (after_turn plan now entry).tool.course) (sym (last_more journal entry Ren)) one))
+    there : ToolPhaseHolds plan after (last_session (journal ++ entry ∷ []) Lock) (last_session (journal ++ entry ∷ []) Ren) (moment plan (journal ++ entry ∷ [])).tool.tool_phase
+    there = subst (λ m. ToolPhaseHolds plan after (last_session (journal ++ entry ∷ []) Lock) (last_session (journal ++ entry ∷ []) Ren) m.tool.tool_phase) (sym (moment_more plan journal entry))
+        (subst (λ k. ToolPhaseHolds plan after k (last_session (journal ++ entry ∷ []) Ren) (after_turn plan now entry).tool.tool_phase) (sym (last_more journal entry Lock))
+        (subst (λ k. ToolPhaseHolds plan after (session_next Lock l entry) k (after_turn plan now entry).tool.tool_phase) (sym (last_more journal entry Ren)) one))
 
 starts_guarded : (plan : PlanData) → IsGuarded plan []
 unfolding moment last_session
-starts_guarded plan = record { course = tt }
+starts_guarded plan = record { tool_phase = tt }
 
 pub all_guarded : (plan : PlanData) (journal : List Entry) → Along (IsTurned plan) [] journal → IsGuarded plan journal
 all_guarded plan journal turned = Along-keeps (IsTurned plan) (IsGuarded plan) (step plan) [] journal turned (starts_guarded plan)
@@ -180,9 +180,9 @@ all_guarded plan journal turned = Along-keeps (IsTurned plan) (IsGuarded plan) (
 -- THE MARK
 
 pub renames_are_whole : RenamesAreWhole
-renames_are_whole plan journal session turned may renamed = by (moment plan journal).tool.course may (all_guarded plan journal turned).course
+renames_are_whole plan journal session turned may renamed = by (moment plan journal).tool.tool_phase may (all_guarded plan journal turned).tool_phase
   where
-    by : (course : Course) → MayRename course → CourseHolds plan (moment plan journal).server (last_session journal Lock) (last_session journal Ren) course → WholeIn plan (moment plan journal).server session course
+    by : (tool_phase : ToolPhase) → MayRename tool_phase → ToolPhaseHolds plan (moment plan journal).server (last_session journal Lock) (last_session journal Ren) tool_phase → WholeIn plan (moment plan journal).server session tool_phase
     by (SettingUp setup tries) may at = absurd may
     by (Migrating work) may at =
         let whole : MayExchange plan.table (scene (moment plan journal).server) work.copier work.applier (last_session journal Lock) =

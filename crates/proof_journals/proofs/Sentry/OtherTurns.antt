@@ -3,7 +3,7 @@ use Rattle.std.proofs.Common.{◌≡◌, ◌≢◌, ℕ, ◌+◌, nat_eq, nat_le
 use Rattle.std.specs.Prelude.{◌⊎◌}
 use Rattle.std.proofs.lemmas.Bool.{eqb-true}
 use Rattle.server_model.specs.declared.answer.Answer.TheVariants as answers
-use Rattle.server_locks.specs.MetadataLocks.Granting.{holds}
+use Rattle.server_locks.specs.MetadataLocks.Grants.{holds}
 use Rattle.proof_journals.specs.Sentry.Sentries.{WritesHint, InspectorServes, HasTurned, Scene, IsDrained, KnowsHint, AfterHint, AfterDrain, AfterRename, AfterFailure, WhereItWaits, HoldsLock, AtEnd, Guards, OthersTurn, OthersHold, AfterUnlock, Fits, MayAnswer, Rests, IsLocked}
 use Rattle.proof_journals.proofs.Sentry.Guarding.{others_keep, writes_hint, drains, rename_is_gone}
 use Rattle.proof_journals.proofs.Sentry.LockerTurns.{ends_guarded}

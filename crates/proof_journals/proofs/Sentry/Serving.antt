@@ -6,12 +6,12 @@ use Rattle.std.proofs.lemmas.Slice.Eq.{bytes_eq-Decides}
 use Rattle.std.specs.List.{AllByRecursion, list_any}
 use Rattle.std.specs.Str.{bytes_eq}
 use Rattle.base_values.specs.declared.event.RowEvent.{RowEvent}
-use Rattle.server_locks.specs.MetadataLocks.Granting.{holds, blocker_of_name}
+use Rattle.server_locks.specs.MetadataLocks.Grants.{holds, blocker_of_name}
 use Rattle.table_store.specs.Databases.{Database, has_table, without_table, rename_tables}
 use Rattle.table_store.specs.declared.renames.Pair.{Pair}
 use Rattle.table_store.specs.declared.renames.NotRenamed.TheVariants.{Stands}
 use Rattle.proof_journals.specs.Sentry.Sentries.{scene, OthersHold, OthersTurn, RenameWaits, FreesLock, OnlyFreesLock, TakesLock, DropsSentry}
-use Rattle.proof_journals.specs.Sentry.Turning.{IsRenamed}
+use Rattle.proof_journals.specs.Sentry.TurnResults.{IsRenamed}
 use Rattle.proof_journals.specs.ServerTurns.Others.{TurnOf, IsGrantedName, MayWrite, IsAlone, held_at}
 use Rattle.proof_journals.specs.Sentry.Turns.{LocksAreTaken, LogsNothing, Defines}
 use Rattle.server_model.specs.States.{State, names_in, waiters}

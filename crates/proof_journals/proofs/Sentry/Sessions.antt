@@ -6,7 +6,7 @@ use Rattle.base_script.specs.declared.actor.Actor.{Actor}
 use Rattle.server_model.specs.Along.{Along, Along-keeps}
 use Rattle.server_model.specs.declared.answer.Answer.TheVariants as answers
 use Rattle.proof_journals.proofs.Actors.{live_more, same_actor_is, same_actor_itself}
-use Rattle.proof_journals.specs.Sentry.Turning.{last_session, session_next, session_after, IsNumbered}
+use Rattle.proof_journals.specs.Sentry.TurnResults.{last_session, session_next, session_after, IsNumbered}
 use Rattle.proof_journals.proofs.Sentry.Inductions.{last_more}
 use Rattle.server_model.specs.declared.answer.Answer.{Answer}
 use Rattle.server_model.specs.declared.entry.Entry.{Entry}

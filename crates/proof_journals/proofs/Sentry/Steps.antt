@@ -8,7 +8,7 @@ use Rattle.base_script.specs.declared.operator.OperatorWord.TheVariants.{ChunkSi
 use Rattle.tool_program.specs.ChunkCopier.Copiers as copiers
 use Rattle.tool_program.specs.EventApplier.Appliers as appliers
 use Rattle.proof_journals.specs.Sentry.Sentries.{scene, HasTurned, IsDraining}
-use Rattle.proof_journals.specs.Sentry.Turning.{Holds, CourseHolds, LockerTurn, RenamerTurn, InspectorTurn, OtherTurn, WorkTurn}
+use Rattle.proof_journals.specs.Sentry.TurnResults.{Holds, ToolPhaseHolds, LockerTurn, RenamerTurn, InspectorTurn, OtherTurn, WorkTurn}
 use Rattle.proof_journals.proofs.Sentry.Guarding.{others_keep}
 use Rattle.proof_journals.proofs.Sentry.Fitting.{locker_fits, revert_fits}
 use Rattle.proof_journals.proofs.Sentry.LockerTurns.{revert_guards}
@@ -31,12 +31,12 @@ use Rattle.tool_program.specs.declared.cutover_core.cutover.Role.TheVariants.{In
 use Rattle.tool_program.specs.declared.cutover_core.cutover.Stage.TheVariants.{Guarding, Locking, Hinting, Draining, Drained, Showing, Dropping, Unlocking, Exchanging}
 use Rattle.tool_program.specs.CutoverCore.CutOvers.{took, reverted, applier_turn, stands, ended, inspector_took, renamer_took}
 use Rattle.tool_program.specs.Operators.{commanded}
-use Rattle.tool_program.specs.Tools.{Work, Course, Tool, stopped, is_reverting, is_failure, copy_took, apply_took, drains, actor_took, turn_counts, resizes, command_took}
-use Rattle.tool_program.specs.Tools.Course.{SettingUp, Migrating}
+use Rattle.tool_program.specs.Tools.{Work, ToolPhase, Tool, stopped, is_reverting, is_failure, copy_took, apply_took, drains, actor_took, turn_counts, resizes, command_took}
+use Rattle.tool_program.specs.Tools.ToolPhase.{SettingUp, Migrating}
 use Rattle.tool_program.specs.Tools.Reason.{Panicked}
 
 -- a revert keeps the relation
-pub stops : (plan : PlanData) (state : State) (l r : ℕ) (course : Course) → CourseHolds plan state l r course → CourseHolds plan state l r (stopped course)
+pub stops : (plan : PlanData) (state : State) (l r : ℕ) (tool_phase : ToolPhase) → ToolPhaseHolds plan state l r tool_phase → ToolPhaseHolds plan state l r (stopped tool_phase)
 unfolding reverted
 stops plan state l r (SettingUp setup tries) at = tt
 stops plan state l r (Migrating work) at =
@@ -99,11 +99,11 @@ copier_holds plan after l r work copier at stays tries =
     }
 
 -- with what the drain reads
-abbrev Turned : PlanData → State → ℕ → ℕ → Course → Type 0
+abbrev Turned : PlanData → State → ℕ → ℕ → ToolPhase → Type 0
 Turned plan state l r (SettingUp setup tries) = Unit {0}
 Turned plan state l r (Migrating work) = Holds plan state l r work × HasTurned plan.table (scene state) work.copier work.applier work.applier work.cutover.attempts work.cutover.phase
 
-turned_stops : (plan : PlanData) (state : State) (l r : ℕ) (course : Course) → Turned plan state l r course → Turned plan state l r (stopped course)
+turned_stops : (plan : PlanData) (state : State) (l r : ℕ) (tool_phase : ToolPhase) → Turned plan state l r tool_phase → Turned plan state l r (stopped tool_phase)
 unfolding reverted
 turned_stops plan state l r (SettingUp setup tries) at = tt
 turned_stops plan state l r (Migrating work) at = (stops plan state l r (Migrating work) at.0, record { knows = at.1.knows; within = at.1.within; idle = λ is. absurd (none work.cutover.phase is); stays = at.1.stays })
@@ -129,11 +129,11 @@ applier_holds plan after l r work applier at turned tries = (
   record { knows = turned.knows; within = turned.within; idle = turned.idle; stays = λ d. d },
 )
 
-drains_holds : (plan : PlanData) (after : State) (l r : ℕ) (course : Course) (tool : Tool) → tool.course ≡ course → Turned plan after l r course → CourseHolds plan after l r (drains plan course tool).course
+drains_holds : (plan : PlanData) (after : State) (l r : ℕ) (tool_phase : ToolPhase) (tool : Tool) → tool.tool_phase ≡ tool_phase → Turned plan after l r tool_phase → ToolPhaseHolds plan after l r (drains plan tool_phase tool).tool_phase
 unfolding applier_turn
-drains_holds plan after l r (SettingUp setup tries) tool is at = subst (CourseHolds plan after l r) (sym is) tt
+drains_holds plan after l r (SettingUp setup tries) tool is at = subst (ToolPhaseHolds plan after l r) (sym is) tt
 drains_holds plan after l r (Migrating work) tool is at =
-    attempt_keeps (CourseHolds plan after l r) (stops plan after l r) plan (is_failure work.cutover.phase (applier_turn work.applier.hint work.cutover).phase) work (applier_turn work.applier.hint work.cutover) tool now
+    attempt_keeps (ToolPhaseHolds plan after l r) (stops plan after l r) plan (is_failure work.cutover.phase (applier_turn work.applier.hint work.cutover).phase) work (applier_turn work.applier.hint work.cutover) tool now
   where
     now : (tries : List ℕ) → Holds plan after l r (record work { cutover = applier_turn work.applier.hint work.cutover; attempt_tries = tries })
     now tries =
@@ -152,50 +152,50 @@ abbrev pub renamer_next : Actor → ℕ → ℕ → ℕ
 renamer_next actor r s = cond (same_actor actor Ren) s r
 
 -- an actor was answered; behind the applier's turn comes the drain where the turn counts
-pub actor_holds : (plan : PlanData) (before after : State) (l r : ℕ) (work : Work) (tool : Tool) (entry : Entry) (actor : Actor) (answer : Answer) → tool.course ≡ Migrating work → Holds plan before l r work → WorkTurn plan before after l r work tool.turns entry actor (Some answer)
-    → CourseHolds plan after (locker_next actor l entry.session) (renamer_next actor r entry.session) (actor_took plan actor answer (Migrating work) tool).course
+pub actor_holds : (plan : PlanData) (before after : State) (l r : ℕ) (work : Work) (tool : Tool) (entry : Entry) (actor : Actor) (answer : Answer) → tool.tool_phase ≡ Migrating work → Holds plan before l r work → WorkTurn plan before after l r work tool.turns entry actor (Some answer)
+    → ToolPhaseHolds plan after (locker_next actor l entry.session) (renamer_next actor r entry.session) (actor_took plan actor answer (Migrating work) tool).tool_phase
 actor_holds plan before after l r work tool entry Lock answer is at turn =
-    attempt_keeps (CourseHolds plan after entry.session r) (stops plan after entry.session r) plan (is_failure work.cutover.phase (took Locker work.cutover answer).phase) work (took Locker work.cutover answer) tool (lock_holds plan before after l r entry.session work answer at turn)
+    attempt_keeps (ToolPhaseHolds plan after entry.session r) (stops plan after entry.session r) plan (is_failure work.cutover.phase (took Locker work.cutover answer).phase) work (took Locker work.cutover answer) tool (lock_holds plan before after l r entry.session work answer at turn)
 actor_holds plan before after l r work tool entry Ren answer is at turn =
-    attempt_keeps (CourseHolds plan after l entry.session) (stops plan after l entry.session) plan (is_failure work.cutover.phase (took Renamer work.cutover answer).phase) work (took Renamer work.cutover answer) tool (ren_holds plan before after l r entry.session work answer at turn)
+    attempt_keeps (ToolPhaseHolds plan after l entry.session) (stops plan after l entry.session) plan (is_failure work.cutover.phase (took Renamer work.cutover answer).phase) work (took Renamer work.cutover answer) tool (ren_holds plan before after l r entry.session work answer at turn)
 actor_holds plan before after l r work tool entry Insp answer is at turn =
-    attempt_keeps (CourseHolds plan after l r) (stops plan after l r) plan (is_failure work.cutover.phase (took Inspector work.cutover answer).phase) work (took Inspector work.cutover answer) tool (insp_holds plan before after l r entry.session work answer at turn)
+    attempt_keeps (ToolPhaseHolds plan after l r) (stops plan after l r) plan (is_failure work.cutover.phase (took Inspector work.cutover answer).phase) work (took Inspector work.cutover answer) tool (insp_holds plan before after l r entry.session work answer at turn)
 actor_holds plan before after l r work tool entry Copy answer is at turn = by (is_reverting tool.reason)
   where
-    same : CourseHolds plan after l r tool.course
-    same = subst (CourseHolds plan after l r) (sym is) (other_holds plan before after l r entry.session work at turn.0)
+    same : ToolPhaseHolds plan after l r tool.tool_phase
+    same = subst (ToolPhaseHolds plan after l r) (sym is) (other_holds plan before after l r entry.session work at turn.0)
 
-    by : (b : Bool) → CourseHolds plan after l r (cond b tool (copy_took plan answer work tool)).course
+    by : (b : Bool) → ToolPhaseHolds plan after l r (cond b tool (copy_took plan answer work tool)).tool_phase
     by true = same
-    by false = copy_keeps (CourseHolds plan after l r) (stops plan after l r) plan work (copiers.progress work.copier answer) (copiers.took tool.turns work.copier answer) tool same
+    by false = copy_keeps (ToolPhaseHolds plan after l r) (stops plan after l r) plan work (copiers.progress work.copier answer) (copiers.took tool.turns work.copier answer) tool same
         (copier_holds plan after l r work (copiers.took tool.turns work.copier answer) (other_holds plan before after l r entry.session work at turn.0) turn.1)
 actor_holds plan before after l r work tool entry Apply answer is at turn = by (is_reverting tool.reason)
   where
     now : Holds plan after l r work
     now = other_holds plan before after l r entry.session work at turn.0
 
-    by : (b : Bool) → CourseHolds plan after l r (cond b tool (apply_took plan answer work tool)).course
-    by true = subst (CourseHolds plan after l r) (sym is) now
-    by false = apply_keeps (CourseHolds plan after l r) (stops plan after l r) plan work (appliers.progress work.applier answer) (appliers.took tool.turns work.applier answer) tool (subst (CourseHolds plan after l r) (sym is) now)
+    by : (b : Bool) → ToolPhaseHolds plan after l r (cond b tool (apply_took plan answer work tool)).tool_phase
+    by true = subst (ToolPhaseHolds plan after l r) (sym is) now
+    by false = apply_keeps (ToolPhaseHolds plan after l r) (stops plan after l r) plan work (appliers.progress work.applier answer) (appliers.took tool.turns work.applier answer) tool (subst (ToolPhaseHolds plan after l r) (sym is) now)
         (λ tries. (applier_holds plan after l r work (appliers.took tool.turns work.applier answer) now turn.1.0 tries).0)
-actor_holds plan before after l r work tool entry Op answer is at turn = subst (CourseHolds plan after l r) (sym is) (other_holds plan before after l r entry.session work at turn)
-actor_holds plan before after l r work tool entry (Client client) answer is at turn = subst (CourseHolds plan after l r) (sym is) (other_holds plan before after l r entry.session work at turn)
+actor_holds plan before after l r work tool entry Op answer is at turn = subst (ToolPhaseHolds plan after l r) (sym is) (other_holds plan before after l r entry.session work at turn)
+actor_holds plan before after l r work tool entry (Client client) answer is at turn = subst (ToolPhaseHolds plan after l r) (sym is) (other_holds plan before after l r entry.session work at turn)
 
 -- .. with the drain
-pub counted_holds : (plan : PlanData) (before after : State) (l r : ℕ) (work : Work) (tool : Tool) (entry : Entry) (actor : Actor) (answer : Answer) → tool.course ≡ Migrating work → Holds plan before l r work → WorkTurn plan before after l r work tool.turns entry actor (Some answer)
-    → CourseHolds plan after (locker_next actor l entry.session) (renamer_next actor r entry.session) (turn_counts plan actor (actor_took plan actor answer (Migrating work) tool)).course
+pub counted_holds : (plan : PlanData) (before after : State) (l r : ℕ) (work : Work) (tool : Tool) (entry : Entry) (actor : Actor) (answer : Answer) → tool.tool_phase ≡ Migrating work → Holds plan before l r work → WorkTurn plan before after l r work tool.turns entry actor (Some answer)
+    → ToolPhaseHolds plan after (locker_next actor l entry.session) (renamer_next actor r entry.session) (turn_counts plan actor (actor_took plan actor answer (Migrating work) tool)).tool_phase
 counted_holds plan before after l r work tool entry Apply answer is at turn = by (is_reverting tool.reason)
   where
     now : Holds plan after l r work
     now = other_holds plan before after l r entry.session work at turn.0
 
-    same : Turned plan after l r tool.course
+    same : Turned plan after l r tool.tool_phase
     same = subst (Turned plan after l r) (sym is) (now, turn.1.1)
 
-    ends : (next : Tool) → Turned plan after l r next.course → CourseHolds plan after l r (drains plan next.course next).course
-    ends next held = drains_holds plan after l r next.course next refl held
+    ends : (next : Tool) → Turned plan after l r next.tool_phase → ToolPhaseHolds plan after l r (drains plan next.tool_phase next).tool_phase
+    ends next held = drains_holds plan after l r next.tool_phase next refl held
 
-    by : (b : Bool) → CourseHolds plan after l r (drains plan (cond b tool (apply_took plan answer work tool)).course (cond b tool (apply_took plan answer work tool))).course
+    by : (b : Bool) → ToolPhaseHolds plan after l r (drains plan (cond b tool (apply_took plan answer work tool)).tool_phase (cond b tool (apply_took plan answer work tool))).tool_phase
     by true = ends tool same
     by false = ends (apply_took plan answer work tool)
         (apply_keeps (Turned plan after l r) (turned_stops plan after l r) plan work (appliers.progress work.applier answer) (appliers.took tool.turns work.applier answer) tool same
@@ -221,20 +221,20 @@ idle_holds plan before after l r work n entry Op at turn = other_holds plan befo
 idle_holds plan before after l r work n entry (Client client) at turn = other_holds plan before after l r entry.session work at turn
 
 -- the operator's command
-pub command_holds : (plan : PlanData) (state : State) (l r : ℕ) (work : Work) (word : OperatorWord) (tool : Tool) → tool.course ≡ Migrating work → Holds plan state l r work → CourseHolds plan state l r (command_took word tool).course
+pub command_holds : (plan : PlanData) (state : State) (l r : ℕ) (work : Work) (word : OperatorWord) (tool : Tool) → tool.tool_phase ≡ Migrating work → Holds plan state l r work → ToolPhaseHolds plan state l r (command_took word tool).tool_phase
 command_holds plan state l r work word tool is at = by word
   where
-    same : CourseHolds plan state l r tool.course
-    same = subst (CourseHolds plan state l r) (sym is) at
+    same : ToolPhaseHolds plan state l r tool.tool_phase
+    same = subst (ToolPhaseHolds plan state l r) (sym is) at
 
-    resized : (size : ℕ) (course : Course) → CourseHolds plan state l r course → CourseHolds plan state l r (resizes (ChunkSize size) course)
+    resized : (size : ℕ) (tool_phase : ToolPhase) → ToolPhaseHolds plan state l r tool_phase → ToolPhaseHolds plan state l r (resizes (ChunkSize size) tool_phase)
     resized size (SettingUp setup tries) held = tt
     resized size (Migrating work) held =
         record { fits = held.fits; copied = held.copied; guards = next_both plan.table l r (scene state) work.copier (copiers.resized size work.copier) work.applier work.applier work.cutover (λ d. record { copied = d.copied; applied = d.applied; within = d.within; idle = d.idle }) work.cutover.phase held.guards }
 
-    by : (word : OperatorWord) → CourseHolds plan state l r (command_took word tool).course
-    by Panic = reverts_keeps (CourseHolds plan state l r) (stops plan state l r) (Panicked tool.turns) (record tool { operator = commanded Panic tool.operator; course = tool.course }) same
-    by (ChunkSize size) = resized size tool.course same
+    by : (word : OperatorWord) → ToolPhaseHolds plan state l r (command_took word tool).tool_phase
+    by Panic = reverts_keeps (ToolPhaseHolds plan state l r) (stops plan state l r) (Panicked tool.turns) (record tool { operator = commanded Panic tool.operator; tool_phase = tool.tool_phase }) same
+    by (ChunkSize size) = resized size tool.tool_phase same
     by Throttle = same
     by NoThrottle = same
     by Unpostpone = same

@@ -3,7 +3,7 @@ use Rattle.std.proofs.Common.{◌≡◌, ℕ, Bool, true, false, cond, List, ref
 use Rattle.std.specs.Prelude.{◌⊎◌}
 use Rattle.server_model.specs.declared.answer.Answer.TheVariants as answers
 use Rattle.proof_journals.specs.Sentry.Sentries.{Scene, scene, Guards, Fits, AtEnd, IsDrained, MayAnswer, LockerMay, LockerServes, RenamerServes, OthersTurn, Rests}
-use Rattle.proof_journals.specs.Sentry.Turning.{IsLockerFree, IsRenamerFree}
+use Rattle.proof_journals.specs.Sentry.TurnResults.{IsLockerFree, IsRenamerFree}
 use Rattle.proof_journals.proofs.Sentry.LockerTurns.{locker_guards, after_locker}
 use Rattle.server_model.specs.declared.answer.Answer.{Answer}
 use Rattle.tool_program.specs.declared.chunk_copier.copier.Copier.{Copier}

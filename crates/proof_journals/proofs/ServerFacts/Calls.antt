@@ -4,7 +4,7 @@ use Rattle.std.specs.Prelude.{◌==◌, ◌≢◌, is_some}
 use Rattle.std.proofs.lemmas.Bool.{false≢true}
 use Rattle.std.specs.List.{list_any}
 use Rattle.server_locks.specs.declared.row_locks.lock.Lock.{Lock}
-use Rattle.server_locks.specs.RowLocks.Granting.{conflict}
+use Rattle.server_locks.specs.RowLocks.Grants.{conflict}
 use Rattle.base_script.specs.declared.actor.Side.TheVariants.{Before, After}
 use Rattle.server_model.specs.declared.entry.Asked.TheVariants.{Call, Poll, Command, Cut}
 use Rattle.server_model.specs.declared.request.Request.{Request}
@@ -13,8 +13,8 @@ use Rattle.server_model.specs.declared.session.Waiting.{Waiting}
 use Rattle.server_model.specs.Conditions.{ComesWell, IsWellFormed, MayCall}
 use Rattle.server_model.specs.Answers.{ok}
 use Rattle.server_model.specs.Effects.{Forgets, effect}
-use Rattle.server_model.specs.Locking.{need, blocker}
-use Rattle.server_model.specs.Serving.{called_unless, calls, counting, done, forgets, is_over, loses, polled_over, polled_unless, polls, without_waiting}
+use Rattle.server_model.specs.Blockers.{need, blocker}
+use Rattle.server_model.specs.PlainServer.{called_unless, calls, counting, done, forgets, is_over, loses, polled_over, polled_unless, polls, without_waiting}
 use Rattle.server_model.specs.States.{State, holds_tables, is_in_transaction, names_in, new_session, polls_of, session_of, waiting_of, with_session}
 use Rattle.proof_journals.specs.Holdings.{Face, OneHolder, face_in, face_of, no_face}
 use Rattle.proof_journals.proofs.Faces.{faces_with, faces_without, joined}
@@ -22,7 +22,7 @@ use Rattle.proof_journals.proofs.Names.{held_joined, one_counts, one_less, one_r
 use Rattle.proof_journals.proofs.Serves.{IsFree, done_one, granted}
 use Rattle.server_model.specs.LockedRows.Agreeing.{Among}
 use Rattle.server_model.proofs.LockedRows.Tests.{are_one}
-use Rattle.proof_journals.specs.ServerFacts.Keeping.{IsServing, WaitsWell}
+use Rattle.proof_journals.specs.ServerFacts.Invariants.{IsServing, WaitsWell}
 use Rattle.proof_journals.specs.ServerFacts.Laws.{OpenedServes, ConnectedServes, CallsServe, PollsServe, LossesServe}
 use Rattle.proof_journals.proofs.ServerFacts.Kept.{Keeps, own_rests, keeps_rests, keeps_holds}
 use Rattle.proof_journals.proofs.ServerFacts.Effects.{AtWork, KeepsIn, effect_fits, does_keeps}

@@ -9,17 +9,17 @@ use Rattle.base_values.specs.declared.event.RowEvent.{RowEvent}
 use Rattle.base_values.specs.declared.gho_schema.schema.Schema.{Schema}
 use Rattle.server_locks.specs.declared.row_locks.lock.Lock.{Lock}
 use Rattle.table_store.specs.Databases.{TableRows, Database, find_table, has_table, with_change, without_table}
-use Rattle.server_model.specs.Jobs.{change_table}
+use Rattle.server_model.specs.Operations.{change_table}
 use Rattle.server_model.specs.LockedRows.Agreeing.{Agree, TablesAgree}
 use Rattle.server_model.specs.LockedRows.Covering.{IsWellFormedTable}
 use Rattle.server_model.specs.LockedRows.Databases.{ChangeCovered, WhereFound, EventsCovered}
 use Rattle.server_model.proofs.LockedRows.Finding.{change_if, found_after}
 use Rattle.server_model.proofs.LockedRows.Tests.{are_same}
 use Rattle.proof_journals.specs.Ghost.Rows.Moments.{Fits}
-use Rattle.proof_journals.specs.Ghost.Fitting.{EventsFit, IsFitting}
+use Rattle.proof_journals.specs.Ghost.FittingEvents.{EventsFit, IsFitting}
 use Rattle.proof_journals.proofs.Moves.{create_moves, drop_moves, gone_none, none_found}
 use Rattle.proof_journals.specs.Holdings.{Face}
-use Rattle.proof_journals.specs.ServerFacts.Keeping.{AllStand, OwnFits}
+use Rattle.proof_journals.specs.ServerFacts.Invariants.{AllExist, OwnFits}
 
 -- the two have the same tables but for one name
 abbrev pub AlikeBut : List ℕ → Database → Database → Type 0
@@ -49,7 +49,7 @@ covered_alike name names locks a b (event ∷ events) alike off covered = (
   covered_alike name names locks a b events alike off.1 covered.1,
 )
 
-stand_alike : (name : List ℕ) (a b : Database) (events : List RowEvent) → AlikeBut name a b → NotOf name events → AllStand a events → AllStand b events
+stand_alike : (name : List ℕ) (a b : Database) (events : List RowEvent) → AlikeBut name a b → NotOf name events → AllExist a events → AllExist b events
 stand_alike name a b [] alike off stand = tt
 stand_alike name a b (event ∷ events) alike off stand = (ap is_some (alike event.table off.0) ∙ stand.0, stand_alike name a b events alike off.1 stand.1)
 
@@ -60,7 +60,7 @@ off_name name event tables none stands = at (bytes_eq event name) refl where
   at true same = absurd (false≢true (sym (ap is_some none) ∙ ap (λ (n : List ℕ). is_some (find_table n tables)) (sym (are_same event name same)) ∙ stands))
   at false same = refl
 
-off_names : (name : List ℕ) (tables : Database) (events : List RowEvent) → find_table name tables ≡ None → AllStand tables events → NotOf name events
+off_names : (name : List ℕ) (tables : Database) (events : List RowEvent) → find_table name tables ≡ None → AllExist tables events → NotOf name events
 off_names name tables [] none stand = tt
 off_names name tables (event ∷ events) none stand = (off_name name event.table tables none stand.0, off_names name tables events none stand.1)
 
@@ -73,7 +73,7 @@ empty schema = record { schema = schema; rows = [] }
 made_alike : (schema : Schema) (tables : Database) → IsWellFormedTable (empty schema) → AlikeBut schema.name tables (tables ++ empty schema ∷ [])
 made_alike schema tables new other off = (create_moves schema tables new).others other (rw off refl)
 
-fitting_created : (schema : Schema) (tables : Database) (names : List (List ℕ)) (locks : List Lock) (writes : List RowEvent) → IsWellFormedTable (empty schema) → has_table schema.name tables ≡ false → AllStand tables writes → IsFitting names locks writes tables
+fitting_created : (schema : Schema) (tables : Database) (names : List (List ℕ)) (locks : List Lock) (writes : List RowEvent) → IsWellFormedTable (empty schema) → has_table schema.name tables ≡ false → AllExist tables writes → IsFitting names locks writes tables
     → IsFitting names locks writes (tables ++ empty schema ∷ [])
 fitting_created schema tables names locks writes new none stand fitting = record {
   each = λ other is agree.

@@ -12,10 +12,10 @@ use Rattle.server_model.specs.declared.request.Request.TheVariants as requests
 use Rattle.server_model.specs.declared.session.Session.{Session}
 use Rattle.server_model.specs.declared.work.StatementResult.{StatementResult}
 use Rattle.server_model.specs.Conditions.{ComesWell, IsWellFormed}
-use Rattle.server_model.specs.Effects.{Effect, Rests, Grows, Writes, Forgets, Moves, Locks, Unlocks, all_stand, begins, created, effect, effect_unless, effect_within, defined, dropped, is_outside, locks_if, nothing_needed, renamed_or, result_effect}
-use Rattle.server_model.specs.Jobs.{after_events, copy_job, job_says, says}
-use Rattle.server_model.specs.Locking.{need, need_within}
-use Rattle.server_model.specs.Serving.{at_rest, does, exclusive, holding, locking, unlocking}
+use Rattle.server_model.specs.Effects.{Effect, Rests, Grows, Writes, Forgets, Moves, Locks, Unlocks, all_exist, begins, created, effect, effect_unless, effect_within, defined, dropped, is_outside, locks_if, nothing_needed, renamed_or, result_effect}
+use Rattle.server_model.specs.Operations.{after_events, copy_operation, operation_result, statement_result}
+use Rattle.server_model.specs.Blockers.{need, need_within}
+use Rattle.server_model.specs.PlainServer.{at_rest, does, exclusive, holding, locking, unlocking}
 use Rattle.server_model.specs.States.{State, holds_tables, is_in_transaction, names_held, pair_names, session_of, view, with_session, writes_of}
 use Rattle.server_model.specs.LockedRows.Covering.{Apart}
 use Rattle.server_model.specs.LockedRows.Databases.{IsWellFormedDatabase}
@@ -30,8 +30,8 @@ use Rattle.proof_journals.proofs.Names.{Free, names_granted}
 use Rattle.proof_journals.proofs.Serves.{IsFree}
 use Rattle.proof_journals.proofs.ValidTables.{valid_table}
 use Rattle.proof_journals.proofs.Ghost.Fitting.{fitting_end, well_formed_events}
-use Rattle.proof_journals.specs.ServerFacts.Keeping.{OwnFits}
-use Rattle.proof_journals.specs.ServerFacts.Granting.{grown, GrowsWell}
+use Rattle.proof_journals.specs.ServerFacts.Invariants.{OwnFits}
+use Rattle.proof_journals.specs.ServerFacts.Grants.{grown, GrowsWell}
 use Rattle.proof_journals.proofs.ServerFacts.Created.{own_created}
 use Rattle.proof_journals.proofs.ServerFacts.Kept.{Keeps, own_rests, own_moved, keeps_goes, keeps_rests, keeps_holds, keeps_commits}
 use Rattle.proof_journals.proofs.ServerFacts.Granted.{quiet_own, statement_own, copy_own}
@@ -147,14 +147,14 @@ seen_face : (state : State) (number : ℕ) → view number state ≡ after_event
 seen_face state number = ap (after_events state.tables) (writes_face (session_of number state.sessions))
 
 statement_well : (state : State) (number : ℕ) (statement : _) (seen : Database) → seen ≡ after_events state.tables (face_of state.sessions number).hold.writes → KeepsIn state → ((n : ℕ) → (n == number) ≡ false → Apart (need_within seen (requests.Do statement)).locks (face_of state.sessions n).hold.locks)
-    → GrowsWell state.tables (face_of state.sessions) number (need_within seen (requests.Do statement)) (says seen statement).events
+    → GrowsWell state.tables (face_of state.sessions) number (need_within seen (requests.Do statement)) (statement_result seen statement).events
 statement_well state number statement seen same kept apart = record {
   apart = apart;
   own = rw same (statement_own state.tables (face_of state.sessions number) (need_within (after_events state.tables (face_of state.sessions number).hold.writes) (requests.Do statement)) statement kept.well_formed (kept.own number) refl refl);
 }
 
 copy_well : (state : State) (number : ℕ) (from into : List ℕ) (columns : _) (key : _) (seen : Database) → seen ≡ after_events state.tables (face_of state.sessions number).hold.writes → KeepsIn state → ((n : ℕ) → (n == number) ≡ false → Apart (need_within seen (requests.CopyRow from into columns key)).locks (face_of state.sessions n).hold.locks)
-    → GrowsWell state.tables (face_of state.sessions) number (need_within seen (requests.CopyRow from into columns key)) (job_says seen (copy_job seen from into columns key)).events
+    → GrowsWell state.tables (face_of state.sessions) number (need_within seen (requests.CopyRow from into columns key)) (operation_result seen (copy_operation seen from into columns key)).events
 copy_well state number from into columns key seen same kept apart = record {
   apart = apart;
   own = rw same (copy_own state.tables (face_of state.sessions number) (need_within (after_events state.tables (face_of state.sessions number).hold.writes) (requests.CopyRow from into columns key)) from into columns key kept.well_formed (kept.own number) refl refl);
@@ -166,7 +166,7 @@ within_fits state number busy requests.Begin work = quiet_well state number noth
 within_fits state number busy requests.Commit work = (nothing_needed, quiet_well state number nothing_needed work.kept (no_locks state number))
 within_fits state number busy requests.Rollback work = tt
 within_fits state number busy (requests.Do statement) work =
-    result_fits state number busy (need_within (view number state) (requests.Do statement)) (says (view number state) statement) (statement_well state number statement (view number state) (seen_face state number) work.kept work.free.apart)
+    result_fits state number busy (need_within (view number state) (requests.Do statement)) (statement_result (view number state) statement) (statement_well state number statement (view number state) (seen_face state number) work.kept work.free.apart)
 within_fits state number busy (requests.Ends table) work = tt
 within_fits state number busy (requests.ChunkEnd table low top size) work = tt
 within_fits state number busy (requests.BeginSpan table span size) work = at (find_table table state.tables) where
@@ -174,9 +174,9 @@ within_fits state number busy (requests.BeginSpan table span size) work = at (fi
   at None = tt
   at (Some found) = quiet_well state number (need_within (view number state) (requests.BeginSpan table span size)) work.kept work.free.apart
 within_fits state number busy (requests.CopyRow from into columns key) work =
-    result_fits state number busy (need_within (view number state) (requests.CopyRow from into columns key)) (job_says (view number state) (copy_job (view number state) from into columns key))
+    result_fits state number busy (need_within (view number state) (requests.CopyRow from into columns key)) (operation_result (view number state) (copy_operation (view number state) from into columns key))
     (copy_well state number from into columns key (view number state) (seen_face state number) work.kept work.free.apart)
-within_fits state number busy (requests.LockTables names) work = at (all_stand names state.tables) where
+within_fits state number busy (requests.LockTables names) work = at (all_exist names state.tables) where
   at : (b : Bool) → EffectFits state number (locks_if b names)
   at true = tt
   at false = tt

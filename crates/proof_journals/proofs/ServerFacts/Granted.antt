@@ -13,8 +13,8 @@ use Rattle.server_locks.specs.declared.row_locks.lock.Lock.{Lock}
 use Rattle.table_store.specs.Databases.{TableRows, Database, find_table, with_change}
 use Rattle.base_script.specs.declared.statement.Statement.{Statement}
 use Rattle.server_model.specs.declared.need.Need.{Need}
-use Rattle.server_model.specs.Jobs.{Job, table_of, job_of, says, job_says, job_needs, row_needs, result_in, events_of, after_events, change_table, copy_job}
-use Rattle.server_model.specs.Saying.{tells}
+use Rattle.server_model.specs.Operations.{Operation, table_of, operation_of, statement_result, operation_result, operation_needs, row_needs, result_in, events_of, after_events, change_table, copy_operation}
+use Rattle.server_model.specs.StatementResults.{tells}
 use Rattle.server_model.specs.LockedRows.Agreeing.{Within}
 use Rattle.server_model.specs.LockedRows.Databases.{IsWellFormedDatabase, TaskSound}
 use Rattle.server_model.proofs.LockedRows.Points.{within-left, within-right, within-itself}
@@ -23,11 +23,11 @@ use Rattle.server_model.proofs.LockedRows.Stables.{covered_both, covered_more, c
 use Rattle.proof_journals.specs.Holdings.{Face}
 use Rattle.proof_journals.proofs.Words.{names_left, names_last, quiet_covered}
 use Rattle.proof_journals.proofs.Tooling.{copies_sound, names_two}
-use Rattle.proof_journals.specs.Ghost.Fitting.{EventsFit}
+use Rattle.proof_journals.specs.Ghost.FittingEvents.{EventsFit}
 use Rattle.proof_journals.proofs.Ghost.Fitting.{fitting_end, fitting_task, well_formed_events}
 use Rattle.proof_journals.proofs.ServerTurns.Others.{some_changed}
-use Rattle.proof_journals.specs.ServerFacts.Keeping.{AllStand, OwnFits}
-use Rattle.proof_journals.specs.ServerFacts.Granting.{grown}
+use Rattle.proof_journals.specs.ServerFacts.Invariants.{AllExist, OwnFits}
+use Rattle.proof_journals.specs.ServerFacts.Grants.{grown}
 
 -- the tables as the session sees them
 abbrev pub seen_by : Database → Face → Database
@@ -45,21 +45,21 @@ quiet_own tables face need own = record {
         (own.fitting.each other is (agree_within face.hold.names (face.hold.names ++ need.names) face.hold.locks (face.hold.locks ++ need.locks) tables other (names_left face.hold.names need.names) (within-left face.hold.locks face.hold.locks need.locks (within-itself face.hold.locks)) agree));
   };
   covered = quiet_covered tables face.hold need.names need.locks own.covered;
-  standing = subst (AllStand tables) (sym (append-nil face.hold.writes)) own.standing;
+  standing = subst (AllExist tables) (sym (append-nil face.hold.writes)) own.standing;
 }
 
 -- tables of events stand
-each_stands : (tables : Database) (name : List ℕ) (changes : List Change) → is_some (find_table name tables) ≡ true → AllStand tables (events_of name changes)
+each_stands : (tables : Database) (name : List ℕ) (changes : List Change) → is_some (find_table name tables) ≡ true → AllExist tables (events_of name changes)
 each_stands tables name [] is = tt
 each_stands tables name (change ∷ changes) is = (is, each_stands tables name changes is)
 
-said_in : (tables : Database) (job : Job) (found : Option TableRows) → find_table job.table tables ≡ found → AllStand tables (result_in job found).events
-said_in tables job None is = tt
-said_in tables job (Some table) is = each_stands tables job.table (tells table.schema table.rows (job.work table.schema)).changes (ap is_some is)
+said_in : (tables : Database) (operation : Operation) (found : Option TableRows) → find_table operation.table tables ≡ found → AllExist tables (result_in operation found).events
+said_in tables operation None is = tt
+said_in tables operation (Some table) is = each_stands tables operation.table (tells table.schema table.rows (operation.work table.schema)).changes (ap is_some is)
 
-pub said_stand : (tables : Database) (job : Job) → AllStand tables (job_says tables job).events
-unfolding job_says
-said_stand tables job = said_in tables job (find_table job.table tables) refl
+pub said_stand : (tables : Database) (operation : Operation) → AllExist tables (operation_result tables operation).events
+unfolding operation_result
+said_stand tables operation = said_in tables operation (find_table operation.table tables) refl
 
 pub stands_after : (name : List ℕ) (tables : Database) (events : List RowEvent) → is_some (find_table name (after_events tables events)) ≡ is_some (find_table name tables)
 unfolding after_events
@@ -67,38 +67,38 @@ stands_after name tables [] = refl
 stands_after name tables (event ∷ events) =
     stands_after name (with_change event.table (change_table event.change) tables) events ∙ ap is_some (found_after event.table name event.change tables) ∙ some_changed (bytes_eq event.table name) event.change (find_table name tables)
 
-stand_before : (tables : Database) (writes events : List RowEvent) → AllStand (after_events tables writes) events → AllStand tables events
+stand_before : (tables : Database) (writes events : List RowEvent) → AllExist (after_events tables writes) events → AllExist tables events
 stand_before tables writes [] stand = tt
 stand_before tables writes (event ∷ events) stand = (sym (stands_after event.table tables writes) ∙ stand.0, stand_before tables writes events stand.1)
 
-stand_both : (tables : Database) (a b : List RowEvent) → AllStand tables a → AllStand tables b → AllStand tables (a ++ b)
+stand_both : (tables : Database) (a b : List RowEvent) → AllExist tables a → AllExist tables b → AllExist tables (a ++ b)
 stand_both tables [] b one two = two
 stand_both tables (event ∷ a) b one two = (one.0, stand_both tables a b one.1 two)
 
 -- *What a job writes goes with the tables*, where the locks that it needs were granted.
-pub job_own : (tables : Database) (face : Face) (need : Need) (job : Job) → IsWellFormedDatabase tables → OwnFits tables face → TaskSound job (seen_by tables face) → list_any (bytes_eq job.table) (face.hold.names ++ need.names) ≡ true → need.locks ≡ job_needs (seen_by tables face) job
-    → OwnFits tables (grown face need (job_says (seen_by tables face) job).events)
-job_own tables face need job well_formed own sound mine locks =
+pub operation_own : (tables : Database) (face : Face) (need : Need) (operation : Operation) → IsWellFormedDatabase tables → OwnFits tables face → TaskSound operation (seen_by tables face) → list_any (bytes_eq operation.table) (face.hold.names ++ need.names) ≡ true → need.locks ≡ operation_needs (seen_by tables face) operation
+    → OwnFits tables (grown face need (operation_result (seen_by tables face) operation).events)
+operation_own tables face need operation well_formed own sound mine locks =
     let names = names_left face.hold.names need.names in
     let all = within-left face.hold.locks face.hold.locks need.locks (within-itself face.hold.locks) in
-    let needed : Within (job_needs (seen_by tables face) job) (face.hold.locks ++ need.locks) = subst (λ (l : List Lock). Within l (face.hold.locks ++ need.locks)) locks (within-right need.locks face.hold.locks need.locks (within-itself need.locks)) in
-    let events = (job_says (seen_by tables face) job).events in
+    let needed : Within (operation_needs (seen_by tables face) operation) (face.hold.locks ++ need.locks) = subst (λ (l : List Lock). Within l (face.hold.locks ++ need.locks)) locks (within-right need.locks face.hold.locks need.locks (within-itself need.locks)) in
+    let events = (operation_result (seen_by tables face) operation).events in
     record {
       rests = λ is. absurd (true≢false is);
-      fitting = fitting_task face.hold.names (face.hold.names ++ need.names) face.hold.locks (face.hold.locks ++ need.locks) face.hold.writes tables job own.fitting well_formed sound names all mine needed;
+      fitting = fitting_task face.hold.names (face.hold.names ++ need.names) face.hold.locks (face.hold.locks ++ need.locks) face.hold.writes tables operation own.fitting well_formed sound names all mine needed;
       covered = covered_both (face.hold.names ++ need.names) (face.hold.locks ++ need.locks) tables face.hold.writes events (covered_more face.hold.names (face.hold.names ++ need.names) face.hold.locks (face.hold.locks ++ need.locks) tables face.hold.writes names all own.covered)
-          (covered_before (face.hold.names ++ need.names) (face.hold.locks ++ need.locks) tables face.hold.writes events (says_covered (face.hold.names ++ need.names) (face.hold.locks ++ need.locks) (seen_by tables face) job mine needed));
-      standing = stand_both tables face.hold.writes events own.standing (stand_before tables face.hold.writes events (said_stand (seen_by tables face) job));
+          (covered_before (face.hold.names ++ need.names) (face.hold.locks ++ need.locks) tables face.hold.writes events (says_covered (face.hold.names ++ need.names) (face.hold.locks ++ need.locks) (seen_by tables face) operation mine needed));
+      standing = stand_both tables face.hold.writes events own.standing (stand_before tables face.hold.writes events (said_stand (seen_by tables face) operation));
     }
 
 -- a statement
 pub statement_own : (tables : Database) (face : Face) (need : Need) (statement : Statement) → IsWellFormedDatabase tables → OwnFits tables face → need.names ≡ table_of statement ∷ [] → need.locks ≡ row_needs (seen_by tables face) statement
-    → OwnFits tables (grown face need (says (seen_by tables face) statement).events)
+    → OwnFits tables (grown face need (statement_result (seen_by tables face) statement).events)
 statement_own tables face need statement well_formed own names locks =
-    job_own tables face need (job_of statement) well_formed own (statement_sound (seen_by tables face) statement (seen_well_formed tables face well_formed own)) (rw names (names_last face.hold.names (table_of statement))) locks
+    operation_own tables face need (operation_of statement) well_formed own (statement_sound (seen_by tables face) statement (seen_well_formed tables face well_formed own)) (rw names (names_last face.hold.names (table_of statement))) locks
 
 -- a row that is copied
 pub copy_own : (tables : Database) (face : Face) (need : Need) (from into : List ℕ) (map : List MapColumn) (key : List Value) → IsWellFormedDatabase tables → OwnFits tables face → need.names ≡ from ∷ into ∷ []
-    → need.locks ≡ job_needs (seen_by tables face) (copy_job (seen_by tables face) from into map key) → OwnFits tables (grown face need (job_says (seen_by tables face) (copy_job (seen_by tables face) from into map key)).events)
+    → need.locks ≡ operation_needs (seen_by tables face) (copy_operation (seen_by tables face) from into map key) → OwnFits tables (grown face need (operation_result (seen_by tables face) (copy_operation (seen_by tables face) from into map key)).events)
 copy_own tables face need from into map key well_formed own names locks =
-    job_own tables face need (copy_job (seen_by tables face) from into map key) well_formed own (copies_sound (seen_by tables face) from into map key (seen_well_formed tables face well_formed own)) (rw names (names_two face.hold.names from into)) locks
+    operation_own tables face need (copy_operation (seen_by tables face) from into map key) well_formed own (copies_sound (seen_by tables face) from into map key (seen_well_formed tables face well_formed own)) (rw names (names_two face.hold.names from into)) locks

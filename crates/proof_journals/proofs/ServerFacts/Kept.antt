@@ -7,7 +7,7 @@ use Rattle.std.specs.Str.{bytes_eq}
 use Rattle.base_values.specs.declared.event.RowEvent.{RowEvent}
 use Rattle.server_locks.specs.declared.row_locks.lock.Lock.{Lock}
 use Rattle.table_store.specs.Databases.{TableRows, Database, find_table}
-use Rattle.server_model.specs.Jobs.{after_events}
+use Rattle.server_model.specs.Operations.{after_events}
 use Rattle.server_model.specs.LockedRows.Agreeing.{Agree, TablesAgree}
 use Rattle.server_model.specs.LockedRows.Covering.{Apart}
 use Rattle.server_model.specs.LockedRows.Databases.{IsWellFormedDatabase, EventsCovered}
@@ -19,7 +19,7 @@ use Rattle.proof_journals.specs.Holdings.{Face}
 use Rattle.proof_journals.proofs.Kept.{by_number, two_holds, none_apart}
 use Rattle.proof_journals.proofs.Turning.{holds_besides}
 use Rattle.proof_journals.proofs.Ghost.Fitting.{fitting_begin, fitting_others}
-use Rattle.proof_journals.specs.ServerFacts.Keeping.{AllStand, OwnFits}
+use Rattle.proof_journals.specs.ServerFacts.Invariants.{AllExist, OwnFits}
 
 -- what each session holds goes with the tables, and no two hold what conflicts
 pub record Keeps (tables : Database) (faces : ℕ → Face) : Type 0 where
@@ -33,7 +33,7 @@ both_stand locks None two agree is = absurd (false≢true is)
 both_stand locks (Some x) None agree is = absurd agree
 both_stand locks (Some x) (Some y) agree is = refl
 
-stand_others : (names : List (List ℕ)) (locks : List Lock) (before after : Database) (events : List RowEvent) → Agree names locks before after → EventsCovered names locks before events → AllStand before events → AllStand after events
+stand_others : (names : List (List ℕ)) (locks : List Lock) (before after : Database) (events : List RowEvent) → Agree names locks before after → EventsCovered names locks before events → AllExist before events → AllExist after events
 stand_others names locks before after [] agree covered stand = tt
 stand_others names locks before after (event ∷ events) agree covered stand = (
   both_stand locks (find_table event.table before) (find_table event.table after) (agree.tables event.table covered.0.named) stand.0,

@@ -2,20 +2,20 @@
 use Rattle.std.proofs.Common.{◌≡◌, ℕ, Bool, true, false, not, List, [], ◌∷◌, ◌++◌, filter, cond, Option, Some, None, refl, sym, ◌∙◌, subst}
 use Rattle.std.specs.Prelude.{◌==◌, ◌≢◌}
 use Rattle.std.specs.List.{AllByRecursion, list_any}
-use Rattle.server_locks.specs.MetadataLocks.Granting.{blocker_of_names}
-use Rattle.server_locks.specs.RowLocks.Granting.{blocker_of_set}
+use Rattle.server_locks.specs.MetadataLocks.Grants.{blocker_of_names}
+use Rattle.server_locks.specs.RowLocks.Grants.{blocker_of_set}
 use Rattle.server_model.specs.declared.request.Request.{Request}
 use Rattle.server_model.specs.declared.request.Request.TheVariants as requests
 use Rattle.server_model.specs.declared.session.Session.{Session}
 use Rattle.server_model.specs.declared.session.Waiting.{Waiting}
 use Rattle.server_model.specs.Conditions.{ComesWell}
 use Rattle.server_model.specs.Effects.{Effect, Rests, Grows, Writes, Forgets, Moves, Locks, Unlocks}
-use Rattle.server_model.specs.Locking.{need, blocker}
-use Rattle.server_model.specs.Serving.{at_rest, counting, does, holding, locking, unlocking}
+use Rattle.server_model.specs.Blockers.{need, blocker}
+use Rattle.server_model.specs.PlainServer.{at_rest, counting, does, holding, locking, unlocking}
 use Rattle.server_model.specs.States.{State, holds_tables, is_in_transaction, names_in, new_session, session_of, with_session}
 use Rattle.server_model.proofs.LockedRows.Tests.{nor_left, nor_right}
 use Rattle.proof_journals.proofs.Faces.{changed_there, gone_there}
-use Rattle.proof_journals.specs.ServerFacts.Keeping.{WaitsWell}
+use Rattle.proof_journals.specs.ServerFacts.Invariants.{WaitsWell}
 
 abbrev pub WaitWell : List Session → List Waiting → Type 0
 WaitWell sessions waiting = AllByRecursion (WaitsWell sessions) waiting

@@ -13,13 +13,13 @@ use Rattle.base_script.specs.declared.actor.Side.{Side}
 use Rattle.base_script.specs.declared.actor.Side.TheVariants.{Before, After}
 use Rattle.server_model.specs.declared.session.Session.{Session}
 use Rattle.server_model.specs.Rows.{reaches}
-use Rattle.server_model.specs.Needing.{lock_on}
+use Rattle.server_model.specs.Needs.{lock_on}
 use Rattle.server_model.specs.LockedRows.Agreeing.{Agree, Among, Within, TablesAgree, covers, is_under}
 use Rattle.server_model.specs.LockedRows.Covering.{Apart, IsWellFormedTable}
 use Rattle.server_model.specs.LockedRows.Databases.{EventsCovered, WhereFound}
-use Rattle.server_model.specs.Jobs.{Job, table_of, job_of, says, job_says, job_needs, after_events, copy_job}
+use Rattle.server_model.specs.Operations.{Operation, table_of, operation_of, statement_result, operation_result, operation_needs, after_events, copy_operation}
 use Rattle.proof_journals.specs.Scenes.{Stored, SessionHold}
-use Rattle.proof_journals.specs.Turns.{scene_state, IsTold, IsAllowed, IsSceneRun}
+use Rattle.proof_journals.specs.Turns.{scene_state, IsReported, IsAllowed, IsSceneRun}
 use Rattle.server_model.specs.declared.entry.Asked.{Asked}
 use Rattle.server_model.specs.declared.entry.Asked.TheVariants.{Call, Poll, Cut, Command}
 use Rattle.server_model.specs.declared.entry.Entry.{Entry}
@@ -43,11 +43,11 @@ use Rattle.proof_journals.proofs.Journals.{state_more, JournalHolds, journal_hol
 use Rattle.server_model.specs.declared.request.Request.TheVariants.{BeginSpan, ChunkEnd, CopyRow, Create, Drop, Ends, LockTables, LogEnd, ReadLog, Rename, ShowTables, ShowWaiting, Unlock}
 use Rattle.server_model.specs.declared.request.Request.{Request}
 use Rattle.server_model.specs.declared.request.Request.TheVariants as requests
-use Rattle.server_model.specs.Locking.{need, need_within, blocker}
+use Rattle.server_model.specs.Blockers.{need, need_within, blocker}
 use Rattle.server_model.specs.States.{State, is_in_transaction, names_held, opened, pair_names, session_of, view, waiting_of, writes_of}
 use Rattle.server_model.specs.declared.session.Waiting.{Waiting}
-use Rattle.server_model.specs.Effects.{all_stand, begins, created, effect_unless, defined, dropped, is_outside, locks_if, renamed_or, result_effect}
-use Rattle.server_model.specs.Serving.{called_unless, calls, does, done, exclusive, is_over, leaves, loses, polled_of, polled_over, polled_unless, polls, serves, without_waiting}
+use Rattle.server_model.specs.Effects.{all_exist, begins, created, effect_unless, defined, dropped, is_outside, locks_if, renamed_or, result_effect}
+use Rattle.server_model.specs.PlainServer.{called_unless, calls, does, done, exclusive, is_over, leaves, loses, polled_of, polled_over, polled_unless, polls, serves, without_waiting}
 use Rattle.tool_program.specs.JournalWords.Journals.{after_entry, opens}
 use Rattle.server_model.proofs.LockedRows.Tests.{turned, same_bytes}
 
@@ -72,21 +72,21 @@ agrees_commits now number own names locks events free covered n differ =
     (others_agree (face_of now.sessions n).hold.names names (own.hold.locks ++ locks) (face_of now.sessions n).hold.locks now.tables (own.hold.writes ++ events)
     (apart_both own.hold.locks locks (face_of now.sessions n).hold.locks (own.apart n differ) (free n differ)) covered)
 
-task_covered : (now : State) (number : ℕ) (own : OwnHold now number) (names : List (List ℕ)) (locks : List Lock) (task : Job) → list_any (bytes_eq task.table) (own.hold.names ++ names) ≡ true → locks ≡ job_needs (after_events now.tables own.hold.writes) task
-    → EventsCovered (own.hold.names ++ names) (own.hold.locks ++ locks) now.tables (own.hold.writes ++ (job_says (after_events now.tables own.hold.writes) task).events)
+task_covered : (now : State) (number : ℕ) (own : OwnHold now number) (names : List (List ℕ)) (locks : List Lock) (task : Operation) → list_any (bytes_eq task.table) (own.hold.names ++ names) ≡ true → locks ≡ operation_needs (after_events now.tables own.hold.writes) task
+    → EventsCovered (own.hold.names ++ names) (own.hold.locks ++ locks) now.tables (own.hold.writes ++ (operation_result (after_events now.tables own.hold.writes) task).events)
 task_covered now number own names locks task mine same =
     let all = within-left own.hold.locks own.hold.locks locks (within-itself own.hold.locks) in
-    let needed : Within (job_needs (after_events now.tables own.hold.writes) task) (own.hold.locks ++ locks) = subst (λ (l : List Lock). Within l (own.hold.locks ++ locks)) same (within-right locks own.hold.locks locks (within-itself locks)) in
-    covered_both (own.hold.names ++ names) (own.hold.locks ++ locks) now.tables own.hold.writes (job_says (after_events now.tables own.hold.writes) task).events
+    let needed : Within (operation_needs (after_events now.tables own.hold.writes) task) (own.hold.locks ++ locks) = subst (λ (l : List Lock). Within l (own.hold.locks ++ locks)) same (within-right locks own.hold.locks locks (within-itself locks)) in
+    covered_both (own.hold.names ++ names) (own.hold.locks ++ locks) now.tables own.hold.writes (operation_result (after_events now.tables own.hold.writes) task).events
     (covered_more own.hold.names (own.hold.names ++ names) own.hold.locks (own.hold.locks ++ locks) now.tables own.hold.writes (names_left own.hold.names names) all own.covered)
-    (covered_before (own.hold.names ++ names) (own.hold.locks ++ locks) now.tables own.hold.writes (job_says (after_events now.tables own.hold.writes) task).events (says_covered (own.hold.names ++ names) (own.hold.locks ++ locks) (after_events now.tables own.hold.writes) task mine needed))
+    (covered_before (own.hold.names ++ names) (own.hold.locks ++ locks) now.tables own.hold.writes (operation_result (after_events now.tables own.hold.writes) task).events (says_covered (own.hold.names ++ names) (own.hold.locks ++ locks) (after_events now.tables own.hold.writes) task mine needed))
 
-agrees_task : (now : State) (number : ℕ) (own : OwnHold now number) (names : List (List ℕ)) (seen : Database) (task : Database → Job) → seen ≡ after_events now.tables own.hold.writes → list_any (bytes_eq (task seen).table) (own.hold.names ++ names) ≡ true → AreApart now number (job_needs seen (task seen))
-    → AgreesFor now number (after_events now.tables (writes_of (session_of number now.sessions) ++ (job_says seen (task seen)).events))
+agrees_task : (now : State) (number : ℕ) (own : OwnHold now number) (names : List (List ℕ)) (seen : Database) (task : Database → Operation) → seen ≡ after_events now.tables own.hold.writes → list_any (bytes_eq (task seen).table) (own.hold.names ++ names) ≡ true → AreApart now number (operation_needs seen (task seen))
+    → AgreesFor now number (after_events now.tables (writes_of (session_of number now.sessions) ++ (operation_result seen (task seen)).events))
 agrees_task now number own names seen task same mine free =
-    agrees_commits now number own (own.hold.names ++ names) (job_needs seen (task seen)) (job_says seen (task seen)).events free
-    (subst (λ (d : Database). list_any (bytes_eq (task d).table) (own.hold.names ++ names) ≡ true → EventsCovered (own.hold.names ++ names) (own.hold.locks ++ job_needs d (task d)) now.tables (own.hold.writes ++ (job_says d (task d)).events)) (sym same)
-    (λ its. task_covered now number own names (job_needs (after_events now.tables own.hold.writes) (task (after_events now.tables own.hold.writes))) (task (after_events now.tables own.hold.writes)) its refl) mine)
+    agrees_commits now number own (own.hold.names ++ names) (operation_needs seen (task seen)) (operation_result seen (task seen)).events free
+    (subst (λ (d : Database). list_any (bytes_eq (task d).table) (own.hold.names ++ names) ≡ true → EventsCovered (own.hold.names ++ names) (own.hold.locks ++ operation_needs d (task d)) now.tables (own.hold.writes ++ (operation_result d (task d)).events)) (sym same)
+    (λ its. task_covered now number own names (operation_needs (after_events now.tables own.hold.writes) (task (after_events now.tables own.hold.writes))) (task (after_events now.tables own.hold.writes)) its refl) mine)
 
 agrees_moves : (now : State) (number : ℕ) (names : List (List ℕ)) (tables : Database) → Free (names_held now.sessions) number (map exclusive names) → ((name : List ℕ) → list_any (bytes_eq name) names ≡ false → find_table name tables ≡ find_table name now.tables) → AgreesFor now number tables
 agrees_moves now number names tables free same n differ = record {
@@ -105,10 +105,10 @@ agrees_effect now w number own false busy requests.Rollback free = agrees_still 
 agrees_effect now w number own false busy requests.Commit free =
     agrees_commits now number own (own.hold.names ++ []) [] [] (λ n differ lock other one two. absurd one) (quiet_covered now.tables own.hold [] [] own.covered)
 agrees_effect now w number own false busy (requests.Do statement) free = at busy where
-  at : (b : Bool) → AgreesFor now number (does (result_effect b (need_within (view number now) (requests.Do statement)) (says (view number now) statement)) (at_wait now w) number).after.tables
+  at : (b : Bool) → AgreesFor now number (does (result_effect b (need_within (view number now) (requests.Do statement)) (statement_result (view number now) statement)) (at_wait now w) number).after.tables
   at true = agrees_still now number
-  at false = agrees_task now number own (table_of statement ∷ []) (view number now) (λ d. job_of statement) (ap (λ (e : List RowEvent). after_events now.tables e) own.writes) (names_last own.hold.names (table_of statement)) free.apart
-agrees_effect now w number own false busy (LockTables names) free = at (all_stand names now.tables) where
+  at false = agrees_task now number own (table_of statement ∷ []) (view number now) (λ d. operation_of statement) (ap (λ (e : List RowEvent). after_events now.tables e) own.writes) (names_last own.hold.names (table_of statement)) free.apart
+agrees_effect now w number own false busy (LockTables names) free = at (all_exist names now.tables) where
   at : (b : Bool) → AgreesFor now number (does (locks_if b names) (at_wait now w) number).after.tables
   at true = agrees_still now number
   at false = agrees_still now number
@@ -127,9 +127,9 @@ agrees_effect now w number own false busy (BeginSpan table span size) free = at 
   at None = agrees_still now number
   at (Some t) = agrees_still now number
 agrees_effect now w number own false busy (CopyRow from into columns key) free = at busy where
-  at : (b : Bool) → AgreesFor now number (does (result_effect b (need_within (view number now) (CopyRow from into columns key)) (job_says (view number now) (copy_job (view number now) from into columns key))) (at_wait now w) number).after.tables
+  at : (b : Bool) → AgreesFor now number (does (result_effect b (need_within (view number now) (CopyRow from into columns key)) (operation_result (view number now) (copy_operation (view number now) from into columns key))) (at_wait now w) number).after.tables
   at true = agrees_still now number
-  at false = agrees_task now number own (from ∷ into ∷ []) (view number now) (λ d. copy_job d from into columns key) (ap (λ (e : List RowEvent). after_events now.tables e) own.writes) (names_two own.hold.names from into) free.apart
+  at false = agrees_task now number own (from ∷ into ∷ []) (view number now) (λ d. copy_operation d from into columns key) (ap (λ (e : List RowEvent). after_events now.tables e) own.writes) (names_two own.hold.names from into) free.apart
 
 agrees_done : (now : State) (w : List Waiting) (number : ℕ) (own : OwnHold now number) (request : Request) → IsFree now number (need now number request) → AgreesFor now number (done (at_wait now w) number request).after.tables
 unfolding done
@@ -210,16 +210,16 @@ rows_stay names locks a b name one two exclusive reach agree well_formed_a well_
 
 -- THROUGH ANY NUMBER OF TURNS
 
-pub along_front : {E : Type 0} (keeps : List E → E → Type 0) (before front behind : List E) → Along keeps before (front ++ behind) → Along keeps before front
-along_front keeps before [] behind all = tt
-along_front keeps before (entry ∷ front) behind all = (all.0, along_front keeps (before ++ entry ∷ []) front behind all.1)
+pub along_front : {E : Type 0} (keeps : List E → E → Type 0) (before front following : List E) → Along keeps before (front ++ following) → Along keeps before front
+along_front keeps before [] following all = tt
+along_front keeps before (entry ∷ front) following all = (all.0, along_front keeps (before ++ entry ∷ []) front following all.1)
 
 -- *What a session holds and sees stays*
 pub others_stay_law : OthersStay
 others_stay_law limits scene journal [] session run differ =
     subst (λ (j : List Entry). StaysTo limits scene journal j session) (sym (append-nil journal)) (record { face = refl; agree = agree_itself (face_of (scene_state limits scene journal).sessions session).hold.names (face_of (scene_state limits scene journal).sessions session).hold.locks (scene_state limits scene journal).tables })
 others_stay_law limits scene journal (entry ∷ more) session run differ =
-    let here : IsSceneRun limits scene journal = record { well_formed = run.well_formed; migrated = run.migrated; told = along_front (IsTold limits scene) [] journal (entry ∷ more) run.told; allowed = along_front (IsAllowed limits scene) [] journal (entry ∷ more) run.allowed } in
+    let here : IsSceneRun limits scene journal = record { well_formed = run.well_formed; migrated = run.migrated; reported = along_front (IsReported limits scene) [] journal (entry ∷ more) run.reported; allowed = along_front (IsAllowed limits scene) [] journal (entry ∷ more) run.allowed } in
     let regroup : (journal ++ entry ∷ []) ++ more ≡ journal ++ entry ∷ more = append_assoc journal (entry ∷ []) more in
     let face : face_of (scene_state limits scene (journal ++ entry ∷ [])).sessions session ≡ face_of (scene_state limits scene journal).sessions session =
     rw (state_more (opened limits scene.opening) journal entry) (entry_faces limits scene journal entry (journal_holds limits scene journal here) session differ.0) in

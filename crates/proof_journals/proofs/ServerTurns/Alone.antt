@@ -4,13 +4,13 @@ use Rattle.std.specs.Prelude.{◌==◌}
 use Rattle.std.proofs.lemmas.Bool.{false≢true, true≢false}
 use Rattle.std.specs.List.{list_any}
 use Rattle.std.specs.Str.{bytes_eq}
-use Rattle.server_locks.specs.MetadataLocks.Granting as grants
-use Rattle.server_locks.specs.MetadataLocks.Granting.{holds}
+use Rattle.server_locks.specs.MetadataLocks.Grants as grants
+use Rattle.server_locks.specs.MetadataLocks.Grants.{holds}
 use Rattle.base_script.specs.declared.actor.Side.{Side}
 use Rattle.base_script.specs.declared.actor.Side.TheVariants.{Before, After}
 use Rattle.server_model.specs.declared.answer.Answer.TheVariants as answers
 use Rattle.server_model.specs.declared.answer.Answer.{Answer}
-use Rattle.proof_journals.specs.Turns.{scene_state, inner, answer_at, missed_at, told_at, request_of, about}
+use Rattle.proof_journals.specs.Turns.{scene_state, inner, answer_at, missed_at, reported_at, request_of, about}
 use Rattle.server_model.specs.declared.entry.Asked.{Asked}
 use Rattle.server_model.specs.declared.entry.Asked.TheVariants.{Call, Poll, Cut, Command}
 use Rattle.server_model.specs.Entries.{is_command, is_client}
@@ -26,9 +26,9 @@ use Rattle.base_values.specs.declared.mysql_errors.TheConstants.{ER_TABLE_NOT_LO
 use Rattle.server_model.specs.States.{connected, State, is_exclusive, is_in_transaction, name_held, names_in, session_of, view, waiting_of}
 use Rattle.server_model.specs.Answers.{refuses, ok}
 use Rattle.server_model.specs.declared.session.Waiting.{Waiting}
-use Rattle.server_model.specs.Serving.{called_unless, calls, does, done, exclusive, is_over, polled_of, polled_over, polled_unless, polls, serves, without_waiting}
+use Rattle.server_model.specs.PlainServer.{called_unless, calls, does, done, exclusive, is_over, polled_of, polled_over, polled_unless, polls, serves, without_waiting}
 use Rattle.server_model.specs.Effects.{effect_unless, is_outside}
-use Rattle.server_model.specs.Locking.{need, need_within, blocker}
+use Rattle.server_model.specs.Blockers.{need, need_within, blocker}
 use Rattle.tool_program.specs.JournalWords.Journals.{opens, opens_if}
 use Rattle.server_model.proofs.LockedRows.Tests.{are_one, are_same}
 
@@ -98,10 +98,10 @@ served_alone state number Cut request one is takes given = absurd (lost given) w
   lost same = cc
 
 -- what was told is the server's answer
-pub told_inner : (side : Option Side) (given : Answer) → told_at side (answer_at side given) (missed_at side given) ≡ Some ok → given ≡ ok
-told_inner None given is = cc
-told_inner (Some Before) given is = absurd (cc)
-told_inner (Some After) given is = cc
+pub reported_inner : (side : Option Side) (given : Answer) → reported_at side (answer_at side given) (missed_at side given) ≡ Some ok → given ≡ ok
+reported_inner None given is = cc
+reported_inner (Some Before) given is = absurd (cc)
+reported_inner (Some After) given is = cc
 
 pub held_opened : (nothing tool : Bool) (number : ℕ) (state : State) → held_at (opens_if nothing tool number state) ≡ held_at state
 unfolding opens_if
@@ -119,7 +119,7 @@ exclusive_is_alone limits scene journal entry request run answered asks takes wa
     let tool : Bool = not (is_client entry.actor) in
     let now : State = opens entry state in
     let held : JournalHolds limits scene journal = journal_holds limits scene journal run in
-    let given : inner state entry ≡ ok = told_inner entry.side (inner state entry) (sym (ap (λ (g : Answer). told_at entry.side g entry.missed) answered.answer ∙ ap (λ (m : Option Answer). told_at entry.side (answer_at entry.side (inner state entry)) m) answered.missed) ∙ was) in
+    let given : inner state entry ≡ ok = reported_inner entry.side (inner state entry) (sym (ap (λ (g : Answer). reported_at entry.side g entry.missed) answered.answer ∙ ap (λ (m : Option Answer). reported_at entry.side (answer_at entry.side (inner state entry)) m) answered.missed) ∙ was) in
     let alone : AloneAt now number request = served_alone now number entry.asked request (opened_one nothing tool number state held.one) asks takes given in
     let before : AloneAt state number request = λ n name differ named. ap (λ (h : List grants.HeldName). holds h n name false) (sym (held_opened nothing tool number state)) ∙ alone n name differ named in
     let turn : TurnOf (asks_exclusive (about now number entry.asked)) number state (scene_state limits scene (journal ++ entry ∷ [])) = entries_are_turns limits scene journal entry run in

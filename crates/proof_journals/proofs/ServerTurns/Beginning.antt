@@ -6,7 +6,7 @@ use Rattle.std.proofs.lemmas.Option.{same_Some}
 use Rattle.base_values.specs.declared.value.Value.{Value}
 use Rattle.base_values.specs.declared.span.Span.{Span}
 use Rattle.base_values.specs.declared.gho_schema.schema.Schema.{Schema}
-use Rattle.base_values.specs.GhoSchema.Clustering.{clustered_place}
+use Rattle.base_values.specs.GhoSchema.ClusteredKey.{clustered_place}
 use Rattle.base_values.specs.declared.event.RowEvent.{RowEvent}
 use Rattle.base_values.specs.declared.event.Change.{Change}
 use Rattle.base_values.specs.declared.mysql_errors.TheConstants.{ER_TABLE_NOT_LOCKED, ER_NO_SUCH_TABLE}
@@ -15,9 +15,9 @@ use Rattle.table_store.specs.Databases.{TableRows, Database, find_table, with_ch
 use Rattle.base_script.specs.declared.actor.Side.{Side}
 use Rattle.server_model.specs.declared.answer.Answer.TheVariants as answers
 use Rattle.server_model.specs.declared.session.Session.{Session}
-use Rattle.server_model.specs.Needing.{lock_on}
+use Rattle.server_model.specs.Needs.{lock_on}
 use Rattle.server_model.specs.LockedRows.Agreeing.{Among}
-use Rattle.server_model.specs.Jobs.{after_events, change_table}
+use Rattle.server_model.specs.Operations.{after_events, change_table}
 use Rattle.proof_journals.specs.Scenes.{Stored}
 use Rattle.server_model.specs.declared.answer.Answer.{Answer}
 use Rattle.proof_journals.specs.Turns.{scene_state, inner, answer_at, request_of, about}
@@ -35,11 +35,11 @@ use Rattle.server_model.specs.declared.request.Request.TheVariants.{BeginSpan}
 use Rattle.server_model.specs.declared.request.Request.{Request}
 use Rattle.server_model.specs.Answers.{refuses, ok}
 use Rattle.server_model.specs.declared.need.Need.{Need}
-use Rattle.server_model.specs.Locking.{need, need_within, blocker, span_lock, span_needs}
+use Rattle.server_model.specs.Blockers.{need, need_within, blocker, span_lock, span_needs}
 use Rattle.server_model.specs.States.{State, is_in_transaction, locked_names, opened, session_of, view, waiting_of, with_session, writes_of}
 use Rattle.server_model.specs.declared.session.Waiting.{Waiting}
 use Rattle.server_model.specs.Effects.{begins, effect_unless, is_outside}
-use Rattle.server_model.specs.Serving.{called_unless, calls, does, done, holding, is_over, leaves, polled_of, polled_over, polled_unless, polls, serves, without_waiting}
+use Rattle.server_model.specs.PlainServer.{called_unless, calls, does, done, holding, is_over, leaves, polled_of, polled_over, polled_unless, polls, serves, without_waiting}
 use Rattle.tool_program.specs.JournalWords.Journals.{after_entry, opens}
 use Rattle.server_model.proofs.LockedRows.Points.{among-right}
 
@@ -158,11 +158,11 @@ spans_are_held limits scene journal entry table span size keys end answered asks
     let nothing : Bool = is_command entry.asked in
     let tool : Bool = not (is_client entry.actor) in
     let now : State = opens entry state in
-    let told : inner state entry ≡ entry.answer = ap (λ (s : Option Side). answer_at s (inner state entry)) (sym side) ∙ sym answered.answer in
+    let reported : inner state entry ≡ entry.answer = ap (λ (s : Option Side). answer_at s (inner state entry)) (sym side) ∙ sym answered.answer in
     let after : after_entry state entry ≡ (serves now entry.session entry.asked).after = ap (λ (s : Option Side). leaves s now entry.session entry.asked) side in
     let tables : now.tables ≡ state.tables = ap (λ (s : Stored). s.tables) (stored_opened nothing tool entry.session state) in
     let held : SpanHeld table span size entry.session (inner state entry) now (serves now entry.session entry.asked).after =
     found_live (session_of entry.session now.sessions) (SpanHeld table span size entry.session (inner state entry) now (serves now entry.session entry.asked).after) (opened_live nothing tool entry.session state (no_command now entry.session entry.asked (BeginSpan table span size) asks))
-    (λ session is. served_held now entry.session entry.asked table span size keys end session is asks (told ∙ answer)) in
+    (λ session is. served_held now entry.session entry.asked table span size keys end session is asks (reported ∙ answer)) in
     rw (state_more (opened limits scene.opening) journal entry, after)
-    (record { found = held.found; is = ap (find_table table) (sym tables) ∙ held.is; tables = held.tables ∙ tables; keys = sym told ∙ held.keys; named = held.named; locked = held.locked })
+    (record { found = held.found; is = ap (find_table table) (sym tables) ∙ held.is; tables = held.tables ∙ tables; keys = sym reported ∙ held.keys; named = held.named; locked = held.locked })

@@ -7,12 +7,12 @@ use Rattle.base_script.specs.declared.actor.Side.TheVariants.{Before, After}
 use Rattle.proof_journals.specs.Scenes.{Stored}
 use Rattle.server_model.specs.declared.answer.Answer.{Answer}
 use Rattle.server_model.specs.declared.answer.Answer.TheVariants as answers
-use Rattle.proof_journals.specs.Turns.{scene_state, inner, answer_at, missed_at, told_at, request_of, about}
+use Rattle.proof_journals.specs.Turns.{scene_state, inner, answer_at, missed_at, reported_at, request_of, about}
 use Rattle.server_model.specs.declared.entry.Asked.{Asked}
 use Rattle.server_model.specs.declared.entry.Asked.TheVariants.{Call, Poll, Cut, Command}
 use Rattle.server_model.specs.Entries.{is_command, is_client}
 use Rattle.proof_journals.specs.ServerTurns.Others.{definition, DefinitionsAreDone}
-use Rattle.proof_journals.proofs.ServerTurns.Alone.{told_inner}
+use Rattle.proof_journals.proofs.ServerTurns.Alone.{reported_inner}
 use Rattle.proof_journals.proofs.Journals.{state_more, stored_opened}
 use Rattle.server_model.specs.declared.request.Request.TheVariants.{BeginSpan, ChunkEnd, CopyRow, Create, Drop, Ends, LockTables, LogEnd, ReadLog, Rename, ShowTables, ShowWaiting, Unlock}
 use Rattle.server_model.specs.declared.request.Request.{Request}
@@ -20,9 +20,9 @@ use Rattle.server_model.specs.Answers.{refuses, ok}
 use Rattle.server_model.specs.declared.request.Request.TheVariants as requests
 use Rattle.server_model.specs.States.{State, is_in_transaction, opened, session_of, view, waiting_of}
 use Rattle.server_model.specs.declared.session.Waiting.{Waiting}
-use Rattle.server_model.specs.Serving.{called_unless, calls, does, done, is_over, leaves, loses, polled_of, polled_over, polled_unless, polls, serves, without_waiting}
+use Rattle.server_model.specs.PlainServer.{called_unless, calls, does, done, is_over, leaves, loses, polled_of, polled_over, polled_unless, polls, serves, without_waiting}
 use Rattle.server_model.specs.Effects.{created, effect_unless, defined, dropped, is_outside, renamed_or}
-use Rattle.server_model.specs.Locking.{need, blocker}
+use Rattle.server_model.specs.Blockers.{need, blocker}
 use Rattle.tool_program.specs.JournalWords.Journals.{opens}
 
 defined_done : (base : State) (number : ℕ) (result : Result Database ℕ) → (does (defined result) base number).answer ≡ ok → result ≡ Ok (does (defined result) base number).after.tables
@@ -94,7 +94,7 @@ served_defined state number Cut request result asks is given = absurd (lost give
   lost : answers.Lost ≡ ok → ⊥
   lost same = cc
 
-final_tables : (side : Option Side) (state : State) (number : ℕ) (asked : Asked) (given : Answer) → told_at side (answer_at side given) (missed_at side given) ≡ Some ok → (leaves side state number asked).tables ≡ (serves state number asked).after.tables
+final_tables : (side : Option Side) (state : State) (number : ℕ) (asked : Asked) (given : Answer) → reported_at side (answer_at side given) (missed_at side given) ≡ Some ok → (leaves side state number asked).tables ≡ (serves state number asked).after.tables
 unfolding loses
 final_tables None state number asked given is = refl
 final_tables (Some Before) state number asked given is = absurd (cc)
@@ -107,7 +107,7 @@ definitions_are_done limits scene journal entry request result answered asks is 
     let nothing : Bool = is_command entry.asked in
     let tool : Bool = not (is_client entry.actor) in
     let now : State = opens entry state in
-    let told = sym (ap (λ (g : Answer). told_at entry.side g entry.missed) answered.answer ∙ ap (λ (m : Option Answer). told_at entry.side (answer_at entry.side (inner state entry)) m) answered.missed) ∙ was in
+    let reported = sym (ap (λ (g : Answer). reported_at entry.side g entry.missed) answered.answer ∙ ap (λ (m : Option Answer). reported_at entry.side (answer_at entry.side (inner state entry)) m) answered.missed) ∙ was in
     let tables : now.tables ≡ state.tables = ap (λ (s : Stored). s.tables) (stored_opened nothing tool entry.session state) in
-    let done_so = served_defined now entry.session entry.asked request result asks (ap (definition request) tables ∙ is) (told_inner entry.side (inner state entry) told) in
-    rw (state_more (opened limits scene.opening) journal entry) (done_so ∙ ap (λ (d : Database). let r : Result Database ℕ = Ok d in r) (sym (final_tables entry.side now entry.session entry.asked (inner state entry) told)))
+    let done_so = served_defined now entry.session entry.asked request result asks (ap (definition request) tables ∙ is) (reported_inner entry.side (inner state entry) reported) in
+    rw (state_more (opened limits scene.opening) journal entry) (done_so ∙ ap (λ (d : Database). let r : Result Database ℕ = Ok d in r) (sym (final_tables entry.side now entry.session entry.asked (inner state entry) reported)))

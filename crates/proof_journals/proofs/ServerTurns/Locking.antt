@@ -6,7 +6,7 @@ use Rattle.std.proofs.lemmas.Bool.{false≢true}
 use Rattle.std.specs.List.{list_any}
 use Rattle.std.specs.Str.{bytes_eq}
 use Rattle.base_values.specs.declared.mysql_errors.TheConstants.{ER_TABLE_NOT_LOCKED, ER_NO_SUCH_TABLE}
-use Rattle.server_locks.specs.MetadataLocks.Granting.{holds}
+use Rattle.server_locks.specs.MetadataLocks.Grants.{holds}
 use Rattle.base_script.specs.declared.actor.Side.{Side}
 use Rattle.server_model.specs.declared.session.Session.{Session}
 use Rattle.server_model.specs.declared.session.HeldName.{HeldName}
@@ -25,9 +25,9 @@ use Rattle.server_model.specs.declared.request.Request.{Request}
 use Rattle.server_model.specs.Answers.{refuses, ok}
 use Rattle.server_model.specs.States.{State, is_in_transaction, names_held, opened, session_of, view, waiting_of, with_session}
 use Rattle.server_model.specs.declared.session.Waiting.{Waiting}
-use Rattle.server_model.specs.Effects.{all_stand, effect_unless, is_outside, locks_if}
-use Rattle.server_model.specs.Serving.{called_unless, calls, does, done, exclusive, is_over, leaves, locking, polled_of, polled_over, polled_unless, polls, serves, without_waiting}
-use Rattle.server_model.specs.Locking.{need, blocker}
+use Rattle.server_model.specs.Effects.{all_exist, effect_unless, is_outside, locks_if}
+use Rattle.server_model.specs.PlainServer.{called_unless, calls, does, done, exclusive, is_over, leaves, locking, polled_of, polled_over, polled_unless, polls, serves, without_waiting}
+use Rattle.server_model.specs.Blockers.{need, blocker}
 use Rattle.tool_program.specs.JournalWords.Journals.{after_entry, opens}
 use Rattle.server_model.proofs.LockedRows.Tests.{same_bytes, are_same}
 
@@ -56,7 +56,7 @@ done_taken : (base : State) (number : ℕ) (names : List (List ℕ)) (found : Se
 done_taken base number names found is true busy given name among = absurd (refusal given) where
   refusal : refuses ER_TABLE_NOT_LOCKED ≡ ok → ⊥
   refusal same = cc
-done_taken base number names found is false busy given name among = at (all_stand names base.tables) given where
+done_taken base number names found is false busy given name among = at (all_exist names base.tables) given where
   refusal : refuses ER_NO_SUCH_TABLE ≡ ok → ⊥
   refusal same = cc
 

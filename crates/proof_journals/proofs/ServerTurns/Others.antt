@@ -11,9 +11,9 @@ use Rattle.std.specs.Str.{bytes_eq}
 use Rattle.base_values.specs.declared.event.RowEvent.{RowEvent}
 use Rattle.base_values.specs.declared.event.Change.{Change}
 use Rattle.server_locks.specs.declared.metadata_locks.request.Waiter.{Waiter}
-use Rattle.server_locks.specs.MetadataLocks.Granting as grants
-use Rattle.server_locks.specs.MetadataLocks.Granting.{holds, has_name, blocker_of_name, blocker_of_names}
-use Rattle.server_locks.specs.RowLocks.Granting.{blocker_of_set}
+use Rattle.server_locks.specs.MetadataLocks.Grants as grants
+use Rattle.server_locks.specs.MetadataLocks.Grants.{holds, has_name, blocker_of_name, blocker_of_names}
+use Rattle.server_locks.specs.RowLocks.Grants.{blocker_of_set}
 use Rattle.table_store.specs.Databases.{TableRows, Database, find_table, has_table, with_change, rename_tables, without_table}
 use Rattle.table_store.specs.declared.renames.NotRenamed.{NotRenamed}
 use Rattle.base_script.specs.declared.actor.Side.{Side}
@@ -21,8 +21,8 @@ use Rattle.base_script.specs.declared.actor.Side.TheVariants.{Before, After}
 use Rattle.server_model.specs.declared.session.Session.{Session}
 use Rattle.server_model.specs.declared.session.HeldName.{HeldName}
 use Rattle.server_model.specs.LockedRows.Databases.{EventsCovered}
-use Rattle.server_model.specs.Jobs.{Job, table_of, job_of, says, job_says, result_in, events_of, after_events, change_table, copy_job}
-use Rattle.server_model.specs.Saying.{tells}
+use Rattle.server_model.specs.Operations.{Operation, table_of, operation_of, statement_result, operation_result, result_in, events_of, after_events, change_table, copy_operation}
+use Rattle.server_model.specs.StatementResults.{tells}
 use Rattle.proof_journals.specs.Turns.{scene_state, about, request_of}
 use Rattle.server_model.specs.declared.entry.Asked.{Asked}
 use Rattle.server_model.specs.declared.entry.Asked.TheVariants.{Call, Poll, Cut, Command}
@@ -47,11 +47,11 @@ use Rattle.server_model.specs.declared.request.Request.{Request}
 use Rattle.std.specs.Prelude.{is_some}
 use Rattle.server_model.specs.States.{connected, State, is_exclusive, is_in_transaction, locks_held, names_held, names_in, new_session, opened, pair_names, polls_of, session_of, view, waiting_of, waits_for, with_session, writes_of}
 use Rattle.server_model.specs.declared.request.Request.TheVariants as requests
-use Rattle.server_model.specs.Effects.{Locks, Unlocks, all_stand, begins, created, effect_unless, defined, dropped, is_outside, locks_if, nothing_needed, renamed_or, result_effect}
-use Rattle.server_model.specs.Serving.{at_rest, called_unless, calls, commits, counting, does, done, exclusive, forgets, goes_on, holding, is_over, leaves, locking, loses, polled_of, polled_over, polled_unless, polls, serves, shared, unlocking, without_waiting}
+use Rattle.server_model.specs.Effects.{Locks, Unlocks, all_exist, begins, created, effect_unless, defined, dropped, is_outside, locks_if, nothing_needed, renamed_or, result_effect}
+use Rattle.server_model.specs.PlainServer.{at_rest, called_unless, calls, commits, counting, does, done, exclusive, forgets, goes_on, holding, is_over, leaves, locking, loses, polled_of, polled_over, polled_unless, polls, serves, shared, unlocking, without_waiting}
 use Rattle.server_model.specs.Answers.{ok}
 use Rattle.server_model.specs.declared.need.Need.{Need}
-use Rattle.server_model.specs.Locking.{need, need_within, blocker}
+use Rattle.server_model.specs.Blockers.{need, need_within, blocker}
 use Rattle.server_model.specs.declared.session.Waiting.{Waiting}
 use Rattle.tool_program.specs.JournalWords.Journals.{after_entry, opens, opens_if}
 use Rattle.server_model.proofs.LockedRows.Tests.{same_number, same_bytes, are_same, turned_bytes, nor_left}
@@ -318,12 +318,12 @@ said_each : (P : List ℕ → Type 0) (table : List ℕ) (changes : List Change)
 said_each P table [] is = tt
 said_each P table (change ∷ changes) is = (is, said_each P table changes is)
 
-said_in_each : (P : List ℕ → Type 0) (task : Job) (found : Option TableRows) → P task.table → AllByRecursion (λ event. P event.table) (result_in task found).events
+said_in_each : (P : List ℕ → Type 0) (task : Operation) (found : Option TableRows) → P task.table → AllByRecursion (λ event. P event.table) (result_in task found).events
 said_in_each P task None is = tt
 said_in_each P task (Some table) is = said_each P task.table (tells table.schema table.rows (task.work table.schema)).changes is
 
-said_all : (P : List ℕ → Type 0) (tables : Database) (task : Job) → P task.table → AllByRecursion (λ event. P event.table) (job_says tables task).events
-unfolding job_says
+said_all : (P : List ℕ → Type 0) (tables : Database) (task : Operation) → P task.table → AllByRecursion (λ event. P event.table) (operation_result tables task).events
+unfolding operation_result
 said_all P tables task is = said_in_each P task (find_table task.table tables) is
 
 all_both : (P : RowEvent → Type 0) (a b : List RowEvent) → AllByRecursion P a → AllByRecursion P b → AllByRecursion P (a ++ b)
@@ -361,10 +361,10 @@ effect_does before w number false busy seen (requests.Do statement) own free = a
   one : IsGrantedName before number (table_of statement) false
   one = name_in_granted (held_at before) (waiters_at before) number false (table_of statement ∷ []) (table_of statement) free (rw (same_bytes (table_of statement)) refl)
 
-  at : (b : Bool) → Does false before number (does (result_effect b (need_within seen (requests.Do statement)) (says seen statement)) (at_wait before w) number).after
-  at true = does_grows false before w number (need_within seen (requests.Do statement)) (says seen statement).events free
-  at false = does_commits false before w number (says seen statement).events (all_both (λ event. MayWrite before number event.table) (writes_of (session_of number before.sessions)) (says seen statement).events own (said_all (λ name. MayWrite before number name) seen (job_of statement) (inr one)))
-effect_does before w number false busy seen (LockTables names) own free = at (all_stand names before.tables) where
+  at : (b : Bool) → Does false before number (does (result_effect b (need_within seen (requests.Do statement)) (statement_result seen statement)) (at_wait before w) number).after
+  at true = does_grows false before w number (need_within seen (requests.Do statement)) (statement_result seen statement).events free
+  at false = does_commits false before w number (statement_result seen statement).events (all_both (λ event. MayWrite before number event.table) (writes_of (session_of number before.sessions)) (statement_result seen statement).events own (said_all (λ name. MayWrite before number name) seen (operation_of statement) (inr one)))
+effect_does before w number false busy seen (LockTables names) own free = at (all_exist names before.tables) where
   at : (b : Bool) → Does true before number (does (locks_if b names) (at_wait before w) number).after
   at true = does_locks before w number names ok free
   at false = does_nothing true before w number
@@ -386,10 +386,10 @@ effect_does before w number false busy seen (CopyRow from into columns key) own 
   one : IsGrantedName before number into false
   one = name_in_granted (held_at before) (waiters_at before) number false (from ∷ into ∷ []) into free (rw (same_bytes into) (or-true (bytes_eq into from)))
 
-  at : (b : Bool) → Does false before number (does (result_effect b (need_within seen (CopyRow from into columns key)) (job_says seen (copy_job seen from into columns key))) (at_wait before w) number).after
-  at true = does_grows false before w number (need_within seen (CopyRow from into columns key)) (job_says seen (copy_job seen from into columns key)).events free
-  at false = does_commits false before w number (job_says seen (copy_job seen from into columns key)).events
-      (all_both (λ event. MayWrite before number event.table) (writes_of (session_of number before.sessions)) (job_says seen (copy_job seen from into columns key)).events own (said_all (λ name. MayWrite before number name) seen (copy_job seen from into columns key) (inr one)))
+  at : (b : Bool) → Does false before number (does (result_effect b (need_within seen (CopyRow from into columns key)) (operation_result seen (copy_operation seen from into columns key))) (at_wait before w) number).after
+  at true = does_grows false before w number (need_within seen (CopyRow from into columns key)) (operation_result seen (copy_operation seen from into columns key)).events free
+  at false = does_commits false before w number (operation_result seen (copy_operation seen from into columns key)).events
+      (all_both (λ event. MayWrite before number event.table) (writes_of (session_of number before.sessions)) (operation_result seen (copy_operation seen from into columns key)).events own (said_all (λ name. MayWrite before number name) seen (copy_operation seen from into columns key) (inr one)))
 
 done_does : (before : State) (w : List Waiting) (number : ℕ) (request : Request) → OwnWrites before number → blocker before number (need before number request) ≡ None → Does (is_exclusive request) before number (done (at_wait before w) number request).after
 unfolding done

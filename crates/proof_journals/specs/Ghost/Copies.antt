@@ -14,9 +14,9 @@ use Rattle.proof_journals.specs.Holdings.{face_of, stored}
 use Rattle.proof_journals.specs.Turns.{scene_state}
 use Rattle.proof_journals.specs.Ghost.Rows.Moments.{Row, rows_at, LogFits}
 use Rattle.proof_journals.specs.Ghost.Rows.Timelines.{Migration}
-use Rattle.proof_journals.specs.Ghost.Holding.{Clustered}
-use Rattle.proof_journals.specs.Ghost.Running.{ToolMoment, ToolTurn}
-use Rattle.proof_journals.specs.Ghost.Running.ApplyPlan.{Resting}
+use Rattle.proof_journals.specs.Ghost.HeldKeys.{Clustered}
+use Rattle.proof_journals.specs.Ghost.ToolTurns.{ToolMoment, ToolTurn}
+use Rattle.proof_journals.specs.Ghost.ToolTurns.ApplyPlan.{Resting}
 use Rattle.proof_journals.specs.Ghost.Tool.CopyState.{Waiting}
 
 -- the range of rows in the order of their keys, from the least key to the greatest; none of no rows

@@ -34,7 +34,7 @@ pub record NextDue (name : List ℕ) (log : List RowEvent) (from steps : ℕ) (c
   pub there : slice_get log (from + others) ≡ Some event
   pub named : bytes_eq event.table name ≡ true
   pub is : event.change ≡ change
-  pub behind : rest ≡ changes_in name log (from + others + 1) left
+  pub following : rest ≡ changes_in name log (from + others + 1) left
 
 -- what is done for a change of a row: an UPDATE that changes a unique key is a DELETE and a REPLACE
 abbrev pub doings : Migration → Change → List Doing

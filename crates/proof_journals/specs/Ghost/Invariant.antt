@@ -5,14 +5,14 @@ use Rattle.std.specs.Str.{bytes_eq}
 use Rattle.base_values.specs.GhoSchema.Rows.{key_places}
 use Rattle.base_values.specs.declared.event.RowEvent.{RowEvent}
 use Rattle.table_store.specs.Databases.{find_table}
-use Rattle.proof_journals.specs.Ghost.Fitting.{EventsFit}
+use Rattle.proof_journals.specs.Ghost.FittingEvents.{EventsFit}
 use Rattle.proof_journals.specs.Ghost.Joined.{IsJoined}
 use Rattle.proof_journals.specs.Ghost.Relation.Views.{Progress}
 use Rattle.proof_journals.specs.Ghost.Rows.Moments.{Row, rows_at}
 use Rattle.proof_journals.specs.Ghost.Rows.Timelines.{Migration}
 use Rattle.proof_journals.specs.Ghost.Rows.Views.{GhostRows}
 use Rattle.proof_journals.specs.Scenes.{SessionHold, Stored}
-use Rattle.server_model.specs.Jobs.{events_of}
+use Rattle.server_model.specs.Operations.{events_of}
 use Rattle.server_model.specs.LockedRows.Covering.{Apart}
 use Rattle.server_model.specs.LockedRows.Databases.{EventsCovered, IsWellFormedDatabase}
 

@@ -2,7 +2,7 @@
 use Rattle.std.specs.Prelude.{◌≡◌, Bool, true, List}
 use Rattle.base_values.specs.declared.event.RowEvent.{RowEvent}
 use Rattle.server_locks.specs.declared.row_locks.lock.Lock.{Lock}
-use Rattle.proof_journals.specs.Ghost.Holding.{is_locked}
+use Rattle.proof_journals.specs.Ghost.HeldKeys.{is_locked}
 use Rattle.proof_journals.specs.Ghost.Relation.Views.{Progress}
 use Rattle.proof_journals.specs.Ghost.Rows.Moments.{Row}
 use Rattle.proof_journals.specs.Ghost.Rows.Timelines.{Migration}

@@ -8,7 +8,7 @@ use Rattle.base_values.specs.declared.span.Bound.TheVariants.{Open, Closed}
 use Rattle.base_values.specs.declared.span.Span.{Span}
 use Rattle.base_values.specs.Spans.{has}
 use Rattle.base_values.specs.declared.gho_schema.schema.Schema.{Schema}
-use Rattle.base_values.specs.GhoSchema.Clustering.{clustered_place}
+use Rattle.base_values.specs.GhoSchema.ClusteredKey.{clustered_place}
 use Rattle.base_values.specs.GhoSchema.Rows.{key_of, key_places}
 use Rattle.base_values.specs.GhoSchema.Tables.{IsRow, IsTable, Ascends}
 use Rattle.base_values.specs.declared.row_conversion.conversion_fault.UnfitAt.{UnfitAt}
@@ -26,10 +26,10 @@ use Rattle.server_model.specs.declared.work.Work.{Work}
 use Rattle.server_model.specs.declared.work.Work.TheVariants as works
 use Rattle.server_model.specs.Answers.{refuses}
 use Rattle.server_model.specs.Chunks.{keys_of, last_of}
-use Rattle.server_model.specs.Jobs.{Job, after_events}
-use Rattle.server_model.specs.Needing.{points}
+use Rattle.server_model.specs.Operations.{Operation, after_events}
+use Rattle.server_model.specs.Needs.{points}
 use Rattle.server_model.specs.Rows.{change_rows}
-use Rattle.server_model.specs.Saying.{only, tells}
+use Rattle.server_model.specs.StatementResults.{only, tells}
 use Rattle.tool_program.specs.EventApplier.Appliers.{Doing}
 use Rattle.tool_program.specs.EventApplier.Appliers.Doing.{Putting, Removing, Changing}
 use Rattle.server_model.specs.LockedRows.Agreeing.{Within}
@@ -37,25 +37,25 @@ use Rattle.server_model.specs.LockedRows.Covering.{Apart}
 use Rattle.server_model.specs.LockedRows.Databases.{IsWellFormedDatabase}
 use Rattle.proof_journals.specs.Scenes.{Scene, Stored, SessionHold, no_hold, Besides}
 use Rattle.proof_journals.specs.Holdings.{face_of, stored}
-use Rattle.proof_journals.specs.Turns.{about, scene_state, told_at, IsSceneRun, IsTold as IsEntryTold}
+use Rattle.proof_journals.specs.Turns.{about, scene_state, reported_at, IsSceneRun, IsReported as IsEntryReported}
 use Rattle.tool_program.specs.JournalWords.Journals.{opens}
 use Rattle.server_model.specs.declared.answer.Answer.{Answer}
 use Rattle.server_model.specs.declared.request.Request.{Request}
 use Rattle.server_model.specs.Effects.{effect}
 use Rattle.server_model.specs.Entries.{is_cut}
-use Rattle.proof_journals.specs.Ghost.Leaving.{EffectLeaves, effect_answer, is_lost, told_done, undone_hold, was_done, where_done}
+use Rattle.proof_journals.specs.Ghost.EffectStates.{EffectLeaves, effect_answer, is_lost, reported_done, undone_hold, was_done, where_done}
 use Rattle.proof_journals.specs.Ghost.Relation.Views.{Progress}
 use Rattle.proof_journals.specs.Ghost.Rows.Moments.{Row, rows_after, rows_at, Fits, LogFits}
 use Rattle.proof_journals.specs.Ghost.Rows.Timelines.{Migration, IsPlanned}
 use Rattle.proof_journals.specs.Ghost.Rows.Views.{GhostRows, view_of, chunk_view, ghost_row, is_among}
 use Rattle.proof_journals.specs.Ghost.Rows.Disjoint.{AreDisjoint}
-use Rattle.proof_journals.specs.Ghost.Holding.{Clustered, is_locked}
-use Rattle.proof_journals.specs.Ghost.Fitting.{EventsFit}
+use Rattle.proof_journals.specs.Ghost.HeldKeys.{Clustered, is_locked}
+use Rattle.proof_journals.specs.Ghost.FittingEvents.{EventsFit}
 use Rattle.proof_journals.specs.Ghost.Invariant.{IsServed, NotOf}
 use Rattle.proof_journals.specs.Ghost.Given.{IsGiven}
 use Rattle.proof_journals.specs.Ghost.Doings.{planned}
-use Rattle.proof_journals.specs.Ghost.Reading.{EventsTold, own_changes, IsTold}
-use Rattle.proof_journals.specs.Ghost.Running.{ToolMoment, ToolRun, ToolStands, last_moment}
+use Rattle.proof_journals.specs.Ghost.OwnChanges.{EventsReported, own_changes, IsReported}
+use Rattle.proof_journals.specs.Ghost.ToolTurns.{ToolMoment, ToolRun, ToolStands, last_moment}
 use Rattle.proof_journals.specs.Ghost.Copies.{IsAltered, IsCopyEnd, IsCopyStart, SceneTurns}
 use Rattle.proof_journals.specs.Ghost.Statements.{DoesWork, delete_at, update_at, unfit_at}
 use Rattle.proof_journals.specs.Ghost.Tool.{CopyState, ApplyState, HoldsSpan, InChunk, ToolInvariant, AfterStatement, AfterRemoval, SomeRow, start_places, no_ghost}
@@ -83,22 +83,22 @@ WritesFit = (limits : Limits) (scene : Scene) (journal : List Entry) → IsScene
 -- sessions hold is what its effect leaves.
 abbrev pub EffectsAreDone : Type 0
 EffectsAreDone =
-    (limits : Limits) (scene : Scene) (journal : List Entry) (entry : Entry) (request : Request) (given : Answer) → IsSceneRun limits scene journal → IsEntryTold limits scene journal entry → about (opens entry (scene_state limits scene journal)) entry.session entry.asked ≡ Some request
-    → told_at entry.side entry.answer entry.missed ≡ Some given → was_done given ≡ true
+    (limits : Limits) (scene : Scene) (journal : List Entry) (entry : Entry) (request : Request) (given : Answer) → IsSceneRun limits scene journal → IsEntryReported limits scene journal entry → about (opens entry (scene_state limits scene journal)) entry.session entry.asked ≡ Some request
+    → reported_at entry.side entry.answer entry.missed ≡ Some given → was_done given ≡ true
     → EffectLeaves (effect (where_done entry.asked entry.session (opens entry (scene_state limits scene journal))) entry.session request) (is_lost entry.side) entry.session (stored (scene_state limits scene journal)) (stored (scene_state limits scene (journal ++ entry ∷ [])))
     (λ n. (face_of (scene_state limits scene journal).sessions n).hold) (λ n. (face_of (scene_state limits scene (journal ++ entry ∷ [])).sessions n).hold)
 
 -- *What is answered is what the effect answers*
 abbrev pub EffectsAnswer : Type 0
 EffectsAnswer =
-    (limits : Limits) (scene : Scene) (journal : List Entry) (entry : Entry) (request : Request) (given : Answer) → IsSceneRun limits scene journal → IsEntryTold limits scene journal entry → about (opens entry (scene_state limits scene journal)) entry.session entry.asked ≡ Some request
-    → told_at entry.side entry.answer entry.missed ≡ Some given → was_done given ≡ true → given ≡ effect_answer (effect (where_done entry.asked entry.session (opens entry (scene_state limits scene journal))) entry.session request)
+    (limits : Limits) (scene : Scene) (journal : List Entry) (entry : Entry) (request : Request) (given : Answer) → IsSceneRun limits scene journal → IsEntryReported limits scene journal entry → about (opens entry (scene_state limits scene journal)) entry.session entry.asked ≡ Some request
+    → reported_at entry.side entry.answer entry.missed ≡ Some given → was_done given ≡ true → given ≡ effect_answer (effect (where_done entry.asked entry.session (opens entry (scene_state limits scene journal))) entry.session request)
 
 -- *What was not done leaves all*: the tables and the log stay, and its session holds what it held, or nothing.
 abbrev pub UndoneIsLeft : Type 0
 UndoneIsLeft =
-    (limits : Limits) (scene : Scene) (journal : List Entry) (entry : Entry) (request : Request) → IsSceneRun limits scene journal → IsEntryTold limits scene journal entry → is_cut entry.asked ≡ false → about (opens entry (scene_state limits scene journal)) entry.session entry.asked ≡ Some request
-    → told_done (told_at entry.side entry.answer entry.missed) ≡ false
+    (limits : Limits) (scene : Scene) (journal : List Entry) (entry : Entry) (request : Request) → IsSceneRun limits scene journal → IsEntryReported limits scene journal entry → is_cut entry.asked ≡ false → about (opens entry (scene_state limits scene journal)) entry.session entry.asked ≡ Some request
+    → reported_done (reported_at entry.side entry.answer entry.missed) ≡ false
     → (stored (scene_state limits scene (journal ++ entry ∷ [])) ≡ stored (scene_state limits scene journal))
     × Besides entry.session (λ n. (face_of (scene_state limits scene journal).sessions n).hold) (λ n. (face_of (scene_state limits scene (journal ++ entry ∷ [])).sessions n).hold) (undone_hold entry.side entry.answer (face_of (scene_state limits scene journal).sessions entry.session).hold)
 
@@ -181,8 +181,8 @@ ApplierReturns =
 -- THE COPIER
 
 -- *What BeginSpan tells is a chunk*, in the span that is locked.
-abbrev pub ChunksAreTold : Type 0
-ChunksAreTold =
+abbrev pub ChunksAreReported : Type 0
+ChunksAreReported =
     (m : Migration) (at : Clustered m.schema) (rows : List Row) (now : Stored) (own : SessionHold) (low : Bound) (end : Row) (n : ℕ) (cut : Bool) → Ascends (key_places m.schema) (rows_at m.name (key_places m.schema) rows now.log (length now.log)) → HoldsSpan m at (record { low = low; high = Closed end }) own
     → nat_lt (suc n) (length (keys_of (key_places m.schema) (filter (λ row. has (record { low = low; high = Closed end }) (key_of (key_places m.schema) row)) (rows_at m.name (key_places m.schema) rows now.log (length now.log))))) ≡ cut
     → InChunk m at rows now own low
@@ -197,16 +197,16 @@ ChunkBegins =
     → ToolInvariant m at rows (Taking low high top keys 0) apply progress ghost copier applier now holds
 
 -- *There is a row at each key that was read*, as long as the chunk is open.
-abbrev pub ToldKeysStand : Type 0
-ToldKeysStand =
+abbrev pub ReportedKeysStand : Type 0
+ReportedKeysStand =
     (m : Migration) (at : Clustered m.schema) (rows : List Row) (low : Bound) (high top : Row) (keys : List Row) (n : ℕ) (apply : ApplyState) (progress : Progress Row) (ghost : GhostRows) (copier applier : ℕ) (now : Stored) (hold : ℕ → SessionHold) (k : ℕ) (key : Row) → IsPlanned m rows
     → ToolInvariant m at rows (Taking low high top keys n) apply progress ghost copier applier now hold → slice_get keys k ≡ Some key → SomeRow (key_places m.schema) key (rows_at m.name (key_places m.schema) rows now.log (length now.log))
 
 -- *CopyRow*, that writes the converted row, or meets a row that clashes with it.
 abbrev pub RowCopies : Type 0
 RowCopies =
-    (m : Migration) (at : Clustered m.schema) (rows : List Row) (low : Bound) (high top : Row) (keys : List Row) (n : ℕ) (apply : ApplyState) (progress : Progress Row) (ghost : GhostRows) (copier applier : ℕ) (now : Stored) (hold holds : ℕ → SessionHold) (own : SessionHold) (job : Job) (key row made : Row) → IsPlanned m rows
-    → IsServed now hold → ToolInvariant m at rows (Taking low high top keys n) apply progress ghost copier applier now hold → slice_get keys n ≡ Some key → DoesWork m job (works.Copy made) → IsGiven now hold copier job own → ((name : List ℕ) → list_any (bytes_eq name) (hold copier).names ≡ true → list_any (bytes_eq name) own.names ≡ true) → Besides copier hold holds own
+    (m : Migration) (at : Clustered m.schema) (rows : List Row) (low : Bound) (high top : Row) (keys : List Row) (n : ℕ) (apply : ApplyState) (progress : Progress Row) (ghost : GhostRows) (copier applier : ℕ) (now : Stored) (hold holds : ℕ → SessionHold) (own : SessionHold) (operation : Operation) (key row made : Row) → IsPlanned m rows
+    → IsServed now hold → ToolInvariant m at rows (Taking low high top keys n) apply progress ghost copier applier now hold → slice_get keys n ≡ Some key → DoesWork m operation (works.Copy made) → IsGiven now hold copier operation own → ((name : List ℕ) → list_any (bytes_eq name) (hold copier).names ≡ true → list_any (bytes_eq name) own.names ≡ true) → Besides copier hold holds own
     → find (is_at (key_places m.schema) key) (rows_at m.name (key_places m.schema) rows now.log progress.end) ≡ Some row → converted_row m.columns row ≡ Ok made
     → ToolInvariant m at rows (Taking low high top keys (suc n)) apply (record progress { copier_holds = is_among (key ∷ take n keys) }) (record ghost { chunk = ghost.chunk ++ (tells m.new (chunk_view m ghost) (works.Copy made)).changes }) copier applier now holds
 
@@ -242,64 +242,64 @@ ChunkRepeats =
 -- *ReadLog tells what the log has* of a table that is asked for: a batch is begun.
 abbrev pub BatchIsRead : Type 0
 BatchIsRead =
-    (m : Migration) (at : Clustered m.schema) (rows : List Row) (copy : CopyState) (progress : Progress Row) (ghost : GhostRows) (copier applier : ℕ) (now : Stored) (hold : ℕ → SessionHold) (told : EventsTold) → ToolInvariant m at rows copy Idle progress ghost copier applier now hold → IsTold m.name now.log progress.position told
-    → ToolInvariant m at rows copy (Whole told.next (planned m (own_changes m.name told.events))) progress ghost copier applier now hold
+    (m : Migration) (at : Clustered m.schema) (rows : List Row) (copy : CopyState) (progress : Progress Row) (ghost : GhostRows) (copier applier : ℕ) (now : Stored) (hold : ℕ → SessionHold) (reported : EventsReported) → ToolInvariant m at rows copy Idle progress ghost copier applier now hold → IsReported m.name now.log progress.position reported
+    → ToolInvariant m at rows copy (Whole reported.next (planned m (own_changes m.name reported.events))) progress ghost copier applier now hold
 
 -- ... or the position moves, where none of the events is of the table
 abbrev pub BatchIsPassed : Type 0
 BatchIsPassed =
-    (m : Migration) (at : Clustered m.schema) (rows : List Row) (copy : CopyState) (progress : Progress Row) (ghost : GhostRows) (copier applier : ℕ) (now : Stored) (hold : ℕ → SessionHold) (told : EventsTold) → IsPlanned m rows → ToolInvariant m at rows copy Idle progress ghost copier applier now hold
-    → IsTold m.name now.log progress.position told → planned m (own_changes m.name told.events) ≡ [] → ToolInvariant m at rows copy Idle (record progress { position = told.next; reached = told.next; applier_holds = λ _. false }) (record ghost { batch = [] }) copier applier now hold
+    (m : Migration) (at : Clustered m.schema) (rows : List Row) (copy : CopyState) (progress : Progress Row) (ghost : GhostRows) (copier applier : ℕ) (now : Stored) (hold : ℕ → SessionHold) (reported : EventsReported) → IsPlanned m rows → ToolInvariant m at rows copy Idle progress ghost copier applier now hold
+    → IsReported m.name now.log progress.position reported → planned m (own_changes m.name reported.events) ≡ [] → ToolInvariant m at rows copy Idle (record progress { position = reported.next; reached = reported.next; applier_holds = λ _. false }) (record ghost { batch = [] }) copier applier now hold
 
 -- *REPLACE* of the converted row that was written
 abbrev pub RowIsPut : Type 0
 RowIsPut =
-    (m : Migration) (at : Clustered m.schema) (rows : List Row) (copy : CopyState) (progress : Progress Row) (ghost : GhostRows) (copier applier : ℕ) (now : Stored) (hold holds : ℕ → SessionHold) (own : SessionHold) (job : Job) (next : ℕ) (row made : Row) (rest : List Doing) → IsPlanned m rows → IsServed now hold
-    → ToolInvariant m at rows copy (Whole next (Putting row ∷ rest)) progress ghost copier applier now hold → converted_row m.columns row ≡ Ok made → DoesWork m job (works.Replace made) → IsGiven now hold applier job own → Besides applier hold holds own
+    (m : Migration) (at : Clustered m.schema) (rows : List Row) (copy : CopyState) (progress : Progress Row) (ghost : GhostRows) (copier applier : ℕ) (now : Stored) (hold holds : ℕ → SessionHold) (own : SessionHold) (operation : Operation) (next : ℕ) (row made : Row) (rest : List Doing) → IsPlanned m rows → IsServed now hold
+    → ToolInvariant m at rows copy (Whole next (Putting row ∷ rest)) progress ghost copier applier now hold → converted_row m.columns row ≡ Ok made → DoesWork m operation (works.Replace made) → IsGiven now hold applier operation own → Besides applier hold holds own
     → AfterStatement m at rows copy (Whole next rest) progress ghost (tells m.new (view_of m ghost) (works.Replace made)).changes copier applier now holds own
 
 -- *REPLACE after a DELETE*: the second half of an UPDATE
 abbrev pub RowIsPutAgain : Type 0
 RowIsPutAgain =
-    (m : Migration) (at : Clustered m.schema) (rows : List Row) (copy : CopyState) (progress : Progress Row) (ghost : GhostRows) (copier applier : ℕ) (now : Stored) (hold holds : ℕ → SessionHold) (own : SessionHold) (job : Job) (next : ℕ) (before row made : Row) (rest : List Doing) → IsPlanned m rows → IsServed now hold
-    → ToolInvariant m at rows copy (Half next before row rest) progress ghost copier applier now hold → converted_row m.columns row ≡ Ok made → DoesWork m job (works.Replace made) → IsGiven now hold applier job own → Besides applier hold holds own
+    (m : Migration) (at : Clustered m.schema) (rows : List Row) (copy : CopyState) (progress : Progress Row) (ghost : GhostRows) (copier applier : ℕ) (now : Stored) (hold holds : ℕ → SessionHold) (own : SessionHold) (operation : Operation) (next : ℕ) (before row made : Row) (rest : List Doing) → IsPlanned m rows → IsServed now hold
+    → ToolInvariant m at rows copy (Half next before row rest) progress ghost copier applier now hold → converted_row m.columns row ≡ Ok made → DoesWork m operation (works.Replace made) → IsGiven now hold applier operation own → Besides applier hold holds own
     → AfterStatement m at rows copy (Whole next rest) progress ghost (tells m.new (view_of m ghost) (works.Replace made)).changes copier applier now holds own
 
 -- *DELETE* by the key of a row that was deleted, or whose unique keys an UPDATE changed
 abbrev pub RowIsRemoved : Type 0
 RowIsRemoved =
-    (m : Migration) (at : Clustered m.schema) (rows : List Row) (copy : CopyState) (progress : Progress Row) (ghost : GhostRows) (copier applier : ℕ) (now : Stored) (hold holds : ℕ → SessionHold) (own : SessionHold) (job : Job) (next : ℕ) (row : Row) (rest : List Doing) (place : ℕ) → IsPlanned m rows → clustered_place m.new ≡ Some place
-    → IsServed now hold → ToolInvariant m at rows copy (Whole next (Removing row ∷ rest)) progress ghost copier applier now hold → DoesWork m job (delete_at place (key_of (key_places m.schema) row)) → IsGiven now hold applier job own → Besides applier hold holds own
+    (m : Migration) (at : Clustered m.schema) (rows : List Row) (copy : CopyState) (progress : Progress Row) (ghost : GhostRows) (copier applier : ℕ) (now : Stored) (hold holds : ℕ → SessionHold) (own : SessionHold) (operation : Operation) (next : ℕ) (row : Row) (rest : List Doing) (place : ℕ) → IsPlanned m rows → clustered_place m.new ≡ Some place
+    → IsServed now hold → ToolInvariant m at rows copy (Whole next (Removing row ∷ rest)) progress ghost copier applier now hold → DoesWork m operation (delete_at place (key_of (key_places m.schema) row)) → IsGiven now hold applier operation own → Besides applier hold holds own
     → AfterRemoval m at rows copy progress ghost (tells m.new (view_of m ghost) (delete_at place (key_of (key_places m.schema) row))).changes copier applier now holds own next row rest
 
 -- *UPDATE* of a row whose unique keys stay, not refused with ER_DUP_ENTRY
 abbrev pub RowIsChanged : Type 0
 RowIsChanged =
-    (m : Migration) (at : Clustered m.schema) (rows : List Row) (copy : CopyState) (progress : Progress Row) (ghost : GhostRows) (copier applier : ℕ) (now : Stored) (hold holds : ℕ → SessionHold) (own : SessionHold) (job : Job) (next : ℕ) (before row made : Row) (rest : List Doing) (place : ℕ) → IsPlanned m rows
-    → clustered_place m.new ≡ Some place → IsServed now hold → ToolInvariant m at rows copy (Whole next (Changing before row ∷ rest)) progress ghost copier applier now hold → converted_row m.columns row ≡ Ok made → DoesWork m job (update_at place (key_of (key_places m.schema) before) made) → IsGiven now hold applier job own
+    (m : Migration) (at : Clustered m.schema) (rows : List Row) (copy : CopyState) (progress : Progress Row) (ghost : GhostRows) (copier applier : ℕ) (now : Stored) (hold holds : ℕ → SessionHold) (own : SessionHold) (operation : Operation) (next : ℕ) (before row made : Row) (rest : List Doing) (place : ℕ) → IsPlanned m rows
+    → clustered_place m.new ≡ Some place → IsServed now hold → ToolInvariant m at rows copy (Whole next (Changing before row ∷ rest)) progress ghost copier applier now hold → converted_row m.columns row ≡ Ok made → DoesWork m operation (update_at place (key_of (key_places m.schema) before) made) → IsGiven now hold applier operation own
     → Besides applier hold holds own → (tells m.new (view_of m ghost) (update_at place (key_of (key_places m.schema) before) made) ≡ only (refuses ER_DUP_ENTRY) → ⊥)
     → AfterStatement m at rows copy (Whole next rest) progress ghost (tells m.new (view_of m ghost) (update_at place (key_of (key_places m.schema) before) made)).changes copier applier now holds own
 
 -- *UPDATE of no row*, with values that don't store: the new table has no row of its key
 abbrev pub UnfitRowIsMissed : Type 0
 UnfitRowIsMissed =
-    (m : Migration) (at : Clustered m.schema) (rows : List Row) (copy : CopyState) (progress : Progress Row) (ghost : GhostRows) (copier applier : ℕ) (now : Stored) (hold holds : ℕ → SessionHold) (own : SessionHold) (job : Job) (next : ℕ) (before row : Row) (fault : UnfitAt) (rest : List Doing) (place : ℕ) → IsPlanned m rows
-    → clustered_place m.new ≡ Some place → IsServed now hold → ToolInvariant m at rows copy (Whole next (Changing before row ∷ rest)) progress ghost copier applier now hold → DoesWork m job (unfit_at place (key_of (key_places m.schema) before) fault) → IsGiven now hold applier job own
+    (m : Migration) (at : Clustered m.schema) (rows : List Row) (copy : CopyState) (progress : Progress Row) (ghost : GhostRows) (copier applier : ℕ) (now : Stored) (hold holds : ℕ → SessionHold) (own : SessionHold) (operation : Operation) (next : ℕ) (before row : Row) (fault : UnfitAt) (rest : List Doing) (place : ℕ) → IsPlanned m rows
+    → clustered_place m.new ≡ Some place → IsServed now hold → ToolInvariant m at rows copy (Whole next (Changing before row ∷ rest)) progress ghost copier applier now hold → DoesWork m operation (unfit_at place (key_of (key_places m.schema) before) fault) → IsGiven now hold applier operation own
     → Besides applier hold holds own → ghost_row m (view_of m ghost) (key_of (key_places m.schema) before) ≡ None
     → AfterStatement m at rows copy (Whole next rest) progress ghost (tells m.new (view_of m ghost) (unfit_at place (key_of (key_places m.schema) before) fault)).changes copier applier now holds own
 
 -- *A statement that changes nothing*, as an UPDATE refused with ER_DUP_ENTRY: its locks stay
 abbrev pub StatementIsRefused : Type 0
 StatementIsRefused =
-    (m : Migration) (at : Clustered m.schema) (rows : List Row) (copy : CopyState) (progress : Progress Row) (ghost : GhostRows) (copier applier : ℕ) (now : Stored) (hold holds : ℕ → SessionHold) (own : SessionHold) (job : Job) (work : Work) (next : ℕ) (todo : List Doing) → IsServed now hold
-    → ToolInvariant m at rows copy (Whole next todo) progress ghost copier applier now hold → DoesWork m job work → IsGiven now hold applier job own → Besides applier hold holds own → (tells m.new (view_of m ghost) work).changes ≡ []
+    (m : Migration) (at : Clustered m.schema) (rows : List Row) (copy : CopyState) (progress : Progress Row) (ghost : GhostRows) (copier applier : ℕ) (now : Stored) (hold holds : ℕ → SessionHold) (own : SessionHold) (operation : Operation) (work : Work) (next : ℕ) (todo : List Doing) → IsServed now hold
+    → ToolInvariant m at rows copy (Whole next todo) progress ghost copier applier now hold → DoesWork m operation work → IsGiven now hold applier operation own → Besides applier hold holds own → (tells m.new (view_of m ghost) work).changes ≡ []
     → ToolInvariant m at rows copy (Whole next todo) (record progress { applier_holds = is_locked m.new own.locks }) (record ghost { batch = ghost.batch ++ [] }) copier applier now holds
 
 -- *DELETE after a refused UPDATE*: the first half of it
 abbrev pub RefusedRowIsRemoved : Type 0
 RefusedRowIsRemoved =
-    (m : Migration) (at : Clustered m.schema) (rows : List Row) (copy : CopyState) (progress : Progress Row) (ghost : GhostRows) (copier applier : ℕ) (now : Stored) (hold holds : ℕ → SessionHold) (own : SessionHold) (job : Job) (next : ℕ) (before row : Row) (rest : List Doing) (place : ℕ) → IsPlanned m rows
-    → clustered_place m.new ≡ Some place → IsServed now hold → ToolInvariant m at rows copy (Whole next (Changing before row ∷ rest)) progress ghost copier applier now hold → DoesWork m job (delete_at place (key_of (key_places m.schema) before)) → IsGiven now hold applier job own → Besides applier hold holds own
+    (m : Migration) (at : Clustered m.schema) (rows : List Row) (copy : CopyState) (progress : Progress Row) (ghost : GhostRows) (copier applier : ℕ) (now : Stored) (hold holds : ℕ → SessionHold) (own : SessionHold) (operation : Operation) (next : ℕ) (before row : Row) (rest : List Doing) (place : ℕ) → IsPlanned m rows
+    → clustered_place m.new ≡ Some place → IsServed now hold → ToolInvariant m at rows copy (Whole next (Changing before row ∷ rest)) progress ghost copier applier now hold → DoesWork m operation (delete_at place (key_of (key_places m.schema) before)) → IsGiven now hold applier operation own → Besides applier hold holds own
     → AfterStatement m at rows copy (Half next before row rest) progress ghost (tells m.new (view_of m ghost) (delete_at place (key_of (key_places m.schema) before))).changes copier applier now holds own
 
 -- *The batch's COMMIT*

@@ -2,5 +2,5 @@
 -- as it was at a moment that the applier hasn't passed.
 pub mod Timelines
 pub mod Views
-pub mod Applying
+pub mod AppliedEvents
 pub mod Laws

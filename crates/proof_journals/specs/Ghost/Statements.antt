@@ -9,7 +9,7 @@ use Rattle.server_model.specs.declared.work.Work.{Work}
 use Rattle.server_model.specs.declared.work.Work.TheVariants as works
 use Rattle.proof_journals.specs.Ghost.Rows.Moments.{Row}
 use Rattle.proof_journals.specs.Ghost.Rows.Timelines.{Migration}
-use Rattle.server_model.specs.Jobs.{Job}
+use Rattle.server_model.specs.Operations.{Operation}
 
 -- the row with this value of the unique key at this place
 abbrev pub by_key : ℕ → Row → Reach
@@ -26,9 +26,9 @@ abbrev pub unfit_at : ℕ → Row → UnfitAt → Work
 unfit_at place key fault = works.Update (by_key place key) (Err fault)
 
 -- the job does this work on the new table
-pub record DoesWork (m : Migration) (job : Job) (work : Work) : Type 0 where
-  pub table : job.table ≡ m.new.name
-  pub does : job.work m.new ≡ work
+pub record DoesWork (m : Migration) (operation : Operation) (work : Work) : Type 0 where
+  pub table : operation.table ≡ m.new.name
+  pub does : operation.work m.new ≡ work
 
 -- the map's columns are these, one by one
 abbrev pub SameColumns : List Column → List MapColumn → Type 0

@@ -1,7 +1,7 @@
 -- Where the copier and the applier are, and what is kept of them and the server together.
 use Rattle.std.specs.Prelude.{◌≡◌, ℕ, ◌==◌, true, false, List, [], ◌∷◌, length, filter, find, take, ◌++◌, Bool, Option, Some, None}
 use Rattle.std.specs.Ordering.{is_le}
-use Rattle.base_values.specs.Comparing.{compare_keys}
+use Rattle.base_values.specs.KeyOrder.{compare_keys}
 use Rattle.base_values.specs.declared.span.Bound.{Bound}
 use Rattle.base_values.specs.declared.span.Bound.TheVariants.{Open, Closed}
 use Rattle.base_values.specs.declared.span.Span.{Span}
@@ -14,7 +14,7 @@ use Rattle.std.specs.Str.{bytes_eq}
 use Rattle.tool_program.specs.EventApplier.Appliers.{Doing}
 use Rattle.tool_program.specs.EventApplier.Appliers.Doing.{Putting}
 use Rattle.proof_journals.specs.Ghost.Doings.{IsHalf, IsWhole}
-use Rattle.proof_journals.specs.Ghost.Holding.{Clustered, is_locked}
+use Rattle.proof_journals.specs.Ghost.HeldKeys.{Clustered, is_locked}
 use Rattle.proof_journals.specs.Ghost.Invariant.{GhostInvariant}
 use Rattle.proof_journals.specs.Ghost.Relation.Views.{Progress}
 use Rattle.proof_journals.specs.Ghost.Rows.Moments.{Row, rows_after_all, rows_at}
@@ -22,7 +22,7 @@ use Rattle.proof_journals.specs.Ghost.Rows.Timelines.{Migration}
 use Rattle.proof_journals.specs.Ghost.Rows.Views.{is_key, GhostRows, is_done, is_done_in}
 use Rattle.proof_journals.specs.Scenes.{SessionHold, Stored, no_hold}
 use Rattle.server_model.specs.Chunks.{keys_of}
-use Rattle.server_model.specs.Needing.{lock_on}
+use Rattle.server_model.specs.Needs.{lock_on}
 use Rattle.server_model.specs.LockedRows.Agreeing.{Among}
 
 -- *The copier*: between chunks, with what is left; or in a chunk: its low end and its end, the greatest key of the range, the
@@ -61,7 +61,7 @@ pub record InChunk (m : Migration) (at : Clustered m.schema) (rows : List Row) (
   pub far : Row
   pub within : is_le (compare_keys high far) ≡ true
   pub holds : HoldsSpan m at (record { low = low; high = Closed far }) own
-  pub told : keys ≡ keys_of (key_places m.schema) (filter (λ row. has (record { low = low; high = Closed high }) (key_of (key_places m.schema) row)) (rows_at m.name (key_places m.schema) rows now.log (length now.log)))
+  pub reported : keys ≡ keys_of (key_places m.schema) (filter (λ row. has (record { low = low; high = Closed high }) (key_of (key_places m.schema) row)) (rows_at m.name (key_places m.schema) rows now.log (length now.log)))
 
 -- the copier is there: it holds nothing between chunks, and is in a chunk that it holds
 abbrev pub CopyStands : (m : Migration) → Clustered m.schema → List Row → Stored → SessionHold → CopyState → Type 0

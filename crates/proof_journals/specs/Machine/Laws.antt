@@ -21,11 +21,11 @@ use Rattle.tool_program.specs.Programs.{given, Follows}
 use Rattle.tool_program.specs.Verdicts.{has_ended, verdict_of}
 use Rattle.tool_program.specs.Tools.{is_reverting, moment}
 use Rattle.proof_journals.specs.Machine.Standings.{standing_of, answered, IsAbout, serves_to, MayTake, opened_for}
-use Rattle.proof_journals.specs.Machine.Machines.{CourseStands}
+use Rattle.proof_journals.specs.Machine.Machines.{ToolPhaseStands}
 use Rattle.proof_journals.specs.Machine.Scripts.{ScriptsFit}
-use Rattle.proof_journals.specs.Machine.Forming.{IsFitting}
-use Rattle.proof_journals.specs.Machine.Tabling.{TableStands, CourseTables}
-use Rattle.proof_journals.specs.Machine.Keying.{StaysWellFormed}
+use Rattle.proof_journals.specs.Machine.FormedPlans.{IsFitting}
+use Rattle.proof_journals.specs.Machine.MigrationTables.{TableExists, ToolPhaseTables}
+use Rattle.proof_journals.specs.Machine.TableKeys.{StaysWellFormed}
 use Rattle.proof_journals.specs.Machine.Runnable.{IsRunnable}
 
 -- a turn of an actor's leaves the other actors' sessions what they have, and its own what the answer tells
@@ -51,7 +51,7 @@ SessionsAreNumbered = (plan : PlanData) (journal : List Entry) → IsFaithful pl
 abbrev pub MachinesStand : Type 0
 MachinesStand =
     (plan : PlanData) (journal : List Entry) → IsFaithful plan journal → Follows plan journal
-    → CourseStands journal (standing_of plan journal) (is_reverting (moment plan journal).tool.reason) (moment plan journal).tool.course
+    → ToolPhaseStands journal (standing_of plan journal) (is_reverting (moment plan journal).tool.reason) (moment plan journal).tool.tool_phase
 
 -- a call's session is live and doesn't wait, and the request may come now
 pub record IsCalledWell (state : State) (session : ℕ) (request : Request) : Type 0 where
@@ -87,10 +87,10 @@ GivenPollsMayBeMade =
     → (n : ℕ) × (live_session journal actor ≡ Some n) × MayPoll (state_at plan journal) n
 
 -- *Tables stand until all is copied*: the migrated one with its schema, and the new one from its making on.
-abbrev pub TablesStandUncopied : Type 0
-TablesStandUncopied =
-    (plan : PlanData) (journal : List Entry) → IsFitting plan → TableStands plan → IsFaithful plan journal → Follows plan journal
-    → CourseTables plan (state_at plan journal).tables (standing_of plan journal) (moment plan journal).tool.course
+abbrev pub TablesExistUncopied : Type 0
+TablesExistUncopied =
+    (plan : PlanData) (journal : List Entry) → IsFitting plan → TableExists plan → IsFaithful plan journal → Follows plan journal
+    → ToolPhaseTables plan (state_at plan journal).tables (standing_of plan journal) (moment plan journal).tool.tool_phase
 
 -- *Tables stay tables* with clustered keys before each turn, where they are so at the start.
 abbrev pub TablesStayTables : Type 0
@@ -125,4 +125,4 @@ pub record TellsAlter (plan : PlanData) (journal : List Entry) : Type 0 where
 
 -- *Verdicts tell the ALTER* of a fitting plan whose migrated table exists, once the run has ended.
 abbrev pub VerdictsTellTheAlter : Type 0
-VerdictsTellTheAlter = (plan : PlanData) (journal : List Entry) → IsFitting plan → TableStands plan → IsFaithful plan journal → Follows plan journal → has_ended plan journal ≡ true → TellsAlter plan journal
+VerdictsTellTheAlter = (plan : PlanData) (journal : List Entry) → IsFitting plan → TableExists plan → IsFaithful plan journal → Follows plan journal → has_ended plan journal ≡ true → TellsAlter plan journal

@@ -25,7 +25,7 @@ use Rattle.tool_program.specs.declared.cutover_core.cutover.Phase.{Phase}
 use Rattle.tool_program.specs.declared.cutover_core.cutover.Phase.TheVariants.{Resting, Attempting, Ending, Finishing, Finished}
 use Rattle.tool_program.specs.declared.cutover_core.cutover.Stage.TheVariants.{Guarding, Locking, Hinting, Draining, Drained, Showing, Dropping, Unlocking, Exchanging}
 use Rattle.tool_program.specs.CutoverCore.Attempts.{exchange}
-use Rattle.tool_program.specs.Tools.{Course, SettingUp, Migrating, Work}
+use Rattle.tool_program.specs.Tools.{ToolPhase, SettingUp, Migrating, Work}
 use Rattle.proof_journals.specs.Machine.Standings.{Standing, free}
 
 -- the request that waits, where one does, is such a one
@@ -63,7 +63,7 @@ inspector_waits request = false
 
 abbrev pub copier_asks : CopyStep → Request → Bool
 copier_asks copying.Choosing (requests.ChunkEnd table low top size) = true
-copier_asks (copying.Spanning told size) (requests.BeginSpan table span most) = true
+copier_asks (copying.Spanning reported size) (requests.BeginSpan table span most) = true
 copier_asks (copying.Copying chunk copied) (requests.CopyRow from into map key) = true
 copier_asks (copying.Committing chunk) requests.Commit = true
 copier_asks step request = false
@@ -71,7 +71,7 @@ copier_asks step request = false
 -- a transaction is open from the chunk's keys to its commit
 abbrev pub copier_busy : CopyStep → Bool
 copier_busy copying.Choosing = false
-copier_busy (copying.Spanning told size) = false
+copier_busy (copying.Spanning reported size) = false
 copier_busy (copying.Copying chunk copied) = true
 copier_busy (copying.Committing chunk) = true
 
@@ -95,7 +95,7 @@ applier_busy (applying.Committing batch) = true
 pub record IsBatch (journal : List Entry) (applier : Applier) (batch : Batch) : Type 0 where
   pub events : List RowEvent
   pub next : ℕ
-  pub told : answer_at journal batch.read ≡ Some (answers.Events events next)
+  pub reported : answer_at journal batch.read ≡ Some (answers.Events events next)
   pub counted : batch.statements ≡ length (planned applier events)
 
 abbrev pub BatchKnown : List Entry → Applier → ApplyStep → Type 0
@@ -162,6 +162,6 @@ pub record SetupStands (has : Actor → Standing) : Type 0 where
   pub locker : has Lock ≡ free
   pub renamer : has Ren ≡ free
 
-abbrev pub CourseStands : List Entry → (Actor → Standing) → Bool → Course → Type 0
-CourseStands journal has reverting (SettingUp setup tries) = SetupStands has
-CourseStands journal has reverting (Migrating work) = WorkStands journal reverting has work
+abbrev pub ToolPhaseStands : List Entry → (Actor → Standing) → Bool → ToolPhase → Type 0
+ToolPhaseStands journal has reverting (SettingUp setup tries) = SetupStands has
+ToolPhaseStands journal has reverting (Migrating work) = WorkStands journal reverting has work

@@ -3,7 +3,7 @@ use Rattle.std.specs.Prelude.{List}
 use Rattle.server_model.specs.declared.entry.Entry.{Entry}
 use Rattle.plan_data.specs.PlanData.{PlanData}
 use Rattle.tool_program.specs.JournalWords.Journals.{IsFaithful}
-use Rattle.tool_program.specs.JournalWords.Keeping.{KeepsPlan}
+use Rattle.tool_program.specs.JournalWords.KeptPlans.{KeepsPlan}
 use Rattle.tool_program.specs.JournalWords.Sessions.{KeepsSessions}
 use Rattle.tool_program.specs.Programs.{Follows}
 

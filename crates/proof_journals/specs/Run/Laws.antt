@@ -6,14 +6,14 @@ use Rattle.server_model.specs.declared.entry.Asked.{Asked}
 use Rattle.server_model.specs.declared.entry.Entry.{Entry}
 use Rattle.server_model.specs.Entries.{is_client}
 use Rattle.server_model.specs.States.{State, session_of, is_waiting, connected, load, is_tool_busy}
-use Rattle.server_model.specs.Serving.{loses, serves, leaves}
+use Rattle.server_model.specs.PlainServer.{loses, serves, leaves}
 use Rattle.plan_data.specs.PlanData.{PlanData}
 use Rattle.tool_program.specs.JournalWords.Journals.{after_entry, state_at, IsAnswered, IsFaithful}
-use Rattle.tool_program.specs.JournalWords.Keeping.{commands_taken, TakesNext, IsPlanned}
+use Rattle.tool_program.specs.JournalWords.KeptPlans.{commands_taken, TakesNext, IsPlanned}
 use Rattle.tool_program.specs.JournalWords.Sessions.{live_session, sessions_named, KeepsSessions}
 use Rattle.tool_program.specs.Tools.{moment}
 use Rattle.tool_program.specs.Programs.{given, IsFollowed}
-use Rattle.proof_journals.specs.Run.Counting.{numbered, is_open, is_busy, busy_count, weigh, AreApart, kind_of}
+use Rattle.proof_journals.specs.Run.Counts.{numbered, is_open, is_busy, busy_count, weigh, AreApart, kind_of}
 use Rattle.proof_journals.specs.Run.Kept.{IsKept}
 
 -- whose each live session is on the server: no two have one number, each actor's live session is there, the tool's or a

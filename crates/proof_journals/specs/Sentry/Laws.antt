@@ -7,7 +7,7 @@ use Rattle.server_model.specs.Entries.{is_command, same_actor}
 use Rattle.plan_data.specs.PlanData.{PlanData}
 use Rattle.tool_program.specs.JournalWords.Sessions.{live_session}
 use Rattle.tool_program.specs.Programs.{IsFollowed}
-use Rattle.proof_journals.specs.Sentry.Turning.{IsGuarded, IsNumbered, IsTurned, last_session}
+use Rattle.proof_journals.specs.Sentry.TurnResults.{IsGuarded, IsNumbered, IsTurned, last_session}
 
 -- *Journals are guarded*: after every journal whose entries are such turns the sentry relation holds.
 abbrev pub JournalsAreGuarded : Type 0

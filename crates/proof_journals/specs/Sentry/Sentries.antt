@@ -7,7 +7,7 @@ use Rattle.base_values.specs.declared.event.RowEvent.{RowEvent}
 use Rattle.base_values.specs.declared.event.Change.TheVariants.{Write}
 use Rattle.table_store.specs.Databases.{Database, has_table}
 use Rattle.server_model.specs.declared.answer.Answer.TheVariants as answers
-use Rattle.server_locks.specs.MetadataLocks.Granting.{HeldName, has_name, holds, blocker_of_name}
+use Rattle.server_locks.specs.MetadataLocks.Grants.{HeldName, has_name, holds, blocker_of_name}
 use Rattle.server_locks.specs.declared.metadata_locks.request.Waiter.{Waiter}
 use Rattle.tool_program.specs.EventApplier.Appliers as appliers
 use Rattle.server_model.specs.declared.answer.Answer.{Answer}
@@ -59,10 +59,10 @@ pub record IsLocked (table : List ℕ) (held : List HeldName) (session : ℕ) : 
 -- the hint row of the attempt is logged, no hint row before it is the attempt's, and no event after it is of the table
 pub record IsHinted (table : List ℕ) (attempt : ℕ) (log : List RowEvent) : Type 0 where
   pub front : List RowEvent
-  pub behind : List RowEvent
-  pub logged : log ≡ front ++ record { table = log_name table; change = Write (hint_row attempt) } ∷ behind
+  pub following : List RowEvent
+  pub logged : log ≡ front ++ record { table = log_name table; change = Write (hint_row attempt) } ∷ following
   pub first : (count : ℕ) → last_hint table 0 (take count front) ≢ attempt
-  pub last : events_of table behind ≡ []
+  pub last : events_of table following ≡ []
 
 -- the applier knows of the last hint row up to its position
 abbrev pub KnowsHint : List ℕ → List RowEvent → Applier → Type 0

@@ -2,7 +2,7 @@
 use Rattle.std.specs.Prelude.{◌≡◌, ℕ, Bool, true, false, List}
 use Rattle.std.specs.List.{list_any}
 use Rattle.std.specs.Str.{bytes_eq}
-use Rattle.server_locks.specs.MetadataLocks.Granting.{holds}
+use Rattle.server_locks.specs.MetadataLocks.Grants.{holds}
 use Rattle.table_store.specs.Databases.{has_table, without_table}
 use Rattle.server_model.specs.declared.answer.Answer.{Answer}
 use Rattle.server_model.specs.declared.answer.Answer.TheVariants as answers

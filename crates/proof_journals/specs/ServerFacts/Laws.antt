@@ -5,11 +5,11 @@ use Rattle.server_model.specs.declared.entry.Asked.{Asked}
 use Rattle.server_model.specs.declared.request.Request.{Request}
 use Rattle.server_model.specs.declared.session.Limits.{Limits}
 use Rattle.server_model.specs.Conditions.{MayCall, MayPoll, MayLose}
-use Rattle.server_model.specs.Serving.{calls, polls, leaves}
+use Rattle.server_model.specs.PlainServer.{calls, polls, leaves}
 use Rattle.server_model.specs.States.{State, opened, connected}
 use Rattle.table_store.specs.Databases.{Database}
 use Rattle.server_model.specs.LockedRows.Databases.{IsWellFormedDatabase}
-use Rattle.proof_journals.specs.ServerFacts.Keeping.{IsServing}
+use Rattle.proof_journals.specs.ServerFacts.Invariants.{IsServing}
 
 -- *A server that opens serves*, and one to which a session connects
 abbrev pub OpenedServes : Type 0

@@ -3,19 +3,19 @@ use Rattle.std.specs.Prelude.{◌≡◌, ◌⊎◌, ℕ, ◌==◌, Bool, true, f
 use Rattle.std.specs.List.{AllByRecursion, list_any, flat_map}
 use Rattle.base_values.specs.declared.event.RowEvent.{RowEvent}
 use Rattle.server_locks.specs.declared.metadata_locks.request.Waiter.{Waiter}
-use Rattle.server_locks.specs.MetadataLocks.Granting as grants
-use Rattle.server_locks.specs.MetadataLocks.Granting.{holds, has_name, blocker_of_name}
+use Rattle.server_locks.specs.MetadataLocks.Grants as grants
+use Rattle.server_locks.specs.MetadataLocks.Grants.{holds, has_name, blocker_of_name}
 use Rattle.base_values.specs.declared.span.Span.{Span}
 use Rattle.base_values.specs.declared.value.Value.{Value}
 use Rattle.server_model.specs.declared.answer.Answer.TheVariants as answers
 use Rattle.server_model.specs.Chunks.{span_keys}
-use Rattle.base_values.specs.GhoSchema.Clustering.{clustered_place}
+use Rattle.base_values.specs.GhoSchema.ClusteredKey.{clustered_place}
 use Rattle.table_store.specs.Databases.{has_table, rows_in, rename_tables, TableRows, Database, find_table}
 use Rattle.server_model.specs.declared.session.Limits.{Limits}
 use Rattle.server_locks.specs.declared.row_locks.lock.Lock.{Lock}
 use Rattle.server_model.specs.declared.work.Reach.{Reach}
 use Rattle.server_model.specs.Rows.{rows_met}
-use Rattle.server_model.specs.Needing.{lock_on}
+use Rattle.server_model.specs.Needs.{lock_on}
 use Rattle.server_model.specs.LockedRows.Agreeing.{Agree, Among}
 use Rattle.proof_journals.specs.Holdings.{face_of, OneHolder}
 use Rattle.server_model.specs.LockedRows.Covering.{Apart}
@@ -23,7 +23,7 @@ use Rattle.server_model.specs.LockedRows.Databases.{IsWellFormedDatabase, Events
 use Rattle.proof_journals.specs.Scenes.{Scene}
 use Rattle.std.specs.Str.{bytes_eq}
 use Rattle.server_model.specs.declared.answer.Answer.{Answer}
-use Rattle.proof_journals.specs.Turns.{IsTold, IsSceneRun, scene_state, about, told_at}
+use Rattle.proof_journals.specs.Turns.{IsReported, IsSceneRun, scene_state, about, reported_at}
 use Rattle.server_model.specs.declared.entry.Entry.{Entry}
 use Rattle.server_model.specs.declared.request.Request.TheVariants.{BeginSpan, Create, Drop, LockTables, Rename}
 use Rattle.server_model.specs.declared.request.Request.{Request}
@@ -77,7 +77,7 @@ EntriesAreTurns = (limits : Limits) (scene : Scene) (journal : List Entry) (entr
 
 -- the entry's request was done, with ok 0, whether or not the answer was missed
 abbrev pub WasDone : Entry → Type 0
-WasDone entry = told_at entry.side entry.answer entry.missed ≡ Some ok
+WasDone entry = reported_at entry.side entry.answer entry.missed ≡ Some ok
 
 -- *What needs its names exclusively, and is done, is alone*: no other session holds one of them, before or after
 pub record IsAlone (request : Request) (session : ℕ) (before after : State) : Type 0 where
@@ -86,7 +86,7 @@ pub record IsAlone (request : Request) (session : ℕ) (before after : State) : 
 
 abbrev pub ExclusiveIsAlone : Type 0
 ExclusiveIsAlone = (limits : Limits) (scene : Scene) (journal : List Entry) (entry : Entry) (request : Request) → IsSceneRun limits scene journal
-    → IsTold limits scene journal entry → about (opens entry (scene_state limits scene journal)) entry.session entry.asked ≡ Some request → is_exclusive request ≡ true → WasDone entry → IsAlone request entry.session (scene_state limits scene journal) (scene_state limits scene (journal ++ entry ∷ []))
+    → IsReported limits scene journal entry → about (opens entry (scene_state limits scene journal)) entry.session entry.asked ≡ Some request → is_exclusive request ≡ true → WasDone entry → IsAlone request entry.session (scene_state limits scene journal) (scene_state limits scene (journal ++ entry ∷ []))
 
 -- *What a session sees under its locks stays* while others have their turns: the committed tables of its names, and of
 -- their rows those under its row locks
@@ -102,7 +102,7 @@ RowsStay = (names : List (List ℕ)) (locks : List Lock) (a b : Database) (name 
 
 -- *LOCK TABLES that is done leaves its names with the session*, exclusively
 abbrev pub LocksAreTaken : Type 0
-LocksAreTaken = (limits : Limits) (scene : Scene) (journal : List Entry) (entry : Entry) (names : List (List ℕ)) → IsTold limits scene journal entry → about (opens entry (scene_state limits scene journal)) entry.session entry.asked ≡ Some (LockTables names) → entry.side ≡ None → entry.answer ≡ ok
+LocksAreTaken = (limits : Limits) (scene : Scene) (journal : List Entry) (entry : Entry) (names : List (List ℕ)) → IsReported limits scene journal entry → about (opens entry (scene_state limits scene journal)) entry.session entry.asked ≡ Some (LockTables names) → entry.side ≡ None → entry.answer ≡ ok
     → (name : List ℕ) → list_any (bytes_eq name) names ≡ true → holds (held_at (scene_state limits scene (journal ++ entry ∷ []))) entry.session name true ≡ true
 
 -- *What a session holds and sees stays*, while others have any number of turns
@@ -130,7 +130,7 @@ pub record SpanHeld (table : List ℕ) (span : Span) (size session : ℕ) (answe
   pub locked : (place : ℕ) → clustered_place found.schema ≡ Some place → Among (lock_on found.schema false (record { key = place; span = span })) (face_of after.sessions session).hold.locks
 
 abbrev pub SpansAreHeld : Type 0
-SpansAreHeld = (limits : Limits) (scene : Scene) (journal : List Entry) (entry : Entry) (table : List ℕ) (span : Span) (size : ℕ) (keys : List (List Value)) (end : List Value) → IsTold limits scene journal entry → about (opens entry (scene_state limits scene journal)) entry.session entry.asked ≡ Some (BeginSpan table span size)
+SpansAreHeld = (limits : Limits) (scene : Scene) (journal : List Entry) (entry : Entry) (table : List ℕ) (span : Span) (size : ℕ) (keys : List (List Value)) (end : List Value) → IsReported limits scene journal entry → about (opens entry (scene_state limits scene journal)) entry.session entry.asked ≡ Some (BeginSpan table span size)
     → entry.side ≡ None → entry.answer ≡ (answers.Keys keys end) → SpanHeld table span size entry.session entry.answer (scene_state limits scene journal) (scene_state limits scene (journal ++ entry ∷ []))
 
 -- what CREATE, DROP and RENAME make of the tables, or the number of their refusal
@@ -142,7 +142,7 @@ definition request tables = None
 
 -- *CREATE, DROP and RENAME that are done leave the tables that they make*
 abbrev pub DefinitionsAreDone : Type 0
-DefinitionsAreDone = (limits : Limits) (scene : Scene) (journal : List Entry) (entry : Entry) (request : Request) (result : Result Database ℕ) → IsTold limits scene journal entry → about (opens entry (scene_state limits scene journal)) entry.session entry.asked ≡ Some request
+DefinitionsAreDone = (limits : Limits) (scene : Scene) (journal : List Entry) (entry : Entry) (request : Request) (result : Result Database ℕ) → IsReported limits scene journal entry → about (opens entry (scene_state limits scene journal)) entry.session entry.asked ≡ Some request
     → definition request (scene_state limits scene journal).tables ≡ Some result → WasDone entry → result ≡ Ok (scene_state limits scene (journal ++ entry ∷ [])).tables
 
 -- *A state holds together*: its tables are tables; what a session wrote in its open transaction is covered by what it holds;

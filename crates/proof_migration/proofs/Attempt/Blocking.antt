@@ -7,8 +7,8 @@ use Rattle.std.proofs.lemmas.Bool.Decides.{nat_tests}
 use Rattle.base_script.specs.declared.actor.Actor.{Actor}
 use Rattle.base_script.specs.declared.actor.Side.{Side}
 use Rattle.server_locks.proofs.LeastSession.Sessions.{none_of}
-use Rattle.server_locks.specs.RowLocks.Granting.{blocker_of_set}
-use Rattle.server_locks.specs.MetadataLocks.Granting.{HeldName, holds, blocker_of_names}
+use Rattle.server_locks.specs.RowLocks.Grants.{blocker_of_set}
+use Rattle.server_locks.specs.MetadataLocks.Grants.{HeldName, holds, blocker_of_names}
 use Rattle.server_model.specs.declared.answer.Answer.{Answer}
 use Rattle.server_model.specs.declared.answer.Answer.TheVariants as answers
 use Rattle.server_model.specs.declared.entry.Asked.{Asked}
@@ -19,8 +19,8 @@ use Rattle.server_model.specs.declared.session.HeldName.{HeldName as NameOf}
 use Rattle.server_model.specs.declared.session.Session.{Session}
 use Rattle.server_model.specs.declared.session.Waiting.{Waiting}
 use Rattle.server_model.specs.Entries.{same_actor, is_client, is_command}
-use Rattle.server_model.specs.Locking.{need, blocker}
-use Rattle.server_model.specs.Serving.{is_over, polled_over, polled_unless, polled_of, polls, serves}
+use Rattle.server_model.specs.Blockers.{need, blocker}
+use Rattle.server_model.specs.PlainServer.{is_over, polled_over, polled_unless, polled_of, polls, serves}
 use Rattle.server_model.specs.States.{State, session_of, waiting_of, waiters, names_held, locks_held, locked_names, kept_names}
 use Rattle.plan_data.specs.PlanData.{PlanData}
 use Rattle.tool_program.specs.JournalWords.Journals.{opens, state_at}
@@ -33,7 +33,7 @@ use Rattle.proof_journals.proofs.Names.{as_held}
 use Rattle.proof_journals.proofs.ServerTurns.Others.{holds_parts}
 use Rattle.proof_journals.proofs.Sentry.Holding.{granted_each, granted_alone, weaker}
 use Rattle.server_model.proofs.LockedRows.Tests.{are_same, same_bytes}
-use Rattle.proof_journals.specs.Run.Counting.{AreApart}
+use Rattle.proof_journals.specs.Run.Counts.{AreApart}
 use Rattle.proof_journals.specs.Machine.Standings.{standing_in, standing_of}
 use Rattle.proof_journals.proofs.Machine.Seated.{IsKnown, IsServed, own_given, own_missed, opened_old}
 
@@ -109,7 +109,7 @@ rename_blocked state number locker table apart held lacks free =
       names =
           (none_of (blocker_of_names (names_held state.sessions) (waiters state.waiting) number true (need state number (exchange table)).names) (blocker_of_set (locks_held state.sessions) number (need state number (exchange table)).locks) free).0
 
-      alone : Rattle.server_locks.specs.MetadataLocks.Granting.blocker_of_name (names_held state.sessions) (waiters state.waiting) number table true ≡ None
+      alone : Rattle.server_locks.specs.MetadataLocks.Grants.blocker_of_name (names_held state.sessions) (waiters state.waiting) number table true ≡ None
       alone = granted_each (names_held state.sessions) (waiters state.waiting) number true _ table names
 
 -- no refusal

@@ -15,7 +15,7 @@ use Rattle.server_model.specs.declared.answer.Answer.TheVariants as answers
 use Rattle.server_model.specs.declared.listing.TableName.{TableName}
 use Rattle.server_model.specs.declared.request.Request.{Request}
 use Rattle.server_model.specs.declared.request.Request.TheVariants as requests
-use Rattle.server_model.specs.Showing.{placed_name, tables_shown}
+use Rattle.server_model.specs.Listings.{placed_name, tables_shown}
 use Rattle.plan_data.specs.PlanData.{PlanData}
 use Rattle.base_values.specs.ToolNames.{ghost_name, old_name}
 use Rattle.tool_changelog.specs.ToolTables.{sentry_comment, sentry_schema}
@@ -30,7 +30,7 @@ use Rattle.tool_program.specs.declared.cutover_core.cutover.Stage.{Stage}
 use Rattle.tool_program.specs.declared.cutover_core.cutover.Stage.TheVariants.{Guarding, Locking, Hinting, Draining, Drained, Showing, Dropping, Unlocking, Exchanging}
 use Rattle.tool_program.specs.CutoverCore.Attempts.{is_clear, without_first, has_name, has_sentry}
 use Rattle.tool_program.specs.CutoverCore.CutOvers.{is_bad, is_wait, inspector_phase, inspector_stage, shows_wait, ending_after, finishing_after, finishing, left_at_end, sentry_alone, seen}
-use Rattle.proof_journals.specs.Machine.Tabling.{schema_of, TablesStand}
+use Rattle.proof_journals.specs.Machine.MigrationTables.{schema_of, TablesExist}
 use Rattle.proof_journals.proofs.Machine.Schemas.{is_quiet}
 use Rattle.server_model.proofs.LockedRows.Tests.{same_bytes}
 use Rattle.proof_migration.proofs.Attempt.LockerAnswers.{OthersStay, DropsOld, both_stay, drop_most, heard_leaves}
@@ -190,7 +190,7 @@ module _ (plan : PlanData) (before after : Database) (was inspects : Option Requ
   -- the sentry is dropped
   drops_at : (cutover : CutOver) (left : Leftovers) (answer : Answer) → OthersStay plan before after × DropsOld plan before after answer → ((request : Request) → inspects ≡ Some request → (request ≡ requests.Drop (old_name plan.table)) × (is_wait answer ≡ true)) → Was (Ending (Drops left)) → Becomes (ending_after cutover (Drops left) answer)
   drops_at cutover left answer leaves waits at = by answer leaves.1 waits where
-    stand : TablesStand plan after
+    stand : TablesExist plan after
     stand = both_stay plan before after leaves.0 at.tables.stand
 
     most : (answer : Answer) → DropsOld plan before after answer → SentryAtMost plan after

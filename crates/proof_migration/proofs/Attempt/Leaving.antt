@@ -18,9 +18,9 @@ use Rattle.server_model.specs.declared.request.Request.TheVariants as requests
 use Rattle.server_model.specs.declared.session.Waiting.{Waiting}
 use Rattle.server_model.specs.Effects.{created, dropped, renamed_or, defined, effect_unless, is_outside}
 use Rattle.server_model.specs.Entries.{is_client, is_command}
-use Rattle.server_model.specs.Locking.{need, blocker}
-use Rattle.server_model.specs.Serving.{Served, does, done, without_waiting, called_unless, calls, is_over, polled_over, polled_unless, polled_of, polls, loses, leaves, serves}
-use Rattle.server_model.specs.Showing.{tables_shown}
+use Rattle.server_model.specs.Blockers.{need, blocker}
+use Rattle.server_model.specs.PlainServer.{Served, does, done, without_waiting, called_unless, calls, is_over, polled_over, polled_unless, polled_of, polls, loses, leaves, serves}
+use Rattle.server_model.specs.Listings.{tables_shown}
 use Rattle.server_model.specs.States.{State, session_of, is_in_transaction, view, waiting_of}
 use Rattle.plan_data.specs.PlanData.{PlanData}
 use Rattle.base_values.specs.ToolNames.{ghost_name, old_name}
@@ -29,18 +29,18 @@ use Rattle.tool_program.specs.JournalWords.Journals.{opens, state_at}
 use Rattle.tool_program.specs.CutoverCore.Attempts.{exchange}
 use Rattle.proof_journals.specs.Holdings.{face_in}
 use Rattle.proof_journals.specs.Turns.{inner, missed_at, request_of}
-use Rattle.proof_journals.proofs.Joined.{told_missed}
+use Rattle.proof_journals.proofs.Joined.{reported_missed}
 use Rattle.proof_journals.proofs.Journals.{opened_waits}
 use Rattle.proof_journals.proofs.Moves.{renamed_other, renamed_old, gone_none, found_has}
 use Rattle.server_model.proofs.LockedRows.Tests.{same_bytes, turned_bytes}
 use Rattle.tool_program.proofs.OnlineCalls.Naming.{not_ghost, not_old}
 use Rattle.proof_journals.specs.Machine.Standings.{Standing, standing_of, IsAbout, is_called, is_polled}
-use Rattle.proof_journals.specs.Machine.Tabling.{schema_of}
+use Rattle.proof_journals.specs.Machine.MigrationTables.{schema_of}
 use Rattle.proof_journals.proofs.Machine.Marks.{ghost_not_old}
 use Rattle.proof_journals.proofs.Machine.Schemas.{new_found}
 use Rattle.proof_journals.proofs.Machine.Seated.{IsKnown, IsServed, IsOpen, is_open, state_more, own_waiting, own_given, own_missed}
-use Rattle.proof_migration.proofs.Course.Hearing.{IsFoundBy, opened_tables}
-use Rattle.proof_migration.proofs.Course.CopyAnswers.{not_outside}
+use Rattle.proof_migration.proofs.ToolPhase.Hearing.{IsFoundBy, opened_tables}
+use Rattle.proof_migration.proofs.ToolPhase.CopyAnswers.{not_outside}
 
 -- NAMES THAT STAND
 
@@ -148,12 +148,12 @@ exchange_does table found number = first (has_table (old_name table) found.table
   third false none = ((λ name. refl), λ may. true≢false (sym may.ghost ∙ has_is (ghost_name table) found.tables ∙ ap (λ (t : Option TableRows). is_some (option_map (λ t. t.schema) t)) (sym ghost_there) ∙ sym (has_is (ghost_name table) moved) ∙ none))
 
   second : Has (ExchangeLeaves table found.tables)
-      (does (defined (renamed_or (cond (has_table table moved) (Err Rattle.table_store.specs.declared.renames.NotRenamed.TheVariants.Stands) (cond (has_table (ghost_name table) moved) (Ok (with_name (ghost_name table) table moved)) (Err Rattle.table_store.specs.declared.renames.NotRenamed.TheVariants.Missing))))) found number)
+      (does (defined (renamed_or (cond (has_table table moved) (Err Rattle.table_store.specs.declared.renames.NotRenamed.TheVariants.Exists) (cond (has_table (ghost_name table) moved) (Ok (with_name (ghost_name table) table moved)) (Err Rattle.table_store.specs.declared.renames.NotRenamed.TheVariants.Missing))))) found number)
   second = rw gone (third (has_table (ghost_name table) moved) refl)
 
   first : (a : Bool) → has_table (old_name table) found.tables ≡ a → (b : Bool) → has_table table found.tables ≡ b
       → Has (ExchangeLeaves table found.tables)
-      (does (defined (renamed_or (cond a (Err Rattle.table_store.specs.declared.renames.NotRenamed.TheVariants.Stands) (cond b (rename_tables (record { old = ghost_name table; new = table } ∷ []) moved) (Err Rattle.table_store.specs.declared.renames.NotRenamed.TheVariants.Missing))))) found number)
+      (does (defined (renamed_or (cond a (Err Rattle.table_store.specs.declared.renames.NotRenamed.TheVariants.Exists) (cond b (rename_tables (record { old = ghost_name table; new = table } ∷ []) moved) (Err Rattle.table_store.specs.declared.renames.NotRenamed.TheVariants.Missing))))) found number)
   first true stands b is = ((λ name. refl), λ may. true≢false (sym stands ∙ may.free))
   first false free true is = second
   first false free false none = ((λ name. refl), λ may. true≢false (sym may.old ∙ none))
@@ -227,8 +227,8 @@ module _ (plan : PlanData) (journal : List Entry) (entry : Entry) (known : IsKno
         ap (λ (w : List Waiting). request_of (waiting_of entry.session w)) (opened_waits (is_command entry.asked) (not (is_client entry.actor)) entry.session (state_at plan journal)) ∙ own_waiting plan journal entry known served (ap is_command same) ∙ some in
         subst (λ (a : Asked). Has P (serves open_now entry.session a)) (sym same) (polled_leaves P open_now entry.session request undone_open each waits)
 
-  behind : (side : Option Side) → entry.side ≡ side → after ≡ (leaves side open_now entry.session entry.asked).tables
-  behind side at = ap (λ (s : State). s.tables) (state_more plan journal entry ∙ ap (λ (o : Option Side). leaves o open_now entry.session entry.asked) at)
+  following : (side : Option Side) → entry.side ≡ side → after ≡ (leaves side open_now entry.session entry.asked).tables
+  following side at = ap (λ (s : State). s.tables) (state_more plan journal entry ∙ ap (λ (o : Option Side). leaves o open_now entry.session entry.asked) at)
 
   own_left : (P : Answer → Database → Type 0) (request : Request) → IsAbout request (standing_of plan journal entry.actor) entry.asked → HoldsWaiting P before
       → ((found : State) → IsFoundBy found open_now → Has P (done found entry.session request)) → Left P before entry.answer after
@@ -238,29 +238,29 @@ module _ (plan : PlanData) (journal : List Entry) (entry : Entry) (known : IsKno
     served_so = served_left P request about undone each
 
     by : (side : Option Side) → entry.side ≡ side → Left P before entry.answer after
-    by None at = heard (subst (λ (a : Answer). P a after) (own_given plan journal entry known served at) (subst (P (serves open_now entry.session entry.asked).answer) (sym (behind None at)) served_so))
-    by (Some Before) at = lost (own_missed plan journal entry known served Before at) (λ name. ap (schema_of name) (behind (Some Before) at ∙ same_open))
-    by (Some After) at = missed (serves open_now entry.session entry.asked).answer (own_missed plan journal entry known served After at) (subst (P (serves open_now entry.session entry.asked).answer) (sym (behind (Some After) at)) served_so)
+    by None at = heard (subst (λ (a : Answer). P a after) (own_given plan journal entry known served at) (subst (P (serves open_now entry.session entry.asked).answer) (sym (following None at)) served_so))
+    by (Some Before) at = lost (own_missed plan journal entry known served Before at) (λ name. ap (schema_of name) (following (Some Before) at ∙ same_open))
+    by (Some After) at = missed (serves open_now entry.session entry.asked).answer (own_missed plan journal entry known served After at) (subst (P (serves open_now entry.session entry.asked).answer) (sym (following (Some After) at)) served_so)
 
   -- ... as the entry tells, also where its answer was missed
-  told_left : (P : Answer → Database → Type 0) (request : Request) → IsAbout request (standing_of plan journal entry.actor) entry.asked → HoldsWaiting P before → ((found : State) → IsFoundBy found open_now → Has P (done found entry.session request))
-      → (told : Answer) → answer_in entry.asked entry.side entry.answer entry.missed ≡ Some told → P told after
+  reported_left : (P : Answer → Database → Type 0) (request : Request) → IsAbout request (standing_of plan journal entry.actor) entry.asked → HoldsWaiting P before → ((found : State) → IsFoundBy found open_now → Has P (done found entry.session request))
+      → (reported : Answer) → answer_in entry.asked entry.side entry.answer entry.missed ≡ Some reported → P reported after
   unfolding loses
-  told_left P request about undone each told tells = by entry.asked refl entry.side refl tells where
+  reported_left P request about undone each reported tells = by entry.asked refl entry.side refl tells where
     served_so : Has P (serves open_now entry.session entry.asked)
     served_so = served_left P request about undone each
 
-    heard_so : entry.side ≡ None → Some entry.answer ≡ Some told → P told after
-    heard_so at is = subst (λ (a : Answer). P a after) (own_given plan journal entry known served at ∙ same_Some entry.answer told is) (subst (P (serves open_now entry.session entry.asked).answer) (sym (behind None at)) served_so)
+    heard_so : entry.side ≡ None → Some entry.answer ≡ Some reported → P reported after
+    heard_so at is = subst (λ (a : Answer). P a after) (own_given plan journal entry known served at ∙ same_Some entry.answer reported is) (subst (P (serves open_now entry.session entry.asked).answer) (sym (following None at)) served_so)
 
-    missed_so : entry.side ≡ Some After → entry.missed ≡ Some told → P told after
+    missed_so : entry.side ≡ Some After → entry.missed ≡ Some reported → P reported after
     missed_so at is =
         subst (λ (a : Answer). P a after)
-        (same_Some (serves open_now entry.session entry.asked).answer told
-        (sym (told_missed (state_at plan journal) entry served.answered ∙ ap (λ (side : Option Side). missed_at side (inner (state_at plan journal) entry)) at) ∙ is))
-        (subst (P (serves open_now entry.session entry.asked).answer) (sym (behind (Some After) at)) served_so)
+        (same_Some (serves open_now entry.session entry.asked).answer reported
+        (sym (reported_missed (state_at plan journal) entry served.answered ∙ ap (λ (side : Option Side). missed_at side (inner (state_at plan journal) entry)) at) ∙ is))
+        (subst (P (serves open_now entry.session entry.asked).answer) (sym (following (Some After) at)) served_so)
 
-    by : (asked : Asked) → entry.asked ≡ asked → (side : Option Side) → entry.side ≡ side → answer_in asked side entry.answer entry.missed ≡ Some told → P told after
+    by : (asked : Asked) → entry.asked ≡ asked → (side : Option Side) → entry.side ≡ side → answer_in asked side entry.answer entry.missed ≡ Some reported → P reported after
     by Cut asks side at tells = absurd cc
     by (Call called) asks None at tells = heard_so at tells
     by (Call called) asks (Some Before) at tells = absurd cc
@@ -307,8 +307,8 @@ module _ (plan : PlanData) (journal : List Entry) (entry : Entry) (known : IsKno
     exchange_left = own_left (ExchangeLeaves table before) (exchange table) about (record { waits = λ by name. refl; timed = λ waited name. refl }) exchange_each
 
     -- where it was done the new table's name is free
-    pub exchange_told : (count : ℕ) → answer_in entry.asked entry.side entry.answer entry.missed ≡ Some (answers.Ok count) → schema_of (ghost_name table) after ≡ None
-    exchange_told count tells = told_left (ExchangeLeaves table before) (exchange table) about (record { waits = λ by name. refl; timed = λ waited name. refl }) exchange_each (answers.Ok count) tells
+    pub exchange_reported : (count : ℕ) → answer_in entry.asked entry.side entry.answer entry.missed ≡ Some (answers.Ok count) → schema_of (ghost_name table) after ≡ None
+    exchange_reported count tells = reported_left (ExchangeLeaves table before) (exchange table) about (record { waits = λ by name. refl; timed = λ waited name. refl }) exchange_each (answers.Ok count) tells
 
   -- *SHOW TABLES*
   pub show_left : IsAbout requests.ShowTables (standing_of plan journal entry.actor) entry.asked → Left (ShowLeaves before) before entry.answer after

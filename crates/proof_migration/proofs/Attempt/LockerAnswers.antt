@@ -19,7 +19,7 @@ use Rattle.tool_program.specs.declared.cutover_core.cutover.Stage.TheVariants.{G
 use Rattle.tool_program.specs.CutoverCore.CutOvers.{is_bad, is_resting, locker_phase, locker_stage, hold_after}
 use Rattle.proof_journals.specs.Machine.Machines.{PhaseHolds, both_names}
 use Rattle.proof_journals.specs.Machine.Standings.{answers_to}
-use Rattle.proof_journals.specs.Machine.Tabling.{schema_of, TablesStand}
+use Rattle.proof_journals.specs.Machine.MigrationTables.{schema_of, TablesExist}
 use Rattle.proof_journals.proofs.Machine.CuttingOver.{LockerAsks}
 use Rattle.proof_journals.proofs.Machine.Marks.{ghost_not_old}
 use Rattle.proof_journals.proofs.Machine.Schemas.{keeps_table}
@@ -76,7 +76,7 @@ module _ (plan : PlanData) (before after : Database) where
   abbrev pub OthersStay : Type 0
   OthersStay = (name : List ℕ) → bytes_eq name (old_name plan.table) ≡ false → schema_of name after ≡ schema_of name before
 
-  pub both_stay : OthersStay → TablesStand plan before → TablesStand plan after
+  pub both_stay : OthersStay → TablesExist plan before → TablesExist plan after
   both_stay stay at = record { old = stay plan.table (not_old plan.table) ∙ at.old; ghost = stay (ghost_name plan.table) (ghost_not_old plan.table) ∙ at.ghost }
 
   -- *What the locker's turn leaves*, by what it asks
@@ -145,7 +145,7 @@ module _ (plan : PlanData) (before after : Database) where
 
     drops : (answer : Answer) → answers_to (requests.Drop (old_name plan.table)) answer ≡ true → OthersStay × DropsOld answer → Was (Attempting Dropping) Locks → Becomes (Attempting Dropping) Locks answer
     drops answer fits leaves at = by answer fits leaves.1 (drop_most answer leaves.1 at.tables.sentry) where
-      stand : TablesStand plan after
+      stand : TablesExist plan after
       stand = both_stay leaves.0 at.tables.stand
 
       by : (answer : Answer) → answers_to (requests.Drop (old_name plan.table)) answer ≡ true → DropsOld answer → SentryAtMost plan after → Becomes (Attempting Dropping) Locks answer

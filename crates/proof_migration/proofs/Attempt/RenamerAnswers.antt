@@ -16,7 +16,7 @@ use Rattle.tool_program.specs.declared.cutover_core.cutover.Stage.TheVariants.{G
 use Rattle.tool_program.specs.CutoverCore.Attempts.{exchange}
 use Rattle.tool_program.specs.CutoverCore.CutOvers.{is_wait, renamer_phase, waits_phase, failed}
 use Rattle.proof_journals.specs.Machine.Standings.{answers_to}
-use Rattle.proof_journals.specs.Machine.Tabling.{ghost_schema}
+use Rattle.proof_journals.specs.Machine.MigrationTables.{ghost_schema}
 use Rattle.proof_migration.proofs.Attempt.Blocking.{IsUnrefused}
 use Rattle.proof_migration.proofs.Attempt.Leaving.{AllStay, ExchangeLeaves, MayExchange, Left, heard, lost, missed, stands_has, none_has}
 use Rattle.proof_migration.proofs.Attempt.LockerAnswers.{heard_leaves}

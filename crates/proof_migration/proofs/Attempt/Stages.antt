@@ -16,7 +16,7 @@ use Rattle.tool_program.specs.declared.cutover_core.cutover.Phase.TheVariants.{R
 use Rattle.tool_program.specs.declared.cutover_core.cutover.Stage.{Stage}
 use Rattle.tool_program.specs.declared.cutover_core.cutover.Stage.TheVariants.{Guarding, Locking, Hinting, Draining, Drained, Showing, Dropping, Unlocking, Exchanging}
 use Rattle.tool_program.specs.CutoverCore.CutOvers.{sentry_alone, drained, ended}
-use Rattle.proof_journals.specs.Machine.Tabling.{schema_of, TablesStand}
+use Rattle.proof_journals.specs.Machine.MigrationTables.{schema_of, TablesExist}
 use Rattle.proof_journals.proofs.Machine.Schemas.{is_quiet}
 use Rattle.proof_migration.proofs.Attempt.Leaving.{AllStay}
 
@@ -30,11 +30,11 @@ abbrev pub SentryAtMost : PlanData → Database → Type 0
 SentryAtMost plan tables = IsFree plan tables ⊎ (schema_of (old_name plan.table) tables ≡ Some (sentry_schema plan.table))
 
 pub record FreeTables (plan : PlanData) (tables : Database) : Type 0 where
-  pub stand : TablesStand plan tables
+  pub stand : TablesExist plan tables
   pub free : IsFree plan tables
 
 pub record GuardedTables (plan : PlanData) (tables : Database) : Type 0 where
-  pub stand : TablesStand plan tables
+  pub stand : TablesExist plan tables
   pub sentry : SentryAtMost plan tables
 
 -- the RENAME was done: no table of the new one's name stands
@@ -135,7 +135,7 @@ pub record StandsAt (plan : PlanData) (stored : Database) (inspects : Option Req
 
 -- SCHEMAS THAT STAY
 
-pub stand_stay : (plan : PlanData) (before after : Database) → AllStay before after → TablesStand plan before → TablesStand plan after
+pub stand_stay : (plan : PlanData) (before after : Database) → AllStay before after → TablesExist plan before → TablesExist plan after
 stand_stay plan before after stay at = record { old = stay plan.table ∙ at.old; ghost = stay (ghost_name plan.table) ∙ at.ghost }
 
 pub most_stay : (plan : PlanData) (before after : Database) → schema_of (old_name plan.table) after ≡ schema_of (old_name plan.table) before → SentryAtMost plan before → SentryAtMost plan after

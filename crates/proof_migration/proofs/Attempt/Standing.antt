@@ -20,7 +20,7 @@ use Rattle.server_model.specs.declared.listing.TableName.{TableName}
 use Rattle.server_model.specs.declared.request.Request.{Request}
 use Rattle.server_model.specs.declared.request.Request.TheVariants as requests
 use Rattle.server_model.specs.Entries.{same_actor, is_cut}
-use Rattle.server_model.specs.Showing.{tables_shown}
+use Rattle.server_model.specs.Listings.{tables_shown}
 use Rattle.server_model.specs.States.{State, has_work}
 use Rattle.plan_data.specs.PlanData.{PlanData}
 use Rattle.base_values.specs.ToolNames.{ghost_name, old_name}
@@ -41,25 +41,25 @@ use Rattle.tool_program.specs.CutoverCore.CutOvers as cutovers
 use Rattle.tool_program.specs.CutoverCore.CutOvers.{is_wait, applier_turn, reverted}
 use Rattle.tool_program.specs.Programs.{tool_call, given, IsGiven, Follows}
 use Rattle.tool_program.specs.Setups.{Setup, Listing, Clearing, MakingLog, MakingGhost, Marking, Reaching, Ready, setup_call, setup_step}
-use Rattle.tool_program.specs.Tools.{Work, Course, SettingUp, Migrating, Tool, Moment, stopped, is_reverting, course_of, moment}
-use Rattle.tool_program.proofs.OnlineCalls.Machines.{CourseIsNamed, named}
+use Rattle.tool_program.specs.Tools.{Work, ToolPhase, SettingUp, Migrating, Tool, Moment, stopped, is_reverting, tool_phase_of, moment}
+use Rattle.tool_program.proofs.OnlineCalls.Machines.{ToolPhaseIsNamed, named}
 use Rattle.proof_journals.proofs.Actors.{same_actor_is}
 use Rattle.proof_journals.proofs.Run.Living.{Both, both_more, living_begin}
 use Rattle.proof_journals.proofs.Actors.{sessions_begin}
 use Rattle.server_model.proofs.LockedRows.Tests.{same_bytes}
-use Rattle.proof_journals.specs.Machine.Forming.{IsFitting}
-use Rattle.proof_journals.specs.Machine.Machines.{CourseStands, WorkStands, SetupStands, PhaseHolds, inspector_waits, waits_so, both_names, held, renaming}
+use Rattle.proof_journals.specs.Machine.FormedPlans.{IsFitting}
+use Rattle.proof_journals.specs.Machine.Machines.{ToolPhaseStands, WorkStands, SetupStands, PhaseHolds, inspector_waits, waits_so, both_names, held, renaming}
 use Rattle.proof_journals.specs.Machine.Standings.{Standing, free, standing_in, standing_of, answered, answers_to, IsAbout, is_called, is_polled}
-use Rattle.proof_journals.specs.Machine.Tabling.{schema_of, ghost_schema, TablesStand, past_ghost, SetupTables, CourseTables, TableStands}
+use Rattle.proof_journals.specs.Machine.MigrationTables.{schema_of, ghost_schema, TablesExist, past_ghost, SetupTables, ToolPhaseTables, TableExists}
 use Rattle.proof_journals.proofs.Machine.Asking.{some_request}
 use Rattle.proof_journals.proofs.Machine.CuttingOver.{LockerAsks}
 use Rattle.proof_journals.proofs.Machine.Journals.{IsRun, all_runs, Asking, calls_so, polls_so, asking, lock_about, ren_about}
 use Rattle.proof_journals.proofs.Machine.Polling.{waits_same}
 use Rattle.proof_journals.proofs.Machine.Schemas.{keeps_table, is_quiet, quiet_keeps, schema_stays, schema_rests}
 use Rattle.proof_journals.proofs.Machine.Seated.{IsKnown, IsServed, others_stand, own_stands, own_fits, own_lost, own_session, own_waiting}
-use Rattle.proof_journals.proofs.Machine.Tabling.{may_define, IsTabled, tabled_more, tabled_begins, quiet_stay, free_idle, setup_keeps, past_keeps, Passes, passed, makes, step_past, step_waits, Behind, waits_on, rests, behind}
-use Rattle.proof_migration.proofs.Course.CourseTurns.{Kept, UnfitKeeps, CopyKeeps, ApplyKeeps, SetupKeeps, AnswerKeeps, ResizeKeeps, turn_kept, gives_asked}
-use Rattle.proof_migration.proofs.Course.Owners.{commands_operator}
+use Rattle.proof_journals.proofs.Machine.Tabling.{may_define, IsTabled, tabled_more, tabled_begins, quiet_stay, free_idle, setup_keeps, past_keeps, Passes, passed, makes, step_past, step_waits, Following, waits_on, rests, following}
+use Rattle.proof_migration.proofs.ToolPhase.ToolPhaseTurns.{Kept, UnfitKeeps, CopyKeeps, ApplyKeeps, SetupKeeps, AnswerKeeps, ResizeKeeps, turn_kept, gives_asked}
+use Rattle.proof_migration.proofs.ToolPhase.Owners.{commands_operator}
 use Rattle.proof_migration.specs.Attempt.Laws.{AttemptsWait}
 use Rattle.proof_migration.proofs.Attempt.Blocking.{IsUnrefused, rename_waits}
 use Rattle.proof_migration.proofs.Attempt.InspectorAnswers.{Inspects, ListsWell, inspector_at}
@@ -70,15 +70,15 @@ use Rattle.proof_migration.proofs.Attempt.SetupAnswers.{SetupFree, SetupLeaves, 
 use Rattle.proof_migration.proofs.Attempt.Stages.{RenamerAt, HoldAt, LeftAt, InspectorAt, StandsAt, ended_at, drained_at, stands_stay}
 
 -- of the tool's course
-abbrev pub CourseAt : PlanData → Database → Option Request → Course → Type 0
-CourseAt plan tables inspects (SettingUp setup tries) = SetupFree plan tables setup
-CourseAt plan tables inspects (Migrating work) = StandsAt plan tables inspects work.cutover.phase work.cutover.hold work.cutover.renamer_waits work.cutover.is_asked
+abbrev pub ToolPhaseAt : PlanData → Database → Option Request → ToolPhase → Type 0
+ToolPhaseAt plan tables inspects (SettingUp setup tries) = SetupFree plan tables setup
+ToolPhaseAt plan tables inspects (Migrating work) = StandsAt plan tables inspects work.cutover.phase work.cutover.hold work.cutover.renamer_waits work.cutover.is_asked
 
 -- what is so behind every journal
 pub record IsStanding (plan : PlanData) (journal : List Entry) : Type 0 where
   pub tabled : IsTabled plan journal
   pub both : Both plan journal
-  pub course : CourseAt plan (state_at plan journal).tables (standing_of plan journal Insp).waits (moment plan journal).tool.course
+  pub tool_phase : ToolPhaseAt plan (state_at plan journal).tables (standing_of plan journal Insp).waits (moment plan journal).tool.tool_phase
 
 none_some : {A : Type 0} (request : Request) (waits : Option Request) → waits ≡ None → waits ≡ Some request → A
 none_some request waits none some = absurd (no (sym none ∙ some)) where
@@ -108,7 +108,7 @@ module _ (plan : PlanData) (journal : List Entry) (entry : Entry) (is : IsStandi
   after = (state_at plan more).tables
 
   abbrev New : Kept
-  New = λ b course. CourseAt plan after (now_has Insp).waits course
+  New = λ b tool_phase. ToolPhaseAt plan after (now_has Insp).waits tool_phase
 
   served : IsServed plan journal entry
   served = record { answered = run.answered; seated = record { session = run.followed.session } }
@@ -116,20 +116,20 @@ module _ (plan : PlanData) (journal : List Entry) (entry : Entry) (is : IsStandi
   known : IsKnown plan journal
   known = is.tabled.all.tool.known
 
-  at_course : (course : Course) → now.tool.course ≡ course → CourseAt plan before (has Insp).waits course
-  at_course course eq = subst (CourseAt plan before (has Insp).waits) eq is.course
+  at_tool_phase : (tool_phase : ToolPhase) → now.tool.tool_phase ≡ tool_phase → ToolPhaseAt plan before (has Insp).waits tool_phase
+  at_tool_phase tool_phase eq = subst (ToolPhaseAt plan before (has Insp).waits) eq is.tool_phase
 
-  work_stands : (work : Work) → now.tool.course ≡ Migrating work → WorkStands journal (is_reverting now.tool.reason) has work
-  work_stands work eq = subst (CourseStands journal has (is_reverting now.tool.reason)) eq is.tabled.all.tool.stands
+  work_stands : (work : Work) → now.tool.tool_phase ≡ Migrating work → WorkStands journal (is_reverting now.tool.reason) has work
+  work_stands work eq = subst (ToolPhaseStands journal has (is_reverting now.tool.reason)) eq is.tabled.all.tool.stands
 
-  setup_has : (setup : Setup) (tries : List ℕ) → now.tool.course ≡ SettingUp setup tries → SetupStands has
-  setup_has setup tries eq = subst (CourseStands journal has (is_reverting now.tool.reason)) eq is.tabled.all.tool.stands
+  setup_has : (setup : Setup) (tries : List ℕ) → now.tool.tool_phase ≡ SettingUp setup tries → SetupStands has
+  setup_has setup tries eq = subst (ToolPhaseStands journal has (is_reverting now.tool.reason)) eq is.tabled.all.tool.stands
 
-  setup_tables : (setup : Setup) (tries : List ℕ) → now.tool.course ≡ SettingUp setup tries → SetupTables plan before has setup
-  setup_tables setup tries eq = subst (CourseTables plan before has) eq is.tabled.tables
+  setup_tables : (setup : Setup) (tries : List ℕ) → now.tool.tool_phase ≡ SettingUp setup tries → SetupTables plan before has setup
+  setup_tables setup tries eq = subst (ToolPhaseTables plan before has) eq is.tabled.tables
 
-  own_table : (work : Work) → now.tool.course ≡ Migrating work → work.cutover.table ≡ plan.table
-  own_table work eq = (subst (CourseIsNamed plan) eq (named plan journal)).cutover
+  own_table : (work : Work) → now.tool.tool_phase ≡ Migrating work → work.cutover.table ≡ plan.table
+  own_table work eq = (subst (ToolPhaseIsNamed plan) eq (named plan journal)).cutover
 
   -- A TURN ABOUT A REQUEST
 
@@ -170,8 +170,8 @@ module _ (plan : PlanData) (journal : List Entry) (entry : Entry) (is : IsStandi
   fewer_same : now_has Insp ≡ has Insp → (request : Request) → (now_has Insp).waits ≡ Some request → (has Insp).waits ≡ Some request
   fewer_same same request some = ap (λ (s : Standing). s.waits) (sym same) ∙ some
 
-  still : (course : Course) → now.tool.course ≡ course → AllStay before after → ((request : Request) → (now_has Insp).waits ≡ Some request → (has Insp).waits ≡ Some request) → CourseAt plan after (now_has Insp).waits course
-  still (SettingUp setup tries) eq stay fewer = by setup (at_course (SettingUp setup tries) eq) where
+  still : (tool_phase : ToolPhase) → now.tool.tool_phase ≡ tool_phase → AllStay before after → ((request : Request) → (now_has Insp).waits ≡ Some request → (has Insp).waits ≡ Some request) → ToolPhaseAt plan after (now_has Insp).waits tool_phase
+  still (SettingUp setup tries) eq stay fewer = by setup (at_tool_phase (SettingUp setup tries) eq) where
     by : (setup : Setup) → SetupFree plan before setup → SetupFree plan after setup
     by Listing none = tt
     by (Clearing left) none = λ off. stay (old_name plan.table) ∙ none off
@@ -180,11 +180,11 @@ module _ (plan : PlanData) (journal : List Entry) (entry : Entry) (is : IsStandi
     by Marking none = stay (old_name plan.table) ∙ none
     by (Reaching position) none = stay (old_name plan.table) ∙ none
     by (Ready position range) none = stay (old_name plan.table) ∙ none
-  still (Migrating work) eq stay fewer = stands_stay plan before after (has Insp).waits (now_has Insp).waits work.cutover.phase work.cutover.hold work.cutover.renamer_waits work.cutover.is_asked stay fewer (at_course (Migrating work) eq)
+  still (Migrating work) eq stay fewer = stands_stay plan before after (has Insp).waits (now_has Insp).waits work.cutover.phase work.cutover.hold work.cutover.renamer_waits work.cutover.is_asked stay fewer (at_tool_phase (Migrating work) eq)
 
   -- A REVERT, AND THE DRAIN
 
-  back : (b : Bool) (course : Course) → New b course → New true (stopped course)
+  back : (b : Bool) (tool_phase : ToolPhase) → New b tool_phase → New true (stopped tool_phase)
   unfolding reverted
   back b (SettingUp setup tries) at = at
   back b (Migrating work) at = ended_at plan after (now_has Insp).waits work.cutover.hold work.cutover.renamer_waits work.cutover.is_asked work.cutover.phase at
@@ -208,14 +208,14 @@ module _ (plan : PlanData) (journal : List Entry) (entry : Entry) (is : IsStandi
 
   -- where the setup is over the two tables stand, and the inspector doesn't wait
   record ReadyWith : Type 0 where
-    stand : TablesStand plan after
+    stand : TablesExist plan after
     rests : (now_has Insp).waits ≡ None
 
   abbrev IfReady : Setup → Type 0
   IfReady (Ready position range) = ReadyWith
   IfReady setup = Unit {0}
 
-  begins : (size : ℕ) (tries : List ℕ) (setup : Setup) → SetupFree plan after setup → IfReady setup → CourseAt plan after (now_has Insp).waits (course_of plan size setup tries)
+  begins : (size : ℕ) (tries : List ℕ) (setup : Setup) → SetupFree plan after setup → IfReady setup → ToolPhaseAt plan after (now_has Insp).waits (tool_phase_of plan size setup tries)
   begins size tries (Ready position range) none ready = record {
     tables = record { stand = ready.stand; free = none };
     renamer = refl;
@@ -231,7 +231,7 @@ module _ (plan : PlanData) (journal : List Entry) (entry : Entry) (is : IsStandi
   begins size tries Marking none ready = none
   begins size tries (Reaching position) none ready = none
 
-  module _ (setup : Setup) (tries : List ℕ) (eq : now.tool.course ≡ SettingUp setup tries) (request : Request) (about : IsAbout request (has entry.actor) entry.asked) (call : setup_call plan setup ≡ Some request) (same : entry.actor ≡ Insp) where
+  module _ (setup : Setup) (tries : List ℕ) (eq : now.tool.tool_phase ≡ SettingUp setup tries) (request : Request) (about : IsAbout request (has entry.actor) entry.asked) (call : setup_call plan setup ≡ Some request) (same : entry.actor ≡ Insp) where
     leaves : SetupLeaves plan before after request entry.answer
     leaves = record {
       keeps = λ name keeps. stays name request about keeps;
@@ -242,19 +242,19 @@ module _ (plan : PlanData) (journal : List Entry) (entry : Entry) (is : IsStandi
     ready_with : (next : Setup) → setup_step plan.table setup entry.answer ≡ next → IfReady next
     ready_with (Ready position range) is_ready = record {
       stand = record { old = stays plan.table request about (setup_keeps plan setup request call) ∙ (setup_tables setup tries eq).old; ghost = passes (step_past plan.table setup entry.answer (ap past_ghost is_ready)) };
-      rests = waits_none (behind request entry.answer (has entry.actor));
+      rests = waits_none (following request entry.answer (has entry.actor));
     } where
       not_marking : Marking ≡ Ready position range → ⊥
       not_marking both = cc
 
       passes : Passes setup entry.answer → schema_of (ghost_name plan.table) after ≡ Some (ghost_schema plan)
       passes (passed past) = stays (ghost_name plan.table) request about (past_keeps plan setup request past call) ∙ (setup_tables setup tries eq).ghost past
-      passes (makes count at_making told) = absurd (not_marking (sym (ap (λ (s : Setup). setup_step plan.table s entry.answer) at_making ∙ ap (setup_step plan.table MakingGhost) told) ∙ is_ready))
+      passes (makes count at_making reported) = absurd (not_marking (sym (ap (λ (s : Setup). setup_step plan.table s entry.answer) at_making ∙ ap (setup_step plan.table MakingGhost) reported) ∙ is_ready))
 
       no_request : None ≡ Some request → ⊥
       no_request both = cc
 
-      waits_none : Behind request entry.answer (has entry.actor) → (now_has Insp).waits ≡ None
+      waits_none : Following request entry.answer (has entry.actor) → (now_has Insp).waits ≡ None
       waits_none (rests none) = ap (λ (a : Actor). (now_has a).waits) (sym same) ∙ ap (λ (s : Standing). s.waits) (own_stands plan journal entry known served request about) ∙ none
       waits_none (waits_on by waits) = absurd (no_request (ap (setup_call plan) (sym is_ready ∙ ap (setup_step plan.table setup) waits ∙ step_waits plan.table setup by) ∙ call))
     ready_with Listing is_so = tt
@@ -266,30 +266,30 @@ module _ (plan : PlanData) (journal : List Entry) (entry : Entry) (is : IsStandi
 
     setup_heard : SetupKeeps plan New entry.answer tool setup tries
     setup_heard = record {
-      reverting = λ reverting. setup_stays plan before after request entry.answer leaves setup call (at_course (SettingUp setup tries) eq);
+      reverting = λ reverting. setup_stays plan before after request entry.answer leaves setup call (at_tool_phase (SettingUp setup tries) eq);
       again = λ going bad more_tries. tt;
       goes = λ going good.
-          subst (λ (b : Bool). CourseAt plan after (now_has Insp).waits (course_of plan tool.operator.size (cond b Listing (setup_step plan.table setup entry.answer)) tries)) (sym good)
-          (begins tool.operator.size tries (setup_step plan.table setup entry.answer) (step_free plan before after request entry.answer leaves setup entry.answer refl call (at_course (SettingUp setup tries) eq)) (ready_with (setup_step plan.table setup entry.answer) refl));
+          subst (λ (b : Bool). ToolPhaseAt plan after (now_has Insp).waits (tool_phase_of plan tool.operator.size (cond b Listing (setup_step plan.table setup entry.answer)) tries)) (sym good)
+          (begins tool.operator.size tries (setup_step plan.table setup entry.answer) (step_free plan before after request entry.answer leaves setup entry.answer refl call (at_tool_phase (SettingUp setup tries) eq)) (ready_with (setup_step plan.table setup entry.answer) refl));
     }
 
   unreverted : (b : Bool) (call : Option Request) (request : Request) → cond b None call ≡ Some request → call ≡ Some request
   unreverted true call request is_call = absurd cc
   unreverted false call request is_call = is_call
 
-  setup_turn : (setup : Setup) (tries : List ℕ) → now.tool.course ≡ SettingUp setup tries → entry.actor ≡ Insp → Asking plan journal Insp entry.asked → SetupKeeps plan New entry.answer tool setup tries
+  setup_turn : (setup : Setup) (tries : List ℕ) → now.tool.tool_phase ≡ SettingUp setup tries → entry.actor ≡ Insp → Asking plan journal Insp entry.asked → SetupKeeps plan New entry.answer tool setup tries
   setup_turn setup tries eq same (calls_so request asks idle call) =
-      setup_heard setup tries eq request (about_own Insp request same (is_called asks idle)) (unreverted (is_reverting now.tool.reason) (setup_call plan setup) request (ap (λ (c : Course). tool_call plan now.server journal now.tool c Insp) (sym eq) ∙ call)) same
+      setup_heard setup tries eq request (about_own Insp request same (is_called asks idle)) (unreverted (is_reverting now.tool.reason) (setup_call plan setup) request (ap (λ (c : ToolPhase). tool_call plan now.server journal now.tool c Insp) (sym eq) ∙ call)) same
   setup_turn setup tries eq same (polls_so request asks some) = setup_heard setup tries eq request (about_own Insp request same (is_polled asks some)) ((setup_tables setup tries eq).waits request some) same
 
   -- BEHIND THE SETUP
 
-  module _ (work : Work) (eq : now.tool.course ≡ Migrating work) where
+  module _ (work : Work) (eq : now.tool.tool_phase ≡ Migrating work) where
     stands : WorkStands journal (is_reverting now.tool.reason) has work
     stands = work_stands work eq
 
     at : StandsAt plan before (has Insp).waits work.cutover.phase work.cutover.hold work.cutover.renamer_waits work.cutover.is_asked
-    at = at_course (Migrating work) eq
+    at = at_tool_phase (Migrating work) eq
 
     -- THE INSPECTOR
 
@@ -371,7 +371,7 @@ module _ (plan : PlanData) (journal : List Entry) (entry : Entry) (is : IsStandi
     inspector_turn same (calls_so request asks idle call) tries =
         inspector_heard request (about_own Insp request same (is_called asks idle)) same (inspector_calls request next) (λ tables looking lists. looks_free request next looking) tries where
           next : attempts.next Inspector work.cutover ≡ Some request
-          next = ap (λ (c : Course). tool_call plan now.server journal now.tool c Insp) (sym eq) ∙ call
+          next = ap (λ (c : ToolPhase). tool_call plan now.server journal now.tool c Insp) (sym eq) ∙ call
     inspector_turn same (polls_so request asks some) tries =
         inspector_heard request (about_own Insp request same (is_polled asks some)) same (at.inspector request some) (λ tables looking lists. absurd (never tables lists)) tries where
           never : (tables : List TableName) → entry.answer ≡ answers.Tables tables → ⊥
@@ -428,11 +428,11 @@ module _ (plan : PlanData) (journal : List Entry) (entry : Entry) (is : IsStandi
     locker_turn : entry.actor ≡ Lock → Asking plan journal Lock entry.asked → (tries : List ℕ) → New (is_reverting now.tool.reason) (Migrating (record work { cutover = cutovers.took Locker work.cutover entry.answer; attempt_tries = tries }))
     unfolding cutovers.took
     locker_turn same asks tries =
-        lock_about plan journal entry is.tabled.all.tool run work eq stands asks (CourseAt plan after (now_has Insp).waits (Migrating (record work { cutover = cutovers.took Locker work.cutover entry.answer; attempt_tries = tries })))
+        lock_about plan journal entry is.tabled.all.tool run work eq stands asks (ToolPhaseAt plan after (now_has Insp).waits (Migrating (record work { cutover = cutovers.took Locker work.cutover entry.answer; attempt_tries = tries })))
         (λ request about kind.
         let own_about : IsAbout request (has entry.actor) entry.asked = about_own Lock request same about in
         let asks_own : LockerAsks plan.table work.cutover.hold work.cutover.phase request = subst (λ (t : List ℕ). LockerAsks t work.cutover.hold work.cutover.phase request) (own_table work eq) kind in
-        subst (λ (w : Option Request). CourseAt plan after w (Migrating (record work { cutover = cutovers.took Locker work.cutover entry.answer; attempt_tries = tries }))) (sym (inspects_same (inl same)))
+        subst (λ (w : Option Request). ToolPhaseAt plan after w (Migrating (record work { cutover = cutovers.took Locker work.cutover entry.answer; attempt_tries = tries }))) (sym (inspects_same (inl same)))
         (locker_at plan before after (has Insp).waits work.cutover.renamer_waits work.cutover.is_asked work.cutover.hold work.cutover.phase request entry.answer stands.phase asks_own (own_fits plan journal entry known served request own_about) (locker_leaves request own_about same asks_own) at))
 
     -- THE RENAMER
@@ -455,7 +455,7 @@ module _ (plan : PlanData) (journal : List Entry) (entry : Entry) (is : IsStandi
       by false some = absurd cc
 
     pub asks_at : Asking plan journal Ren entry.asked → AsksAt work.cutover.phase work.cutover.renamer_waits
-    asks_at (calls_so request asks idle call) = inl (renamer_drained request (ap (λ (c : Course). tool_call plan now.server journal now.tool c Ren) (sym eq) ∙ call))
+    asks_at (calls_so request asks idle call) = inl (renamer_drained request (ap (λ (c : ToolPhase). tool_call plan now.server journal now.tool c Ren) (sym eq) ∙ call))
     asks_at (polls_so request asks some) = inr (renames_on request some)
 
     pub renamer_unlocked : (has Ren).locked ≡ []
@@ -473,7 +473,7 @@ module _ (plan : PlanData) (journal : List Entry) (entry : Entry) (is : IsStandi
       by phase holds locked = absurd locked
 
     unrefused_at : entry.actor ≡ Ren → Asking plan journal Ren entry.asked → IsLockedAt work.cutover.phase → IsUnrefused entry.answer
-    unrefused_at same (calls_so request asks idle call) locked = absurd (undrained work.cutover.phase (renamer_drained request (ap (λ (c : Course). tool_call plan now.server journal now.tool c Ren) (sym eq) ∙ call)) locked) where
+    unrefused_at same (calls_so request asks idle call) locked = absurd (undrained work.cutover.phase (renamer_drained request (ap (λ (c : ToolPhase). tool_call plan now.server journal now.tool c Ren) (sym eq) ∙ call)) locked) where
       undrained : (phase : Phase) → phase ≡ Attempting Drained → IsLockedAt phase → ⊥
       undrained (Attempting Showing) drained locked = cc
       undrained (Attempting Dropping) drained locked = cc
@@ -489,10 +489,10 @@ module _ (plan : PlanData) (journal : List Entry) (entry : Entry) (is : IsStandi
     renamer_turn : entry.actor ≡ Ren → Asking plan journal Ren entry.asked → (tries : List ℕ) → New (is_reverting now.tool.reason) (Migrating (record work { cutover = cutovers.took Renamer work.cutover entry.answer; attempt_tries = tries }))
     unfolding cutovers.took
     renamer_turn same asks tries =
-        ren_about plan journal entry is.tabled.all.tool run work eq stands asks (CourseAt plan after (now_has Insp).waits (Migrating (record work { cutover = cutovers.took Renamer work.cutover entry.answer; attempt_tries = tries })))
+        ren_about plan journal entry is.tabled.all.tool run work eq stands asks (ToolPhaseAt plan after (now_has Insp).waits (Migrating (record work { cutover = cutovers.took Renamer work.cutover entry.answer; attempt_tries = tries })))
         (λ request about kind.
         let own_about : IsAbout (exchange plan.table) (has entry.actor) entry.asked = about_own Ren (exchange plan.table) same (subst (λ (r : Request). IsAbout r (has Ren) entry.asked) (kind ∙ ap exchange (own_table work eq)) about) in
-        subst (λ (w : Option Request). CourseAt plan after w (Migrating (record work { cutover = cutovers.took Renamer work.cutover entry.answer; attempt_tries = tries }))) (sym (inspects_same (inr same)))
+        subst (λ (w : Option Request). ToolPhaseAt plan after w (Migrating (record work { cutover = cutovers.took Renamer work.cutover entry.answer; attempt_tries = tries }))) (sym (inspects_same (inr same)))
         (renamer_at plan before after (has Insp).waits work.cutover.hold work.cutover.renamer_waits work.cutover.is_asked work.cutover.phase entry.answer (asks_at asks) (own_fits plan journal entry known served (exchange plan.table) own_about)
         (exchange_left plan journal entry known served plan.table own_about (ap (λ (a : Actor). (has a).locked) same ∙ renamer_unlocked)) (unrefused_at same asks) at))
 
@@ -522,13 +522,13 @@ module _ (plan : PlanData) (journal : List Entry) (entry : Entry) (is : IsStandi
     locker_lost : AllStay before after → entry.actor ≡ Lock → (tries : List ℕ) → New (is_reverting now.tool.reason) (Migrating (record work { cutover = cutovers.took Locker work.cutover answers.Lost; attempt_tries = tries }))
     unfolding cutovers.took
     locker_lost stay same tries =
-        subst (λ (w : Option Request). CourseAt plan after w (Migrating (record work { cutover = cutovers.took Locker work.cutover answers.Lost; attempt_tries = tries }))) (sym (inspects_same (inl same)))
+        subst (λ (w : Option Request). ToolPhaseAt plan after w (Migrating (record work { cutover = cutovers.took Locker work.cutover answers.Lost; attempt_tries = tries }))) (sym (inspects_same (inl same)))
         (locker_lost_at plan before after (has Insp).waits work.cutover.renamer_waits work.cutover.is_asked work.cutover.hold work.cutover.phase stay at)
 
     renamer_lost : AllStay before after → entry.actor ≡ Ren → entry.asked ≡ Cut → has_work now.server entry.session ≡ true → (tries : List ℕ) → New (is_reverting now.tool.reason) (Migrating (record work { cutover = cutovers.took Renamer work.cutover answers.Lost; attempt_tries = tries }))
     unfolding cutovers.took
     renamer_lost stay same cut worked tries =
-        subst (λ (w : Option Request). CourseAt plan after w (Migrating (record work { cutover = cutovers.took Renamer work.cutover answers.Lost; attempt_tries = tries }))) (sym (inspects_same (inr same)))
+        subst (λ (w : Option Request). ToolPhaseAt plan after w (Migrating (record work { cutover = cutovers.took Renamer work.cutover answers.Lost; attempt_tries = tries }))) (sym (inspects_same (inr same)))
         (fails_at plan before after (has Insp).waits work.cutover.hold work.cutover.renamer_waits work.cutover.is_asked work.cutover.phase answers.Lost (lost refl stay) (inr (waits_on_it work.cutover.renamer_waits refl)) at) where
           waits_on_it : (b : Bool) → work.cutover.renamer_waits ≡ b → b ≡ true
           waits_on_it true on = refl
@@ -538,16 +538,16 @@ module _ (plan : PlanData) (journal : List Entry) (entry : Entry) (is : IsStandi
 
   -- EVERY ACTOR
 
-  pub no_asking : (actor : Actor) → has actor ≡ free → ((request : Request) → tool_call plan now.server journal now.tool now.tool.course actor ≡ Some request → ⊥) → Asking plan journal actor entry.asked → ⊥
+  pub no_asking : (actor : Actor) → has actor ≡ free → ((request : Request) → tool_call plan now.server journal now.tool now.tool.tool_phase actor ≡ Some request → ⊥) → Asking plan journal actor entry.asked → ⊥
   no_asking actor none no_call (calls_so request asks idle call) = no_call request call
   no_asking actor none no_call (polls_so request asks some) = none_some request (has actor).waits (ap (λ (s : Standing). s.waits) none) some
 
-  pub quiet_still : (actor : Actor) → entry.actor ≡ actor → may_define actor ≡ false → given plan journal actor ≡ Some entry.asked → (entry.asked ≡ Cut → ⊥) → ((word : OperatorWord) → entry.asked ≡ Command word → ⊥) → (course : Course) → now.tool.course ≡ course → same_actor actor Insp ≡ false
-      → CourseAt plan after (now_has Insp).waits course
-  quiet_still actor same none gives called commanded course eq differ =
-      still course eq (quiet_stay plan journal entry is.tabled.all is.tabled.quiet run actor same none gives called commanded) (fewer_same (inspector_same actor same differ))
+  pub quiet_still : (actor : Actor) → entry.actor ≡ actor → may_define actor ≡ false → given plan journal actor ≡ Some entry.asked → (entry.asked ≡ Cut → ⊥) → ((word : OperatorWord) → entry.asked ≡ Command word → ⊥) → (tool_phase : ToolPhase) → now.tool.tool_phase ≡ tool_phase → same_actor actor Insp ≡ false
+      → ToolPhaseAt plan after (now_has Insp).waits tool_phase
+  quiet_still actor same none gives called commanded tool_phase eq differ =
+      still tool_phase eq (quiet_stay plan journal entry is.tabled.all is.tabled.quiet run actor same none gives called commanded) (fewer_same (inspector_same actor same differ))
 
-  heard_at : (actor : Actor) → entry.actor ≡ actor → given plan journal actor ≡ Some entry.asked → (entry.asked ≡ Cut → ⊥) → ((word : OperatorWord) → entry.asked ≡ Command word → ⊥) → (course : Course) → now.tool.course ≡ course → AnswerKeeps plan New entry.answer tool actor course
+  heard_at : (actor : Actor) → entry.actor ≡ actor → given plan journal actor ≡ Some entry.asked → (entry.asked ≡ Cut → ⊥) → ((word : OperatorWord) → entry.asked ≡ Command word → ⊥) → (tool_phase : ToolPhase) → now.tool.tool_phase ≡ tool_phase → AnswerKeeps plan New entry.answer tool actor tool_phase
   unfolding given
   heard_at Insp same gives called commanded (SettingUp setup tries) eq = setup_turn setup tries eq same (asking plan journal Insp entry.asked is.tabled.all.tool.server gives)
   heard_at Insp same gives called commanded (Migrating work) eq = inspector_turn work eq same (asking plan journal Insp entry.asked is.tabled.all.tool.server gives)
@@ -556,10 +556,10 @@ module _ (plan : PlanData) (journal : List Entry) (entry : Entry) (is : IsStandi
   heard_at Apply same gives called commanded (SettingUp setup tries) eq = quiet_still Apply same refl gives called commanded (SettingUp setup tries) eq refl
   heard_at Apply same gives called commanded (Migrating work) eq = apply_at entry.answer work (quiet_still Apply same refl gives called commanded (Migrating work) eq refl)
   heard_at Lock same gives called commanded (SettingUp setup tries) eq =
-      absurd (no_asking Lock (setup_has setup tries eq).locker (λ request call. none-some request (ap (λ (c : Course). tool_call plan now.server journal now.tool c Lock) (sym eq) ∙ call)) (asking plan journal Lock entry.asked is.tabled.all.tool.server gives))
+      absurd (no_asking Lock (setup_has setup tries eq).locker (λ request call. none-some request (ap (λ (c : ToolPhase). tool_call plan now.server journal now.tool c Lock) (sym eq) ∙ call)) (asking plan journal Lock entry.asked is.tabled.all.tool.server gives))
   heard_at Lock same gives called commanded (Migrating work) eq = locker_turn work eq same (asking plan journal Lock entry.asked is.tabled.all.tool.server gives)
   heard_at Ren same gives called commanded (SettingUp setup tries) eq =
-      absurd (no_asking Ren (setup_has setup tries eq).renamer (λ request call. none-some request (ap (λ (c : Course). tool_call plan now.server journal now.tool c Ren) (sym eq) ∙ call)) (asking plan journal Ren entry.asked is.tabled.all.tool.server gives))
+      absurd (no_asking Ren (setup_has setup tries eq).renamer (λ request call. none-some request (ap (λ (c : ToolPhase). tool_call plan now.server journal now.tool c Ren) (sym eq) ∙ call)) (asking plan journal Ren entry.asked is.tabled.all.tool.server gives))
   heard_at Ren same gives called commanded (Migrating work) eq = renamer_turn work eq same (asking plan journal Ren entry.asked is.tabled.all.tool.server gives)
   heard_at Op same gives called commanded (SettingUp setup tries) eq = quiet_still Op same refl gives called commanded (SettingUp setup tries) eq refl
   heard_at Op same gives called commanded (Migrating work) eq = quiet_still Op same refl gives called commanded (Migrating work) eq refl
@@ -576,10 +576,10 @@ module _ (plan : PlanData) (journal : List Entry) (entry : Entry) (is : IsStandi
     by false differ = ap (λ (s : Standing). s.waits) (sym (others_stand plan journal entry known served Insp differ)) ∙ some
     by true same = none_some request (now_has Insp).waits (ap (λ (a : Actor). (now_has a).waits) (sym (same_actor_is entry.actor Insp same)) ∙ ap (λ (s : Standing). s.waits) (own_lost plan journal entry known served cut)) some
 
-  cut_still : entry.asked ≡ Cut → (course : Course) → now.tool.course ≡ course → CourseAt plan after (now_has Insp).waits course
-  cut_still cut course eq = still course eq (cut_stay cut) (cut_fewer cut)
+  cut_still : entry.asked ≡ Cut → (tool_phase : ToolPhase) → now.tool.tool_phase ≡ tool_phase → ToolPhaseAt plan after (now_has Insp).waits tool_phase
+  cut_still cut tool_phase eq = still tool_phase eq (cut_stay cut) (cut_fewer cut)
 
-  lost_at : entry.asked ≡ Cut → has_work now.server entry.session ≡ true → (actor : Actor) → entry.actor ≡ actor → (course : Course) → now.tool.course ≡ course → AnswerKeeps plan New answers.Lost tool actor course
+  lost_at : entry.asked ≡ Cut → has_work now.server entry.session ≡ true → (actor : Actor) → entry.actor ≡ actor → (tool_phase : ToolPhase) → now.tool.tool_phase ≡ tool_phase → AnswerKeeps plan New answers.Lost tool actor tool_phase
   lost_at cut worked Insp same (SettingUp setup tries) eq = record {
     reverting = λ reverting. cut_still cut (SettingUp setup tries) eq;
     again = λ going bad more_tries. tt;
@@ -600,15 +600,15 @@ module _ (plan : PlanData) (journal : List Entry) (entry : Entry) (is : IsStandi
   lost_at cut worked (Client c) same (Migrating work) eq = cut_still cut (Migrating work) eq
 
   -- a command is the operator's
-  command_still : (word : OperatorWord) → entry.asked ≡ Command word → (course : Course) → now.tool.course ≡ course → CourseAt plan after (now_has Insp).waits course
-  command_still word asks course eq = still course eq (rest (ap may_lose asks)) (fewer_same (inspector_same Op (by entry.asked asks run.followed.given) refl)) where
+  command_still : (word : OperatorWord) → entry.asked ≡ Command word → (tool_phase : ToolPhase) → now.tool.tool_phase ≡ tool_phase → ToolPhaseAt plan after (now_has Insp).waits tool_phase
+  command_still word asks tool_phase eq = still tool_phase eq (rest (ap may_lose asks)) (fewer_same (inspector_same Op (by entry.asked asks run.followed.given) refl)) where
     by : (asked : Asked) → asked ≡ Command word → IsGiven plan journal entry asked → entry.actor ≡ Op
     by (Command other) is_so gives = commands_operator plan journal entry.actor other gives
     by (Call request) is_so gives = absurd cc
     by Poll is_so gives = absurd cc
     by Cut is_so gives = absurd cc
 
-  resize_at : (size : ℕ) → entry.asked ≡ Command (ChunkSize size) → (course : Course) → now.tool.course ≡ course → ResizeKeeps New tool size course
+  resize_at : (size : ℕ) → entry.asked ≡ Command (ChunkSize size) → (tool_phase : ToolPhase) → now.tool.tool_phase ≡ tool_phase → ResizeKeeps New tool size tool_phase
   resize_at size asks (SettingUp setup tries) eq = command_still _ asks (SettingUp setup tries) eq
   resize_at size asks (Migrating work) eq = command_still _ asks (Migrating work) eq
 
@@ -616,33 +616,33 @@ module _ (plan : PlanData) (journal : List Entry) (entry : Entry) (is : IsStandi
   standing_more = record {
     tabled = tabled_more plan journal entry run is.tabled;
     both = both_more plan journal entry (run.answered, served.seated) is.both;
-    course =
+    tool_phase =
         turn_kept plan New back journal entry drain
         (record {
-          commanded = λ word asks unsized. command_still word asks now.tool.course refl;
-          resized = λ size asks. resize_at size asks now.tool.course refl;
-          idle = λ asks none. cut_still asks now.tool.course refl;
-          lost = λ asks worked. lost_at asks worked entry.actor refl now.tool.course refl;
-          heard = λ called commanded. heard_at entry.actor refl (gives_asked plan journal entry entry.asked run.followed.given refl called) called commanded now.tool.course refl;
+          commanded = λ word asks unsized. command_still word asks now.tool.tool_phase refl;
+          resized = λ size asks. resize_at size asks now.tool.tool_phase refl;
+          idle = λ asks none. cut_still asks now.tool.tool_phase refl;
+          lost = λ asks worked. lost_at asks worked entry.actor refl now.tool.tool_phase refl;
+          heard = λ called commanded. heard_at entry.actor refl (gives_asked plan journal entry entry.asked run.followed.given refl called) called commanded now.tool.tool_phase refl;
         });
   }
 
-standing_begins : (plan : PlanData) → IsFitting plan → TableStands plan → IsStanding plan []
+standing_begins : (plan : PlanData) → IsFitting plan → TableExists plan → IsStanding plan []
 unfolding moment
-standing_begins plan fit stands = record { tabled = tabled_begins plan fit stands; both = record { known = sessions_begin; living = living_begin plan }; course = tt }
+standing_begins plan fit stands = record { tabled = tabled_begins plan fit stands; both = record { known = sessions_begin; living = living_begin plan }; tool_phase = tt }
 
-pub standing_along : (plan : PlanData) (journal : List Entry) → IsFitting plan → TableStands plan → Along (IsRun plan) [] journal → IsStanding plan journal
+pub standing_along : (plan : PlanData) (journal : List Entry) → IsFitting plan → TableExists plan → Along (IsRun plan) [] journal → IsStanding plan journal
 standing_along plan journal fit stands runs = Along-keeps (IsRun plan) (IsStanding plan) (λ before entry run is. standing_more plan before entry is run) [] journal runs (standing_begins plan fit stands)
 
-pub all_standing : (plan : PlanData) (journal : List Entry) → IsFitting plan → TableStands plan → IsFaithful plan journal → Follows plan journal → IsStanding plan journal
+pub all_standing : (plan : PlanData) (journal : List Entry) → IsFitting plan → TableExists plan → IsFaithful plan journal → Follows plan journal → IsStanding plan journal
 unfolding Follows
 all_standing plan journal fit stands faithful follows = standing_along plan journal fit stands (all_runs plan [] journal faithful follows)
 
 -- *Attempts wait*
 pub all_wait : AttemptsWait
-all_wait plan journal work fit stands faithful follows course = record { guards = λ phase. holds phase; exchanges = λ phase. waits phase } where
+all_wait plan journal work fit stands faithful follows tool_phase = record { guards = λ phase. holds phase; exchanges = λ phase. waits phase } where
   at : StandsAt plan (state_at plan journal).tables (standing_of plan journal Insp).waits work.cutover.phase work.cutover.hold work.cutover.renamer_waits work.cutover.is_asked
-  at = subst (CourseAt plan (state_at plan journal).tables (standing_of plan journal Insp).waits) course (all_standing plan journal fit stands faithful follows).course
+  at = subst (ToolPhaseAt plan (state_at plan journal).tables (standing_of plan journal Insp).waits) tool_phase (all_standing plan journal fit stands faithful follows).tool_phase
 
   holds : work.cutover.phase ≡ Attempting Guarding → work.cutover.hold ≡ WaitsToGuard
   holds phase = subst (λ (p : Phase). HoldAt p work.cutover.hold) phase at.hold

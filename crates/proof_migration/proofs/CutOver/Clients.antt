@@ -15,7 +15,7 @@ use Rattle.server_model.specs.declared.request.Request.TheVariants as requests
 use Rattle.plan_data.specs.PlanData.{PlanData}
 use Rattle.tool_program.specs.JournalWords.Journals.{opens, state_at}
 use Rattle.tool_program.specs.Programs.{IsGiven, given}
-use Rattle.tool_program.specs.Tools.{Course, Migrating, SettingUp, Work, moment}
+use Rattle.tool_program.specs.Tools.{ToolPhase, Migrating, SettingUp, Work, moment}
 use Rattle.proof_journals.specs.Plans.{IsSerialPlan, limits_of, scene_of}
 use Rattle.proof_journals.specs.Turns.{ClientAsks, about}
 use Rattle.proof_journals.proofs.PlanJournals.{plan_runs_are_scene_runs}
@@ -23,12 +23,12 @@ use Rattle.proof_journals.specs.ServerTurns.Others.{EntriesAreTurns, TurnOf, ask
 use Rattle.proof_journals.specs.Run.Kept.{IsKept}
 use Rattle.proof_journals.specs.Machine.Runnable.{IsRunnable}
 use Rattle.proof_journals.proofs.Machine.Journals.{IsRun, IsTogether, client_commands}
-use Rattle.proof_journals.specs.Sentry.Turning.{AskedTurn, CourseTurn, IsTurned, OtherTurn, WorkTurn, last_session, told}
+use Rattle.proof_journals.specs.Sentry.TurnResults.{AskedTurn, ToolPhaseTurn, IsTurned, OtherTurn, WorkTurn, last_session, reported}
 use Rattle.proof_journals.proofs.Sentry.Calling.{other_says}
-use Rattle.proof_migration.specs.Course.Unaltered.{IsUnaltered}
-use Rattle.proof_migration.proofs.Course.Unaltered.Asking.{AskedAs}
-use Rattle.proof_migration.proofs.Course.Unaltered.Away.{IsKnownAsked, all_asked, unaltered_front}
-use Rattle.proof_migration.proofs.Course.Unaltered.Runs.{unaltered_runs}
+use Rattle.proof_migration.specs.ToolPhase.Unaltered.{IsUnaltered}
+use Rattle.proof_migration.proofs.ToolPhase.Unaltered.Asking.{AskedAs}
+use Rattle.proof_migration.proofs.ToolPhase.Unaltered.Away.{IsKnownAsked, all_asked, unaltered_front}
+use Rattle.proof_migration.proofs.ToolPhase.Unaltered.Runs.{unaltered_runs}
 use Rattle.proof_migration.proofs.Program.Turns.Asked.{asked_as}
 use Rattle.proof_migration.proofs.Program.Turns.Follows.{kept_front, kept_run}
 use Rattle.proof_migration.proofs.Program.Holds.ActorStates.{kept_differs}
@@ -84,7 +84,7 @@ module _ (entries_are_turns : EntriesAreTurns) (plan : PlanData) (journal : List
       (other_says plan now (state_at plan more) (last_session journal Lock) (last_session journal Ren) entry.session (differs Lock no_locker) (differs Ren no_renamer) turn))
 
   other_turned : IsTurned plan journal entry
-  other_turned = record { turn = by (moment plan journal).tool.course } where
+  other_turned = record { turn = by (moment plan journal).tool.tool_phase } where
     working : (work : Work) (turns : ℕ) (answer : Option Answer) → WorkTurn plan (moment plan journal).server (moment plan more).server (last_session journal Lock) (last_session journal Ren) work turns entry entry.actor answer
     working work turns answer =
         subst (λ (a : Actor). WorkTurn plan (moment plan journal).server (moment plan more).server (last_session journal Lock) (last_session journal Ren) work turns entry a answer) (sym same)
@@ -92,11 +92,11 @@ module _ (entries_are_turns : EntriesAreTurns) (plan : PlanData) (journal : List
 
     asks : (work : Work) (turns : ℕ) (asked : Asked) → is_command asked ≡ false → AskedTurn plan (moment plan journal).server (moment plan more).server (last_session journal Lock) (last_session journal Ren) work turns entry asked
     asks work turns (Command word) calls = absurd (true≢false calls)
-    asks work turns (Call request) calls = working work turns (told (moment plan journal).server entry (Call request))
-    asks work turns Poll calls = working work turns (told (moment plan journal).server entry Poll)
-    asks work turns Cut calls = working work turns (told (moment plan journal).server entry Cut)
+    asks work turns (Call request) calls = working work turns (reported (moment plan journal).server entry (Call request))
+    asks work turns Poll calls = working work turns (reported (moment plan journal).server entry Poll)
+    asks work turns Cut calls = working work turns (reported (moment plan journal).server entry Cut)
 
-    by : (course : Course) → CourseTurn plan (moment plan journal).server (moment plan more).server (last_session journal Lock) (last_session journal Ren) course ((moment plan journal).tool.turns + 1) entry
+    by : (tool_phase : ToolPhase) → ToolPhaseTurn plan (moment plan journal).server (moment plan more).server (last_session journal Lock) (last_session journal Ren) tool_phase ((moment plan journal).tool.turns + 1) entry
     by (SettingUp setup tries) = tt
     by (Migrating work) = asks work ((moment plan journal).tool.turns + 1) entry.asked called
 

@@ -4,19 +4,19 @@ use Rattle.std.proofs.lemmas.Bool.{false≢true}
 use Rattle.base_script.specs.declared.actor.Actor.TheVariants.{Lock, Ren}
 use Rattle.base_script.specs.declared.actor.Side.{Side}
 use Rattle.server_model.specs.Entries.{is_client, is_command}
-use Rattle.server_model.specs.Serving.{leaves}
+use Rattle.server_model.specs.PlainServer.{leaves}
 use Rattle.server_model.specs.States.{State}
 use Rattle.server_model.specs.declared.entry.Asked.{Asked}
 use Rattle.server_model.specs.declared.entry.Asked.TheVariants.{Call, Poll, Command, Cut}
 use Rattle.server_model.specs.declared.entry.Entry.{Entry}
 use Rattle.plan_data.specs.PlanData.{PlanData}
 use Rattle.tool_program.specs.JournalWords.Journals.{opens_if, state_at}
-use Rattle.tool_program.specs.Tools.{Course, Migrating, SettingUp, Work, moment}
+use Rattle.tool_program.specs.Tools.{ToolPhase, Migrating, SettingUp, Work, moment}
 use Rattle.proof_journals.specs.Run.Kept.{IsKept}
 use Rattle.proof_journals.proofs.Run.Living.{never_lost}
 use Rattle.proof_journals.proofs.Machine.Journals.{IsRun, IsTogether, all_together}
 use Rattle.proof_journals.proofs.Machine.Seated.{state_more}
-use Rattle.proof_journals.specs.Sentry.Turning.{AskedTurn, CourseTurn, IsTurned, last_session}
+use Rattle.proof_journals.specs.Sentry.TurnResults.{AskedTurn, ToolPhaseTurn, IsTurned, last_session}
 use Rattle.proof_migration.proofs.Program.Turns.Follows.{kept_front, kept_run}
 
 stays : (side : Option Side) (asked : Asked) (tool : Bool) (session : ℕ) (state : State) → side ≡ None → is_command asked ≡ true → leaves side (opens_if (is_command asked) tool session state) session asked ≡ state
@@ -55,8 +55,8 @@ module _ (plan : PlanData) (journal : List Entry) (entry : Entry) (is : is_comma
   asks work turns Cut is = absurd (false≢true is)
 
   turned : IsTurned plan journal entry
-  turned = record { turn = by (moment plan journal).tool.course } where
-    by : (course : Course) → CourseTurn plan (moment plan journal).server (moment plan more).server (last_session journal Lock) (last_session journal Ren) course ((moment plan journal).tool.turns + 1) entry
+  turned = record { turn = by (moment plan journal).tool.tool_phase } where
+    by : (tool_phase : ToolPhase) → ToolPhaseTurn plan (moment plan journal).server (moment plan more).server (last_session journal Lock) (last_session journal Ren) tool_phase ((moment plan journal).tool.turns + 1) entry
     by (SettingUp setup tries) = tt
     by (Migrating work) = asks work ((moment plan journal).tool.turns + 1) entry.asked is
 

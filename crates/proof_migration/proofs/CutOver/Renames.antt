@@ -32,35 +32,35 @@ use Rattle.tool_program.specs.JournalWords.Histories as histories
 use Rattle.tool_program.specs.JournalWords.Histories.{adds, alters, asked_about, is_alter, request_waiting, answer_in}
 use Rattle.tool_program.specs.JournalWords.Journals.{opens, state_at}
 use Rattle.tool_program.specs.Programs.{Follows, IsFollowed, IsGiven, given, tool_call}
-use Rattle.tool_program.specs.Tools.{Course, Migrating, SettingUp, Work, is_reverting, moment}
+use Rattle.tool_program.specs.Tools.{ToolPhase, Migrating, SettingUp, Work, is_reverting, moment}
 use Rattle.proof_journals.specs.Plans.{IsSerialPlan, limits_of, scene_of}
-use Rattle.proof_journals.specs.Turns.{IsSceneRun, IsTold, about, request_of, told_at}
-use Rattle.proof_journals.proofs.Joined.{told_answer, told_missed}
+use Rattle.proof_journals.specs.Turns.{IsSceneRun, IsReported, about, request_of, reported_at}
+use Rattle.proof_journals.proofs.Joined.{reported_answer, reported_missed}
 use Rattle.proof_journals.proofs.Journals.{opened_waits}
 use Rattle.proof_journals.proofs.PlanJournals.{plan_runs_are_scene_runs}
 use Rattle.proof_journals.proofs.Moves.{renamed_ok}
 use Rattle.proof_journals.specs.ServerTurns.Others.{DefinitionsAreDone, ExclusiveIsAlone, WasDone}
-use Rattle.proof_journals.specs.Ghost.Leaving.{effect_answer, where_done}
+use Rattle.proof_journals.specs.Ghost.EffectStates.{effect_answer, where_done}
 use Rattle.proof_journals.proofs.Ghost.Undone.{effects_answer}
 use Rattle.proof_migration.proofs.Migration.Copier.Served.{Deeded, deeded}
 use Rattle.proof_migration.proofs.Migration.Copier.Served.Deeded.{outside_so, within_so}
 use Rattle.proof_journals.specs.Run.Kept.{IsKept}
 use Rattle.run_actors.proofs.AlterTurns.{of_client}
-use Rattle.proof_journals.specs.Machine.Machines.{CourseStands, SetupStands}
+use Rattle.proof_journals.specs.Machine.Machines.{ToolPhaseStands, SetupStands}
 use Rattle.proof_journals.specs.Machine.Runnable.{IsRunnable}
 use Rattle.proof_journals.specs.Machine.Standings.{Standing, free, standing_of}
 use Rattle.proof_journals.proofs.Machine.Journals.{Asking, IsRun, IsTogether, asking, calls_so, polls_so}
 use Rattle.proof_journals.proofs.Machine.Seated.{IsServed, own_waiting}
-use Rattle.proof_journals.specs.Sentry.Turning.{IsGuarded, IsRenamed, IsTurned, IsWhole, WaitsSay}
+use Rattle.proof_journals.specs.Sentry.TurnResults.{IsGuarded, IsRenamed, IsTurned, IsWhole, WaitsSay}
 use Rattle.proof_journals.proofs.Sentry.Agreeing.{renames_follow}
 use Rattle.proof_journals.proofs.Sentry.Inductions.{all_guarded}
 use Rattle.proof_journals.proofs.Sentry.Serving.{exchanged, is_renamed}
-use Rattle.proof_migration.specs.Course.Unaltered.{IsUnaltered}
-use Rattle.proof_migration.proofs.Course.Unaltered.Away.{IsKnownAsked, about_asked, all_asked, tool_adds, unaltered_front}
-use Rattle.proof_migration.proofs.Course.Unaltered.Runs.{unaltered_runs}
+use Rattle.proof_migration.specs.ToolPhase.Unaltered.{IsUnaltered}
+use Rattle.proof_migration.proofs.ToolPhase.Unaltered.Away.{IsKnownAsked, about_asked, all_asked, tool_adds, unaltered_front}
+use Rattle.proof_migration.proofs.ToolPhase.Unaltered.Runs.{unaltered_runs}
 use Rattle.proof_migration.specs.Program.Turns.Laws.{IsMark}
 use Rattle.proof_migration.proofs.Program.Turns.Follows.{kept_front, kept_run}
-use Rattle.proof_migration.specs.Course.Waits.{WaitsAreTold}
+use Rattle.proof_migration.specs.ToolPhase.Waits.{WaitsAreReported}
 use Rattle.proof_migration.specs.Program.LockerTurns.{LockersAreTurned, RenamersAreTurned}
 use Rattle.proof_migration.specs.Program.InspectorTurns.{InspectorsAreTurned}
 use Rattle.proof_migration.specs.Program.BatchTurns.{AppliersAreTurned, CopiersAreTurned}
@@ -116,12 +116,12 @@ all_three plan some (entry ∷ journal) turned followed said = ((turned.0, follo
 -- *What the RENAME finds*: all of the table is in the new one, nobody else holds it, and the old table's name is free
 pub record Found (plan : PlanData) (journal : List Entry) (entry : Entry) : Type 0 where
   pub work : Work
-  pub course : (moment plan journal).tool.course ≡ Migrating work
+  pub tool_phase : (moment plan journal).tool.tool_phase ≡ Migrating work
   pub whole : IsWhole plan (moment plan journal).server entry.session work
   pub renamed : IsRenamed plan (state_at plan journal) entry.session
   pub asks : Asking plan journal Ren entry.asked
 
-module _ (exclusive_is_alone : ExclusiveIsAlone) (definitions_are_done : DefinitionsAreDone) (waits_are_told : WaitsAreTold) (journals_are_turned : JournalsAreTurned) (plan : PlanData) (journal : List Entry) (entry : Entry) (runs : IsRunnable plan) (serial : IsSerialPlan plan) (rename : IsRename plan journal entry) where
+module _ (exclusive_is_alone : ExclusiveIsAlone) (definitions_are_done : DefinitionsAreDone) (waits_are_reported : WaitsAreReported) (journals_are_turned : JournalsAreTurned) (plan : PlanData) (journal : List Entry) (entry : Entry) (runs : IsRunnable plan) (serial : IsSerialPlan plan) (rename : IsRename plan journal entry) where
   abbrev now : State
   now = state_at plan journal
 
@@ -146,8 +146,8 @@ module _ (exclusive_is_alone : ExclusiveIsAlone) (definitions_are_done : Definit
   scene_run : IsSceneRun (limits_of plan) (scene_of plan journal) journal
   scene_run = plan_runs_are_scene_runs plan journal (unaltered_runs plan journal runs serial before rename.unaltered)
 
-  entry_told : IsTold (limits_of plan) (scene_of plan journal) journal entry
-  entry_told = record { answer = told_answer now entry run.answered; missed = told_missed now entry run.answered }
+  entry_reported : IsReported (limits_of plan) (scene_of plan journal) journal entry
+  entry_reported = record { answer = reported_answer now entry run.answered; missed = reported_missed now entry run.answered }
 
   -- WHOSE TURN IT IS
 
@@ -167,20 +167,20 @@ module _ (exclusive_is_alone : ExclusiveIsAlone) (definitions_are_done : Definit
     pairs : List Pair
     is_about : histories.about journal entry ≡ Some (requests.Rename pairs)
     count : ℕ
-    is_told : answer_in entry.asked entry.side entry.answer entry.missed ≡ Some (answers.Ok count)
+    is_reported : answer_in entry.asked entry.side entry.answer entry.missed ≡ Some (answers.Ok count)
 
   renaming : Renaming
   renaming = by (histories.about journal entry) (answer_in entry.asked entry.side entry.answer entry.missed) refl refl (ap (list_any is_alter) (sym (tool_adds plan serial journal entry runs.fitting known run tool entry.actor tool)) ∙ rename.alters) where
-    by : (request : Option Request) (told : Option Answer) → histories.about journal entry ≡ request → answer_in entry.asked entry.side entry.answer entry.missed ≡ told → list_any is_alter (alters plan request told) ≡ true → Renaming
-    by (Some (requests.Rename pairs)) (Some (answers.Ok count)) is told alter = record { pairs = pairs; is_about = is; count = count; is_told = told }
-    by request (Some (answers.Ok count)) is told alter = absurd cc
-    by request told is says alter = absurd cc
+    by : (request : Option Request) (reported : Option Answer) → histories.about journal entry ≡ request → answer_in entry.asked entry.side entry.answer entry.missed ≡ reported → list_any is_alter (alters plan request reported) ≡ true → Renaming
+    by (Some (requests.Rename pairs)) (Some (answers.Ok count)) is reported alter = record { pairs = pairs; is_about = is; count = count; is_reported = reported }
+    by request (Some (answers.Ok count)) is reported alter = absurd cc
+    by request reported is statement_result alter = absurd cc
 
   exchanges : (entry.actor ≡ Ren) × (requests.Rename renaming.pairs ≡ exchange plan.table)
   exchanges = about_asked plan serial journal entry runs.fitting known run tool (requests.Rename renaming.pairs) renaming.is_about
 
   uncut : is_cut entry.asked ≡ false
-  uncut = by entry.asked renaming.is_told where
+  uncut = by entry.asked renaming.is_reported where
     by : (asked : Asked) → answer_in asked entry.side entry.answer entry.missed ≡ Some (answers.Ok renaming.count) → is_cut asked ≡ false
     by Cut is = absurd cc
     by (Call request) is = refl
@@ -201,14 +201,14 @@ module _ (exclusive_is_alone : ExclusiveIsAlone) (definitions_are_done : Definit
     by Cut asks is = waits (ap is_command asks) ∙ is
     by (Command word) asks is = absurd cc
 
-  told_here : told_at entry.side entry.answer entry.missed ≡ Some (answers.Ok renaming.count)
-  told_here = by entry.asked entry.side renaming.is_told where
-    heard : (side : Option Side) → answer_in Poll side entry.answer entry.missed ≡ Some (answers.Ok renaming.count) → told_at side entry.answer entry.missed ≡ Some (answers.Ok renaming.count)
+  reported_here : reported_at entry.side entry.answer entry.missed ≡ Some (answers.Ok renaming.count)
+  reported_here = by entry.asked entry.side renaming.is_reported where
+    heard : (side : Option Side) → answer_in Poll side entry.answer entry.missed ≡ Some (answers.Ok renaming.count) → reported_at side entry.answer entry.missed ≡ Some (answers.Ok renaming.count)
     heard None is = is
     heard (Some Before) is = absurd cc
     heard (Some After) is = is
 
-    by : (asked : Asked) (side : Option Side) → answer_in asked side entry.answer entry.missed ≡ Some (answers.Ok renaming.count) → told_at side entry.answer entry.missed ≡ Some (answers.Ok renaming.count)
+    by : (asked : Asked) (side : Option Side) → answer_in asked side entry.answer entry.missed ≡ Some (answers.Ok renaming.count) → reported_at side entry.answer entry.missed ≡ Some (answers.Ok renaming.count)
     by Cut side is = absurd cc
     by Poll side is = heard side is
     by (Call request) None is = is
@@ -221,29 +221,29 @@ module _ (exclusive_is_alone : ExclusiveIsAlone) (definitions_are_done : Definit
   -- it was done with ok 0
   count_is : answers.Ok renaming.count ≡ ok
   count_is = by (deeded entry now (exchange plan.table)) where
-    says : answers.Ok renaming.count ≡ effect_answer (effect (where_done entry.asked entry.session (opens entry now)) entry.session (exchange plan.table))
-    says = effects_answer (limits_of plan) (scene_of plan journal) journal entry (exchange plan.table) (answers.Ok renaming.count) scene_run entry_told about_here told_here refl
+    statement_result : answers.Ok renaming.count ≡ effect_answer (effect (where_done entry.asked entry.session (opens entry now)) entry.session (exchange plan.table))
+    statement_result = effects_answer (limits_of plan) (scene_of plan journal) journal entry (exchange plan.table) (answers.Ok renaming.count) scene_run entry_reported about_here reported_here refl
 
     refused : (number : ℕ) → answers.Ok renaming.count ≡ refuses number → ⊥
     refused number same = cc
 
     result : (r : Result Database ℕ) → effect (where_done entry.asked entry.session (opens entry now)) entry.session (exchange plan.table) ≡ defined r → answers.Ok renaming.count ≡ ok
-    result (Ok made) is = says ∙ ap effect_answer is
-    result (Err number) is = absurd (refused number (says ∙ ap effect_answer is))
+    result (Ok made) is = statement_result ∙ ap effect_answer is
+    result (Err number) is = absurd (refused number (statement_result ∙ ap effect_answer is))
 
     by : Deeded now entry.session (exchange plan.table) (effect (where_done entry.asked entry.session (opens entry now)) entry.session (exchange plan.table)) → answers.Ok renaming.count ≡ ok
-    by (outside_so out) = absurd (refused ER_TABLE_NOT_LOCKED (says ∙ ap effect_answer out))
+    by (outside_so out) = absurd (refused ER_TABLE_NOT_LOCKED (statement_result ∙ ap effect_answer out))
     by (within_so there same log within) = result (renamed_or (rename_tables (exchanged plan.table) there.tables)) within
 
   done : WasDone entry
-  done = told_here ∙ ap Some count_is
+  done = reported_here ∙ ap Some count_is
 
   renamed : IsRenamed plan now entry.session
   renamed =
       is_renamed plan entry.session now (state_at plan (journal ++ entry ∷ []))
       (renamed_ok (rename_tables (exchanged plan.table) now.tables) (state_at plan (journal ++ entry ∷ [])).tables
-      (definitions_are_done (limits_of plan) (scene_of plan journal) journal entry (exchange plan.table) (renamed_or (rename_tables (exchanged plan.table) now.tables)) entry_told about_here refl done))
-      (exclusive_is_alone (limits_of plan) (scene_of plan journal) journal entry (exchange plan.table) scene_run entry_told about_here refl done)
+      (definitions_are_done (limits_of plan) (scene_of plan journal) journal entry (exchange plan.table) (renamed_or (rename_tables (exchanged plan.table) now.tables)) entry_reported about_here refl done))
+      (exclusive_is_alone (limits_of plan) (scene_of plan journal) journal entry (exchange plan.table) scene_run entry_reported about_here refl done)
 
   -- IN THE PROGRAM
 
@@ -261,35 +261,35 @@ module _ (exclusive_is_alone : ExclusiveIsAlone) (definitions_are_done : Definit
 
   record Working : Type 0 where
     work : Work
-    course : (moment plan journal).tool.course ≡ Migrating work
+    tool_phase : (moment plan journal).tool.tool_phase ≡ Migrating work
 
   -- the renamer is asked for nothing in the setup
   working : Working
-  working = by (moment plan journal).tool.course refl where
-    setting : (course : Course) → (moment plan journal).tool.course ≡ course → has Ren ≡ free → tool_call plan (moment plan journal).server journal (moment plan journal).tool course Ren ≡ None → Asking plan journal Ren entry.asked → ⊥
-    setting course at rests none (calls_so request asks idle call) = no (sym none ∙ ap (λ (c : Course). tool_call plan (moment plan journal).server journal (moment plan journal).tool c Ren) (sym at) ∙ call) where
+  working = by (moment plan journal).tool.tool_phase refl where
+    setting : (tool_phase : ToolPhase) → (moment plan journal).tool.tool_phase ≡ tool_phase → has Ren ≡ free → tool_call plan (moment plan journal).server journal (moment plan journal).tool tool_phase Ren ≡ None → Asking plan journal Ren entry.asked → ⊥
+    setting tool_phase at rests none (calls_so request asks idle call) = no (sym none ∙ ap (λ (c : ToolPhase). tool_call plan (moment plan journal).server journal (moment plan journal).tool c Ren) (sym at) ∙ call) where
       no : None ≡ Some request → ⊥
       no same = cc
-    setting course at rests none (polls_so request asks some) = no (sym (ap (λ (s : Standing). s.waits) rests) ∙ some) where
+    setting tool_phase at rests none (polls_so request asks some) = no (sym (ap (λ (s : Standing). s.waits) rests) ∙ some) where
       no : None ≡ Some request → ⊥
       no same = cc
 
-    by : (course : Course) → (moment plan journal).tool.course ≡ course → Working
-    by (Migrating work) at = record { work = work; course = at }
+    by : (tool_phase : ToolPhase) → (moment plan journal).tool.tool_phase ≡ tool_phase → Working
+    by (Migrating work) at = record { work = work; tool_phase = at }
     by (SettingUp setup tries) at =
-        let stands : SetupStands has = subst (CourseStands journal has (is_reverting (moment plan journal).tool.reason)) at together.stands in absurd (setting (SettingUp setup tries) at stands.renamer refl asks_now)
+        let stands : SetupStands has = subst (ToolPhaseStands journal has (is_reverting (moment plan journal).tool.reason)) at together.stands in absurd (setting (SettingUp setup tries) at stands.renamer refl asks_now)
 
   whole : IsWhole plan (moment plan journal).server entry.session working.work
   unfolding Follows
   whole =
       renames_follow plan journal entry working.work
-      (all_three plan [] journal (journals_are_turned plan journal runs serial before rename.unaltered) before.follows (waits_are_told plan journal before.faithful before.follows)) run.followed exchanges.0 uncut
-      working.course (subst (λ (s : State). IsRenamed plan s entry.session) (sym together.server) renamed)
+      (all_three plan [] journal (journals_are_turned plan journal runs serial before rename.unaltered) before.follows (waits_are_reported plan journal before.faithful before.follows)) run.followed exchanges.0 uncut
+      working.tool_phase (subst (λ (s : State). IsRenamed plan s entry.session) (sym together.server) renamed)
 
   mark : is_reverting (moment plan journal).tool.reason ≡ false → IsMark plan journal
   mark going = record {
     work = working.work;
-    course = working.course;
+    tool_phase = working.tool_phase;
     going = going;
     unaltered = rename.unaltered;
     copied = whole.copied;
@@ -298,12 +298,12 @@ module _ (exclusive_is_alone : ExclusiveIsAlone) (definitions_are_done : Definit
   }
 
   found : Found plan journal entry
-  found = record { work = working.work; course = working.course; whole = whole; renamed = renamed; asks = asks_now }
+  found = record { work = working.work; tool_phase = working.tool_phase; whole = whole; renamed = renamed; asks = asks_now }
 
 -- *Renames come at the mark*
-pub renames_marked : ExclusiveIsAlone → DefinitionsAreDone → WaitsAreTold → JournalsAreTurned → RenamesComeAtTheMark
-renames_marked alone done told turned plan journal entry runs serial rename going = mark alone done told turned plan journal entry runs serial rename going
+pub renames_marked : ExclusiveIsAlone → DefinitionsAreDone → WaitsAreReported → JournalsAreTurned → RenamesComeAtTheMark
+renames_marked alone done reported turned plan journal entry runs serial rename going = mark alone done reported turned plan journal entry runs serial rename going
 
 -- whatever is reverted
-pub renames_found : ExclusiveIsAlone → DefinitionsAreDone → WaitsAreTold → JournalsAreTurned → (plan : PlanData) (journal : List Entry) (entry : Entry) → IsRunnable plan → IsSerialPlan plan → IsRename plan journal entry → Found plan journal entry
-renames_found alone done told turned plan journal entry runs serial rename = found alone done told turned plan journal entry runs serial rename
+pub renames_found : ExclusiveIsAlone → DefinitionsAreDone → WaitsAreReported → JournalsAreTurned → (plan : PlanData) (journal : List Entry) (entry : Entry) → IsRunnable plan → IsSerialPlan plan → IsRename plan journal entry → Found plan journal entry
+renames_found alone done reported turned plan journal entry runs serial rename = found alone done reported turned plan journal entry runs serial rename

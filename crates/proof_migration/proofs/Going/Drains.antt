@@ -38,7 +38,7 @@ use Rattle.tool_program.specs.CutoverCore.CutOvers as cutovers
 use Rattle.tool_program.specs.CutoverCore.CutOvers.{is_bad, begun, locker_phase, locker_stage, attempts_after, inspector_phase, inspector_stage, finishing, seen, renamer_phase, waits_phase, failed, applier_turn, reverted}
 use Rattle.tool_program.specs.Programs.{given, IsGiven}
 use Rattle.tool_program.specs.Setups.{Setup, Listing, Clearing, MakingLog, MakingGhost, Marking, Reaching, Ready, setup_after}
-use Rattle.tool_program.specs.Tools.{Work, Course, SettingUp, Migrating, Tool, stopped, course_of, moment}
+use Rattle.tool_program.specs.Tools.{Work, ToolPhase, SettingUp, Migrating, Tool, stopped, tool_phase_of, moment}
 use Rattle.proof_journals.specs.Plans.{IsSerialPlan}
 use Rattle.proof_journals.proofs.Actors.{same_actor_is}
 use Rattle.server_model.proofs.LockedRows.Tests.{same_bytes}
@@ -48,19 +48,19 @@ use Rattle.proof_journals.specs.Run.Kept.{IsKept}
 use Rattle.proof_journals.specs.Machine.Runnable.{IsRunnable}
 use Rattle.proof_journals.specs.Machine.Standings.{standing_of}
 use Rattle.proof_journals.specs.Sentry.Sentries.{IsDraining, WritesHint, scene, InspectorWrites}
-use Rattle.proof_journals.specs.Sentry.Turning.{CourseTurn, IsTurned, last_session, WorkTurn, AskedTurn, InspectorSays}
-use Rattle.proof_migration.proofs.Course.CourseTurns.{Kept, UnfitKeeps, CopyKeeps, ApplyKeeps, SetupKeeps, CutKeeps, AnswerKeeps, ResizeKeeps, turn_kept, gives_asked}
-use Rattle.proof_migration.specs.Course.Unaltered.{IsUnaltered}
+use Rattle.proof_journals.specs.Sentry.TurnResults.{ToolPhaseTurn, IsTurned, last_session, WorkTurn, AskedTurn, InspectorSays}
+use Rattle.proof_migration.proofs.ToolPhase.ToolPhaseTurns.{Kept, UnfitKeeps, CopyKeeps, ApplyKeeps, SetupKeeps, CutKeeps, AnswerKeeps, ResizeKeeps, turn_kept, gives_asked}
+use Rattle.proof_migration.specs.ToolPhase.Unaltered.{IsUnaltered}
 use Rattle.proof_migration.proofs.Program.InspectorTurns.Inspectors.{inspectors_turned}
 use Rattle.proof_migration.proofs.Program.Turns.Follows.{kept_front, kept_run}
-use Rattle.proof_migration.proofs.Course.Unaltered.Away.{unaltered_front}
+use Rattle.proof_migration.proofs.ToolPhase.Unaltered.Away.{unaltered_front}
 use Rattle.proof_migration.specs.Program.Hints.{KnowsHints, IsBegun, is_unhinted}
 use Rattle.proof_migration.proofs.Program.Hints.Asked.{others_left, lost_left, insp_left}
 use Rattle.proof_migration.proofs.Program.Hints.Known.{hints_go, hints_known}
 use Rattle.proof_migration.proofs.Program.Hints.Logging.{LogsAway, LogsHint}
 use Rattle.proof_migration.proofs.Program.Hints.Phases.{may_hint}
-use Rattle.proof_migration.proofs.Program.Hints.States.{CourseHints, HintsGo}
-use Rattle.proof_migration.proofs.Course.Owners.{commands_operator}
+use Rattle.proof_migration.proofs.Program.Hints.States.{ToolPhaseHints, HintsGo}
+use Rattle.proof_migration.proofs.ToolPhase.Owners.{commands_operator}
 use Rattle.proof_journals.proofs.Run.Taking.{server_is}
 
 -- LAST HINTS
@@ -261,14 +261,14 @@ inspector_from cutover Finished answer drains = absurd drains
 -- BEHIND EVERY JOURNAL
 
 -- where the attempt is drained its hint row is the last one that is logged
-abbrev pub CourseDrains : List ℕ → List RowEvent → Course → Type 0
-CourseDrains t log (SettingUp setup tries) = Unit {0}
-CourseDrains t log (Migrating work) = IsDraining work.cutover.phase → last_hint t 0 log ≡ work.cutover.attempts
+abbrev pub ToolPhaseDrains : List ℕ → List RowEvent → ToolPhase → Type 0
+ToolPhaseDrains t log (SettingUp setup tries) = Unit {0}
+ToolPhaseDrains t log (Migrating work) = IsDraining work.cutover.phase → last_hint t 0 log ≡ work.cutover.attempts
 
 abbrev pub IsHintedLast : PlanData → List Entry → Type 0
-IsHintedLast plan journal = CourseDrains plan.table (state_at plan journal).log (moment plan journal).tool.course
+IsHintedLast plan journal = ToolPhaseDrains plan.table (state_at plan journal).log (moment plan journal).tool.tool_phase
 
-module _ (turns : EntriesAreTurns) (plan : PlanData) (runs : IsRunnable plan) (serial : IsSerialPlan plan) (journal : List Entry) (entry : Entry) (kept : IsKept plan (journal ++ entry ∷ [])) (off : IsUnaltered plan (journal ++ entry ∷ [])) (was : CourseDrains plan.table (state_at plan journal).log (moment plan journal).tool.course) where
+module _ (turns : EntriesAreTurns) (plan : PlanData) (runs : IsRunnable plan) (serial : IsSerialPlan plan) (journal : List Entry) (entry : Entry) (kept : IsKept plan (journal ++ entry ∷ [])) (off : IsUnaltered plan (journal ++ entry ∷ [])) (was : ToolPhaseDrains plan.table (state_at plan journal).log (moment plan journal).tool.tool_phase) where
   abbrev t : List ℕ
   t = plan.table
 
@@ -284,11 +284,11 @@ module _ (turns : EntriesAreTurns) (plan : PlanData) (runs : IsRunnable plan) (s
   abbrev tool : Tool
   tool = record (moment plan journal).tool { turns = (moment plan journal).tool.turns + 1 }
 
-  abbrev Goal : Course → Type 0
-  Goal course = CourseDrains t then.log course
+  abbrev Goal : ToolPhase → Type 0
+  Goal tool_phase = ToolPhaseDrains t then.log tool_phase
 
   abbrev New : Kept
-  New = λ b course. Goal course
+  New = λ b tool_phase. Goal tool_phase
 
   kept_before : IsKept plan journal
   kept_before = kept_front plan journal (entry ∷ []) kept
@@ -300,24 +300,24 @@ module _ (turns : EntriesAreTurns) (plan : PlanData) (runs : IsRunnable plan) (s
   hints = hints_go plan journal runs serial kept_before off_before
 
   -- nothing of the changelog is logged
-  later : LogsAway t now then → (course : Course) → CourseDrains t now.log course → Goal course
+  later : LogsAway t now then → (tool_phase : ToolPhase) → ToolPhaseDrains t now.log tool_phase → Goal tool_phase
   later logs (SettingUp setup tries) at = tt
   later logs (Migrating work) at = λ drains. ap (last_hint t 0) logs.log ∙ last_both t 0 now.log logs.events ∙ last_away t (last_hint t 0 now.log) logs.events logs.away ∙ at drains
 
-  was_at : (course : Course) → (moment plan journal).tool.course ≡ course → CourseDrains t now.log course
-  was_at course eq = subst (CourseDrains t now.log) eq was
+  was_at : (tool_phase : ToolPhase) → (moment plan journal).tool.tool_phase ≡ tool_phase → ToolPhaseDrains t now.log tool_phase
+  was_at tool_phase eq = subst (ToolPhaseDrains t now.log) eq was
 
-  others_at : same_actor entry.actor Insp ≡ false → (course : Course) → (moment plan journal).tool.course ≡ course → Goal course
-  others_at differ course eq = later (others_left plan runs serial journal entry kept off hints.none differ).logs course (was_at course eq)
+  others_at : same_actor entry.actor Insp ≡ false → (tool_phase : ToolPhase) → (moment plan journal).tool.tool_phase ≡ tool_phase → Goal tool_phase
+  others_at differ tool_phase eq = later (others_left plan runs serial journal entry kept off hints.none differ).logs tool_phase (was_at tool_phase eq)
 
-  cut_at : entry.asked ≡ Cut → (course : Course) → (moment plan journal).tool.course ≡ course → Goal course
-  cut_at cut course eq = later (lost_left plan runs serial journal entry kept off hints.none cut).logs course (was_at course eq)
+  cut_at : entry.asked ≡ Cut → (tool_phase : ToolPhase) → (moment plan journal).tool.tool_phase ≡ tool_phase → Goal tool_phase
+  cut_at cut tool_phase eq = later (lost_left plan runs serial journal entry kept off hints.none cut).logs tool_phase (was_at tool_phase eq)
 
   -- of another phase with the same attempts
   moves : (work : Work) (phase : Phase) (attempts : ℕ) → From work.cutover.phase phase → attempts ≡ work.cutover.attempts → Goal (Migrating work) → IsDraining phase → last_hint t 0 then.log ≡ attempts
   moves work phase attempts from same at drains = at (from drains) ∙ sym same
 
-  back : (b : Bool) (course : Course) → New b course → New true (stopped course)
+  back : (b : Bool) (tool_phase : ToolPhase) → New b tool_phase → New true (stopped tool_phase)
   unfolding reverted
   back b (SettingUp setup tries) at = tt
   back b (Migrating work) at = moves work (cutovers.ended work.cutover.phase) work.cutover.attempts (ended_from work.cutover.phase) refl at
@@ -337,7 +337,7 @@ module _ (turns : EntriesAreTurns) (plan : PlanData) (runs : IsRunnable plan) (s
 
   setup_so : (answer : Answer) (setup : Setup) (tries : List ℕ) → SetupKeeps plan New answer tool setup tries
   setup_so answer setup tries = record { reverting = λ reverting. tt; again = λ going bad others. tt; goes = λ going good. begins (setup_after plan.table setup answer) } where
-    begins : (next : Setup) → Goal (course_of plan tool.operator.size next tries)
+    begins : (next : Setup) → Goal (tool_phase_of plan tool.operator.size next tries)
     begins (Ready position range) = λ drains. absurd drains
     begins Listing = tt
     begins (Clearing left) = tt
@@ -363,7 +363,7 @@ module _ (turns : EntriesAreTurns) (plan : PlanData) (runs : IsRunnable plan) (s
 
   -- THE HINT ROW
 
-  module _ (work : Work) (eq : (moment plan journal).tool.course ≡ Migrating work) (same : entry.actor ≡ Insp) (uncut : is_cut entry.asked ≡ false) where
+  module _ (work : Work) (eq : (moment plan journal).tool.tool_phase ≡ Migrating work) (same : entry.actor ≡ Insp) (uncut : is_cut entry.asked ≡ false) where
     knows : KnowsHints plan now.log work
     knows = hints_known plan journal work runs serial kept_before off_before eq
 
@@ -373,21 +373,21 @@ module _ (turns : EntriesAreTurns) (plan : PlanData) (runs : IsRunnable plan) (s
       below less = omega (arith, less)
 
     writes : work.cutover.phase ≡ Attempting Hinting → (count : ℕ) → entry.answer ≡ answers.Ok count → WritesHint t work.cutover.attempts (scene (moment plan journal).server) (scene (moment plan more).server)
-    writes hinting count told = by entry.asked refl uncut (subst (λ (c : Course). CourseTurn plan (moment plan journal).server (moment plan more).server (last_session journal Lock) (last_session journal Ren) c ((moment plan journal).tool.turns + 1) entry) eq turned.turn) where
+    writes hinting count reported = by entry.asked refl uncut (subst (λ (c : ToolPhase). ToolPhaseTurn plan (moment plan journal).server (moment plan more).server (last_session journal Lock) (last_session journal Ren) c ((moment plan journal).tool.turns + 1) entry) eq turned.turn) where
       turned : IsTurned plan journal entry
       turned = inspectors_turned turns hints_known plan journal entry same runs serial kept off
 
-      says : WorkTurn plan (moment plan journal).server (moment plan more).server (last_session journal Lock) (last_session journal Ren) work ((moment plan journal).tool.turns + 1) entry entry.actor (Some entry.answer) → WritesHint t work.cutover.attempts (scene (moment plan journal).server) (scene (moment plan more).server)
-      says turn =
+      statement_result : WorkTurn plan (moment plan journal).server (moment plan more).server (last_session journal Lock) (last_session journal Ren) work ((moment plan journal).tool.turns + 1) entry entry.actor (Some entry.answer) → WritesHint t work.cutover.attempts (scene (moment plan journal).server) (scene (moment plan more).server)
+      statement_result turn =
           let of_insp : InspectorSays plan (moment plan journal).server (moment plan more).server (last_session journal Lock) (last_session journal Ren) work entry.answer entry.session =
           subst (λ (a : Actor). WorkTurn plan (moment plan journal).server (moment plan more).server (last_session journal Lock) (last_session journal Ren) work ((moment plan journal).tool.turns + 1) entry a (Some entry.answer)) same turn in
-          subst (λ (a : Answer). InspectorWrites t work.cutover.attempts (Attempting Hinting) a (scene (moment plan journal).server) (scene (moment plan more).server)) told
+          subst (λ (a : Answer). InspectorWrites t work.cutover.attempts (Attempting Hinting) a (scene (moment plan journal).server) (scene (moment plan more).server)) reported
           (subst (λ (p : Phase). InspectorWrites t work.cutover.attempts p entry.answer (scene (moment plan journal).server) (scene (moment plan more).server)) hinting of_insp.writes)
 
       by : (asked : Asked) → entry.asked ≡ asked → is_cut asked ≡ false → AskedTurn plan (moment plan journal).server (moment plan more).server (last_session journal Lock) (last_session journal Ren) work ((moment plan journal).tool.turns + 1) entry asked
           → WritesHint t work.cutover.attempts (scene (moment plan journal).server) (scene (moment plan more).server)
-      by (Call request) asks called turn = says turn
-      by Poll asks called turn = says turn
+      by (Call request) asks called turn = statement_result turn
+      by Poll asks called turn = statement_result turn
       by Cut asks called turn = absurd (true≢false called)
       by (Command word) asks called turn = absurd (no_insp (gives_asked plan journal entry entry.asked given_so refl not_cut)) where
         given_so : IsGiven plan journal entry entry.asked
@@ -405,14 +405,14 @@ module _ (turns : EntriesAreTurns) (plan : PlanData) (runs : IsRunnable plan) (s
     servers = (server_is plan journal, server_is plan more)
 
     hinted : work.cutover.phase ≡ Attempting Hinting → (count : ℕ) → entry.answer ≡ answers.Ok count → last_hint t 0 then.log ≡ work.cutover.attempts
-    hinted hinting count told =
-        let row : WritesHint t work.cutover.attempts (scene (moment plan journal).server) (scene (moment plan more).server) = writes hinting count told in
+    hinted hinting count reported =
+        let row : WritesHint t work.cutover.attempts (scene (moment plan journal).server) (scene (moment plan more).server) = writes hinting count reported in
         ap (λ (s : State). last_hint t 0 s.log) (sym servers.1) ∙ ap (last_hint t 0) row.log
         ∙ last_both t 0 (moment plan journal).server.log (record { table = log_name t; change = Write (hint_row work.cutover.attempts) } ∷ []) ∙ reads_hint t (last_hint t 0 (moment plan journal).server.log) work.cutover.attempts (some_attempt hinting)
 
     -- while it drains the inspector logs nothing of the changelog
     drains_away : IsDraining work.cutover.phase → LogsAway t now then
-    drains_away drains = by (insp_left plan runs serial journal entry kept off hints.none work eq (subst (CourseHints t now.log (standing_of plan journal Insp).waits) eq hints.course).waits_so same uncut).logs where
+    drains_away drains = by (insp_left plan runs serial journal entry kept off hints.none work eq (subst (ToolPhaseHints t now.log (standing_of plan journal Insp).waits) eq hints.tool_phase).waits_so same uncut).logs where
       never : (phase : Phase) → IsDraining phase → may_hint phase ≡ true → ⊥
       never (Attempting (Draining turns)) drains may = false≢true may
       never phase drains may = drains
@@ -430,8 +430,8 @@ module _ (turns : EntriesAreTurns) (plan : PlanData) (runs : IsRunnable plan) (s
 
   -- THE WHOLE TURN
 
-  answered_so : (answer : Answer) (actor : Actor) → ((course : Course) → (moment plan journal).tool.course ≡ course → Goal course) ⊎ (actor ≡ Insp)
-      → ((work : Work) → (moment plan journal).tool.course ≡ Migrating work → actor ≡ Insp → CutKeeps New answer tool Inspector work) → (course : Course) → (moment plan journal).tool.course ≡ course → AnswerKeeps plan New answer tool actor course
+  answered_so : (answer : Answer) (actor : Actor) → ((tool_phase : ToolPhase) → (moment plan journal).tool.tool_phase ≡ tool_phase → Goal tool_phase) ⊎ (actor ≡ Insp)
+      → ((work : Work) → (moment plan journal).tool.tool_phase ≡ Migrating work → actor ≡ Insp → CutKeeps New answer tool Inspector work) → (tool_phase : ToolPhase) → (moment plan journal).tool.tool_phase ≡ tool_phase → AnswerKeeps plan New answer tool actor tool_phase
   answered_so answer Insp at insp (SettingUp setup tries) eq = setup_so answer setup tries
   answered_so answer Insp at insp (Migrating work) eq = insp work eq refl
   answered_so answer Lock (inl at) insp (Migrating work) eq = lock_so answer work (at (Migrating work) eq)
@@ -453,7 +453,7 @@ module _ (turns : EntriesAreTurns) (plan : PlanData) (runs : IsRunnable plan) (s
   answered_so answer Op (inr insp_is) insp (Migrating work) eq = absurd cc
   answered_so answer (Client c) (inr insp_is) insp (Migrating work) eq = absurd cc
 
-  insp_or : (b : Bool) → same_actor entry.actor Insp ≡ b → ((course : Course) → (moment plan journal).tool.course ≡ course → Goal course) ⊎ (entry.actor ≡ Insp)
+  insp_or : (b : Bool) → same_actor entry.actor Insp ≡ b → ((tool_phase : ToolPhase) → (moment plan journal).tool.tool_phase ≡ tool_phase → Goal tool_phase) ⊎ (entry.actor ≡ Insp)
   insp_or true is = inr (same_actor_is entry.actor Insp is)
   insp_or false is = inl (others_at is)
 
@@ -463,31 +463,31 @@ module _ (turns : EntriesAreTurns) (plan : PlanData) (runs : IsRunnable plan) (s
   uncut_of Poll called = refl
   uncut_of (Command word) called = refl
 
-  heard_so : (entry.asked ≡ Cut → ⊥) → AnswerKeeps plan New entry.answer tool entry.actor tool.course
-  heard_so called = answered_so entry.answer entry.actor (insp_or (same_actor entry.actor Insp) refl) (λ work eq same. insp_so work eq same (uncut_of entry.asked called)) (moment plan journal).tool.course refl
+  heard_so : (entry.asked ≡ Cut → ⊥) → AnswerKeeps plan New entry.answer tool entry.actor tool.tool_phase
+  heard_so called = answered_so entry.answer entry.actor (insp_or (same_actor entry.actor Insp) refl) (λ work eq same. insp_so work eq same (uncut_of entry.asked called)) (moment plan journal).tool.tool_phase refl
 
-  lost_so : entry.asked ≡ Cut → AnswerKeeps plan New answers.Lost tool entry.actor tool.course
-  lost_so cut = answered_so answers.Lost entry.actor (inl (cut_at cut)) (λ work eq same. insp_lost work (cut_at cut (Migrating work) eq)) (moment plan journal).tool.course refl
+  lost_so : entry.asked ≡ Cut → AnswerKeeps plan New answers.Lost tool entry.actor tool.tool_phase
+  lost_so cut = answered_so answers.Lost entry.actor (inl (cut_at cut)) (λ work eq same. insp_lost work (cut_at cut (Migrating work) eq)) (moment plan journal).tool.tool_phase refl
 
-  command_so : (word : OperatorWord) → entry.asked ≡ Command word → (course : Course) → (moment plan journal).tool.course ≡ course → Goal course
-  command_so word asks course eq = others_at (ap (λ (a : Actor). same_actor a Insp) (by entry.asked asks (kept_run plan journal entry kept).followed.given)) course eq where
+  command_so : (word : OperatorWord) → entry.asked ≡ Command word → (tool_phase : ToolPhase) → (moment plan journal).tool.tool_phase ≡ tool_phase → Goal tool_phase
+  command_so word asks tool_phase eq = others_at (ap (λ (a : Actor). same_actor a Insp) (by entry.asked asks (kept_run plan journal entry kept).followed.given)) tool_phase eq where
     by : (asked : Asked) → asked ≡ Command word → IsGiven plan journal entry asked → entry.actor ≡ Op
     by (Command other) is_so gives = commands_operator plan journal entry.actor other gives
     by (Call request) is_so gives = absurd cc
     by Poll is_so gives = absurd cc
     by Cut is_so gives = absurd cc
 
-  resize_so : (size : ℕ) → entry.asked ≡ Command (ChunkSize size) → (course : Course) → (moment plan journal).tool.course ≡ course → ResizeKeeps New tool size course
+  resize_so : (size : ℕ) → entry.asked ≡ Command (ChunkSize size) → (tool_phase : ToolPhase) → (moment plan journal).tool.tool_phase ≡ tool_phase → ResizeKeeps New tool size tool_phase
   resize_so size asks (SettingUp setup tries) eq = tt
   resize_so size asks (Migrating work) eq = command_so (ChunkSize size) asks (Migrating work) eq
 
-  pub drains_more : CourseDrains t then.log (moment plan more).tool.course
+  pub drains_more : ToolPhaseDrains t then.log (moment plan more).tool.tool_phase
   drains_more =
       turn_kept plan New back journal entry drain
       (record {
-        commanded = λ word asks unsized. command_so word asks (moment plan journal).tool.course refl;
-        resized = λ size asks. resize_so size asks (moment plan journal).tool.course refl;
-        idle = λ asks none. cut_at asks (moment plan journal).tool.course refl;
+        commanded = λ word asks unsized. command_so word asks (moment plan journal).tool.tool_phase refl;
+        resized = λ size asks. resize_so size asks (moment plan journal).tool.tool_phase refl;
+        idle = λ asks none. cut_at asks (moment plan journal).tool.tool_phase refl;
         lost = λ asks worked. lost_so asks;
         heard = λ called commanded. heard_so called;
       })

@@ -21,26 +21,26 @@ use Rattle.tool_program.specs.declared.cutover_core.cutover.Phase.TheVariants.{R
 use Rattle.tool_program.specs.declared.cutover_core.cutover.Stage.TheVariants.{Guarding, Draining, Exchanging}
 use Rattle.tool_program.specs.Orders.{actors, is_ready}
 use Rattle.tool_program.specs.Programs.{may_read, unread_in}
-use Rattle.tool_program.specs.Tools.{Work, Course, SettingUp, Migrating, Moment, moment}
-use Rattle.tool_program.proofs.OnlineCalls.Machines.{CourseIsNamed, named}
+use Rattle.tool_program.specs.Tools.{Work, ToolPhase, SettingUp, Migrating, Moment, moment}
+use Rattle.tool_program.proofs.OnlineCalls.Machines.{ToolPhaseIsNamed, named}
 use Rattle.proof_journals.specs.Plans.{IsSerialPlan}
 use Rattle.proof_journals.specs.ServerTurns.Others.{EntriesAreTurns}
 use Rattle.proof_journals.specs.Run.Kept.{IsKept}
 use Rattle.proof_journals.specs.Machine.Runnable.{IsRunnable}
 use Rattle.proof_journals.specs.Machine.Standings.{standing_of}
 use Rattle.proof_journals.specs.Sentry.Sentries.{IsDraining}
-use Rattle.proof_migration.specs.Course.Unaltered.{IsUnaltered}
-use Rattle.proof_migration.specs.Course.Ready.{IsStuckAt, IsStuck}
-use Rattle.proof_migration.proofs.Course.Ready.Actors.{someone_ready}
+use Rattle.proof_migration.specs.ToolPhase.Unaltered.{IsUnaltered}
+use Rattle.proof_migration.specs.ToolPhase.Ready.{IsStuckAt, IsStuck}
+use Rattle.proof_migration.proofs.ToolPhase.Ready.Actors.{someone_ready}
 use Rattle.proof_migration.specs.Attempt.Laws.{IsWaiting}
 use Rattle.proof_migration.proofs.Attempt.Stages.{AskedAt}
-use Rattle.proof_migration.proofs.Attempt.Standing.{CourseAt, IsStanding, all_standing, all_wait}
-use Rattle.proof_migration.specs.Attempt.Renamed.{IsRenamedAt, CourseRenamed}
+use Rattle.proof_migration.proofs.Attempt.Standing.{ToolPhaseAt, IsStanding, all_standing, all_wait}
+use Rattle.proof_migration.specs.Attempt.Renamed.{IsRenamedAt, ToolPhaseRenamed}
 use Rattle.proof_migration.proofs.Attempt.Renamed.Seen.{all_seen}
 use Rattle.proof_migration.specs.Program.Hints.{KnowsHints}
 use Rattle.proof_migration.proofs.Program.Hints.Known.{hints_known}
 use Rattle.proof_migration.specs.Going.{SomeoneGoes}
-use Rattle.proof_migration.proofs.Going.Drains.{CourseDrains, hinted_last, last_away, last_both, unread_away}
+use Rattle.proof_migration.proofs.Going.Drains.{ToolPhaseDrains, hinted_last, last_away, last_both, unread_away}
 use Rattle.tool_program.specs.CutoverCore.CutOvers.{stands}
 use Rattle.tool_program.specs.Operators.{is_throttled}
 
@@ -51,7 +51,7 @@ module _ (turns : EntriesAreTurns) (plan : PlanData) (journal : List Entry) (run
   standing : IsStanding plan journal
   standing = all_standing plan journal runs.fitting runs.stands kept.faithful kept.follows
 
-  module _ (work : Work) (eq : now.tool.course ≡ Migrating work) where
+  module _ (work : Work) (eq : now.tool.tool_phase ≡ Migrating work) where
     -- while an attempt is drained the RENAME isn't done
     unaltered : IsDraining work.cutover.phase → IsUnaltered plan journal
     unaltered drains = by (list_any is_alter (history plan journal)) refl where
@@ -64,11 +64,11 @@ module _ (turns : EntriesAreTurns) (plan : PlanData) (journal : List Entry) (run
 
       by : (b : Bool) → list_any is_alter (history plan journal) ≡ b → b ≡ false
       by false off = refl
-      by true on = absurd (never work.cutover.phase drains (subst (CourseRenamed plan (state_at plan journal).tables) eq (all_seen plan journal runs serial kept.faithful kept.follows on)))
+      by true on = absurd (never work.cutover.phase drains (subst (ToolPhaseRenamed plan (state_at plan journal).tables) eq (all_seen plan journal runs serial kept.faithful kept.follows on)))
 
     -- nor was it asked for
     unasked : IsDraining work.cutover.phase → work.cutover.is_asked ≡ false
-    unasked drains = by work.cutover.phase drains (subst (CourseAt plan (state_at plan journal).tables (standing_of plan journal Insp).waits) eq standing.course).asked where
+    unasked drains = by work.cutover.phase drains (subst (ToolPhaseAt plan (state_at plan journal).tables (standing_of plan journal Insp).waits) eq standing.tool_phase).asked where
       by : (phase : Phase) → IsDraining phase → AskedAt phase work.cutover.is_asked → work.cutover.is_asked ≡ false
       by (Attempting (Draining count)) drains asked = asked
       by phase drains asked = absurd drains
@@ -84,7 +84,7 @@ module _ (turns : EntriesAreTurns) (plan : PlanData) (journal : List Entry) (run
 
       last_is : work.cutover.attempts ≡ last_hint plan.table 0 (take work.applier.position (state_at plan journal).log)
       last_is =
-          sym (subst (CourseDrains plan.table (state_at plan journal).log) eq (hinted_last turns plan journal runs serial kept (unaltered drains)) drains)
+          sym (subst (ToolPhaseDrains plan.table (state_at plan journal).log) eq (hinted_last turns plan journal runs serial kept (unaltered drains)) drains)
           ∙ ap (last_hint plan.table 0) (sym (take-append-drop work.applier.position (state_at plan journal).log))
           ∙ last_both plan.table 0 (take work.applier.position (state_at plan journal).log) (drop work.applier.position (state_at plan journal).log)
           ∙ last_away plan.table (last_hint plan.table 0 (take work.applier.position (state_at plan journal).log)) (drop work.applier.position (state_at plan journal).log) (unread_away plan.table (drop work.applier.position (state_at plan journal).log) none)
@@ -98,7 +98,7 @@ module _ (turns : EntriesAreTurns) (plan : PlanData) (journal : List Entry) (run
 
           unread_is : unread_in now.server work ≡ count_by (is_of (plan.table ∷ log_name plan.table ∷ [])) (drop work.applier.position (state_at plan journal).log)
           unread_is =
-              ap (λ (s : State). unread_in s work) standing.tabled.all.tool.server ∙ ap (λ (t : List ℕ). unread (state_at plan journal) work.applier.position (t ∷ log_name t ∷ [])) (subst (CourseIsNamed plan) eq (named plan journal)).applier
+              ap (λ (s : State). unread_in s work) standing.tabled.all.tool.server ∙ ap (λ (t : List ℕ). unread (state_at plan journal) work.applier.position (t ∷ log_name t ∷ [])) (subst (ToolPhaseIsNamed plan) eq (named plan journal)).applier
 
           above : (n : ℕ) → (n ≡ 0 → ⊥) → nat_lt 0 n ≡ true
           above n some = by (nat_lt 0 n) refl where
@@ -125,13 +125,13 @@ module _ (turns : EntriesAreTurns) (plan : PlanData) (journal : List Entry) (run
     not_stuck (Finishing clearing) at waits stuck = stuck
     not_stuck Finished at waits stuck = stuck
 
-  none_stuck : (course : Course) → now.tool.course ≡ course → IsStuck plan now course → ⊥
+  none_stuck : (tool_phase : ToolPhase) → now.tool.tool_phase ≡ tool_phase → IsStuck plan now tool_phase → ⊥
   none_stuck (SettingUp setup tries) eq stuck = stuck
   none_stuck (Migrating work) eq stuck = not_stuck work eq work.cutover.phase refl (all_wait plan journal work runs.fitting runs.stands kept.faithful kept.follows eq) stuck
 
 -- *Someone goes*
 pub someone_goes : EntriesAreTurns → SomeoneGoes
 someone_goes turns plan journal runs serial ends kept unended = by (someone_ready plan journal runs.fitting runs.stands ends kept.faithful kept.follows unended) where
-  by : (list_any (is_ready plan journal) (actors plan) ≡ true) ⊎ IsStuck plan (moment plan journal) (moment plan journal).tool.course → list_any (is_ready plan journal) (actors plan) ≡ true
+  by : (list_any (is_ready plan journal) (actors plan) ≡ true) ⊎ IsStuck plan (moment plan journal) (moment plan journal).tool.tool_phase → list_any (is_ready plan journal) (actors plan) ≡ true
   by (inl ready) = ready
-  by (inr stuck) = absurd (none_stuck turns plan journal runs serial kept (moment plan journal).tool.course refl stuck)
+  by (inr stuck) = absurd (none_stuck turns plan journal runs serial kept (moment plan journal).tool.tool_phase refl stuck)

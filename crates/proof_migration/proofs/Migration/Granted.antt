@@ -13,21 +13,21 @@ use Rattle.server_model.specs.declared.request.Request.{Request}
 use Rattle.server_model.specs.declared.session.Limits.{Limits}
 use Rattle.server_model.specs.declared.session.Waiting.{Waiting}
 use Rattle.server_model.specs.Entries.{is_client, is_command, is_cut}
-use Rattle.server_model.specs.Jobs.{after_events}
-use Rattle.server_model.specs.Locking.{blocker, need, need_within}
-use Rattle.server_model.specs.Serving.{called_unless, calls, is_over, leaves, polled_of, polled_over, polled_unless, polls, serves}
+use Rattle.server_model.specs.Operations.{after_events}
+use Rattle.server_model.specs.Blockers.{blocker, need, need_within}
+use Rattle.server_model.specs.PlainServer.{called_unless, calls, is_over, leaves, polled_of, polled_over, polled_unless, polls, serves}
 use Rattle.server_model.specs.States.{State, opened, session_of, view, waiting_of}
 use Rattle.tool_program.specs.JournalWords.Journals.{after_entry, opens}
 use Rattle.proof_journals.specs.Scenes.{Besides, Scene, SessionHold, Stored}
 use Rattle.proof_journals.specs.Holdings.{Face, face_of, stored}
-use Rattle.proof_journals.specs.Turns.{IsSceneRun, IsTold, about, answer_at, inner, missed_at, request_of, scene_state, told_at}
+use Rattle.proof_journals.specs.Turns.{IsSceneRun, IsReported, about, answer_at, inner, missed_at, request_of, scene_state, reported_at}
 use Rattle.proof_journals.proofs.Faces.{faces_opened, writes_face}
 use Rattle.proof_journals.proofs.Journals.{journal_holds, state_more, stored_opened}
 use Rattle.proof_journals.proofs.Names.{OneIn, opened_one}
 use Rattle.proof_journals.proofs.Serves.{granted}
 use Rattle.proof_journals.proofs.Tooling.{AreApart}
 use Rattle.server_model.specs.LockedRows.Covering.{Apart}
-use Rattle.proof_journals.specs.Ghost.Leaving.{is_lost, unless_lost, was_done}
+use Rattle.proof_journals.specs.Ghost.EffectStates.{is_lost, unless_lost, was_done}
 use Rattle.proof_journals.proofs.Ghost.Leaving.{holds_of, same_so, stored_final}
 use Rattle.proof_migration.proofs.Migration.Copier.Served.{seen_of}
 
@@ -58,11 +58,11 @@ served_apart now number Poll request one is answered = at (waiting_of number now
 served_apart now number (Command word) request one is answered = absurd cc
 served_apart now number Cut request one is answered = absurd (let no : false ≡ true = answered in cc)
 
-turn_apart : (now : State) (number : ℕ) (asked : Asked) (side : Option Side) (request : Request) (given : Answer) → OneIn now.sessions → about now number asked ≡ Some request → told_at side (answer_at side (serves now number asked).answer) (missed_at side (serves now number asked).answer) ≡ Some given
+turn_apart : (now : State) (number : ℕ) (asked : Asked) (side : Option Side) (request : Request) (given : Answer) → OneIn now.sessions → about now number asked ≡ Some request → reported_at side (answer_at side (serves now number asked).answer) (missed_at side (serves now number asked).answer) ≡ Some given
     → was_done given ≡ true → AreApart now number (need now number request).locks
-turn_apart now number asked None request given one is told answered = served_apart now number asked request one is (let same : (serves now number asked).answer ≡ given = cc in ap was_done same ∙ answered)
-turn_apart now number asked (Some Before) request given one is told answered = absurd cc
-turn_apart now number asked (Some After) request given one is told answered = served_apart now number asked request one is (let same : (serves now number asked).answer ≡ given = cc in ap was_done same ∙ answered)
+turn_apart now number asked None request given one is reported answered = served_apart now number asked request one is (let same : (serves now number asked).answer ≡ given = cc in ap was_done same ∙ answered)
+turn_apart now number asked (Some Before) request given one is reported answered = absurd cc
+turn_apart now number asked (Some After) request given one is reported answered = served_apart now number asked request one is (let same : (serves now number asked).answer ≡ given = cc in ap was_done same ∙ answered)
 
 -- the tables as the session sees them, once it is live
 view_opened : (entry : Entry) (state : State) → view entry.session (opens entry state) ≡ seen_of state entry.session
@@ -71,14 +71,14 @@ view_opened entry state =
     ∙ ap (λ (s : Stored). after_events s.tables (holds_of state entry.session).writes) (stored_opened (is_command entry.asked) (not (is_client entry.actor)) entry.session state)
 
 -- *Where a request was done*, no other session's lock conflicts with one that it needed.
-pub needs_apart : (limits : Limits) (scene : Scene) (journal : List Entry) (entry : Entry) (request : Request) (given : Answer) → IsSceneRun limits scene journal → IsTold limits scene journal entry → about (opens entry (scene_state limits scene journal)) entry.session entry.asked ≡ Some request
-    → told_at entry.side entry.answer entry.missed ≡ Some given → was_done given ≡ true → (n : ℕ) → (n == entry.session) ≡ false → Apart (need_within (seen_of (scene_state limits scene journal) entry.session) request).locks (holds_of (scene_state limits scene journal) n).locks
-needs_apart limits scene journal entry request given run told is heard answered n differ =
+pub needs_apart : (limits : Limits) (scene : Scene) (journal : List Entry) (entry : Entry) (request : Request) (given : Answer) → IsSceneRun limits scene journal → IsReported limits scene journal entry → about (opens entry (scene_state limits scene journal)) entry.session entry.asked ≡ Some request
+    → reported_at entry.side entry.answer entry.missed ≡ Some given → was_done given ≡ true → (n : ℕ) → (n == entry.session) ≡ false → Apart (need_within (seen_of (scene_state limits scene journal) entry.session) request).locks (holds_of (scene_state limits scene journal) n).locks
+needs_apart limits scene journal entry request given run reported is heard answered n differ =
     let before : State = scene_state limits scene journal in
     let now : State = opens entry before in
     let held = journal_holds limits scene journal run in
-    let was : told_at entry.side (answer_at entry.side (inner before entry)) (missed_at entry.side (inner before entry)) ≡ Some given =
-    sym (ap (λ (g : Answer). told_at entry.side g entry.missed) told.answer ∙ ap (λ (m : Option Answer). told_at entry.side (answer_at entry.side (inner before entry)) m) told.missed) ∙ heard in
+    let was : reported_at entry.side (answer_at entry.side (inner before entry)) (missed_at entry.side (inner before entry)) ≡ Some given =
+    sym (ap (λ (g : Answer). reported_at entry.side g entry.missed) reported.answer ∙ ap (λ (m : Option Answer). reported_at entry.side (answer_at entry.side (inner before entry)) m) reported.missed) ∙ heard in
     let apart : AreApart now entry.session (need now entry.session request).locks = turn_apart now entry.session entry.asked entry.side request given (opened_one (is_command entry.asked) (not (is_client entry.actor)) entry.session before held.one) is was answered in
     subst (λ (f : Face). Apart (need_within (seen_of before entry.session) request).locks f.hold.locks) (faces_opened (is_command entry.asked) (not (is_client entry.actor)) entry.session n before)
     (subst (λ (d : Database). Apart (need_within d request).locks (face_of now.sessions n).hold.locks) (view_opened entry before) (apart n differ))

@@ -19,12 +19,12 @@ use Rattle.server_model.specs.declared.request.Request.{Request}
 use Rattle.server_model.specs.declared.request.Request.TheVariants as requests
 use Rattle.server_model.specs.declared.session.Limits.{Limits}
 use Rattle.server_model.specs.Answers.{ok, refuses}
-use Rattle.server_model.specs.Effects.{Effect, all_stand, begins, created, effect, effect_within, defined, dropped, locks_if, nothing_needed, renamed_or}
+use Rattle.server_model.specs.Effects.{Effect, all_exist, begins, created, effect, effect_within, defined, dropped, locks_if, nothing_needed, renamed_or}
 use Rattle.server_model.specs.Effects.Effect.{Rests, Grows, Writes, Forgets, Moves, Locks, Unlocks}
 use Rattle.server_model.specs.Entries.{is_cut}
-use Rattle.server_model.specs.Jobs.{Job, after_events, copy_job, job_needs, job_of, job_says, result_in, table_of}
-use Rattle.server_model.specs.Locking.{need_within}
-use Rattle.server_model.specs.Saying.{tells}
+use Rattle.server_model.specs.Operations.{Operation, after_events, copy_operation, operation_needs, operation_of, operation_result, result_in, table_of}
+use Rattle.server_model.specs.Blockers.{need_within}
+use Rattle.server_model.specs.StatementResults.{tells}
 use Rattle.server_model.specs.States.{State}
 use Rattle.tool_program.specs.JournalWords.Journals.{may_lose, opens}
 use Rattle.server_model.specs.LockedRows.Agreeing.{Within}
@@ -35,7 +35,7 @@ use Rattle.server_model.proofs.LockedRows.Stables.{statement_sound}
 use Rattle.server_model.proofs.LockedRows.Tests.{same_number}
 use Rattle.proof_journals.specs.Scenes.{Besides, Scene, SessionHold, no_hold}
 use Rattle.proof_journals.specs.Holdings.{face_of, stored}
-use Rattle.proof_journals.specs.Turns.{IsSceneRun, IsTold, about, scene_state, told_at}
+use Rattle.proof_journals.specs.Turns.{IsSceneRun, IsReported, about, scene_state, reported_at}
 use Rattle.proof_journals.proofs.Answering.{apart_both}
 use Rattle.proof_journals.proofs.Kept.{apart-turn}
 use Rattle.proof_journals.proofs.Tooling.{copies_sound, names_two}
@@ -43,9 +43,9 @@ use Rattle.proof_journals.proofs.Words.{names_last, names_left}
 use Rattle.proof_journals.specs.Ghost.Rows.Timelines.{Migration}
 use Rattle.proof_journals.specs.Ghost.Given.{IsGiven}
 use Rattle.proof_journals.specs.Ghost.Invariant.{IsServed, NotOf}
-use Rattle.proof_journals.specs.Ghost.Leaving.{EffectLeaves, effect_answer, is_lost, told_done, undone_hold, unless_lost, was_done, where_done, with_grant}
+use Rattle.proof_journals.specs.Ghost.EffectStates.{EffectLeaves, effect_answer, is_lost, reported_done, undone_hold, unless_lost, was_done, where_done, with_grant}
 use Rattle.proof_journals.proofs.Ghost.Fitting.{well_formed_events}
-use Rattle.proof_journals.proofs.Ghost.Granting.{job_served}
+use Rattle.proof_journals.proofs.Ghost.Granting.{operation_served}
 use Rattle.proof_journals.proofs.Ghost.Leaving.{effects_are_done, holds_of}
 use Rattle.proof_journals.proofs.Ghost.Turns.{along_next, run_front, writes_fit}
 use Rattle.proof_journals.proofs.Ghost.Undone.{cuts_are_left, effects_answer, undone_is_left}
@@ -60,13 +60,13 @@ pub not_both : (name : List ℕ) (a b : List RowEvent) → NotOf name a → NotO
 not_both name [] b one two = two
 not_both name (event ∷ a) b one two = (one.0, not_both name a b one.1 two)
 
-says_away : (name : List ℕ) (seen : Database) (job : Job) → bytes_eq job.table name ≡ false → NotOf name (job_says seen job).events
-unfolding job_says
-says_away name seen job differ = at (find_table job.table seen)
+says_away : (name : List ℕ) (seen : Database) (operation : Operation) → bytes_eq operation.table name ≡ false → NotOf name (operation_result seen operation).events
+unfolding operation_result
+says_away name seen operation differ = at (find_table operation.table seen)
   where
-    at : (found : Option TableRows) → NotOf name (result_in job found).events
+    at : (found : Option TableRows) → NotOf name (result_in operation found).events
     at None = tt
-    at (Some table) = not_of name job.table (tells table.schema table.rows (job.work table.schema)).changes differ
+    at (Some table) = not_of name operation.table (tells table.schema table.rows (operation.work table.schema)).changes differ
 
 -- what is written is of no row of the new table
 abbrev pub WritesAway : Migration → Request → Type 0
@@ -76,10 +76,10 @@ WritesAway m request = Unit {0}
 
 -- these tables are made of the others by what is asked; a RENAME was told to be done
 abbrev pub IsMoved : Option Answer → Database → Request → Database → Type 0
-IsMoved told tables (requests.Create schema) made = created (has_table schema.name tables) schema tables ≡ Ok made
-IsMoved told tables (requests.Drop name) made = dropped (has_table name tables) name tables ≡ Ok made
-IsMoved told tables (requests.Rename pairs) made = (told ≡ Some ok) × (renamed_or (rename_tables pairs tables) ≡ Ok made)
-IsMoved told tables request made = ⊥
+IsMoved reported tables (requests.Create schema) made = created (has_table schema.name tables) schema tables ≡ Ok made
+IsMoved reported tables (requests.Drop name) made = dropped (has_table name tables) name tables ≡ Ok made
+IsMoved reported tables (requests.Rename pairs) made = (reported ≡ Some ok) × (renamed_or (rename_tables pairs tables) ≡ Ok made)
+IsMoved reported tables request made = ⊥
 
 module _ (m : Migration) (limits : Limits) (scene : Scene) (journal : List Entry) (entry : Entry) (more : IsSceneRun limits scene (journal ++ entry ∷ [])) where
   abbrev before : State
@@ -94,22 +94,22 @@ module _ (m : Migration) (limits : Limits) (scene : Scene) (journal : List Entry
   abbrev own : SessionHold
   own = holds_of before number
 
-  abbrev told_now : Option Answer
-  told_now = told_at entry.side entry.answer entry.missed
+  abbrev reported_now : Option Answer
+  reported_now = reported_at entry.side entry.answer entry.missed
 
   -- what is to be shown of it: it stores nothing, commits what a session wrote, or makes, drops or renames tables
   pub record Cases (Goal : Type 0) : Type 0 where
     pub holds : (held : SessionHold) → NotOf m.new.name held.writes → stored after ≡ stored before → Besides number (holds_of before) (holds_of after) held → Goal
     pub commits : (middle : ℕ → SessionHold) (held : SessionHold) → Besides number (holds_of before) middle held → IsServed (stored before) middle → NotOf m.new.name (middle number).writes → (stored after).tables ≡ after_events before.tables (middle number).writes → (stored after).log ≡ before.log ++ (middle number).writes
         → Besides number middle (holds_of after) no_hold → Goal
-    pub moves : (request : Request) (tables : Database) (held : SessionHold) → about (opens entry before) number entry.asked ≡ Some request → IsMoved told_now before.tables request tables → (stored after).tables ≡ tables → (stored after).log ≡ before.log → NotOf m.new.name held.writes → Besides number (holds_of before) (holds_of after) held → Goal
+    pub moves : (request : Request) (tables : Database) (held : SessionHold) → about (opens entry before) number entry.asked ≡ Some request → IsMoved reported_now before.tables request tables → (stored after).tables ≡ tables → (stored after).log ≡ before.log → NotOf m.new.name held.writes → Besides number (holds_of before) (holds_of after) held → Goal
 
   module _ (sides : may_lose entry.asked ≡ false → entry.side ≡ None) (own_away : NotOf m.new.name own.writes) (writes_away : (request : Request) → about (opens entry before) number entry.asked ≡ Some request → WritesAway m request) (Goal : Type 0) (cases : Cases Goal) where
     run : IsSceneRun limits scene journal
     run = run_front limits scene journal (entry ∷ []) more
 
-    entry_told : IsTold limits scene journal entry
-    entry_told = along_next (IsTold limits scene) [] journal entry [] more.told
+    entry_reported : IsReported limits scene journal entry
+    entry_reported = along_next (IsReported limits scene) [] journal entry [] more.reported
 
     served : IsServed (stored before) (holds_of before)
     served = writes_fit limits scene journal run
@@ -127,9 +127,9 @@ module _ (m : Migration) (limits : Limits) (scene : Scene) (journal : List Entry
 
     module _ (request : Request) (asked : about (opens entry before) number entry.asked ≡ Some request) (uncut : is_cut entry.asked ≡ false) where
       -- what was not done
-      undone : told_done (told_at entry.side entry.answer entry.missed) ≡ false → Goal
+      undone : reported_done (reported_at entry.side entry.answer entry.missed) ≡ false → Goal
       undone none =
-          let left = undone_is_left limits scene journal entry request run entry_told uncut asked none in
+          let left = undone_is_left limits scene journal entry request run entry_reported uncut asked none in
           cases.holds (undone_hold entry.side entry.answer own) (held entry.side entry.answer) left.0 left.1
         where
           held : (side : Option Side) (answer : Answer) → NotOf m.new.name (undone_hold side answer own).writes
@@ -149,12 +149,12 @@ module _ (m : Migration) (limits : Limits) (scene : Scene) (journal : List Entry
       abbrev the_need : Need
       the_need = need_within seen request
 
-      module _ (given : Answer) (told : told_at entry.side entry.answer entry.missed ≡ Some given) (done : was_done given ≡ true) where
+      module _ (given : Answer) (reported : reported_at entry.side entry.answer entry.missed ≡ Some given) (done : was_done given ≡ true) where
         left : EffectLeaves effect_now lost number (stored before) (stored after) (holds_of before) (holds_of after)
-        left = effects_are_done limits scene journal entry request given run entry_told asked told done
+        left = effects_are_done limits scene journal entry request given run entry_reported asked reported done
 
         says_so : given ≡ effect_answer effect_now
-        says_so = effects_answer limits scene journal entry request given run entry_told asked told done
+        says_so = effects_answer limits scene journal entry request given run entry_reported asked reported done
 
         left_as : (one : Effect) → effect_now ≡ one → EffectLeaves one lost number (stored before) (stored after) (holds_of before) (holds_of after)
         left_as one is = subst (λ (d : Effect). EffectLeaves d lost number (stored before) (stored after) (holds_of before) (holds_of after)) is left
@@ -185,9 +185,9 @@ module _ (m : Migration) (limits : Limits) (scene : Scene) (journal : List Entry
             cases.commits (holds_of before) own (record { there = λ n differ. refl; here = refl }) served own_away tables log all.2
 
         -- a job that is granted outside a transaction is committed at once
-        module _ (answer : Answer) (job : Job) (sound : TaskSound job seen) (named : list_any (bytes_eq job.table) (own.names ++ the_need.names) ≡ true) (needs_it : job_needs seen job ≡ the_need.locks) (other : bytes_eq job.table m.new.name ≡ false) (is : effect_now ≡ Writes answer (job_says seen job).events) where
+        module _ (answer : Answer) (operation : Operation) (sound : TaskSound operation seen) (named : list_any (bytes_eq operation.table) (own.names ++ the_need.names) ≡ true) (needs_it : operation_needs seen operation ≡ the_need.locks) (other : bytes_eq operation.table m.new.name ≡ false) (is : effect_now ≡ Writes answer (operation_result seen operation).events) where
           abbrev single : SessionHold
-          single = with_grant own the_need (job_says seen job).events
+          single = with_grant own the_need (operation_result seen operation).events
 
           abbrev middle : ℕ → SessionHold
           middle n = cond (n == number) single (holds_of before n)
@@ -199,9 +199,9 @@ module _ (m : Migration) (limits : Limits) (scene : Scene) (journal : List Entry
           middle_here = rw (same_number number) refl
 
           apart : (n : ℕ) → (n == number) ≡ false → Apart single.locks (holds_of before n).locks
-          apart n differ = apart_both own.locks the_need.locks (holds_of before n).locks (apart-turn (holds_of before n).locks own.locks (served.apart n number differ)) (needs_apart limits scene journal entry request given run entry_told asked told done n differ)
+          apart n differ = apart_both own.locks the_need.locks (holds_of before n).locks (apart-turn (holds_of before n).locks own.locks (served.apart n number differ)) (needs_apart limits scene journal entry request given run entry_reported asked reported done n differ)
 
-          gives : IsGiven (stored before) (holds_of before) number job single
+          gives : IsGiven (stored before) (holds_of before) number operation single
           gives =
               record {
                 kept = within-left own.locks own.locks the_need.locks (within-itself own.locks);
@@ -211,28 +211,28 @@ module _ (m : Migration) (limits : Limits) (scene : Scene) (journal : List Entry
               }
 
           single_away : NotOf m.new.name single.writes
-          single_away = not_both m.new.name own.writes (job_says seen job).events own_away (says_away m.new.name seen job other)
+          single_away = not_both m.new.name own.writes (operation_result seen operation).events own_away (says_away m.new.name seen operation other)
 
           single_besides : Besides number (holds_of before) middle single
           single_besides = record { there = middle_there; here = middle_here }
 
           by_single : Goal
           by_single =
-              let all = left_as (Writes answer (job_says seen job).events) is in
-              cases.commits middle single single_besides (job_served (stored before) (holds_of before) middle number job single served sound gives (names_left own.names the_need.names) named single_besides)
+              let all = left_as (Writes answer (operation_result seen operation).events) is in
+              cases.commits middle single single_besides (operation_served (stored before) (holds_of before) middle number operation single served sound gives (names_left own.names the_need.names) named single_besides)
               (subst (λ (h : SessionHold). NotOf m.new.name h.writes) (sym middle_here) single_away) (all.0 ∙ ap (λ (h : SessionHold). after_events before.tables h.writes) (sym middle_here))
               (all.1 ∙ ap (λ (h : SessionHold). before.log ++ h.writes) (sym middle_here)) (record { there = λ n differ. (all.2).there n differ ∙ sym (middle_there n differ); here = (all.2).here })
 
         -- tables are made, dropped or renamed
-        by_moves : (answer : Answer) (tables : Database) → IsMoved told_now before.tables request tables → effect_now ≡ Moves answer tables → Goal
+        by_moves : (answer : Answer) (tables : Database) → IsMoved reported_now before.tables request tables → effect_now ≡ Moves answer tables → Goal
         by_moves answer tables moved is = let all = left_as (Moves answer tables) is in cases.moves request tables (unless_lost lost own) asked moved all.0 all.1 (lost_away lost own own_away) all.2
 
-        by_defined : (tables : Result Database ℕ) → ((all : Database) → tables ≡ Ok all → IsMoved told_now before.tables request all) → effect_now ≡ defined tables → Goal
+        by_defined : (tables : Result Database ℕ) → ((all : Database) → tables ≡ Ok all → IsMoved reported_now before.tables request all) → effect_now ≡ defined tables → Goal
         by_defined (Ok tables) moved is = by_moves ok tables (moved tables refl) is
         by_defined (Err reason) moved is = by_rests (refuses reason) is
 
-        as_asked : (asks : Request) → asks ≡ request → (tables : Database) → IsMoved told_now before.tables asks tables → IsMoved told_now before.tables request tables
-        as_asked asks same tables moved = subst (λ (r : Request). IsMoved told_now before.tables r tables) same moved
+        as_asked : (asks : Request) → asks ≡ request → (tables : Database) → IsMoved reported_now before.tables asks tables → IsMoved reported_now before.tables request tables
+        as_asked asks same tables moved = subst (λ (r : Request). IsMoved reported_now before.tables r tables) same moved
 
         view_sound : (P : Database → Type 0) → ((d : Database) → IsWellFormedDatabase d → P d) → P seen
         view_sound P each = each seen (well_formed_events before.tables own.writes served.well_formed (served.fits number))
@@ -242,9 +242,9 @@ module _ (m : Migration) (limits : Limits) (scene : Scene) (journal : List Entry
         by_request requests.Begin asks away busy there same is = by_grows ok nothing_needed [] tt is
         by_request requests.Commit asks away busy there same is = by_commit ok is
         by_request requests.Rollback asks away busy there same is = by_forgets ok is
-        by_request (requests.Do statement) asks away true there same is = by_grows _ (need_within seen (requests.Do statement)) _ (says_away m.new.name seen (job_of statement) away) is
+        by_request (requests.Do statement) asks away true there same is = by_grows _ (need_within seen (requests.Do statement)) _ (says_away m.new.name seen (operation_of statement) away) is
         by_request (requests.Do statement) asks away false there same is =
-            by_single (job_says seen (job_of statement)).answer (job_of statement) (view_sound (λ d. TaskSound (job_of statement) d) (λ d well_formed. statement_sound d statement well_formed))
+            by_single (operation_result seen (operation_of statement)).answer (operation_of statement) (view_sound (λ d. TaskSound (operation_of statement) d) (λ d well_formed. statement_sound d statement well_formed))
             (subst (λ (r : Request). list_any (bytes_eq (table_of statement)) (own.names ++ (need_within seen r).names) ≡ true) asks (names_last own.names (table_of statement))) (ap (λ (r : Request). (need_within seen r).locks) asks) away is
         by_request (requests.Ends table) asks away busy there same is = by_rests _ is
         by_request (requests.ChunkEnd table low top size) asks away busy there same is = by_rests _ is
@@ -253,11 +253,11 @@ module _ (m : Migration) (limits : Limits) (scene : Scene) (journal : List Entry
             by_found : (found : Option TableRows) → effect_now ≡ begins found span size (need_within seen (requests.BeginSpan table span size)) → Goal
             by_found None so = by_rests _ so
             by_found (Some t) so = by_grows _ (need_within seen (requests.BeginSpan table span size)) [] tt so
-        by_request (requests.CopyRow from into columns key) asks away true there same is = by_grows _ (need_within seen (requests.CopyRow from into columns key)) _ (says_away m.new.name seen (copy_job seen from into columns key) away) is
+        by_request (requests.CopyRow from into columns key) asks away true there same is = by_grows _ (need_within seen (requests.CopyRow from into columns key)) _ (says_away m.new.name seen (copy_operation seen from into columns key) away) is
         by_request (requests.CopyRow from into columns key) asks away false there same is =
-            by_single (job_says seen (copy_job seen from into columns key)).answer (copy_job seen from into columns key) (view_sound (λ d. TaskSound (copy_job d from into columns key) d) (λ d well_formed. copies_sound d from into columns key well_formed))
+            by_single (operation_result seen (copy_operation seen from into columns key)).answer (copy_operation seen from into columns key) (view_sound (λ d. TaskSound (copy_operation d from into columns key) d) (λ d well_formed. copies_sound d from into columns key well_formed))
             (subst (λ (r : Request). list_any (bytes_eq into) (own.names ++ (need_within seen r).names) ≡ true) asks (names_two own.names from into)) (ap (λ (r : Request). (need_within seen r).locks) asks) away is
-        by_request (requests.LockTables names) asks away busy there same is = by_all (all_stand names there.tables) is
+        by_request (requests.LockTables names) asks away busy there same is = by_all (all_exist names there.tables) is
           where
             by_all : (b : Bool) → effect_now ≡ locks_if b names → Goal
             by_all true so = by_locks ok names so
@@ -271,7 +271,7 @@ module _ (m : Migration) (limits : Limits) (scene : Scene) (journal : List Entry
           where
             by_result : (result : Result Database ℕ) → renamed_or (rename_tables pairs there.tables) ≡ result → effect_now ≡ defined result → Goal
             by_result (Ok made) made_so so =
-                by_moves ok made (as_asked (requests.Rename pairs) asks made (told ∙ ap (λ (a : Answer). Some a) (says_so ∙ ap effect_answer so), subst (λ (d : Database). renamed_or (rename_tables pairs d) ≡ Ok made) same made_so)) so
+                by_moves ok made (as_asked (requests.Rename pairs) asks made (reported ∙ ap (λ (a : Answer). Some a) (says_so ∙ ap effect_answer so), subst (λ (d : Database). renamed_or (rename_tables pairs d) ≡ Ok made) same made_so)) so
             by_result (Err reason) made_so so = by_rests (refuses reason) so
         by_request requests.LogEnd asks away busy there same is = by_rests _ is
         by_request (requests.ReadLog from limit tables) asks away busy there same is = by_rests _ is
@@ -285,13 +285,13 @@ module _ (m : Migration) (limits : Limits) (scene : Scene) (journal : List Entry
             by (outside_so is) = by_rests (refuses ER_TABLE_NOT_LOCKED) is
             by (within_so there same log is) = by_request request refl (writes_away request asked) (face_of before.sessions number).busy there same is
 
-      told_goal : (given : Option Answer) → told_at entry.side entry.answer entry.missed ≡ given → (b : Bool) → told_done given ≡ b → Goal
-      told_goal given told false none = undone (ap told_done told ∙ none)
-      told_goal None told true done = absurd (let no : false ≡ true = done in cc)
-      told_goal (Some given) told true done = done_goal given told done
+      reported_goal : (given : Option Answer) → reported_at entry.side entry.answer entry.missed ≡ given → (b : Bool) → reported_done given ≡ b → Goal
+      reported_goal given reported false none = undone (ap reported_done reported ∙ none)
+      reported_goal None reported true done = absurd (let no : false ≡ true = done in cc)
+      reported_goal (Some given) reported true done = done_goal given reported done
 
       asked_goal : Goal
-      asked_goal = told_goal (told_at entry.side entry.answer entry.missed) refl (told_done (told_at entry.side entry.answer entry.missed)) refl
+      asked_goal = reported_goal (reported_at entry.side entry.answer entry.missed) refl (reported_done (reported_at entry.side entry.answer entry.missed)) refl
 
     uncut_goal : is_cut entry.asked ≡ false → (asks : Option Request) → about (opens entry before) number entry.asked ≡ asks → Goal
     uncut_goal uncut None asked = nothing_goal asked uncut

@@ -3,7 +3,7 @@ use Rattle.std.proofs.Common.{◌≡◌, ◌≤◌, ℕ, ◌+◌, Bool, true, fa
 use Rattle.std.specs.Prelude.{◌==◌}
 use Rattle.std.specs.List.{slice_get}
 use Rattle.std.specs.Str.{bytes_eq}
-use Rattle.base_values.specs.GhoSchema.Clustering.{clustered_place}
+use Rattle.base_values.specs.GhoSchema.ClusteredKey.{clustered_place}
 use Rattle.base_values.specs.declared.event.RowEvent.{RowEvent}
 use Rattle.server_model.specs.declared.entry.Entry.{Entry}
 use Rattle.server_model.specs.declared.session.Limits.{Limits}
@@ -19,7 +19,7 @@ use Rattle.tool_program.specs.EventApplier.Appliers.{events_of}
 use Rattle.tool_program.specs.EventApplier.Appliers as appliers
 use Rattle.proof_journals.specs.Scenes.{Besides, Scene, SessionHold, no_hold}
 use Rattle.proof_journals.specs.Holdings.{Face, face_of, stored}
-use Rattle.proof_journals.specs.Turns.{IsSceneRun, IsTold as IsEntryTold, scene_state}
+use Rattle.proof_journals.specs.Turns.{IsSceneRun, IsReported as IsEntryReported, scene_state}
 use Rattle.proof_journals.proofs.Journals.{journal_holds, state_more}
 use Rattle.proof_journals.proofs.ServerTurns.Others.{entry_faces}
 use Rattle.server_model.proofs.LockedRows.Tests.{are_one, turned}
@@ -27,12 +27,12 @@ use Rattle.proof_journals.specs.Ghost.Rows.Moments.{Row}
 use Rattle.proof_journals.specs.Ghost.Rows.Timelines.{IsPlanned, Migration}
 use Rattle.proof_journals.specs.Ghost.Copies.{IsAltered}
 use Rattle.proof_journals.specs.Ghost.Doings.{changes_in, planned}
-use Rattle.proof_journals.specs.Ghost.Holding.{Clustered}
+use Rattle.proof_journals.specs.Ghost.HeldKeys.{Clustered}
 use Rattle.proof_journals.specs.Ghost.Invariant.{IsServed, NotOf}
-use Rattle.proof_journals.specs.Ghost.Reading.{EventsTold, IsTold, own_changes}
-use Rattle.proof_journals.specs.Ghost.Running.{ApplyPlan, ToolMoment, ToolStands}
-use Rattle.proof_journals.specs.Ghost.Running.ApplyPlan.{Resting}
-use Rattle.proof_journals.specs.Ghost.Running.ToolTurn.{batch_is_lost, batch_is_passed}
+use Rattle.proof_journals.specs.Ghost.OwnChanges.{EventsReported, IsReported, own_changes}
+use Rattle.proof_journals.specs.Ghost.ToolTurns.{ApplyPlan, ToolMoment, ToolStands}
+use Rattle.proof_journals.specs.Ghost.ToolTurns.ApplyPlan.{Resting}
+use Rattle.proof_journals.specs.Ghost.ToolTurns.ToolTurn.{batch_is_lost, batch_is_passed}
 use Rattle.proof_journals.specs.Ghost.Tool.{CopyState}
 use Rattle.proof_journals.specs.Ghost.Tool.CopyState.{Waiting}
 use Rattle.proof_journals.proofs.Ghost.Copies.{end_altered, start_stands}
@@ -41,13 +41,13 @@ use Rattle.proof_journals.proofs.Ghost.Reading.{IsPart, next_part, part_of}
 use Rattle.proof_journals.proofs.Ghost.Running.{any_kept, turn_keeps}
 use Rattle.proof_journals.proofs.Ghost.Turns.{along_next, run_front, writes_fit}
 use Rattle.proof_journals.proofs.Ghost.Undone.{cuts_are_left}
-use Rattle.proof_migration.specs.Migration.Copier.Copying.{AfterTold, CopierKnows, StepKnows, copy_state, moment_of}
+use Rattle.proof_migration.specs.Migration.Copier.CopierPlace.{AfterReported, CopierKnows, StepKnows, copy_state, moment_of}
 use Rattle.proof_migration.specs.Migration.Copier.Laws.{CopierStands}
 use Rattle.proof_migration.proofs.Migration.Copier.Copiers.{copiers_keep}
 use Rattle.proof_migration.proofs.Migration.Copier.Served.{stands_same}
-use Rattle.proof_migration.specs.Migration.Applier.Applying.{ApplierKnows, StepIsBusy, apply_plan}
-use Rattle.proof_migration.specs.Migration.Applier.Applying as applying
-use Rattle.proof_migration.specs.Migration.Applier.Finding.{FindsRows}
+use Rattle.proof_migration.specs.Migration.Applier.ApplierPlace.{ApplierKnows, StepIsBusy, apply_plan}
+use Rattle.proof_migration.specs.Migration.Applier.ApplierPlace as applying
+use Rattle.proof_migration.specs.Migration.Applier.FoundColumns.{FindsRows}
 use Rattle.proof_migration.specs.Migration.Applier.Laws.{ApplierStands}
 use Rattle.proof_migration.proofs.Migration.Applier.Appliers.{appliers_keep}
 use Rattle.proof_migration.proofs.Migration.Applier.Knowing as knowing
@@ -82,8 +82,8 @@ module _ (m : Migration) (at : Clustered m.schema) (rows : List Row) (place : �
   front : IsSceneRun limits scene journal
   front = run_front limits scene journal (entry ∷ []) run
 
-  entry_told : IsEntryTold limits scene journal entry
-  entry_told = along_next (IsEntryTold limits scene) [] journal entry [] run.told
+  entry_reported : IsEntryReported limits scene journal entry
+  entry_reported = along_next (IsEntryReported limits scene) [] journal entry [] run.reported
 
   served : IsServed (stored before) (holds_of before)
   served = writes_fit limits scene journal front
@@ -183,14 +183,14 @@ module _ (m : Migration) (at : Clustered m.schema) (rows : List Row) (place : �
       subst Goal (sym is)
       (let keeps : CopierStands m at rows limits scene longer copied (apply_plan m journal now.applier) (now.applier).position entry.session now.applier_session =
       copiers_keep m at rows place plan is_place limits scene journal entry now.copier turn.request (apply_plan m journal now.applier) (now.applier).position now.applier_session
-      (record { run = front; more = run; told = entry_told; table = turn.table; new_name = named; map = turn.map; asked = turn.asked; given = turn.given; uncut = turn.uncut; fits = turn.fits })
+      (record { run = front; more = run; reported = entry_reported; table = turn.table; new_name = named; map = turn.map; asked = turn.asked; given = turn.given; uncut = turn.uncut; fits = turn.fits })
       (record { stands = subst (λ (n : ℕ). ToolStands m at rows n now.applier_session moment) (sym turn.its) was.tool.stands; knows = was.copier_knows }) in
       copier_here copied turn.its (subst (λ (n : ℕ). ToolStands m at rows n now.applier_session (moment_of after (copy_state longer copied) (apply_plan m journal now.applier) (now.applier).position)) turn.its keeps.stands) keeps.knows)
   turn_goal next (applier_turns turn is) =
       subst Goal (sym is)
       (let keeps : ApplierStands m at rows limits scene longer applied (copy_state journal now.copier) now.copier_session entry.session =
       appliers_keep m at rows place plan is_place finds limits scene journal entry now.applier turn.request (copy_state journal now.copier) now.copier_session
-      (record { run = front; more = run; told = entry_told; table = turn.table; schema = turn.schema; map = turn.map; asked = turn.asked; given = turn.given; uncut = turn.uncut; fits = turn.fits })
+      (record { run = front; more = run; reported = entry_reported; table = turn.table; schema = turn.schema; map = turn.map; asked = turn.asked; given = turn.given; uncut = turn.uncut; fits = turn.fits })
       (record {
         stands = subst (λ (n : ℕ). ToolStands m at rows now.copier_session n moment) (sym turn.its) was.tool.stands;
         knows = was.applier_knows;
@@ -206,7 +206,7 @@ module _ (m : Migration) (at : Clustered m.schema) (rows : List Row) (place : �
       subst Goal (sym is)
       (copier_here (record (now.copier) { step = Choosing }) cut.its
       (copier_cut m at rows place plan is_place journal entry before after now.copier now.copier_session now.applier_session (apply_plan m journal now.applier) (now.applier).position was.copier_knows served was.tool.stands left.0 left.1)
-      (record { behind = copier_longer.behind; step = tt; sized = was.copier_knows.sized }))
+      (record { following = copier_longer.following; step = tt; sized = was.copier_knows.sized }))
   turn_goal next (copier_is_idle cut between is) =
       let left = cut_left now.copier_session cut in
       let waits = waits_for journal now.copier between in
@@ -283,12 +283,12 @@ moves_keep m at rows limits scene journal before _ (applier_moves session rests 
     still (Committing batch) is = tt
 moves_keep m at rows limits scene journal _ _ (chunks_resize size some is) was =
     subst (MigrationStands m at rows limits scene journal) (sym is)
-    (record { tool = was.tool; copier_knows = record { behind = was.copier_knows.behind; step = was.copier_knows.step; sized = some }; applier_knows = was.applier_knows; busy = was.busy })
-moves_keep m at rows limits scene journal before _ (span_resizes told old size here some is) was =
+    (record { tool = was.tool; copier_knows = record { following = was.copier_knows.following; step = was.copier_knows.step; sized = some }; applier_knows = was.applier_knows; busy = was.busy })
+moves_keep m at rows limits scene journal before _ (span_resizes reported old size here some is) was =
     subst (MigrationStands m at rows limits scene journal) (sym is)
     (record {
-      tool = subst (λ (c : CopyState). StandsAway m at rows before.copier_session before.applier_session (moment_of (scene_state limits scene journal) c (apply_plan m journal before.applier) before.applier.position)) (span_state journal before.copier told old size here) was.tool;
-      copier_knows = record { behind = was.copier_knows.behind; step = ((subst (StepKnows journal (before.copier).range) here was.copier_knows.step).0, some); sized = was.copier_knows.sized };
+      tool = subst (λ (c : CopyState). StandsAway m at rows before.copier_session before.applier_session (moment_of (scene_state limits scene journal) c (apply_plan m journal before.applier) before.applier.position)) (span_state journal before.copier reported old size here) was.tool;
+      copier_knows = record { following = was.copier_knows.following; step = ((subst (StepKnows journal (before.copier).range) here was.copier_knows.step).0, some); sized = was.copier_knows.sized };
       applier_knows = was.applier_knows;
       busy = was.busy;
     })
@@ -314,7 +314,7 @@ pub starts : (m : Migration) (at : Clustered m.schema) (rows : List Row) → IsP
 starts m at rows plan limits scene journal now start =
     record {
       tool = record { stands = start_stands m at rows now.copier_session now.applier_session (moment_at m (scene_state limits scene journal) journal now) plan start.start; away = start.away };
-      copier_knows = record { behind = subst (AfterTold journal) (sym start.behind) tt; step = subst (StepKnows journal (now.copier).range) (sym start.choosing) tt; sized = start.sized };
+      copier_knows = record { following = subst (AfterReported journal) (sym start.following) tt; step = subst (StepKnows journal (now.copier).range) (sym start.choosing) tt; sized = start.sized };
       applier_knows = record { step = subst (applying.StepKnows m journal) (sym start.reading) tt; sized = start.batched };
       busy = subst (λ (s : ApplyStep). StepIsBusy s (face_of (scene_state limits scene journal).sessions now.applier_session).busy) (sym start.reading) tt;
     }
@@ -331,9 +331,9 @@ none_in name log place (event ∷ part) is none =
     by true some rest = absurd cc
     by false nothing rest = rest nothing
 
-nothing_told : (name : List ℕ) (log : List RowEvent) (position : ℕ) → position ≤ length log → events_of name (drop position log) ≡ [] → IsTold name log position (record { events = []; next = length log })
+nothing_reported : (name : List ℕ) (log : List RowEvent) (position : ℕ) → position ≤ length log → events_of name (drop position log) ≡ [] → IsReported name log position (record { events = []; next = length log })
 unfolding own_changes
-nothing_told name log position within none =
+nothing_reported name log position within none =
     let part : IsPart log position (drop position log) = part_of log position within in
     let size = part.size in
     record { steps = length (drop position log); sum = sym size; within = omega arith; are = sym (none_in name log position (drop position log) part none) }
@@ -356,11 +356,11 @@ ends m at rows place plan is_place limits scene journal now run end was =
     let to = kept.tool.kept.joined.under_way.are.to in
     let last = kept.tool.kept.joined.under_way.end in
     let here = kept.here in omega (arith, from, to, last, here)) was.tool.stands in
-    let told : EventsTold = record { events = []; next = length state.log } in
+    let reported : EventsReported = record { events = []; next = length state.log } in
     let resting : apply_plan m journal now.applier ≡ Resting = ap (applying.plan_at m journal) end.idle in
     end_altered m at rows now.copier_session now.applier_session (moment_of state (copy_state journal now.copier) Resting (length state.log)) plan (record { copied = copied; applied = refl })
     (turn_keeps m at rows place now.copier_session now.applier_session plan is_place moment (moment_of state (copy_state journal now.copier) Resting (length state.log)) (writes_fit limits scene journal run) was.tool.stands
-    (batch_is_passed told resting (nothing_told m.name state.log (now.applier).position within end.applied) (no_plan m) refl refl refl refl refl))
+    (batch_is_passed reported resting (nothing_reported m.name state.log (now.applier).position within end.applied) (no_plan m) refl refl refl refl refl))
 
 -- *Journals alter the table.*
 pub journals_alter : JournalsAlter

@@ -1,11 +1,11 @@
 -- Where the copier and the applier are, behind more turns and in other sessions.
 use Rattle.std.proofs.Common.{◌≡◌, ℕ, Bool, true, false, List, [], ◌∷◌, ◌++◌, Option, Some, None, refl, sym, ap, ◌∙◌, subst}
 use Rattle.std.specs.Prelude.{◌==◌}
-use Rattle.base_values.specs.GhoSchema.Clustering.{clustered_place}
+use Rattle.base_values.specs.GhoSchema.ClusteredKey.{clustered_place}
 use Rattle.base_values.specs.declared.span.Span.{Span}
 use Rattle.server_model.specs.declared.entry.Entry.{Entry}
 use Rattle.server_model.specs.Entries.{answer_at}
-use Rattle.server_model.specs.Reading.{end_in, keys_in}
+use Rattle.server_model.specs.EarlierAnswers.{end_in, keys_in}
 use Rattle.server_model.specs.States.{State}
 use Rattle.tool_program.specs.declared.chunk_copier.copier.Chunk.{Chunk}
 use Rattle.tool_program.specs.declared.chunk_copier.copier.Copier.{Copier}
@@ -17,18 +17,18 @@ use Rattle.proof_journals.specs.Scenes.{Besides, SessionHold, no_hold}
 use Rattle.proof_journals.specs.Holdings.{stored}
 use Rattle.proof_journals.specs.Ghost.Rows.Moments.{Row}
 use Rattle.proof_journals.specs.Ghost.Rows.Timelines.{IsPlanned, Migration}
-use Rattle.proof_journals.specs.Ghost.Holding.{Clustered}
+use Rattle.proof_journals.specs.Ghost.HeldKeys.{Clustered}
 use Rattle.proof_journals.specs.Ghost.Invariant.{IsServed}
 use Rattle.proof_journals.specs.Ghost.Joined.{IsJoined}
-use Rattle.proof_journals.specs.Ghost.Running.{ApplyPlan, KeptAt, ToolMoment, ToolStands}
-use Rattle.proof_journals.specs.Ghost.Running.ToolStands.{at_rest, at_work, halfway, returns}
-use Rattle.proof_journals.specs.Ghost.Running.ToolTurn.{chunk_is_lost}
+use Rattle.proof_journals.specs.Ghost.ToolTurns.{ApplyPlan, KeptAt, ToolMoment, ToolStands}
+use Rattle.proof_journals.specs.Ghost.ToolTurns.ToolStands.{at_rest, at_work, halfway, returns}
+use Rattle.proof_journals.specs.Ghost.ToolTurns.ToolTurn.{chunk_is_lost}
 use Rattle.proof_journals.specs.Ghost.Tool.{ApplyStands, ApplyState, CopyStands, CopyState, done_in, half_in, taken_in}
 use Rattle.proof_journals.specs.Ghost.Tool.ApplyState.{Idle, Whole, Half}
 use Rattle.proof_journals.specs.Ghost.Tool.CopyState.{Waiting}
 use Rattle.proof_journals.proofs.Ghost.Leaving.{holds_of}
 use Rattle.proof_journals.proofs.Ghost.Running.{any_kept, turn_keeps}
-use Rattle.proof_migration.specs.Migration.Copier.Copying.{CopierKnows, copy_state, left_of, moment_of, taking_of}
+use Rattle.proof_migration.specs.Migration.Copier.CopierPlace.{CopierKnows, copy_state, left_of, moment_of, taking_of}
 use Rattle.proof_migration.proofs.Migration.Copier.Chunks.{left_more, state_more, taking_state}
 use Rattle.proof_migration.proofs.Migration.Copier.Knowing.{IsWaiting, after_more, step_more, waiting_state}
 use Rattle.proof_migration.proofs.Migration.Copier.Served.{stands_same}
@@ -51,16 +51,16 @@ copy_more journal more copier knows = by copier.is_copied refl copier.range refl
     by false going (Some range) is = state_more journal more copier range copier.step is going refl knows
 
 pub copier_knows_more : (journal more : List Entry) (copier : Copier) → CopierKnows journal copier → CopierKnows (journal ++ more) copier
-copier_knows_more journal more copier knows = record { behind = after_more journal more copier.behind knows.behind; step = step_more journal more copier.range copier.step knows.step; sized = knows.sized }
+copier_knows_more journal more copier knows = record { following = after_more journal more copier.following knows.following; step = step_more journal more copier.range copier.step knows.step; sized = knows.sized }
 
 -- how many keys are asked for in a chunk whose end was told says nothing of what is copied
-pub span_state : (journal : List Entry) (copier : Copier) (told old size : ℕ) → copier.step ≡ Spanning told old → copy_state journal copier ≡ copy_state journal (record copier { step = Spanning told size })
-span_state journal copier told old size here = by copier.is_copied refl copier.range refl
+pub span_state : (journal : List Entry) (copier : Copier) (reported old size : ℕ) → copier.step ≡ Spanning reported old → copy_state journal copier ≡ copy_state journal (record copier { step = Spanning reported size })
+span_state journal copier reported old size here = by copier.is_copied refl copier.range refl
   where
-    by : (b : Bool) → copier.is_copied ≡ b → (range : Option CopyRange) → copier.range ≡ range → copy_state journal copier ≡ copy_state journal (record copier { step = Spanning told size })
-    by true copied range is = copied_state journal copier copied ∙ sym (copied_state journal (record copier { step = Spanning told size }) copied)
-    by false going None is = empty_state journal copier going is ∙ sym (empty_state journal (record copier { step = Spanning told size }) going is)
-    by false going (Some range) is = waiting_state journal copier range (Spanning told old) is going here tt ∙ sym (waiting_state journal (record copier { step = Spanning told size }) range (Spanning told size) is going refl tt)
+    by : (b : Bool) → copier.is_copied ≡ b → (range : Option CopyRange) → copier.range ≡ range → copy_state journal copier ≡ copy_state journal (record copier { step = Spanning reported size })
+    by true copied range is = copied_state journal copier copied ∙ sym (copied_state journal (record copier { step = Spanning reported size }) copied)
+    by false going None is = empty_state journal copier going is ∙ sym (empty_state journal (record copier { step = Spanning reported size }) going is)
+    by false going (Some range) is = waiting_state journal copier range (Spanning reported old) is going here tt ∙ sym (waiting_state journal (record copier { step = Spanning reported size }) range (Spanning reported size) is going refl tt)
 
 -- what is left between chunks
 pub record WaitsFor (journal : List Entry) (copier : Copier) : Type 0 where
@@ -69,7 +69,7 @@ pub record WaitsFor (journal : List Entry) (copier : Copier) : Type 0 where
 
 between_waits : (step : CopyStep) → IsBetween step → IsWaiting step
 between_waits Choosing is = tt
-between_waits (Spanning told size) is = tt
+between_waits (Spanning reported size) is = tt
 between_waits (Copying chunk copied) is = absurd is
 between_waits (Committing chunk) is = absurd is
 
@@ -104,14 +104,14 @@ module _ (m : Migration) (at : Clustered m.schema) (rows : List Row) (place : �
   lost : (range : CopyRange) (chunk : Chunk) (n : ℕ) → copier.range ≡ Some range → copier.is_copied ≡ false → copy_state journal copier ≡ taking_of journal copier range chunk n → ToolStands m at rows session applier (moment_of after (copy_state longer again) plan position)
   lost range chunk n is going taking =
       turn_keeps m at rows place session applier planned is_place (moment_of before (copy_state journal copier) plan position) (moment_of after (copy_state longer again) plan position) served stands
-      (chunk_is_lost (low_end journal range copier.behind) (end_in (answer_at journal chunk.told)) range.top (keys_in (answer_at journal chunk.told)) n taking besides same
+      (chunk_is_lost (low_end journal range copier.following) (end_in (answer_at journal chunk.reported)) range.top (keys_in (answer_at journal chunk.reported)) n taking besides same
       (waiting_state longer again range Choosing is going refl tt ∙ ap (λ (s : Span). Waiting (Some s)) (left_more journal (entry ∷ []) copier range knows)) (refl, refl))
 
   by_step : (range : CopyRange) → copier.range ≡ Some range → copier.is_copied ≡ false → (step : CopyStep) → copier.step ≡ step → ToolStands m at rows session applier (moment_of after (copy_state longer again) plan position)
   by_step range is going Choosing here =
       stays (Some (left_of journal copier range)) (waiting_state journal copier range Choosing is going here tt) (copy_state longer again) (waiting_state longer again range Choosing is going refl tt ∙ ap (λ (s : Span). Waiting (Some s)) (left_more journal (entry ∷ []) copier range knows))
-  by_step range is going (Spanning told size) here =
-      stays (Some (left_of journal copier range)) (waiting_state journal copier range (Spanning told size) is going here tt) (copy_state longer again)
+  by_step range is going (Spanning reported size) here =
+      stays (Some (left_of journal copier range)) (waiting_state journal copier range (Spanning reported size) is going here tt) (copy_state longer again)
       (waiting_state longer again range Choosing is going refl tt ∙ ap (λ (s : Span). Waiting (Some s)) (left_more journal (entry ∷ []) copier range knows))
   by_step range is going (Copying chunk copied) here = lost range chunk copied is going (taking_state journal copier range (Copying chunk copied) is going here)
   by_step range is going (Committing chunk) here = lost range chunk _ is going (taking_state journal copier range (Committing chunk) is going here)

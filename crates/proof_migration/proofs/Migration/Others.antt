@@ -5,7 +5,7 @@ use Rattle.std.specs.List.{AllByRecursion, list_any}
 use Rattle.std.specs.Str.{bytes_eq}
 use Rattle.std.proofs.Math.Bool.{or-false}
 use Rattle.base_values.specs.declared.gho_schema.schema.Schema.{Schema}
-use Rattle.base_values.specs.GhoSchema.Clustering.{clustered_place}
+use Rattle.base_values.specs.GhoSchema.ClusteredKey.{clustered_place}
 use Rattle.table_store.specs.Databases.{Database, find_table, has_table, rename_tables, without_table}
 use Rattle.table_store.specs.declared.renames.NotRenamed.{NotRenamed}
 use Rattle.table_store.specs.declared.renames.Pair.{Pair}
@@ -20,20 +20,20 @@ use Rattle.server_model.specs.States.{State, pair_names}
 use Rattle.server_model.proofs.LockedRows.Tests.{are_one, turned_bytes}
 use Rattle.proof_journals.specs.Scenes.{Besides, Scene, SessionHold, no_hold}
 use Rattle.proof_journals.specs.Holdings.{stored}
-use Rattle.proof_journals.specs.Turns.{IsSceneRun, scene_state, told_at}
+use Rattle.proof_journals.specs.Turns.{IsSceneRun, scene_state, reported_at}
 use Rattle.proof_journals.proofs.Moves.{after_other, drop_moves, rename_moves}
 use Rattle.proof_journals.specs.Ghost.Rows.Moments.{Row}
 use Rattle.proof_journals.specs.Ghost.Rows.Timelines.{IsPlanned, Migration}
-use Rattle.proof_journals.specs.Ghost.Holding.{Clustered}
+use Rattle.proof_journals.specs.Ghost.HeldKeys.{Clustered}
 use Rattle.proof_journals.specs.Ghost.Invariant.{IsServed, NotOf}
-use Rattle.proof_journals.specs.Ghost.Running.{ApplyPlan, ToolMoment, ToolStands, ToolTurn}
-use Rattle.proof_journals.specs.Ghost.Running.ToolTurn.{other_goes_on}
+use Rattle.proof_journals.specs.Ghost.ToolTurns.{ApplyPlan, ToolMoment, ToolStands, ToolTurn}
+use Rattle.proof_journals.specs.Ghost.ToolTurns.ToolTurn.{other_goes_on}
 use Rattle.proof_journals.specs.Ghost.Tool.{CopyState}
 use Rattle.proof_journals.proofs.Ghost.Leaving.{holds_of}
 use Rattle.proof_journals.proofs.Ghost.Running.{stands_over, turn_keeps}
 use Rattle.proof_journals.proofs.Ghost.Tooling.{client_commits, tool_moves, tool_rests}
 use Rattle.proof_journals.proofs.Ghost.Turns.{run_front, writes_fit}
-use Rattle.proof_migration.specs.Migration.Copier.Copying.{moment_of}
+use Rattle.proof_migration.specs.Migration.Copier.CopierPlace.{moment_of}
 use Rattle.proof_migration.specs.Migration.Away.{IsOther, IsOtherTurn, KeepsAway, OthersAway}
 use Rattle.proof_migration.specs.Migration.Laws.{OthersKeep}
 use Rattle.proof_migration.specs.Migration.Machines.{StandsAway}
@@ -43,10 +43,10 @@ use Rattle.proof_migration.proofs.Migration.Leaves.{Cases, IsMoved, WritesAway, 
 
 -- the table of this name stays where none of it is made, dropped or renamed
 abbrev pub LeavesName : List ℕ → Option Answer → Request → Type 0
-LeavesName name told (requests.Create schema) = bytes_eq name schema.name ≡ false
-LeavesName name told (requests.Drop dropped) = bytes_eq name dropped ≡ false
-LeavesName name told (requests.Rename pairs) = told ≡ Some ok → AllByRecursion (λ other. bytes_eq name other ≡ false) (pair_names pairs)
-LeavesName name told request = Unit {0}
+LeavesName name reported (requests.Create schema) = bytes_eq name schema.name ≡ false
+LeavesName name reported (requests.Drop dropped) = bytes_eq name dropped ≡ false
+LeavesName name reported (requests.Rename pairs) = reported ≡ Some ok → AllByRecursion (λ other. bytes_eq name other ≡ false) (pair_names pairs)
+LeavesName name reported request = Unit {0}
 
 created_stays : (name : List ℕ) (schema : Schema) (b : Bool) (tables made : Database) → bytes_eq name schema.name ≡ false → created b schema tables ≡ Ok made → find_table name made ≡ find_table name tables
 created_stays name schema true tables made other is = absurd cc
@@ -64,11 +64,11 @@ renamed_stays : (name : List ℕ) (pairs : List Pair) (result : Result Database 
 renamed_stays name pairs (Ok found) tables made done_so other is = let one : found ≡ made = cc in ap (find_table name) (sym one) ∙ (rename_moves pairs tables found done_so).others name (none_named (bytes_eq name) (pair_names pairs) other)
 renamed_stays name pairs (Err reason) tables made done_so other is = absurd cc
 
-pub moved_stays : (name : List ℕ) (told : Option Answer) (tables : Database) (request : Request) (made : Database) → LeavesName name told request → IsMoved told tables request made → find_table name made ≡ find_table name tables
-moved_stays name told tables (requests.Create schema) made leaves moved = created_stays name schema (has_table schema.name tables) tables made leaves moved
-moved_stays name told tables (requests.Drop gone) made leaves moved = dropped_stays name gone (has_table gone tables) tables made leaves moved
-moved_stays name told tables (requests.Rename pairs) made leaves moved = renamed_stays name pairs (rename_tables pairs tables) tables made refl (leaves moved.0) moved.1
-moved_stays name told tables request made leaves moved = absurd moved
+pub moved_stays : (name : List ℕ) (reported : Option Answer) (tables : Database) (request : Request) (made : Database) → LeavesName name reported request → IsMoved reported tables request made → find_table name made ≡ find_table name tables
+moved_stays name reported tables (requests.Create schema) made leaves moved = created_stays name schema (has_table schema.name tables) tables made leaves moved
+moved_stays name reported tables (requests.Drop gone) made leaves moved = dropped_stays name gone (has_table gone tables) tables made leaves moved
+moved_stays name reported tables (requests.Rename pairs) made leaves moved = renamed_stays name pairs (rename_tables pairs tables) tables made refl (leaves moved.0) moved.1
+moved_stays name reported tables request made leaves moved = absurd moved
 
 others_old : (m : Migration) (names : List (List ℕ)) → AllByRecursion (IsOther m) names → AllByRecursion (λ name. bytes_eq m.name name ≡ false) names
 others_old m [] all = tt
@@ -79,16 +79,16 @@ others_new m [] all = tt
 others_new m (name ∷ names) all = (all.0.1, others_new m names all.1)
 
 -- who keeps away leaves both
-leaves_both : (m : Migration) (told : Option Answer) (request : Request) → KeepsAway m told request → LeavesName m.name told request × LeavesName m.new.name told request
-leaves_both m told (requests.Create schema) away = away
-leaves_both m told (requests.Drop name) away = away
-leaves_both m told (requests.Rename pairs) away = ((λ done. others_old m (pair_names pairs) (away done)), λ done. others_new m (pair_names pairs) (away done))
-leaves_both m told request away = (tt, tt)
+leaves_both : (m : Migration) (reported : Option Answer) (request : Request) → KeepsAway m reported request → LeavesName m.name reported request × LeavesName m.new.name reported request
+leaves_both m reported (requests.Create schema) away = away
+leaves_both m reported (requests.Drop name) away = away
+leaves_both m reported (requests.Rename pairs) away = ((λ done. others_old m (pair_names pairs) (away done)), λ done. others_new m (pair_names pairs) (away done))
+leaves_both m reported request away = (tt, tt)
 
-writes_away : (m : Migration) (told : Option Answer) (request : Request) → KeepsAway m told request → WritesAway m request
-writes_away m told (requests.Do statement) away = away
-writes_away m told (requests.CopyRow from into map key) away = away
-writes_away m told request away = tt
+writes_away : (m : Migration) (reported : Option Answer) (request : Request) → KeepsAway m reported request → WritesAway m request
+writes_away m reported (requests.Do statement) away = away
+writes_away m reported (requests.CopyRow from into map key) away = away
+writes_away m reported request away = tt
 
 -- ANOTHER SESSION'S TURN
 
@@ -151,7 +151,7 @@ module _ (m : Migration) (at : Clustered m.schema) (rows : List Row) (place : �
               away = away_then no_hold tt (record { there = λ n differ. last.there n differ ∙ besides.there n differ; here = last.here });
             };
         moves = λ request tables held asked moved made log none besides.
-            let leaves = leaves_both m (told_at entry.side entry.answer entry.missed) request (turn.away request asked) in
+            let leaves = leaves_both m (reported_at entry.side entry.answer entry.missed) request (turn.away request asked) in
             record {
               stands =
                   stands_over m at rows copier applier now then (refl, refl)
@@ -168,7 +168,7 @@ module _ (m : Migration) (at : Clustered m.schema) (rows : List Row) (place : �
       }
 
   goal : Goal
-  goal = turn_leaves m limits scene journal entry more turn.sides own_away (λ request asked. writes_away m (told_at entry.side entry.answer entry.missed) request (turn.away request asked)) Goal cases
+  goal = turn_leaves m limits scene journal entry more turn.sides own_away (λ request asked. writes_away m (reported_at entry.side entry.answer entry.missed) request (turn.away request asked)) Goal cases
 
 -- *Others keep the relation*
 pub others_keep : OthersKeep

@@ -14,8 +14,8 @@ use Rattle.base_script.specs.declared.actor.Side.TheVariants.{Before, After}
 use Rattle.base_script.specs.declared.operator.OperatorWord.{OperatorWord}
 use Rattle.server_model.specs.Effects.{effect_unless, defined, dropped, is_outside, renamed_or}
 use Rattle.server_model.specs.Entries.{is_client, is_command, same_actor}
-use Rattle.server_model.specs.Locking.{blocker, need}
-use Rattle.server_model.specs.Serving.{Served, called_unless, calls, does, done, is_over, leaves, loses, polled_of, polled_over, polled_unless, polls, serves, without_waiting}
+use Rattle.server_model.specs.Blockers.{blocker, need}
+use Rattle.server_model.specs.PlainServer.{Served, called_unless, calls, does, done, is_over, leaves, loses, polled_of, polled_over, polled_unless, polls, serves, without_waiting}
 use Rattle.server_model.specs.States.{State, is_in_transaction, session_of, view, waiting_of}
 use Rattle.server_model.specs.declared.answer.Answer.{Answer}
 use Rattle.server_model.specs.declared.answer.Answer.TheVariants as answers
@@ -40,32 +40,32 @@ use Rattle.tool_program.specs.JournalWords.Histories as histories
 use Rattle.tool_program.specs.JournalWords.Histories.{alters, entry_adds, is_alter, answer_in}
 use Rattle.tool_program.specs.JournalWords.Journals.{may_lose, opens, state_at}
 use Rattle.tool_program.specs.Programs.{IsGiven, given, tool_call}
-use Rattle.tool_program.specs.Tools.{Course, Migrating, Moment, SettingUp, Tool, Work, is_reverting, moment, stopped}
-use Rattle.tool_program.proofs.OnlineCalls.Machines.{CourseIsNamed, named}
+use Rattle.tool_program.specs.Tools.{ToolPhase, Migrating, Moment, SettingUp, Tool, Work, is_reverting, moment, stopped}
+use Rattle.tool_program.proofs.OnlineCalls.Machines.{ToolPhaseIsNamed, named}
 use Rattle.tool_program.proofs.OnlineCalls.Naming.{not_ghost}
 use Rattle.server_model.proofs.LockedRows.Tests.{turned_bytes}
 use Rattle.proof_journals.specs.Plans.{IsSerialPlan, limits_of, scene_of}
 use Rattle.proof_journals.specs.Scenes.{Stored}
-use Rattle.proof_journals.specs.Turns.{IsTold, about, answer_at, missed_at, request_of, told_at}
+use Rattle.proof_journals.specs.Turns.{IsReported, about, answer_at, missed_at, request_of, reported_at}
 use Rattle.proof_journals.proofs.Actors.{same_actor_is}
-use Rattle.proof_journals.proofs.Joined.{told_answer, told_missed}
+use Rattle.proof_journals.proofs.Joined.{reported_answer, reported_missed}
 use Rattle.proof_journals.proofs.Journals.{opened_waits, stored_opened}
 use Rattle.proof_journals.proofs.Moves.{renamed_other, renamed_old, found_has, renamed_ok}
 use Rattle.proof_journals.specs.ServerTurns.Others.{DefinitionsAreDone}
-use Rattle.proof_journals.specs.Machine.Machines.{CourseStands, WorkStands, inspector_asks, inspector_waits}
+use Rattle.proof_journals.specs.Machine.Machines.{ToolPhaseStands, WorkStands, inspector_asks, inspector_waits}
 use Rattle.proof_journals.specs.Machine.Runnable.{IsRunnable}
 use Rattle.proof_journals.specs.Machine.Standings.{IsAbout, Standing, answered, free, is_called, is_polled, standing_of}
-use Rattle.proof_journals.specs.Machine.Tabling.{schema_of}
+use Rattle.proof_journals.specs.Machine.MigrationTables.{schema_of}
 use Rattle.proof_journals.proofs.Machine.Asking.{inspector_next, some_request, waits_asks}
 use Rattle.proof_journals.proofs.Machine.Journals.{Asking, IsRun, IsTogether, asking, calls_so, has_now, lock_about, never_commands, polls_so, ren_about}
 use Rattle.proof_journals.proofs.Machine.Marks.{ghost_not_old, locker_keeps}
 use Rattle.proof_journals.proofs.Machine.Renaming.{renamed_or_stays}
 use Rattle.proof_journals.proofs.Machine.Schemas.{keeps_table, schema_rests, schema_stays}
 use Rattle.proof_journals.proofs.Machine.Seated.{IsServed, others_stand, own_lost, own_waiting, state_more}
-use Rattle.proof_journals.proofs.Machine.Tabling.{Behind, behind, quiet_stay, rests, waits_on}
-use Rattle.proof_migration.proofs.Course.Unaltered.Away.{IsKnownAsked, about_asked, tool_adds}
+use Rattle.proof_journals.proofs.Machine.Tabling.{Following, following, quiet_stay, rests, waits_on}
+use Rattle.proof_migration.proofs.ToolPhase.Unaltered.Away.{IsKnownAsked, about_asked, tool_adds}
 use Rattle.run_actors.proofs.AlterTurns.{of_client}
-use Rattle.proof_migration.proofs.Course.CourseTurns.{AnswerKeeps, Kept, ResizeKeeps, TurnKeeps, UnfitKeeps, gives_asked, turn_kept}
+use Rattle.proof_migration.proofs.ToolPhase.ToolPhaseTurns.{AnswerKeeps, Kept, ResizeKeeps, TurnKeeps, UnfitKeeps, gives_asked, turn_kept}
 use Rattle.proof_migration.proofs.Program.LockerTurns.Quiet.{CountsNone, Quiet, quiet_served}
 use Rattle.proof_journals.proofs.Sentry.Serving.{exchanged}
 
@@ -202,30 +202,30 @@ NoMake None = Unit {0}
 NoMake (Some request) = makes request ≡ false
 
 -- the setup is over, the new table's name is free, and the inspector waits to make no table
-abbrev pub CoursePast : PlanData → Database → Option Request → Course → Type 0
-CoursePast plan tables waits (SettingUp setup tries) = ⊥
-CoursePast plan tables waits (Migrating work) = IsFreeName (ghost_name plan.table) tables × NoMake waits
+abbrev pub ToolPhasePast : PlanData → Database → Option Request → ToolPhase → Type 0
+ToolPhasePast plan tables waits (SettingUp setup tries) = ⊥
+ToolPhasePast plan tables waits (Migrating work) = IsFreeName (ghost_name plan.table) tables × NoMake waits
 
 abbrev pub IsPast : PlanData → List Entry → Type 0
-IsPast plan journal = CoursePast plan (state_at plan journal).tables (standing_of plan journal Insp).waits (moment plan journal).tool.course
+IsPast plan journal = ToolPhasePast plan (state_at plan journal).tables (standing_of plan journal Insp).waits (moment plan journal).tool.tool_phase
 
 -- where it is so of the server behind a turn, it is so of the turn
-module _ (plan : PlanData) (journal : List Entry) (entry : Entry) (work : Work) (course : (moment plan journal).tool.course ≡ Migrating work) (both : IsFreeName (ghost_name plan.table) (state_at plan (journal ++ entry ∷ [])).tables × NoMake (standing_of plan (journal ++ entry ∷ []) Insp).waits) where
+module _ (plan : PlanData) (journal : List Entry) (entry : Entry) (work : Work) (tool_phase : (moment plan journal).tool.tool_phase ≡ Migrating work) (both : IsFreeName (ghost_name plan.table) (state_at plan (journal ++ entry ∷ [])).tables × NoMake (standing_of plan (journal ++ entry ∷ []) Insp).waits) where
   abbrev tool_then : Tool
   tool_then = record (moment plan journal).tool { turns = (moment plan journal).tool.turns + 1 }
 
   abbrev New : Kept
-  New b one = CoursePast plan (state_at plan (journal ++ entry ∷ [])).tables (standing_of plan (journal ++ entry ∷ []) Insp).waits one
+  New b one = ToolPhasePast plan (state_at plan (journal ++ entry ∷ [])).tables (standing_of plan (journal ++ entry ∷ []) Insp).waits one
 
-  back : (b : Bool) (one : Course) → New b one → New true (stopped one)
+  back : (b : Bool) (one : ToolPhase) → New b one → New true (stopped one)
   back b (SettingUp setup tries) at = at
   back b (Migrating other) at = at
 
   unfit : (other : Work) → UnfitKeeps New other
   unfit other = record { renamed = λ renamed. both; reverts = both }
 
-  answer_keeps : (answer : Answer) (actor : Actor) → AnswerKeeps plan New answer tool_then actor (moment plan journal).tool.course
-  answer_keeps answer actor = subst (AnswerKeeps plan New answer tool_then actor) (sym course) (by actor) where
+  answer_keeps : (answer : Answer) (actor : Actor) → AnswerKeeps plan New answer tool_then actor (moment plan journal).tool.tool_phase
+  answer_keeps answer actor = subst (AnswerKeeps plan New answer tool_then actor) (sym tool_phase) (by actor) where
     by : (actor : Actor) → AnswerKeeps plan New answer tool_then actor (Migrating work)
     by Insp = λ tries. both
     by Lock = λ tries. both
@@ -235,11 +235,11 @@ module _ (plan : PlanData) (journal : List Entry) (entry : Entry) (work : Work) 
     by Op = both
     by (Client c) = both
 
-  rest : (b : Bool) → New b (moment plan journal).tool.course
-  rest b = subst (New b) (sym course) both
+  rest : (b : Bool) → New b (moment plan journal).tool.tool_phase
+  rest b = subst (New b) (sym tool_phase) both
 
-  resized : (size : ℕ) → ResizeKeeps New tool_then size (moment plan journal).tool.course
-  resized size = subst (ResizeKeeps New tool_then size) (sym course) both
+  resized : (size : ℕ) → ResizeKeeps New tool_then size (moment plan journal).tool.tool_phase
+  resized size = subst (ResizeKeeps New tool_then size) (sym tool_phase) both
 
   turn_keeps : TurnKeeps plan New (moment plan journal).server entry tool_then
   turn_keeps = record {
@@ -253,7 +253,7 @@ module _ (plan : PlanData) (journal : List Entry) (entry : Entry) (work : Work) 
   pub past_with : IsPast plan (journal ++ entry ∷ [])
   past_with = turn_kept plan New back journal entry (λ b other tries at. at) turn_keeps
 
-module _ (definitions_are_done : DefinitionsAreDone) (plan : PlanData) (journal : List Entry) (entry : Entry) (serial : IsSerialPlan plan) (runs : IsRunnable plan) (known : IsKnownAsked plan journal) (run : IsRun plan journal entry) (work : Work) (course : (moment plan journal).tool.course ≡ Migrating work) where
+module _ (definitions_are_done : DefinitionsAreDone) (plan : PlanData) (journal : List Entry) (entry : Entry) (serial : IsSerialPlan plan) (runs : IsRunnable plan) (known : IsKnownAsked plan journal) (run : IsRun plan journal entry) (work : Work) (tool_phase : (moment plan journal).tool.tool_phase ≡ Migrating work) where
   abbrev now : Moment
   now = moment plan journal
 
@@ -279,10 +279,10 @@ module _ (definitions_are_done : DefinitionsAreDone) (plan : PlanData) (journal 
   served = record { answered = run.answered; seated = record { session = run.followed.session } }
 
   work_stands : WorkStands journal (is_reverting now.tool.reason) has work
-  work_stands = subst (CourseStands journal has (is_reverting now.tool.reason)) course together.stands
+  work_stands = subst (ToolPhaseStands journal has (is_reverting now.tool.reason)) tool_phase together.stands
 
   own_table : work.cutover.table ≡ plan.table
-  own_table = (subst (CourseIsNamed plan) course (named plan journal)).cutover
+  own_table = (subst (ToolPhaseIsNamed plan) tool_phase (named plan journal)).cutover
 
   about_own : (actor : Actor) (request : Request) → entry.actor ≡ actor → IsAbout request (has actor) entry.asked → IsAbout request (has entry.actor) entry.asked
   about_own actor request same is_about = subst (λ (a : Actor). IsAbout request (has a) entry.asked) (sym same) is_about
@@ -298,25 +298,25 @@ module _ (definitions_are_done : DefinitionsAreDone) (plan : PlanData) (journal 
 
   -- WHERE THE RENAME IS TOLD
 
-  told : IsTold (limits_of plan) (scene_of plan journal) journal entry
-  told = record { answer = told_answer before entry run.answered; missed = told_missed before entry run.answered }
+  reported : IsReported (limits_of plan) (scene_of plan journal) journal entry
+  reported = record { answer = reported_answer before entry run.answered; missed = reported_missed before entry run.answered }
 
-  told_both : (request : Request) → IsAbout request (has entry.actor) entry.asked → (count : ℕ) → answer_in entry.asked entry.side entry.answer entry.missed ≡ Some (answers.Ok count) → told_at entry.side entry.answer entry.missed ≡ Some (answers.Ok count)
-  told_both request is_about count is = by is_about entry.side (told_polled is_about entry.side is) where
-    told_polled : IsAbout request (has entry.actor) entry.asked → (side : Option Side) → answer_in entry.asked side entry.answer entry.missed ≡ Some (answers.Ok count) → answer_in Poll side entry.answer entry.missed ≡ Some (answers.Ok count)
-    told_polled (is_polled asks some) side is = ap (λ (a : Asked). answer_in a side entry.answer entry.missed) (sym asks) ∙ is
-    told_polled (is_called asks none) None is = ap (λ (a : Asked). answer_in a None entry.answer entry.missed) (sym asks) ∙ is
-    told_polled (is_called asks none) (Some Before) is = ap (λ (a : Asked). answer_in a (Some Before) entry.answer entry.missed) (sym asks) ∙ is
-    told_polled (is_called asks none) (Some After) is = ap (λ (a : Asked). answer_in a (Some After) entry.answer entry.missed) (sym asks) ∙ is
+  reported_both : (request : Request) → IsAbout request (has entry.actor) entry.asked → (count : ℕ) → answer_in entry.asked entry.side entry.answer entry.missed ≡ Some (answers.Ok count) → reported_at entry.side entry.answer entry.missed ≡ Some (answers.Ok count)
+  reported_both request is_about count is = by is_about entry.side (reported_polled is_about entry.side is) where
+    reported_polled : IsAbout request (has entry.actor) entry.asked → (side : Option Side) → answer_in entry.asked side entry.answer entry.missed ≡ Some (answers.Ok count) → answer_in Poll side entry.answer entry.missed ≡ Some (answers.Ok count)
+    reported_polled (is_polled asks some) side is = ap (λ (a : Asked). answer_in a side entry.answer entry.missed) (sym asks) ∙ is
+    reported_polled (is_called asks none) None is = ap (λ (a : Asked). answer_in a None entry.answer entry.missed) (sym asks) ∙ is
+    reported_polled (is_called asks none) (Some Before) is = ap (λ (a : Asked). answer_in a (Some Before) entry.answer entry.missed) (sym asks) ∙ is
+    reported_polled (is_called asks none) (Some After) is = ap (λ (a : Asked). answer_in a (Some After) entry.answer entry.missed) (sym asks) ∙ is
 
-    by : IsAbout request (has entry.actor) entry.asked → (side : Option Side) → answer_in Poll side entry.answer entry.missed ≡ Some (answers.Ok count) → told_at side entry.answer entry.missed ≡ Some (answers.Ok count)
+    by : IsAbout request (has entry.actor) entry.asked → (side : Option Side) → answer_in Poll side entry.answer entry.missed ≡ Some (answers.Ok count) → reported_at side entry.answer entry.missed ≡ Some (answers.Ok count)
     by is_about None is = is
     by is_about (Some Before) is = absurd cc
     by is_about (Some After) is = is
 
-  told_served : (count : ℕ) → told_at entry.side entry.answer entry.missed ≡ Some (answers.Ok count) → (serves open_now entry.session entry.asked).answer ≡ answers.Ok count
-  told_served count is = by entry.side (sym (ap (λ (a : Answer). told_at entry.side a entry.missed) told.answer ∙ ap (λ (m : Option Answer). told_at entry.side (answer_at entry.side (serves open_now entry.session entry.asked).answer) m) told.missed) ∙ is) where
-    by : (side : Option Side) → told_at side (answer_at side (serves open_now entry.session entry.asked).answer) (missed_at side (serves open_now entry.session entry.asked).answer) ≡ Some (answers.Ok count) → (serves open_now entry.session entry.asked).answer ≡ answers.Ok count
+  reported_served : (count : ℕ) → reported_at entry.side entry.answer entry.missed ≡ Some (answers.Ok count) → (serves open_now entry.session entry.asked).answer ≡ answers.Ok count
+  reported_served count is = by entry.side (sym (ap (λ (a : Answer). reported_at entry.side a entry.missed) reported.answer ∙ ap (λ (m : Option Answer). reported_at entry.side (answer_at entry.side (serves open_now entry.session entry.asked).answer) m) reported.missed) ∙ is) where
+    by : (side : Option Side) → reported_at side (answer_at side (serves open_now entry.session entry.asked).answer) (missed_at side (serves open_now entry.session entry.asked).answer) ≡ Some (answers.Ok count) → (serves open_now entry.session entry.asked).answer ≡ answers.Ok count
     by None is = cc
     by (Some Before) is = absurd cc
     by (Some After) is = cc
@@ -334,22 +334,22 @@ module _ (definitions_are_done : DefinitionsAreDone) (plan : PlanData) (journal 
     by (is_polled asks some) = no_poll (sym asks ∙ cut)
 
   -- where it is told, the tables were renamed
-  pub told_renamed : IsAbout (exchange plan.table) (has entry.actor) entry.asked → (count : ℕ) → answer_in entry.asked entry.side entry.answer entry.missed ≡ Some (answers.Ok count) → rename_tables (exchanged plan.table) before.tables ≡ Ok (state_at plan more).tables
-  told_renamed is_about count is =
-      let told_now : told_at entry.side entry.answer entry.missed ≡ Some (answers.Ok count) = told_both (exchange plan.table) is_about count is in
+  pub reported_renamed : IsAbout (exchange plan.table) (has entry.actor) entry.asked → (count : ℕ) → answer_in entry.asked entry.side entry.answer entry.missed ≡ Some (answers.Ok count) → rename_tables (exchanged plan.table) before.tables ≡ Ok (state_at plan more).tables
+  reported_renamed is_about count is =
+      let reported_now : reported_at entry.side entry.answer entry.missed ≡ Some (answers.Ok count) = reported_both (exchange plan.table) is_about count is in
       let quiet : Quiet (exchange plan.table) open_now entry.session (serves open_now entry.session entry.asked) = quiet_served open_now entry.session entry.asked (exchange plan.table) (about_open (exchange plan.table) is_about) (uncut (exchange plan.table) is_about) refl in
-      let zero : count ≡ 0 = subst CountsNone (told_served count told_now) quiet.counts in
+      let zero : count ≡ 0 = subst CountsNone (reported_served count reported_now) quiet.counts in
       renamed_ok (rename_tables (exchanged plan.table) before.tables) (state_at plan more).tables
-      (definitions_are_done (limits_of plan) (scene_of plan journal) journal entry (exchange plan.table) (renamed_or (rename_tables (exchanged plan.table) before.tables)) told (about_open (exchange plan.table) is_about) refl (told_now ∙ ap (λ (n : ℕ). Some (answers.Ok n)) zero))
+      (definitions_are_done (limits_of plan) (scene_of plan journal) journal entry (exchange plan.table) (renamed_or (rename_tables (exchanged plan.table) before.tables)) reported (about_open (exchange plan.table) is_about) refl (reported_now ∙ ap (λ (n : ℕ). Some (answers.Ok n)) zero))
 
   pub ren_asks : Asking plan journal Ren entry.asked → entry.actor ≡ Ren → IsAbout (exchange plan.table) (has entry.actor) entry.asked
   ren_asks asks same =
-      ren_about plan journal entry together run work course work_stands asks (IsAbout (exchange plan.table) (has entry.actor) entry.asked)
+      ren_about plan journal entry together run work tool_phase work_stands asks (IsAbout (exchange plan.table) (has entry.actor) entry.asked)
       (λ request is_about kind. subst (λ (r : Request). IsAbout r (has entry.actor) entry.asked) (kind ∙ ap exchange own_table) (about_own Ren request same is_about))
 
   -- behind it the new table's name is free
   pub rename_frees : Asking plan journal Ren entry.asked → entry.actor ≡ Ren → (count : ℕ) → answer_in entry.asked entry.side entry.answer entry.missed ≡ Some (answers.Ok count) → IsFreeName (ghost_name plan.table) (state_at plan more).tables
-  rename_frees asks same count is = exchange_frees plan.table before.tables (state_at plan more).tables (told_renamed (ren_asks asks same) count is)
+  rename_frees asks same count is = exchange_frees plan.table before.tables (state_at plan more).tables (reported_renamed (ren_asks asks same) count is)
 
   module _ (gone : IsFreeName (ghost_name plan.table) before.tables) (unmade : NoMake (has Insp).waits) where
     -- THE NAME STAYS FREE
@@ -368,20 +368,20 @@ module _ (definitions_are_done : DefinitionsAreDone) (plan : PlanData) (journal 
     still : may_lose entry.asked ≡ false → Gone
     still quiet = schema_rests plan journal entry served (own_waiting plan journal entry together.known served) (ghost_name plan.table) quiet ∙ gone
 
-    never_told : IsAbout (exchange plan.table) (has entry.actor) entry.asked → (count : ℕ) → answer_in entry.asked entry.side entry.answer entry.missed ≡ Some (answers.Ok count) → ⊥
-    never_told is_about count is = exchange_needs plan.table before.tables (state_at plan more).tables (none_found (find_table (ghost_name plan.table) before.tables) gone) (told_renamed is_about count is)
+    never_reported : IsAbout (exchange plan.table) (has entry.actor) entry.asked → (count : ℕ) → answer_in entry.asked entry.side entry.answer entry.missed ≡ Some (answers.Ok count) → ⊥
+    never_reported is_about count is = exchange_needs plan.table before.tables (state_at plan more).tables (none_found (find_table (ghost_name plan.table) before.tables) gone) (reported_renamed is_about count is)
 
     -- EACH ACTOR'S TURN
 
     ren_stays : entry.actor ≡ Ren → Asking plan journal Ren entry.asked → Gone
-    ren_stays same asks = by (renamed_or_stays plan journal entry served (own_waiting plan journal entry together.known served) (ghost_name plan.table) _ (ren_asks asks same) (told_answer before entry run.answered)) where
+    ren_stays same asks = by (renamed_or_stays plan journal entry served (own_waiting plan journal entry together.known served) (ghost_name plan.table) _ (ren_asks asks same) (reported_answer before entry run.answered)) where
       by : ((count : ℕ) × (answer_in entry.asked entry.side entry.answer entry.missed ≡ Some (answers.Ok count))) ⊎ (schema_of (ghost_name plan.table) (state_at plan more).tables ≡ schema_of (ghost_name plan.table) before.tables) → Gone
-      by (inl done) = absurd (never_told (ren_asks asks same) done.0 done.1)
+      by (inl done) = absurd (never_reported (ren_asks asks same) done.0 done.1)
       by (inr stays) = stays ∙ gone
 
     lock_stays : entry.actor ≡ Lock → Asking plan journal Lock entry.asked → Gone
     lock_stays same asks =
-        lock_about plan journal entry together run work course work_stands asks Gone
+        lock_about plan journal entry together run work tool_phase work_stands asks Gone
         (λ request is_about kind. kept_so Lock request same is_about (subst (λ (t : List ℕ). keeps_table (ghost_name t) request ≡ true) own_table (locker_keeps work.cutover.table work.cutover.hold work.cutover.phase request kind)))
 
     abbrev Both : Type 0
@@ -398,11 +398,11 @@ module _ (definitions_are_done : DefinitionsAreDone) (plan : PlanData) (journal 
     insp_one same request is_about kind off = absurd cc
 
     insp_waits : entry.actor ≡ Insp → (request : Request) → IsAbout request (has Insp) entry.asked → makes request ≡ false → NoMake (now_has Insp).waits
-    insp_waits same request is_about off = by (behind request entry.answer (has Insp)) where
+    insp_waits same request is_about off = by (following request entry.answer (has Insp)) where
       waits_now : (now_has Insp).waits ≡ (answered request entry.answer (has Insp)).waits
       waits_now = ap (λ (s : Standing). s.waits) (has_now plan journal entry together run Insp request same is_about)
 
-      by : Behind request entry.answer (has Insp) → NoMake (now_has Insp).waits
+      by : Following request entry.answer (has Insp) → NoMake (now_has Insp).waits
       by (rests none) = subst NoMake (sym (waits_now ∙ none)) tt
       by (waits_on one is) = subst NoMake (sym (waits_now ∙ ap (λ (a : Answer). (answered request a (has Insp)).waits) is)) off
 
@@ -416,7 +416,7 @@ module _ (definitions_are_done : DefinitionsAreDone) (plan : PlanData) (journal 
     insp_both : entry.actor ≡ Insp → Asking plan journal Insp entry.asked → Both
     unfolding cutovers.next
     insp_both same (calls_so request asks idle call) =
-        let next : cutovers.next Inspector work.cutover ≡ Some request = ap (λ (c : Course). tool_call plan now.server journal now.tool c Insp) (sym course) ∙ call in
+        let next : cutovers.next Inspector work.cutover ≡ Some request = ap (λ (c : ToolPhase). tool_call plan now.server journal now.tool c Insp) (sym tool_phase) ∙ call in
         let off : makes request ≡ false = call_makes work.cutover work.cutover.phase request next in
         (insp_one same request (is_called asks idle) (inspector_next work.cutover request next).0 off, insp_waits same request (is_called asks idle) off)
     insp_both same (polls_so request asks some) =
@@ -480,24 +480,24 @@ module _ (definitions_are_done : DefinitionsAreDone) (plan : PlanData) (journal 
     unfolding given
     never_alters altering = by entry.actor refl where
       tool_case : is_client entry.actor ≡ false → ⊥
-      tool_case off = by_told (histories.about journal entry) (answer_in entry.asked entry.side entry.answer entry.missed) refl refl
+      tool_case off = by_reported (histories.about journal entry) (answer_in entry.asked entry.side entry.answer entry.missed) refl refl
           (ap (list_any is_alter) (sym (tool_adds plan serial journal entry runs.fitting known run off entry.actor off)) ∙ altering) where
             done : (pairs : List Pair) (count : ℕ) → histories.about journal entry ≡ Some (requests.Rename pairs) → answer_in entry.asked entry.side entry.answer entry.missed ≡ Some (answers.Ok count) → ⊥
             done pairs count found heard = renamed pairs count found heard (about_asked plan serial journal entry runs.fitting known run off (requests.Rename pairs) found) where
               renamed : (pairs : List Pair) (count : ℕ) → histories.about journal entry ≡ Some (requests.Rename pairs) → answer_in entry.asked entry.side entry.answer entry.missed ≡ Some (answers.Ok count) → (entry.actor ≡ Ren) × (requests.Rename pairs ≡ exchange plan.table) → ⊥
               renamed pairs count found heard is = asked_ren entry.asked refl run.followed.given where
                 asked_ren : (asked : Asked) → entry.asked ≡ asked → IsGiven plan journal entry asked → ⊥
-                asked_ren (Call request) asks gives = never_told (ren_asks (asking plan journal Ren entry.asked together.server (subst (λ (a : Actor). given plan journal a ≡ Some entry.asked) is.0 (gives ∙ ap Some (sym asks)))) is.0) count heard
-                asked_ren Poll asks gives = never_told (ren_asks (asking plan journal Ren entry.asked together.server (subst (λ (a : Actor). given plan journal a ≡ Some entry.asked) is.0 (gives ∙ ap Some (sym asks)))) is.0) count heard
+                asked_ren (Call request) asks gives = never_reported (ren_asks (asking plan journal Ren entry.asked together.server (subst (λ (a : Actor). given plan journal a ≡ Some entry.asked) is.0 (gives ∙ ap Some (sym asks)))) is.0) count heard
+                asked_ren Poll asks gives = never_reported (ren_asks (asking plan journal Ren entry.asked together.server (subst (λ (a : Actor). given plan journal a ≡ Some entry.asked) is.0 (gives ∙ ap Some (sym asks)))) is.0) count heard
                 asked_ren (Command word) asks gives = never_commands plan journal Ren word (subst (λ (a : Actor). given plan journal a ≡ Some (Command word)) is.0 gives)
-                asked_ren Cut asks gives = none_told (sym (ap (λ (a : Asked). answer_in a entry.side entry.answer entry.missed) asks) ∙ heard) where
-                  none_told : None ≡ Some (answers.Ok count) → ⊥
-                  none_told same = cc
+                asked_ren Cut asks gives = none_reported (sym (ap (λ (a : Asked). answer_in a entry.side entry.answer entry.missed) asks) ∙ heard) where
+                  none_reported : None ≡ Some (answers.Ok count) → ⊥
+                  none_reported same = cc
 
-            by_told : (request : Option Request) (told : Option Answer) → histories.about journal entry ≡ request → answer_in entry.asked entry.side entry.answer entry.missed ≡ told → list_any is_alter (alters plan request told) ≡ true → ⊥
-            by_told (Some (requests.Rename pairs)) (Some (answers.Ok count)) is told alter = done pairs count is told
-            by_told request (Some (answers.Ok count)) is told alter = cc
-            by_told request told is says alter = cc
+            by_reported : (request : Option Request) (reported : Option Answer) → histories.about journal entry ≡ request → answer_in entry.asked entry.side entry.answer entry.missed ≡ reported → list_any is_alter (alters plan request reported) ≡ true → ⊥
+            by_reported (Some (requests.Rename pairs)) (Some (answers.Ok count)) is reported alter = done pairs count is reported
+            by_reported request (Some (answers.Ok count)) is reported alter = cc
+            by_reported request reported is statement_result alter = cc
 
       by : (actor : Actor) → entry.actor ≡ actor → ⊥
       by (Client number) same = true≢false (sym (ap (λ (a : Actor). list_any is_alter (histories.adds plan journal entry a)) (sym same) ∙ altering) ∙ of_client plan journal entry number)
@@ -514,7 +514,7 @@ pub record GoesPast (plan : PlanData) (journal : List Entry) (entry : Entry) : T
   pub unaltered : list_any is_alter (entry_adds plan journal entry) ≡ true → ⊥
 
 pub goes_past : DefinitionsAreDone → (plan : PlanData) (journal : List Entry) (entry : Entry) → IsSerialPlan plan → IsRunnable plan → IsKnownAsked plan journal → IsRun plan journal entry → IsPast plan journal → GoesPast plan journal entry
-goes_past done plan journal entry serial runs known run past = by (moment plan journal).tool.course refl past where
-  by : (course : Course) → (moment plan journal).tool.course ≡ course → CoursePast plan (state_at plan journal).tables (standing_of plan journal Insp).waits course → GoesPast plan journal entry
-  by (SettingUp setup tries) course at = absurd at
-  by (Migrating work) course at = record { past = past_with plan journal entry work course (both_now done plan journal entry serial runs known run work course at.0 at.1); unaltered = never_alters done plan journal entry serial runs known run work course at.0 at.1 }
+goes_past done plan journal entry serial runs known run past = by (moment plan journal).tool.tool_phase refl past where
+  by : (tool_phase : ToolPhase) → (moment plan journal).tool.tool_phase ≡ tool_phase → ToolPhasePast plan (state_at plan journal).tables (standing_of plan journal Insp).waits tool_phase → GoesPast plan journal entry
+  by (SettingUp setup tries) tool_phase at = absurd at
+  by (Migrating work) tool_phase at = record { past = past_with plan journal entry work tool_phase (both_now done plan journal entry serial runs known run work tool_phase at.0 at.1); unaltered = never_alters done plan journal entry serial runs known run work tool_phase at.0 at.1 }

@@ -27,22 +27,22 @@ use Rattle.tool_program.specs.JournalWords.Histories as histories
 use Rattle.tool_program.specs.JournalWords.Histories.{alters, entry_adds, is_alter, answer_in}
 use Rattle.tool_program.specs.JournalWords.Journals.{state_at}
 use Rattle.tool_program.specs.Programs.{IsGiven, given, tool_call}
-use Rattle.tool_program.specs.Tools.{Course, Migrating, SettingUp, is_reverting, moment}
+use Rattle.tool_program.specs.Tools.{ToolPhase, Migrating, SettingUp, is_reverting, moment}
 use Rattle.proof_journals.specs.Plans.{IsSerialPlan}
 use Rattle.proof_journals.specs.ServerTurns.Others.{DefinitionsAreDone}
 use Rattle.proof_journals.specs.Run.Kept.{IsKept}
 use Rattle.run_actors.proofs.AlterTurns.{of_client}
-use Rattle.proof_journals.specs.Machine.Machines.{CourseStands, SetupStands}
+use Rattle.proof_journals.specs.Machine.Machines.{ToolPhaseStands, SetupStands}
 use Rattle.proof_journals.specs.Machine.Runnable.{IsRunnable}
 use Rattle.proof_journals.specs.Machine.Standings.{Standing, standing_of}
 use Rattle.proof_journals.proofs.Machine.Journals.{Asking, IsRun, asking, calls_so, never_commands, polls_so}
 use Rattle.proof_journals.proofs.Machine.Marks.{history_more}
 use Rattle.proof_journals.proofs.Machine.Seated.{others_stand}
-use Rattle.proof_migration.specs.Course.Unaltered.{IsUnaltered}
-use Rattle.proof_migration.proofs.Course.Unaltered.Away.{IsKnownAsked, about_asked, all_asked, tool_adds}
+use Rattle.proof_migration.specs.ToolPhase.Unaltered.{IsUnaltered}
+use Rattle.proof_migration.proofs.ToolPhase.Unaltered.Away.{IsKnownAsked, about_asked, all_asked, tool_adds}
 use Rattle.proof_migration.proofs.Program.Turns.Follows.{kept_front, kept_run, unmarked_now}
 use Rattle.proof_migration.proofs.Program.InspectorTurns.Fitting.{WaitsAt}
-use Rattle.proof_migration.proofs.Program.InspectorTurns.Keeping.{CourseFits, all_fit}
+use Rattle.proof_migration.proofs.Program.InspectorTurns.Keeping.{ToolPhaseFits, all_fit}
 use Rattle.proof_migration.proofs.Once.Past.{GoesPast, IsPast, NoMake, goes_past, makes, past_with, rename_frees}
 
 -- BEHIND THE FIRST
@@ -89,14 +89,14 @@ module _ (definitions_are_done : DefinitionsAreDone) (plan : PlanData) (journal 
     pub pairs : List Pair
     pub is_about : histories.about journal entry ≡ Some (requests.Rename pairs)
     pub count : ℕ
-    pub is_told : answer_in entry.asked entry.side entry.answer entry.missed ≡ Some (answers.Ok count)
+    pub is_reported : answer_in entry.asked entry.side entry.answer entry.missed ≡ Some (answers.Ok count)
 
   pub renaming : Renaming
   renaming = by (histories.about journal entry) (answer_in entry.asked entry.side entry.answer entry.missed) refl refl (ap (list_any is_alter) (sym (tool_adds plan serial journal entry runs.fitting known run tool entry.actor tool)) ∙ alters_now) where
-    by : (request : Option Request) (told : Option Answer) → histories.about journal entry ≡ request → answer_in entry.asked entry.side entry.answer entry.missed ≡ told → list_any is_alter (alters plan request told) ≡ true → Renaming
-    by (Some (requests.Rename pairs)) (Some (answers.Ok count)) is told alter = record { pairs = pairs; is_about = is; count = count; is_told = told }
-    by request (Some (answers.Ok count)) is told alter = absurd cc
-    by request told is says alter = absurd cc
+    by : (request : Option Request) (reported : Option Answer) → histories.about journal entry ≡ request → answer_in entry.asked entry.side entry.answer entry.missed ≡ reported → list_any is_alter (alters plan request reported) ≡ true → Renaming
+    by (Some (requests.Rename pairs)) (Some (answers.Ok count)) is reported alter = record { pairs = pairs; is_about = is; count = count; is_reported = reported }
+    by request (Some (answers.Ok count)) is reported alter = absurd cc
+    by request reported is statement_result alter = absurd cc
 
   pub exchanges : (entry.actor ≡ Ren) × (requests.Rename renaming.pairs ≡ exchange plan.table)
   exchanges = about_asked plan serial journal entry runs.fitting known run tool (requests.Rename renaming.pairs) renaming.is_about
@@ -108,29 +108,29 @@ module _ (definitions_are_done : DefinitionsAreDone) (plan : PlanData) (journal 
     by (Call request) asks gives = subst (λ (a : Actor). given plan journal a ≡ Some entry.asked) exchanges.0 (gives ∙ ap Some (sym asks))
     by Poll asks gives = subst (λ (a : Actor). given plan journal a ≡ Some entry.asked) exchanges.0 (gives ∙ ap Some (sym asks))
     by (Command word) asks gives = absurd (never_commands plan journal Ren word (subst (λ (a : Actor). given plan journal a ≡ Some (Command word)) exchanges.0 gives))
-    by Cut asks gives = absurd (no (sym (ap (λ (a : Asked). answer_in a entry.side entry.answer entry.missed) asks) ∙ renaming.is_told)) where
+    by Cut asks gives = absurd (no (sym (ap (λ (a : Asked). answer_in a entry.side entry.answer entry.missed) asks) ∙ renaming.is_reported)) where
       no : None ≡ Some (answers.Ok renaming.count) → ⊥
       no same = cc
 
-  past_now : (course : Course) → (moment plan journal).tool.course ≡ course → IsPast plan (journal ++ entry ∷ [])
-  past_now (Migrating work) course =
-      past_with plan journal entry work course (
-        rename_frees definitions_are_done plan journal entry serial runs known run work course asks_now exchanges.0 renaming.count renaming.is_told,
+  past_now : (tool_phase : ToolPhase) → (moment plan journal).tool.tool_phase ≡ tool_phase → IsPast plan (journal ++ entry ∷ [])
+  past_now (Migrating work) tool_phase =
+      past_with plan journal entry work tool_phase (
+        rename_frees definitions_are_done plan journal entry serial runs known run work tool_phase asks_now exchanges.0 renaming.count renaming.is_reported,
         subst (λ (s : Standing). NoMake s.waits) (sym (others_stand plan journal entry known.marking.tabled.all.tool.known (record { answered = run.answered; seated = record { session = run.followed.session } }) Insp (ap (λ (a : Actor). same_actor a Insp) exchanges.0)))
-            (waits_none (has Insp).waits work.cutover.table work.cutover.attempts work.cutover.phase (unmarked_now plan journal work known off course).undone.undone
-            (subst (CourseFits plan (state_at plan journal).tables (has Insp).waits) course (all_fit plan journal runs serial before off)).waits),
+            (waits_none (has Insp).waits work.cutover.table work.cutover.attempts work.cutover.phase (unmarked_now plan journal work known off tool_phase).undone.undone
+            (subst (ToolPhaseFits plan (state_at plan journal).tables (has Insp).waits) tool_phase (all_fit plan journal runs serial before off)).waits),
       )
-  past_now (SettingUp setup tries) course = absurd (setting asks_now) where
+  past_now (SettingUp setup tries) tool_phase = absurd (setting asks_now) where
     stands : SetupStands has
-    stands = subst (CourseStands journal has (is_reverting (moment plan journal).tool.reason)) course known.marking.tabled.all.tool.stands
+    stands = subst (ToolPhaseStands journal has (is_reverting (moment plan journal).tool.reason)) tool_phase known.marking.tabled.all.tool.stands
 
     setting : Asking plan journal Ren entry.asked → ⊥
-    setting (calls_so request asks idle call) = none-some request (ap (λ (c : Course). tool_call plan (moment plan journal).server journal (moment plan journal).tool c Ren) (sym course) ∙ call)
+    setting (calls_so request asks idle call) = none-some request (ap (λ (c : ToolPhase). tool_call plan (moment plan journal).server journal (moment plan journal).tool c Ren) (sym tool_phase) ∙ call)
     setting (polls_so request asks some) = none-some request (sym (ap (λ (s : Standing). s.waits) stands.renamer) ∙ some)
 
 -- *Behind the RENAME*
 pub renamed_past : DefinitionsAreDone → (plan : PlanData) (journal : List Entry) (entry : Entry) → IsRunnable plan → IsSerialPlan plan → IsKept plan (journal ++ entry ∷ []) → IsUnaltered plan journal → list_any is_alter (entry_adds plan journal entry) ≡ true → IsPast plan (journal ++ entry ∷ [])
-renamed_past done plan journal entry runs serial kept off alters_now = past_now done plan journal entry runs serial kept off alters_now (moment plan journal).tool.course refl
+renamed_past done plan journal entry runs serial kept off alters_now = past_now done plan journal entry runs serial kept off alters_now (moment plan journal).tool.tool_phase refl
 
 -- WHOLE JOURNALS
 

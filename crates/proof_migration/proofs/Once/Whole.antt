@@ -9,7 +9,7 @@ use Rattle.proof_journals.specs.Plans.{IsSerialPlan}
 use Rattle.proof_journals.specs.ServerTurns.Others.{DefinitionsAreDone}
 use Rattle.proof_journals.specs.Run.Kept.{IsKept}
 use Rattle.proof_journals.specs.Machine.Runnable.{IsRunnable}
-use Rattle.proof_migration.specs.Course.Unaltered.{IsUnaltered}
+use Rattle.proof_migration.specs.ToolPhase.Unaltered.{IsUnaltered}
 use Rattle.proof_migration.proofs.Program.Turns.Follows.{kept_front}
 use Rattle.proof_migration.specs.Once.{RenamesComeOnce}
 use Rattle.proof_migration.proofs.Once.Renames.{IsFirst, past_along, renamed_past, unaltered_more}

@@ -5,20 +5,20 @@ use Rattle.std.specs.Option.{option_map}
 use Rattle.base_values.specs.Laws.{StoresAgain}
 use Rattle.base_values.specs.declared.gho_schema.schema.Schema.{Schema}
 use Rattle.base_values.specs.SchemaRules.Valid.{IsValid}
-use Rattle.sql_change.specs.Altering.{altered}
+use Rattle.sql_change.specs.AlteredSchema.{altered}
 use Rattle.table_store.specs.Databases.{TableRows, find_table}
 use Rattle.plan_data.specs.PlanData.{Altered, PlanData, altered_by, new_altered, new_map, new_schema, no_schema, old_schema}
 use Rattle.base_values.specs.ToolNames.{ghost_name}
 use Rattle.proof_journals.specs.Plans.{IsSerialPlan}
 use Rattle.proof_journals.specs.Ghost.Rows.Timelines.{IsPlanned, Migration}
-use Rattle.proof_journals.specs.Ghost.Holding.{Clustered}
+use Rattle.proof_journals.specs.Ghost.HeldKeys.{Clustered}
 use Rattle.proof_journals.proofs.Ghost.Keys.{clustered}
 use Rattle.proof_migration.specs.Migration.Planning.{migration_of}
 use Rattle.proof_migration.proofs.Migration.Planning.Planned.{alters_planned, was_ok}
 use Rattle.proof_migration.proofs.Migration.Applier.Stated.{alters_find_rows}
 use Rattle.proof_journals.specs.Machine.Runnable.{IsRunnable}
-use Rattle.proof_migration.specs.Course.Runnable.{AlterablePlansAreRunnable, IsAlterable}
-use Rattle.proof_migration.proofs.Course.Runnable.Plans.{named}
+use Rattle.proof_migration.specs.ToolPhase.Runnable.{AlterablePlansAreRunnable, IsAlterable}
+use Rattle.proof_migration.proofs.ToolPhase.Runnable.Plans.{named}
 use Rattle.proof_migration.specs.Program.Turns.Goes.{IsOf}
 use Rattle.proof_migration.specs.Program.Turns.Laws.{IsMigrationOf}
 use Rattle.proof_migration.proofs.Program.Turns.Follows.{marks_are_altered}
@@ -82,4 +82,4 @@ followers_alter again runnable plan is worded serial journal kept mark =
     let of : IsMigrationOf plan (migration_of is.table.schema is.new) is.table.rows = migration plan is again (runnable plan is worded) serial in
     let at : Clustered is.table.schema = clustered is.table.schema of.planned.old_key in
     marks_are_altered plan (migration_of is.table.schema is.new) at is.table.rows of journal kept mark
-    (followers_go plan (migration_of is.table.schema is.new) at is.table.rows of (own_table plan is) journal mark.work kept mark.unaltered mark.going mark.course)
+    (followers_go plan (migration_of is.table.schema is.new) at is.table.rows of (own_table plan is) journal mark.work kept mark.unaltered mark.going mark.tool_phase)

@@ -11,11 +11,11 @@ use Rattle.server_model.specs.States.{State}
 use Rattle.tool_program.specs.JournalWords.Journals.{may_lose, opens}
 use Rattle.proof_journals.specs.Scenes.{Besides, Scene, SessionHold, Stored, no_hold}
 use Rattle.proof_journals.specs.Holdings.{stored}
-use Rattle.proof_journals.specs.Turns.{IsSceneRun, about, scene_state, told_at}
+use Rattle.proof_journals.specs.Turns.{IsSceneRun, about, scene_state, reported_at}
 use Rattle.proof_journals.specs.Ghost.Rows.Moments.{Row}
 use Rattle.proof_journals.specs.Ghost.Rows.Timelines.{Migration}
 use Rattle.proof_journals.specs.Ghost.Invariant.{NotOf}
-use Rattle.proof_journals.proofs.Ghost.Keeping.{TableStands, found_besides, table_commits, table_moves}
+use Rattle.proof_journals.proofs.Ghost.Keeping.{TableExists, found_besides, table_commits, table_moves}
 use Rattle.proof_journals.proofs.Ghost.Leaving.{holds_of}
 use Rattle.proof_migration.proofs.Migration.Leaves.{Cases, WritesAway, turn_leaves}
 use Rattle.proof_migration.proofs.Migration.Others.{LeavesName, moved_stays}
@@ -32,20 +32,20 @@ module _ (m : Migration) (rows : List Row) (limits : Limits) (scene : Scene) (jo
   abbrev after : State
   after = scene_state limits scene (journal ++ entry ∷ [])
 
-  abbrev told : Option Answer
-  told = told_at entry.side entry.answer entry.missed
+  abbrev reported : Option Answer
+  reported = reported_at entry.side entry.answer entry.missed
 
   -- what the turn is about leaves the table of this name
   abbrev pub AboutLeaves : List ℕ → Type 0
-  AboutLeaves name = (request : Request) → about (opens entry before) entry.session entry.asked ≡ Some request → LeavesName name told request
+  AboutLeaves name = (request : Request) → about (opens entry before) entry.session entry.asked ≡ Some request → LeavesName name reported request
 
   pub record Left : Type 0 where
-    pub table : TableStands m rows (stored after)
+    pub table : TableExists m rows (stored after)
     pub away : NoneWrote m after
     pub longer : length before.log ≤ length after.log
     pub ghost : AboutLeaves m.new.name → find_table m.new.name after.tables ≡ find_table m.new.name before.tables
 
-  module _ (sides : may_lose entry.asked ≡ false → entry.side ≡ None) (writes : (request : Request) → about (opens entry before) entry.session entry.asked ≡ Some request → WritesAway m request) (old : AboutLeaves m.name) (stands : TableStands m rows (stored before)) (none_wrote : NoneWrote m before) where
+  module _ (sides : may_lose entry.asked ≡ false → entry.side ≡ None) (writes : (request : Request) → about (opens entry before) entry.session entry.asked ≡ Some request → WritesAway m request) (old : AboutLeaves m.name) (stands : TableExists m rows (stored before)) (none_wrote : NoneWrote m before) where
     away_then : (middle : ℕ → SessionHold) (held : SessionHold) → ((n : ℕ) → (n == entry.session) ≡ false → middle n ≡ holds_of before n) → NotOf m.new.name held.writes → Besides entry.session middle (holds_of after) held → NoneWrote m after
     away_then middle held same none besides n = by (n == entry.session) refl where
       by : (b : Bool) → (n == entry.session) ≡ b → NotOf m.new.name (holds_of after n).writes
@@ -62,7 +62,7 @@ module _ (m : Migration) (rows : List Row) (limits : Limits) (scene : Scene) (jo
     cases =
         record {
           holds = λ held none same besides. record {
-            table = subst (TableStands m rows) (sym same) stands;
+            table = subst (TableExists m rows) (sym same) stands;
             away = away_then (holds_of before) held (λ n differ. refl) none besides;
             longer = no_longer (ap (λ (s : Stored). s.log) same);
             ghost = λ leaves. ap (λ (s : Stored). find_table m.new.name s.tables) same;
@@ -74,10 +74,10 @@ module _ (m : Migration) (rows : List Row) (limits : Limits) (scene : Scene) (jo
             ghost = λ leaves. ap (find_table m.new.name) tables ∙ found_besides m.new.name (middle entry.session).writes before.tables none;
           };
           moves = λ request tables held asked moved made log none besides. record {
-            table = table_moves m rows (stored before) (stored after) stands log (ap (find_table m.name) made ∙ moved_stays m.name told before.tables request tables (old request asked) moved);
+            table = table_moves m rows (stored before) (stored after) stands log (ap (find_table m.name) made ∙ moved_stays m.name reported before.tables request tables (old request asked) moved);
             away = away_then (holds_of before) held (λ n differ. refl) none besides;
             longer = no_longer log;
-            ghost = λ leaves. ap (find_table m.new.name) made ∙ moved_stays m.new.name told before.tables request tables (leaves request asked) moved;
+            ghost = λ leaves. ap (find_table m.new.name) made ∙ moved_stays m.new.name reported before.tables request tables (leaves request asked) moved;
           };
         }
 

@@ -17,8 +17,8 @@ use Rattle.server_model.specs.States.{State}
 use Rattle.tool_program.specs.JournalWords.Journals.{opens}
 use Rattle.proof_journals.specs.Scenes.{Scene}
 use Rattle.proof_journals.specs.Holdings.{stored}
-use Rattle.proof_journals.specs.Turns.{IsSceneRun, IsTold, about, scene_state, told_at}
-use Rattle.proof_journals.specs.Ghost.Leaving.{EffectLeaves, effect_answer, is_lost, was_done, where_done}
+use Rattle.proof_journals.specs.Turns.{IsSceneRun, IsReported, about, scene_state, reported_at}
+use Rattle.proof_journals.specs.Ghost.EffectStates.{EffectLeaves, effect_answer, is_lost, was_done, where_done}
 use Rattle.proof_journals.proofs.Ghost.Leaving.{effects_are_done, holds_of}
 use Rattle.proof_journals.proofs.Ghost.Turns.{along_next, run_front}
 use Rattle.proof_journals.proofs.Ghost.Undone.{effects_answer}
@@ -43,17 +43,17 @@ module _ (limits : Limits) (scene : Scene) (journal : List Entry) (entry : Entry
   run : IsSceneRun limits scene journal
   run = run_front limits scene journal (entry ∷ []) more
 
-  entry_told : IsTold limits scene journal entry
-  entry_told = along_next (IsTold limits scene) [] journal entry [] more.told
+  entry_reported : IsReported limits scene journal entry
+  entry_reported = along_next (IsReported limits scene) [] journal entry [] more.reported
 
-  told : told_at entry.side entry.answer entry.missed ≡ Some entry.answer
-  told = rw heard refl
+  reported : reported_at entry.side entry.answer entry.missed ≡ Some entry.answer
+  reported = rw heard refl
 
   left : (request : Request) → About request → was_done entry.answer ≡ true → EffectLeaves (effect_now request) (is_lost entry.side) entry.session (stored before) (stored after) (holds_of before) (holds_of after)
-  left request asked done = effects_are_done limits scene journal entry request entry.answer run entry_told asked told done
+  left request asked done = effects_are_done limits scene journal entry request entry.answer run entry_reported asked reported done
 
-  says : (request : Request) → About request → was_done entry.answer ≡ true → entry.answer ≡ effect_answer (effect_now request)
-  says request asked done = effects_answer limits scene journal entry request entry.answer run entry_told asked told done
+  statement_result : (request : Request) → About request → was_done entry.answer ≡ true → entry.answer ≡ effect_answer (effect_now request)
+  statement_result request asked done = effects_answer limits scene journal entry request entry.answer run entry_reported asked reported done
 
   -- the ends of the range, and nothing is stored
   pub record EndsSaid (table : List ℕ) : Type 0 where
@@ -66,14 +66,14 @@ module _ (limits : Limits) (scene : Scene) (journal : List Entry) (entry : Entry
     done = ap was_done is
 
     by : Deeded before entry.session (requests.Ends table) (effect_now (requests.Ends table)) → EndsSaid table
-    by (outside_so out) = absurd (no (sym is ∙ says (requests.Ends table) asked done ∙ ap effect_answer out)) where
+    by (outside_so out) = absurd (no (sym is ∙ statement_result (requests.Ends table) asked done ∙ ap effect_answer out)) where
       no : answers.Ends range ≡ refuses ER_TABLE_NOT_LOCKED → ⊥
       no same = cc
     by (within_so there same log within) =
         let all = subst (λ (d : Effect). EffectLeaves d (is_lost entry.side) entry.session (stored before) (stored after) (holds_of before) (holds_of after)) within (left (requests.Ends table) asked done) in
         record {
           same = all.0;
-          answer = says (requests.Ends table) asked done ∙ ap effect_answer within ∙ ap (λ (d : Database). of_table (find_table table d) (λ t. ends_of (keys_of (key_places t.schema) t.rows))) same;
+          answer = statement_result (requests.Ends table) asked done ∙ ap effect_answer within ∙ ap (λ (d : Database). of_table (find_table table d) (λ t. ends_of (keys_of (key_places t.schema) t.rows))) same;
         }
 
   -- the log's end
@@ -83,10 +83,10 @@ module _ (limits : Limits) (scene : Scene) (journal : List Entry) (entry : Entry
     done = ap was_done is
 
     by : Deeded before entry.session requests.LogEnd (effect_now requests.LogEnd) → position ≡ length before.log
-    by (outside_so out) = absurd (no (sym is ∙ says requests.LogEnd asked done ∙ ap effect_answer out)) where
+    by (outside_so out) = absurd (no (sym is ∙ statement_result requests.LogEnd asked done ∙ ap effect_answer out)) where
       no : answers.At position ≡ refuses ER_TABLE_NOT_LOCKED → ⊥
       no same = cc
-    by (within_so there same log within) = let both : answers.At position ≡ answers.At (length there.log) = sym is ∙ says requests.LogEnd asked done ∙ ap effect_answer within in let one : position ≡ length there.log = cc in one ∙ ap length log
+    by (within_so there same log within) = let both : answers.At position ≡ answers.At (length there.log) = sym is ∙ statement_result requests.LogEnd asked done ∙ ap effect_answer within in let one : position ≡ length there.log = cc in one ∙ ap length log
 
   -- a table is made, without rows
   pub made_said : (schema : Schema) (count : ℕ) → About (requests.Create schema) → entry.answer ≡ answers.Ok count → find_table schema.name after.tables ≡ Some (record { schema = schema; rows = [] })
@@ -98,10 +98,10 @@ module _ (limits : Limits) (scene : Scene) (journal : List Entry) (entry : Entry
     refused number same = cc
 
     by : Deeded before entry.session (requests.Create schema) (effect_now (requests.Create schema)) → find_table schema.name after.tables ≡ Some (record { schema = schema; rows = [] })
-    by (outside_so out) = absurd (refused ER_TABLE_NOT_LOCKED (sym is ∙ says (requests.Create schema) asked done ∙ ap effect_answer out))
+    by (outside_so out) = absurd (refused ER_TABLE_NOT_LOCKED (sym is ∙ statement_result (requests.Create schema) asked done ∙ ap effect_answer out))
     by (within_so there same log within) = stands (has_table schema.name there.tables) refl within where
       stands : (b : Bool) → has_table schema.name there.tables ≡ b → effect_now (requests.Create schema) ≡ defined (created b schema there.tables) → find_table schema.name after.tables ≡ Some (record { schema = schema; rows = [] })
-      stands true has so = absurd (refused ER_TABLE_EXISTS_ERROR (sym is ∙ says (requests.Create schema) asked done ∙ ap effect_answer so))
+      stands true has so = absurd (refused ER_TABLE_EXISTS_ERROR (sym is ∙ statement_result (requests.Create schema) asked done ∙ ap effect_answer so))
       stands false has so =
           let all = subst (λ (d : Effect). EffectLeaves d (is_lost entry.side) entry.session (stored before) (stored after) (holds_of before) (holds_of after)) so (left (requests.Create schema) asked done) in
           ap (find_table schema.name) all.0 ∙ new_found schema.name there.tables (record { schema = schema; rows = [] }) has (same_bytes schema.name)

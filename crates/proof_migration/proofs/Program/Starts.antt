@@ -19,7 +19,7 @@ use Rattle.server_model.specs.declared.request.Request.TheVariants as requests
 use Rattle.server_model.specs.Chunks.{ends_of, keys_of, last_of}
 use Rattle.server_model.specs.Effects.{of_table}
 use Rattle.server_model.specs.Entries.{is_command, is_cut, same_actor}
-use Rattle.server_model.specs.Jobs.{table_of}
+use Rattle.server_model.specs.Operations.{table_of}
 use Rattle.server_model.specs.States.{State}
 use Rattle.plan_data.specs.PlanData.{PlanData}
 use Rattle.base_values.specs.ToolNames.{ghost_name, log_name}
@@ -31,24 +31,24 @@ use Rattle.tool_program.specs.CutoverCore.Attempts.{first_name, is_clear, withou
 use Rattle.tool_program.specs.CutoverCore.CutOvers.{is_bad}
 use Rattle.tool_program.specs.Programs.{IsGiven, given, tool_asks, tool_call}
 use Rattle.tool_program.specs.Setups.{Setup, Listing, Clearing, MakingLog, MakingGhost, Marking, Reaching, Ready, clearing, listed, setup_call, setup_step}
-use Rattle.tool_program.specs.Tools.{Course, Migrating, SettingUp, Work, course_of, is_reverting, moment, new_work}
+use Rattle.tool_program.specs.Tools.{ToolPhase, Migrating, SettingUp, Work, tool_phase_of, is_reverting, moment, new_work}
 use Rattle.tool_program.proofs.OnlineCalls.Naming.{not_first, not_ghost, not_log}
 use Rattle.proof_journals.specs.Plans.{limits_of, scene_of}
 use Rattle.proof_journals.specs.Scenes.{Stored, no_hold}
 use Rattle.proof_journals.specs.Holdings.{face_of, stored}
-use Rattle.proof_journals.specs.Turns.{ClientAsks, IsSceneRun, about, told_at}
+use Rattle.proof_journals.specs.Turns.{ClientAsks, IsSceneRun, about, reported_at}
 use Rattle.proof_journals.proofs.Journals.{journal_holds}
 use Rattle.proof_journals.specs.Ghost.Rows.Moments.{Row, rows_at}
 use Rattle.proof_journals.specs.Ghost.Rows.Timelines.{Migration}
 use Rattle.proof_journals.specs.Ghost.Copies.{range_of}
-use Rattle.proof_journals.specs.Ghost.Holding.{Clustered}
+use Rattle.proof_journals.specs.Ghost.HeldKeys.{Clustered}
 use Rattle.proof_journals.specs.Ghost.Tool.CopyState.{Waiting}
-use Rattle.proof_journals.proofs.Ghost.Keeping.{TableStands, table_opens}
-use Rattle.proof_migration.specs.Migration.Copier.Copying.{copy_state}
+use Rattle.proof_journals.proofs.Ghost.Keeping.{TableExists, table_opens}
+use Rattle.proof_migration.specs.Migration.Copier.CopierPlace.{copy_state}
 use Rattle.proof_journals.specs.Run.Kept.{IsKept}
-use Rattle.proof_journals.specs.Machine.Machines.{CourseStands, SetupStands}
+use Rattle.proof_journals.specs.Machine.Machines.{ToolPhaseStands, SetupStands}
 use Rattle.proof_journals.specs.Machine.Standings.{MayTake, Standing, free, is_polled, standing_in, standing_of}
-use Rattle.proof_journals.specs.Machine.Tabling.{CourseTables, SetupTables, ghost_schema, past_ghost}
+use Rattle.proof_journals.specs.Machine.MigrationTables.{ToolPhaseTables, SetupTables, ghost_schema, past_ghost}
 use Rattle.proof_journals.proofs.Machine.Asking.{some_request, unless_called}
 use Rattle.proof_journals.proofs.Machine.Journals.{Asking, IsRun, IsTogether, asking, calls_so, polls_so}
 use Rattle.proof_journals.proofs.Machine.Keyed.{all_keyed}
@@ -60,9 +60,9 @@ use Rattle.proof_migration.proofs.Migration.Leaves.{WritesAway}
 use Rattle.proof_migration.proofs.Migration.Migrating.{starts}
 use Rattle.proof_migration.proofs.Migration.Others.{LeavesName}
 use Rattle.server_model.proofs.LockedRows.Tests.{turned_bytes}
-use Rattle.proof_migration.specs.Course.Unaltered.{IsUnaltered}
-use Rattle.proof_migration.proofs.Course.Unaltered.Asking.{AskedAs}
-use Rattle.proof_migration.proofs.Course.Unaltered.Away.{IsKnownAsked, all_asked, unaltered_front}
+use Rattle.proof_migration.specs.ToolPhase.Unaltered.{IsUnaltered}
+use Rattle.proof_migration.proofs.ToolPhase.Unaltered.Asking.{AskedAs}
+use Rattle.proof_migration.proofs.ToolPhase.Unaltered.Away.{IsKnownAsked, all_asked, unaltered_front}
 use Rattle.proof_migration.specs.Program.Turns.Goes.{ActorStates, machines_in}
 use Rattle.proof_migration.specs.Program.Turns.Laws.{GoesSomehow, IsMigrationOf}
 use Rattle.proof_migration.proofs.Program.Turns.Asked.{about_called, asked_as, gave, waits_with}
@@ -83,7 +83,7 @@ NotedIn setup end = Unit {0}
 -- *The setup stands*: the migrated table is its opening rows behind the log, which fits it; no session has written a row of the
 -- new table, which is empty once it is made
 record SetupGoes (plan : PlanData) (m : Migration) (rows : List Row) (journal : List Entry) (setup : Setup) : Type 0 where
-  table : TableStands m rows (stored (state_at plan journal))
+  table : TableExists m rows (stored (state_at plan journal))
   away : NoneWrote m (state_at plan journal)
   empty : past_ghost setup ≡ true → find_table m.new.name (state_at plan journal).tables ≡ Some (record { schema = m.new; rows = [] })
   noted : NotedIn setup (length (state_at plan journal).log)
@@ -108,7 +108,7 @@ range_is places (first ∷ others) range journal plan size position is =
 -- ONE TURN OF THE SETUP
 
 module _ (plan : PlanData) (m : Migration) (at : Clustered m.schema) (rows : List Row) (of : IsMigrationOf plan m rows) (journal : List Entry) (entry : Entry) (kept : IsKept plan (journal ++ entry ∷ [])) (off : IsUnaltered plan (journal ++ entry ∷ [])) (going : is_reverting (moment plan (journal ++ entry ∷ [])).tool.reason ≡ false)
-    (setup : Setup) (tries : List ℕ) (course : (moment plan journal).tool.course ≡ SettingUp setup tries) (was : SetupGoes plan m rows journal setup) where
+    (setup : Setup) (tries : List ℕ) (tool_phase : (moment plan journal).tool.tool_phase ≡ SettingUp setup tries) (was : SetupGoes plan m rows journal setup) where
   abbrev more : List Entry
   more = journal ++ entry ∷ []
 
@@ -121,8 +121,8 @@ module _ (plan : PlanData) (m : Migration) (at : Clustered m.schema) (rows : Lis
   abbrev has : Actor → Standing
   has = standing_of plan journal
 
-  abbrev told : Option Answer
-  told = told_at entry.side entry.answer entry.missed
+  abbrev reported : Option Answer
+  reported = reported_at entry.side entry.answer entry.missed
 
   before : IsKept plan journal
   before = kept_front plan journal (entry ∷ []) kept
@@ -143,10 +143,10 @@ module _ (plan : PlanData) (m : Migration) (at : Clustered m.schema) (rows : Lis
   together = known.marking.tabled.all.tool
 
   stands : SetupStands has
-  stands = subst (CourseStands journal has (is_reverting (moment plan journal).tool.reason)) course together.stands
+  stands = subst (ToolPhaseStands journal has (is_reverting (moment plan journal).tool.reason)) tool_phase together.stands
 
   tables : SetupTables plan now.tables has setup
-  tables = subst (CourseTables plan now.tables has) course known.marking.tabled.tables
+  tables = subst (ToolPhaseTables plan now.tables has) tool_phase known.marking.tabled.tables
 
   abbrev About : Request → Type 0
   About request = about (opens entry now) entry.session entry.asked ≡ Some request
@@ -170,21 +170,21 @@ module _ (plan : PlanData) (m : Migration) (at : Clustered m.schema) (rows : Lis
     by (Command word) asks gives is = absurd cc
 
   -- while the setup goes on the others are given nothing
-  uncalled : (actor : Actor) → ((c : Course) → c ≡ SettingUp setup tries → tool_call plan (moment plan journal).server journal (moment plan journal).tool c actor ≡ None) → (called : Request) → tool_asks plan journal (moment plan journal) actor ≡ Some (Call called) → ⊥
+  uncalled : (actor : Actor) → ((c : ToolPhase) → c ≡ SettingUp setup tries → tool_call plan (moment plan journal).server journal (moment plan journal).tool c actor ≡ None) → (called : Request) → tool_asks plan journal (moment plan journal) actor ≡ Some (Call called) → ⊥
   uncalled actor none called gives = by (asking plan journal actor (Call called) together.server gives) where
     by : Asking plan journal actor (Call called) → ⊥
-    by (calls_so other one idle call) = no (sym (none (moment plan journal).tool.course course) ∙ call) where
+    by (calls_so other one idle call) = no (sym (none (moment plan journal).tool.tool_phase tool_phase) ∙ call) where
       no : None ≡ Some other → ⊥
       no both = cc
     by (polls_so other one some) = no one where
       no : Call called ≡ Poll → ⊥
       no both = cc
 
-  none_of : (actor : Actor) → tool_call plan (moment plan journal).server journal (moment plan journal).tool (SettingUp setup tries) actor ≡ None → (c : Course) → c ≡ SettingUp setup tries → tool_call plan (moment plan journal).server journal (moment plan journal).tool c actor ≡ None
-  none_of actor none c same = ap (λ (c : Course). tool_call plan (moment plan journal).server journal (moment plan journal).tool c actor) same ∙ none
+  none_of : (actor : Actor) → tool_call plan (moment plan journal).server journal (moment plan journal).tool (SettingUp setup tries) actor ≡ None → (c : ToolPhase) → c ≡ SettingUp setup tries → tool_call plan (moment plan journal).server journal (moment plan journal).tool c actor ≡ None
+  none_of actor none c same = ap (λ (c : ToolPhase). tool_call plan (moment plan journal).server journal (moment plan journal).tool c actor) same ∙ none
 
-  insp_call : (request : Request) → tool_call plan (moment plan journal).server journal (moment plan journal).tool (moment plan journal).tool.course Insp ≡ Some request → setup_call plan setup ≡ Some request
-  insp_call request call = unless_called (is_reverting (moment plan journal).tool.reason) (setup_call plan setup) request (ap (λ (c : Course). tool_call plan (moment plan journal).server journal (moment plan journal).tool c Insp) (sym course) ∙ call)
+  insp_call : (request : Request) → tool_call plan (moment plan journal).server journal (moment plan journal).tool (moment plan journal).tool.tool_phase Insp ≡ Some request → setup_call plan setup ≡ Some request
+  insp_call request call = unless_called (is_reverting (moment plan journal).tool.reason) (setup_call plan setup) request (ap (λ (c : ToolPhase). tool_call plan (moment plan journal).server journal (moment plan journal).tool c Insp) (sym tool_phase) ∙ call)
 
   insp_waits : (request : Request) → entry.actor ≡ Insp → (has entry.actor).waits ≡ Some request → setup_call plan setup ≡ Some request
   insp_waits request same some = tables.waits request (ap (λ (a : Actor). (has a).waits) (sym same) ∙ some)
@@ -240,14 +240,14 @@ module _ (plan : PlanData) (m : Migration) (at : Clustered m.schema) (rows : Lis
     by (inl asks) = client_writes request asks
     by (inr call) = setup_writes setup request call
 
-  client_leaves : (name : List ℕ) (request : Request) → ClientAsks (scene_of plan []) request → LeavesName name told request
+  client_leaves : (name : List ℕ) (request : Request) → ClientAsks (scene_of plan []) request → LeavesName name reported request
   client_leaves name (requests.Create schema) asks = absurd asks
   client_leaves name (requests.Drop gone) asks = absurd asks
   client_leaves name (requests.Rename pairs) asks = absurd asks
   client_leaves name request asks = tt
 
   abbrev LeavesOld : Request → Type 0
-  LeavesOld request = LeavesName m.name told request
+  LeavesOld request = LeavesName m.name reported request
 
   setup_leaves : (setup : Setup) (request : Request) → setup_call plan setup ≡ Some request → LeavesOld request
   unfolding log_schema
@@ -266,15 +266,15 @@ module _ (plan : PlanData) (m : Migration) (at : Clustered m.schema) (rows : Lis
     by (inr call) = setup_leaves setup request call
 
   -- once the new table is made the setup leaves it
-  past_leaves : (setup : Setup) (request : Request) → past_ghost setup ≡ true → setup_call plan setup ≡ Some request → LeavesName m.new.name told request
-  past_leaves Marking request past is = some_request (LeavesName m.new.name told) _ request is tt
-  past_leaves (Reaching position) request past is = some_request (LeavesName m.new.name told) _ request is tt
+  past_leaves : (setup : Setup) (request : Request) → past_ghost setup ≡ true → setup_call plan setup ≡ Some request → LeavesName m.new.name reported request
+  past_leaves Marking request past is = some_request (LeavesName m.new.name reported) _ request is tt
+  past_leaves (Reaching position) request past is = some_request (LeavesName m.new.name reported) _ request is tt
   past_leaves (Ready position range) request past is = absurd cc
   past_leaves setup request past is = absurd (false≢true past)
 
-  leaves_ghost : past_ghost setup ≡ true → (request : Request) → About request → LeavesName m.new.name told request
+  leaves_ghost : past_ghost setup ≡ true → (request : Request) → About request → LeavesName m.new.name reported request
   leaves_ghost past request is = by (turn_asks request is) where
-    by : Asks request → LeavesName m.new.name told request
+    by : Asks request → LeavesName m.new.name reported request
     by (inl asks) = client_leaves m.new.name request asks
     by (inr call) = past_leaves setup request past call
 
@@ -349,7 +349,7 @@ module _ (plan : PlanData) (m : Migration) (at : Clustered m.schema) (rows : Lis
 
     -- THE START
 
-    module _ (position : ℕ) (range : Option KeyRange) (reaching : setup ≡ Reaching position) (ends : entry.answer ≡ answers.Ends range) (tries_then : List ℕ) (then_course : (moment plan more).tool.course ≡ Migrating (new_work plan (moment plan journal).tool.operator.size position range)) where
+    module _ (position : ℕ) (range : Option KeyRange) (reaching : setup ≡ Reaching position) (ends : entry.answer ≡ answers.Ends range) (tries_then : List ℕ) (then_tool_phase : (moment plan more).tool.tool_phase ≡ Migrating (new_work plan (moment plan journal).tool.operator.size position range)) where
       abbrev work : Work
       work = new_work plan (moment plan journal).tool.operator.size position range
 
@@ -411,7 +411,7 @@ module _ (plan : PlanData) (m : Migration) (at : Clustered m.schema) (rows : Lis
           two = actor_states.two;
         };
         named = named_new;
-        behind = refl;
+        following = refl;
         choosing = refl;
         sized = sized;
         reading = refl;
@@ -427,7 +427,7 @@ module _ (plan : PlanData) (m : Migration) (at : Clustered m.schema) (rows : Lis
       goes_now : GoesSomehow plan m at rows more
       goes_now = record {
         work = work;
-        course = then_course;
+        tool_phase = then_tool_phase;
         goes = record {
           stands = λ copier applier actor_states. starts m at rows of.planned (limits_of plan) (scene_of plan []) more (machines_in work copier applier) (starts_now copier applier actor_states);
           copy_waits = λ request some. absurd (none_then Copy request (then_free Copy refl stands.copier) some);
@@ -442,7 +442,7 @@ module _ (plan : PlanData) (m : Migration) (at : Clustered m.schema) (rows : Lis
 
 -- the tool sets up, or the migration goes
 data StandsSo (plan : PlanData) (m : Migration) (at : Clustered m.schema) (rows : List Row) (journal : List Entry) : Type 0 where
-  sets_up : (setup : Setup) (tries : List ℕ) → (moment plan journal).tool.course ≡ SettingUp setup tries → SetupGoes plan m rows journal setup → StandsSo plan m at rows journal
+  sets_up : (setup : Setup) (tries : List ℕ) → (moment plan journal).tool.tool_phase ≡ SettingUp setup tries → SetupGoes plan m rows journal setup → StandsSo plan m at rows journal
   goes_so : GoesSomehow plan m at rows journal → StandsSo plan m at rows journal
 
 -- how a setup is ready
@@ -471,26 +471,26 @@ ready_by table Marking (answers.At end) position range is = absurd cc
 ready_by table setup answer position range is = absurd cc
 
 setup_more : (plan : PlanData) (m : Migration) (at : Clustered m.schema) (rows : List Row) (of : IsMigrationOf plan m rows) (journal : List Entry) (entry : Entry) (kept : IsKept plan (journal ++ entry ∷ [])) (off : IsUnaltered plan (journal ++ entry ∷ [])) (going : is_reverting (moment plan (journal ++ entry ∷ [])).tool.reason ≡ false)
-    (setup : Setup) (tries : List ℕ) (course : (moment plan journal).tool.course ≡ SettingUp setup tries) (was : SetupGoes plan m rows journal setup) → StandsSo plan m at rows (journal ++ entry ∷ [])
-setup_more plan m at rows of journal entry kept off going setup tries course was = by (setup_turn plan journal entry setup tries course going) where
+    (setup : Setup) (tries : List ℕ) (tool_phase : (moment plan journal).tool.tool_phase ≡ SettingUp setup tries) (was : SetupGoes plan m rows journal setup) → StandsSo plan m at rows (journal ++ entry ∷ [])
+setup_more plan m at rows of journal entry kept off going setup tries tool_phase was = by (setup_turn plan journal entry setup tries tool_phase going) where
   size : ℕ
   size = (moment plan journal).tool.operator.size
 
-  stepped : (next : Setup) → setup_step plan.table setup entry.answer ≡ next → (some : List ℕ) → entry.actor ≡ Insp → is_cut entry.asked ≡ false → is_bad entry.answer ≡ false → (moment plan (journal ++ entry ∷ [])).tool.course ≡ course_of plan size next some → StandsSo plan m at rows (journal ++ entry ∷ [])
+  stepped : (next : Setup) → setup_step plan.table setup entry.answer ≡ next → (some : List ℕ) → entry.actor ≡ Insp → is_cut entry.asked ≡ false → is_bad entry.answer ≡ false → (moment plan (journal ++ entry ∷ [])).tool.tool_phase ≡ tool_phase_of plan size next some → StandsSo plan m at rows (journal ++ entry ∷ [])
   stepped next is some insp uncut good then = to next is then where
     goes_on : SetupGoes plan m rows (journal ++ entry ∷ []) (setup_step plan.table setup entry.answer)
-    goes_on = goes_setting plan m at rows of journal entry kept off going setup tries course was insp uncut good
+    goes_on = goes_setting plan m at rows of journal entry kept off going setup tries tool_phase was insp uncut good
 
-    setting : (next : Setup) → setup_step plan.table setup entry.answer ≡ next → (moment plan (journal ++ entry ∷ [])).tool.course ≡ SettingUp next some → StandsSo plan m at rows (journal ++ entry ∷ [])
+    setting : (next : Setup) → setup_step plan.table setup entry.answer ≡ next → (moment plan (journal ++ entry ∷ [])).tool.tool_phase ≡ SettingUp next some → StandsSo plan m at rows (journal ++ entry ∷ [])
     setting next is then = sets_up next some then (subst (SetupGoes plan m rows (journal ++ entry ∷ [])) is goes_on)
 
-    ready : (position : ℕ) (range : Option KeyRange) → ReadyBy setup entry.answer position range → (moment plan (journal ++ entry ∷ [])).tool.course ≡ Migrating (new_work plan size position range) → StandsSo plan m at rows (journal ++ entry ∷ [])
-    ready position range (reached_so reaching ends) then = goes_so (goes_now plan m at rows of journal entry kept off going setup tries course was insp uncut good position range reaching ends some then)
-    ready position range (was_so same) then = absurd (no (sym (ap (setup_call plan) same) ∙ (insp_turn plan m at rows of journal entry kept off going setup tries course was insp uncut good).call)) where
-      no : None ≡ Some (insp_turn plan m at rows of journal entry kept off going setup tries course was insp uncut good).request → ⊥
+    ready : (position : ℕ) (range : Option KeyRange) → ReadyBy setup entry.answer position range → (moment plan (journal ++ entry ∷ [])).tool.tool_phase ≡ Migrating (new_work plan size position range) → StandsSo plan m at rows (journal ++ entry ∷ [])
+    ready position range (reached_so reaching ends) then = goes_so (goes_now plan m at rows of journal entry kept off going setup tries tool_phase was insp uncut good position range reaching ends some then)
+    ready position range (was_so same) then = absurd (no (sym (ap (setup_call plan) same) ∙ (insp_turn plan m at rows of journal entry kept off going setup tries tool_phase was insp uncut good).call)) where
+      no : None ≡ Some (insp_turn plan m at rows of journal entry kept off going setup tries tool_phase was insp uncut good).request → ⊥
       no both = cc
 
-    to : (next : Setup) → setup_step plan.table setup entry.answer ≡ next → (moment plan (journal ++ entry ∷ [])).tool.course ≡ course_of plan size next some → StandsSo plan m at rows (journal ++ entry ∷ [])
+    to : (next : Setup) → setup_step plan.table setup entry.answer ≡ next → (moment plan (journal ++ entry ∷ [])).tool.tool_phase ≡ tool_phase_of plan size next some → StandsSo plan m at rows (journal ++ entry ∷ [])
     to (Ready position range) is then = ready position range (ready_by plan.table setup entry.answer position range is) then
     to Listing is then = setting Listing is then
     to (Clearing some_left) is then = setting (Clearing some_left) is then
@@ -499,28 +499,28 @@ setup_more plan m at rows of journal entry kept off going setup tries course was
     to Marking is then = setting Marking is then
     to (Reaching position) is then = setting (Reaching position) is then
 
-  by : SetupTo plan entry size setup (moment plan (journal ++ entry ∷ [])).tool.course → StandsSo plan m at rows (journal ++ entry ∷ [])
+  by : SetupTo plan entry size setup (moment plan (journal ++ entry ∷ [])).tool.tool_phase → StandsSo plan m at rows (journal ++ entry ∷ [])
   by (rests_so some then) =
       sets_up setup some then
-      (setup_with plan m at rows of journal entry kept off going setup tries course was setup (ghost_stays plan m at rows of journal entry kept off going setup tries course was)
-      (grows setup _ _ (left_now plan m at rows of journal entry kept off going setup tries course was).longer was.noted))
-  by (begins_again some then) = sets_up Listing some then (setup_with plan m at rows of journal entry kept off going setup tries course was Listing (λ past. absurd (false≢true past)) tt)
+      (setup_with plan m at rows of journal entry kept off going setup tries tool_phase was setup (ghost_stays plan m at rows of journal entry kept off going setup tries tool_phase was)
+      (grows setup _ _ (left_now plan m at rows of journal entry kept off going setup tries tool_phase was).longer was.noted))
+  by (begins_again some then) = sets_up Listing some then (setup_with plan m at rows of journal entry kept off going setup tries tool_phase was Listing (λ past. absurd (false≢true past)) tt)
   by (steps_on some insp uncut good then) = stepped (setup_step plan.table setup entry.answer) refl some insp uncut good then
 
 stands_more : (plan : PlanData) (m : Migration) (at : Clustered m.schema) (rows : List Row) → IsMigrationOf plan m rows → (journal : List Entry) (entry : Entry) → IsKept plan (journal ++ entry ∷ []) → IsUnaltered plan (journal ++ entry ∷ []) → is_reverting (moment plan (journal ++ entry ∷ [])).tool.reason ≡ false
     → StandsSo plan m at rows journal → StandsSo plan m at rows (journal ++ entry ∷ [])
 stands_more plan m at rows of journal entry kept off going (goes_so was) = goes_so (followers_go_on plan m at rows of journal (entry ∷ []) kept off going was)
-stands_more plan m at rows of journal entry kept off going (sets_up setup tries course was) = setup_more plan m at rows of journal entry kept off going setup tries course was
+stands_more plan m at rows of journal entry kept off going (sets_up setup tries tool_phase was) = setup_more plan m at rows of journal entry kept off going setup tries tool_phase was
 
-all_stand : (plan : PlanData) (m : Migration) (at : Clustered m.schema) (rows : List Row) → IsMigrationOf plan m rows → (journal rest : List Entry) → IsKept plan (journal ++ rest) → IsUnaltered plan (journal ++ rest) → is_reverting (moment plan (journal ++ rest)).tool.reason ≡ false → StandsSo plan m at rows journal → StandsSo plan m at rows (journal ++ rest)
-all_stand plan m at rows of journal [] kept off going was = subst (StandsSo plan m at rows) (sym (append-nil journal)) was
-all_stand plan m at rows of journal (entry ∷ rest) kept off going was =
+all_exist : (plan : PlanData) (m : Migration) (at : Clustered m.schema) (rows : List Row) → IsMigrationOf plan m rows → (journal rest : List Entry) → IsKept plan (journal ++ rest) → IsUnaltered plan (journal ++ rest) → is_reverting (moment plan (journal ++ rest)).tool.reason ≡ false → StandsSo plan m at rows journal → StandsSo plan m at rows (journal ++ rest)
+all_exist plan m at rows of journal [] kept off going was = subst (StandsSo plan m at rows) (sym (append-nil journal)) was
+all_exist plan m at rows of journal (entry ∷ rest) kept off going was =
     let same : (journal ++ entry ∷ []) ++ rest ≡ journal ++ entry ∷ rest = append_assoc journal (entry ∷ []) rest in
     let kept_all : IsKept plan ((journal ++ entry ∷ []) ++ rest) = subst (IsKept plan) (sym same) kept in
     let off_all : IsUnaltered plan ((journal ++ entry ∷ []) ++ rest) = subst (IsUnaltered plan) (sym same) off in
     let going_all : is_reverting (moment plan ((journal ++ entry ∷ []) ++ rest)).tool.reason ≡ false = subst (λ (j : List Entry). is_reverting (moment plan j).tool.reason ≡ false) (sym same) going in
     subst (StandsSo plan m at rows) same
-    (all_stand plan m at rows of (journal ++ entry ∷ []) rest kept_all off_all going_all
+    (all_exist plan m at rows of (journal ++ entry ∷ []) rest kept_all off_all going_all
     (stands_more plan m at rows of journal entry (kept_front plan (journal ++ entry ∷ []) rest kept_all) (unaltered_front plan (journal ++ entry ∷ []) rest off_all) (going_front plan (journal ++ entry ∷ []) rest going_all) was))
 
 opens_so : (plan : PlanData) (m : Migration) (at : Clustered m.schema) (rows : List Row) → find_table m.name plan.tables ≡ Some (record { schema = m.schema; rows = rows }) → StandsSo plan m at rows []
@@ -529,9 +529,9 @@ opens_so plan m at rows found = sets_up Listing [] refl (record { table = table_
 
 -- *Followers go*
 pub followers_go : FollowersGo
-followers_go plan m at rows of found journal work kept off going course = by (all_stand plan m at rows of [] journal kept off going (opens_so plan m at rows found)) where
+followers_go plan m at rows of found journal work kept off going tool_phase = by (all_exist plan m at rows of [] journal kept off going (opens_so plan m at rows found)) where
   by : StandsSo plan m at rows journal → GoesSomehow plan m at rows journal
   by (goes_so was) = was
-  by (sets_up setup tries is was) = absurd (no (sym is ∙ course)) where
+  by (sets_up setup tries is was) = absurd (no (sym is ∙ tool_phase)) where
     no : SettingUp setup tries ≡ Migrating work → ⊥
     no same = cc

@@ -17,7 +17,7 @@ use Rattle.server_model.specs.declared.outcome.Progress.TheVariants.{Going, Task
 use Rattle.server_model.specs.declared.request.Request.{Request}
 use Rattle.server_model.specs.declared.request.Request.TheVariants as requests
 use Rattle.server_model.specs.Entries.{answer_at}
-use Rattle.server_model.specs.Reading.{events_in}
+use Rattle.server_model.specs.EarlierAnswers.{events_in}
 use Rattle.plan_data.specs.PlanData.{PlanData, new_map}
 use Rattle.tool_program.specs.JournalWords.Journals.{state_at}
 use Rattle.tool_program.specs.JournalWords.Sessions.{live_session}
@@ -27,31 +27,31 @@ use Rattle.tool_program.specs.declared.event_applier.applier.ApplyStep.TheVarian
 use Rattle.tool_program.specs.declared.event_applier.applier.Batch.{Batch}
 use Rattle.tool_program.specs.declared.event_applier.applier.Part.{Part}
 use Rattle.tool_program.specs.declared.event_applier.applier.Part.TheVariants.{Whole, Removal, Return}
-use Rattle.tool_program.specs.EventApplier.Appliers.{Doing, call_at, doing_at, doing_in, in_part, nothing_planned, progress_at, row_done, says}
+use Rattle.tool_program.specs.EventApplier.Appliers.{Doing, call_at, doing_at, doing_in, in_part, nothing_planned, progress_at, row_done, statement_result}
 use Rattle.tool_program.specs.EventApplier.Appliers.Doing.{Putting, Removing, Changing}
 use Rattle.tool_program.specs.EventApplier.Appliers as appliers
 use Rattle.tool_program.specs.Failures.{applied_row, concerned}
 use Rattle.tool_program.specs.Programs.{apply_call, given, rolls_back, tool_call}
-use Rattle.tool_program.specs.Tools.{Course, Migrating, Work, is_reverting, moment}
-use Rattle.tool_program.proofs.OnlineCalls.Machines.{CourseIsNamed, IsNamed, named}
+use Rattle.tool_program.specs.Tools.{ToolPhase, Migrating, Work, is_reverting, moment}
+use Rattle.tool_program.proofs.OnlineCalls.Machines.{ToolPhaseIsNamed, IsNamed, named}
 use Rattle.proof_journals.specs.Plans.{limits_of, scene_of}
 use Rattle.proof_journals.specs.Ghost.Rows.Moments.{Row}
 use Rattle.proof_journals.specs.Ghost.Rows.Timelines.{Migration}
 use Rattle.proof_journals.specs.Ghost.Doings.{planned}
-use Rattle.proof_journals.specs.Ghost.Holding.{Clustered}
-use Rattle.proof_journals.specs.Ghost.Reading.{own_changes}
+use Rattle.proof_journals.specs.Ghost.HeldKeys.{Clustered}
+use Rattle.proof_journals.specs.Ghost.OwnChanges.{own_changes}
 use Rattle.proof_journals.proofs.Ghost.Running.{any_kept}
-use Rattle.proof_migration.specs.Migration.Applier.Applying.{IsBatchTold, StepKnows}
-use Rattle.proof_migration.proofs.Migration.Applier.Knowing.{next_at, same_told}
+use Rattle.proof_migration.specs.Migration.Applier.ApplierPlace.{IsBatchReported, StepKnows}
+use Rattle.proof_migration.proofs.Migration.Applier.Knowing.{next_at, same_reported}
 use Rattle.proof_migration.proofs.Migration.Applier.Planning.{DoesRows, NextDoing, next_doing, planned_alike, planned_rows}
 use Rattle.proof_migration.proofs.Migration.Applier.Statements.{said, said_is}
 use Rattle.proof_journals.specs.Run.Kept.{IsKept}
 use Rattle.proof_journals.specs.Machine.Standings.{IsAbout, Standing, is_called, is_polled, standing_of}
-use Rattle.proof_journals.specs.Machine.Tabling.{schema_of}
+use Rattle.proof_journals.specs.Machine.MigrationTables.{schema_of}
 use Rattle.proof_journals.proofs.Machine.Journals.{Asking, apply_called, asking, calls_so, polls_so}
 use Rattle.proof_migration.specs.Migration.Machines.{MigrationStands}
-use Rattle.proof_migration.proofs.Course.CourseTurns.{gives_asked}
-use Rattle.proof_migration.proofs.Course.Hearing.{own_answer, opened_tables}
+use Rattle.proof_migration.proofs.ToolPhase.ToolPhaseTurns.{gives_asked}
+use Rattle.proof_migration.proofs.ToolPhase.Hearing.{own_answer, opened_tables}
 use Rattle.proof_migration.specs.Program.Turns.Goes.{Goes, machines_in}
 use Rattle.proof_migration.specs.Program.Turns.Laws.{IsMigrationOf}
 use Rattle.proof_migration.proofs.Program.Turns.ActorStates.{SomeActorStates, some_actor_states}
@@ -70,7 +70,7 @@ planned_fits false place number is = cc
 
 refusal : (applier : Applier) (step : ApplyStep) (answer : Answer) (place number : ℕ) → progress_at applier step answer ≡ Unfit place number → IsRefusal step answer place number
 refusal applier (Applying batch done part) (answers.Refused one (Some other)) place number is = let a : one ≡ number = cc in let b : other ≡ place = cc in (a, b)
-refusal applier Reading (answers.Events events behind) place number is = absurd (planned_fits (length (appliers.planned applier events) == 0) place number is)
+refusal applier Reading (answers.Events events following) place number is = absurd (planned_fits (length (appliers.planned applier events) == 0) place number is)
 refusal applier (Beginning batch) answers.Lost place number is = absurd cc
 refusal applier (Committing batch) answers.Lost place number is = absurd cc
 refusal applier step answer place number is = absurd cc
@@ -92,7 +92,7 @@ part_rows columns Return (Changing before after) fits = fits.1
 
 -- THE TURN
 
-module _ (plan : PlanData) (m : Migration) (at : Clustered m.schema) (rows : List Row) (of : IsMigrationOf plan m rows) (journal : List Entry) (entry : Entry) (kept : IsKept plan (journal ++ entry ∷ [])) (work : Work) (course : (moment plan journal).tool.course ≡ Migrating work)
+module _ (plan : PlanData) (m : Migration) (at : Clustered m.schema) (rows : List Row) (of : IsMigrationOf plan m rows) (journal : List Entry) (entry : Entry) (kept : IsKept plan (journal ++ entry ∷ [])) (work : Work) (tool_phase : (moment plan journal).tool.tool_phase ≡ Migrating work)
     (going : is_reverting (moment plan journal).tool.reason ≡ false) (goes : Goes plan m at rows journal work) (same : entry.actor ≡ Apply) (uncut : entry.asked ≡ Cut → ⊥) (place number : ℕ) (unfit : appliers.progress work.applier entry.answer ≡ Unfit place number) where
   abbrev has : Actor → Standing
   has = standing_of plan journal
@@ -146,8 +146,8 @@ module _ (plan : PlanData) (m : Migration) (at : Clustered m.schema) (rows : Lis
   knows : StepKnows m journal step
   knows = subst (StepKnows m journal) here stands.applier_knows.step
 
-  told : IsBatchTold m journal batch
-  told = knows.0
+  reported : IsBatchReported m journal batch
+  reported = knows.0
 
   ghost_now : schema_of m.new.name (state_at plan journal).tables ≡ Some m.new
   ghost_now = any_kept (schema_of m.new.name (state_at plan journal).tables ≡ Some m.new) m at rows some.copier some.applier _ (λ apply kept. ap (option_map (λ (table : TableRows). table.schema)) kept.tool.kept.new) stands.tool.stands
@@ -155,21 +155,21 @@ module _ (plan : PlanData) (m : Migration) (at : Clustered m.schema) (rows : Lis
   -- WHAT IS DONE
 
   abbrev all_doings : List Doing
-  all_doings = planned m (own_changes m.name told.events)
+  all_doings = planned m (own_changes m.name reported.events)
 
   next_one : NextDoing all_doings count
-  next_one = next_doing all_doings count (subst (λ (n : ℕ). count < n) told.counted knows.1)
+  next_one = next_doing all_doings count (subst (λ (n : ℕ). count < n) reported.counted knows.1)
 
   abbrev doing : Doing
   doing = in_part part next_one.doing
 
   does_rows : DoesRows m.schema.columns doing
-  does_rows = part_rows m.schema.columns part next_one.doing (All-at (DoesRows m.schema.columns) all_doings count next_one.doing (planned_rows m (own_changes m.name told.events) told.rows) next_one.there)
+  does_rows = part_rows m.schema.columns part next_one.doing (All-at (DoesRows m.schema.columns) all_doings count next_one.doing (planned_rows m (own_changes m.name reported.events) reported.rows) next_one.there)
 
   code_plan : appliers.planned work.applier (events_in (answer_at journal batch.read)) ≡ all_doings
   code_plan =
-      let names : IsNamed plan work = subst (CourseIsNamed plan) course (named plan journal) in
-      ap (λ (a : Option Answer). appliers.planned work.applier (events_in a)) told.told ∙ planned_alike m work.applier told.events of.finds (names.applier ∙ sym of.of.name) goes.schema goes.apply_map told.rows
+      let names : IsNamed plan work = subst (ToolPhaseIsNamed plan) tool_phase (named plan journal) in
+      ap (λ (a : Option Answer). appliers.planned work.applier (events_in a)) reported.reported ∙ planned_alike m work.applier reported.events of.finds (names.applier ∙ sym of.of.name) goes.schema goes.apply_map reported.rows
 
   doing_here : doing_at journal work.applier step ≡ Some doing
   doing_here = ap (λ (l : List Doing). doing_in part (slice_get l count)) code_plan ∙ ap (doing_in part) next_one.there
@@ -184,10 +184,10 @@ module _ (plan : PlanData) (m : Migration) (at : Clustered m.schema) (rows : Lis
     is_about : IsAbout request (has Apply) entry.asked
     next : appliers.next journal work.applier ≡ request
 
-  next_call : (request : Request) → tool_call plan (moment plan journal).server journal (moment plan journal).tool (moment plan journal).tool.course Apply ≡ Some request → appliers.next journal work.applier ≡ request
+  next_call : (request : Request) → tool_call plan (moment plan journal).server journal (moment plan journal).tool (moment plan journal).tool.tool_phase Apply ≡ Some request → appliers.next journal work.applier ≡ request
   next_call request call =
       let unreverted = ap (λ (b : Bool). cond b (rolls_back (moment plan journal).server (live_session journal Apply)) (apply_call plan (moment plan journal).server journal (moment plan journal).tool work)) (sym going) in
-      sym (apply_called plan journal work request (unreverted ∙ ap (λ (c : Course). tool_call plan (moment plan journal).server journal (moment plan journal).tool c Apply) (sym course) ∙ call))
+      sym (apply_called plan journal work request (unreverted ∙ ap (λ (c : ToolPhase). tool_call plan (moment plan journal).server journal (moment plan journal).tool c Apply) (sym tool_phase) ∙ call))
 
   apply_asks : ApplyAsks
   unfolding given
@@ -201,7 +201,7 @@ module _ (plan : PlanData) (m : Migration) (at : Clustered m.schema) (rows : Lis
 
   asked_so : apply_asks.request ≡ requests.Do statement
   asked_so =
-      sym apply_asks.next ∙ next_at journal work.applier step here ∙ ap (says work.applier) doing_here
+      sym apply_asks.next ∙ next_at journal work.applier step here ∙ ap (statement_result work.applier) doing_here
       ∙ ap (λ (s : Statement). requests.Do s) (said_is m work.applier doing goes.schema goes.apply_map)
 
   is_about : IsAbout (requests.Do statement) (has entry.actor) entry.asked
@@ -228,10 +228,10 @@ module _ (plan : PlanData) (m : Migration) (at : Clustered m.schema) (rows : Lis
   row_is = ap row_done doing_is
 
   pub row_concerned : (key : Row) → concerned plan journal (moment plan journal) entry.actor key ≡ Some row
-  row_concerned key = ap (λ (a : Actor). concerned plan journal (moment plan journal) a key) same ∙ ap (applied_row journal) course ∙ ap (λ (r : Row). Some r) row_is
+  row_concerned key = ap (λ (a : Actor). concerned plan journal (moment plan journal) a key) same ∙ ap (applied_row journal) tool_phase ∙ ap (λ (r : Row). Some r) row_is
 
   -- in the longer journal too
   pub doing_more : (more : List Entry) → doing_at (journal ++ more) work.applier work.applier.step ≡ doing_at journal work.applier work.applier.step
   doing_more more =
-      ap (doing_at (journal ++ more) work.applier) here ∙ ap (λ (a : Option Answer). doing_in part (slice_get (appliers.planned work.applier (events_in a)) count)) (same_told m journal more batch told)
+      ap (doing_at (journal ++ more) work.applier) here ∙ ap (λ (a : Option Answer). doing_in part (slice_get (appliers.planned work.applier (events_in a)) count)) (same_reported m journal more batch reported)
       ∙ sym (ap (doing_at journal work.applier) here)

@@ -4,7 +4,7 @@ use Rattle.std.specs.Prelude.{find}
 use Rattle.std.specs.Option.{option_map}
 use Rattle.std.proofs.lemmas.Bool.{true≢false}
 use Rattle.base_values.specs.Laws.{StoresAgain}
-use Rattle.base_values.specs.Storing.{error_number}
+use Rattle.base_values.specs.StoredValues.{error_number}
 use Rattle.base_values.specs.declared.unfit.Unfit.{Unfit as Fault}
 use Rattle.base_values.specs.declared.value.Value.{Value}
 use Rattle.base_values.proofs.Orders.{tied_keys}
@@ -26,7 +26,7 @@ use Rattle.server_model.specs.declared.outcome.Progress.TheVariants.{Unfit}
 use Rattle.server_model.specs.declared.request.Request.{Request}
 use Rattle.server_model.specs.declared.request.Request.TheVariants as requests
 use Rattle.server_model.specs.Entries.{is_client, is_command}
-use Rattle.server_model.specs.Jobs.{after_events}
+use Rattle.server_model.specs.Operations.{after_events}
 use Rattle.server_model.specs.States.{State, session_of, view, writes_of}
 use Rattle.plan_data.specs.PlanData.{PlanData, new_map, old_schema}
 use Rattle.base_values.specs.ToolNames.{ghost_name}
@@ -40,8 +40,8 @@ use Rattle.tool_program.specs.declared.chunk_copier.copier.CopyStep.TheVariants.
 use Rattle.tool_program.specs.Failures.{row_in}
 use Rattle.tool_program.specs.Operators.{is_throttled}
 use Rattle.tool_program.specs.Programs.{copy_call, given, rolls_back, tool_call}
-use Rattle.tool_program.specs.Tools.{Course, Migrating, Work, is_reverting, moment}
-use Rattle.tool_program.proofs.OnlineCalls.Machines.{CourseIsNamed, IsNamed, named}
+use Rattle.tool_program.specs.Tools.{ToolPhase, Migrating, Work, is_reverting, moment}
+use Rattle.tool_program.proofs.OnlineCalls.Machines.{ToolPhaseIsNamed, IsNamed, named}
 use Rattle.proof_journals.specs.Plans.{limits_of, scene_of}
 use Rattle.proof_journals.specs.Holdings.{Face, face_of}
 use Rattle.proof_journals.specs.Scenes.{SessionHold}
@@ -49,22 +49,22 @@ use Rattle.proof_journals.proofs.Actors.{Placed, placed}
 use Rattle.proof_journals.proofs.Faces.{faces_opened, writes_face}
 use Rattle.proof_journals.specs.Ghost.Rows.Moments.{Row}
 use Rattle.proof_journals.specs.Ghost.Rows.Timelines.{Migration}
-use Rattle.proof_journals.specs.Ghost.Holding.{Clustered}
+use Rattle.proof_journals.specs.Ghost.HeldKeys.{Clustered}
 use Rattle.proof_journals.specs.Ghost.Invariant.{NotOf}
 use Rattle.proof_journals.proofs.Ghost.Keeping.{found_besides}
 use Rattle.proof_journals.proofs.Ghost.Running.{any_kept}
 use Rattle.proof_migration.proofs.Migration.Copier.Knowing.{Asks, asks_at}
 use Rattle.proof_migration.proofs.Migration.Copier.Rows.{after_none, not_of}
 use Rattle.proof_journals.specs.Run.Kept.{IsKept}
-use Rattle.proof_journals.specs.Machine.Machines.{CourseStands, Stands, WorkStands, copier_asks, copier_busy}
+use Rattle.proof_journals.specs.Machine.Machines.{ToolPhaseStands, Stands, WorkStands, copier_asks, copier_busy}
 use Rattle.proof_journals.specs.Machine.Standings.{IsAbout, MayTake, Standing, is_called, is_polled, standing_of}
-use Rattle.proof_journals.specs.Machine.Tabling.{CourseTables, TablesStand, schema_of}
+use Rattle.proof_journals.specs.Machine.MigrationTables.{ToolPhaseTables, TablesExist, schema_of}
 use Rattle.proof_journals.proofs.Machine.Asking.{unless_called}
 use Rattle.proof_journals.proofs.Machine.Journals.{Asking, asking, calls_so, polls_so}
 use Rattle.proof_migration.specs.Migration.Machines.{MigrationStands}
-use Rattle.proof_migration.proofs.Course.CopyAnswers.{CopyFits, UnfitRow, own_copy}
-use Rattle.proof_migration.proofs.Course.CourseTurns.{gives_asked}
-use Rattle.proof_migration.proofs.Course.Hearing.{opened_tables}
+use Rattle.proof_migration.proofs.ToolPhase.CopyAnswers.{CopyFits, UnfitRow, own_copy}
+use Rattle.proof_migration.proofs.ToolPhase.ToolPhaseTurns.{gives_asked}
+use Rattle.proof_migration.proofs.ToolPhase.Hearing.{opened_tables}
 use Rattle.proof_migration.specs.Program.Turns.Goes.{CopyWaits, Goes, machines_in}
 use Rattle.proof_migration.specs.Program.Turns.Laws.{IsMigrationOf}
 use Rattle.proof_migration.proofs.Program.Turns.ActorStates.{SomeActorStates, new_holds, actor_state_own, some_actor_states}
@@ -79,7 +79,7 @@ IsRefusal step answer place number = ⊥
 refusal : (step : CopyStep) (answer : Answer) (place number : ℕ) → progress_at step answer ≡ Unfit place number → IsRefusal step answer place number
 refusal (Copying chunk copied) (answers.Refused one (Some other)) place number is = let a : one ≡ number = cc in let b : other ≡ place = cc in (a, b)
 refusal Choosing answers.Lost place number is = absurd cc
-refusal (Spanning told size) answers.Lost place number is = absurd cc
+refusal (Spanning reported size) answers.Lost place number is = absurd cc
 refusal (Committing chunk) answers.Lost place number is = absurd cc
 refusal step answer place number is = absurd cc
 
@@ -125,7 +125,7 @@ unfit_row plan tables seen key place number same stands is =
 
 -- THE TURN
 
-module _ (again : StoresAgain) (plan : PlanData) (m : Migration) (at : Clustered m.schema) (rows : List Row) (of : IsMigrationOf plan m rows) (journal : List Entry) (entry : Entry) (kept : IsKept plan (journal ++ entry ∷ [])) (work : Work) (course : (moment plan journal).tool.course ≡ Migrating work)
+module _ (again : StoresAgain) (plan : PlanData) (m : Migration) (at : Clustered m.schema) (rows : List Row) (of : IsMigrationOf plan m rows) (journal : List Entry) (entry : Entry) (kept : IsKept plan (journal ++ entry ∷ [])) (work : Work) (tool_phase : (moment plan journal).tool.tool_phase ≡ Migrating work)
     (going : is_reverting (moment plan journal).tool.reason ≡ false) (goes : Goes plan m at rows journal work) (same : entry.actor ≡ Copy) (uncut : entry.asked ≡ Cut → ⊥) (place number : ℕ) (unfit : copiers.progress work.copier entry.answer ≡ Unfit place number) where
   abbrev now : State
   now = state_at plan journal
@@ -137,7 +137,7 @@ module _ (again : StoresAgain) (plan : PlanData) (m : Migration) (at : Clustered
   turn = known_turn plan of.runs journal entry kept
 
   names : IsNamed plan work
-  names = subst (CourseIsNamed plan) course (named plan journal)
+  names = subst (ToolPhaseIsNamed plan) tool_phase (named plan journal)
 
   is_refusal : IsRefusal work.copier.step entry.answer place number
   unfolding copiers.progress
@@ -166,7 +166,7 @@ module _ (again : StoresAgain) (plan : PlanData) (m : Migration) (at : Clustered
           next =
               unless_called (copiers.starts work.copier && is_throttled plan (moment plan journal).server (moment plan journal).tool.operator) (copiers.next journal work.copier) request
               (ap (λ (b : Bool). cond b (rolls_back (moment plan journal).server (live_session journal Copy)) (copy_call plan (moment plan journal).server journal (moment plan journal).tool work)) (sym going)
-              ∙ ap (λ (c : Course). tool_call plan (moment plan journal).server journal (moment plan journal).tool c Copy) (sym course) ∙ call);
+              ∙ ap (λ (c : ToolPhase). tool_call plan (moment plan journal).server journal (moment plan journal).tool c Copy) (sym tool_phase) ∙ call);
         }
     by (polls_so request asks some) = let waits : CopyWaits journal work.copier request = goes.copy_waits request some in record { request = request; is_about = is_polled asks some; size = waits.size; next = waits.next }
 
@@ -203,7 +203,7 @@ module _ (again : StoresAgain) (plan : PlanData) (m : Migration) (at : Clustered
   -- WHERE THE COPIER STANDS
 
   work_stands : WorkStands journal (is_reverting (moment plan journal).tool.reason) has work
-  work_stands = subst (CourseStands journal has (is_reverting (moment plan journal).tool.reason)) course turn.together.stands
+  work_stands = subst (ToolPhaseStands journal has (is_reverting (moment plan journal).tool.reason)) tool_phase turn.together.stands
 
   copier_had : Stands (copier_asks work.copier.step) (copier_busy work.copier.step) [] (has Copy)
   copier_had = by work_stands.copier where
@@ -211,8 +211,8 @@ module _ (again : StoresAgain) (plan : PlanData) (m : Migration) (at : Clustered
     by (inl on) = absurd (true≢false (sym on ∙ going))
     by (inr stands) = stands
 
-  tables : TablesStand plan now.tables
-  tables = ((subst (CourseTables plan now.tables has) course turn.known.marking.tabled.tables).going asks.going).tables
+  tables : TablesExist plan now.tables
+  tables = ((subst (ToolPhaseTables plan now.tables has) tool_phase turn.known.marking.tabled.tables).going asks.going).tables
 
   is_about : IsAbout (Own copies_key.key) (has entry.actor) entry.asked
   is_about = subst (λ (a : Actor). IsAbout (Own copies_key.key) (has a) entry.asked) (sym same) (subst (λ (r : Request). IsAbout r (has Copy) entry.asked) copies_key.asked copy_asks.is_about)

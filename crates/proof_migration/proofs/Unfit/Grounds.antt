@@ -32,7 +32,7 @@ use Rattle.tool_program.specs.declared.cutover_core.cutover.Role.{Role}
 use Rattle.tool_program.specs.declared.cutover_core.cutover.Role.TheVariants.{Inspector, Locker, Renamer}
 use Rattle.tool_program.specs.Operators.{commanded}
 use Rattle.tool_program.specs.Setups.{Setup, Listing, setup_after}
-use Rattle.tool_program.specs.Tools.{Work, Course, SettingUp, Migrating, Reason, CopyUnfit, ApplyUnfit, Spent, Panicked, Tool, Moment, first_reason, stopped, is_renamed, reverts, spends, is_reverting, working, copy_after, copy_took, apply_after, apply_took, attempt_after, is_failure, cutover_took, drains, course_of, setup_took, actor_took, turn_counts, resizes, panics, command_took, asked_took, took, moment}
+use Rattle.tool_program.specs.Tools.{Work, ToolPhase, SettingUp, Migrating, Reason, CopyUnfit, ApplyUnfit, Spent, Panicked, Tool, Moment, first_reason, stopped, is_renamed, reverts, spends, is_reverting, working, copy_after, copy_took, apply_after, apply_took, attempt_after, is_failure, cutover_took, drains, tool_phase_of, setup_took, actor_took, turn_counts, resizes, panics, command_took, asked_took, took, moment}
 use Rattle.proof_journals.proofs.Machine.Journals.{IsRun, IsTogether, together_more, together_begins}
 use Rattle.proof_journals.proofs.Sentry.Inductions.{moment_more}
 
@@ -44,7 +44,7 @@ pub record Stood : Type 0 where
 abbrev pub stood_at : Work → Stood
 stood_at work = record { step = work.copier.step; applier = work.applier }
 
-abbrev pub stood_in : Course → Option Stood
+abbrev pub stood_in : ToolPhase → Option Stood
 stood_in (SettingUp setup tries) = None
 stood_in (Migrating work) = Some (stood_at work)
 
@@ -68,7 +68,7 @@ pub record IsUnfitTurn (plan : PlanData) (journal : List Entry) (stood : Option 
   pub actor : entry.actor ≡ who
   pub uncut : entry.asked ≡ Cut → ⊥
   pub work : Work
-  pub course : (moment plan front).tool.course ≡ Migrating work
+  pub tool_phase : (moment plan front).tool.tool_phase ≡ Migrating work
   pub going : (moment plan front).tool.reason ≡ None
   pub unfit : progress_of who work entry.answer ≡ Unfit place number
   pub stays : stood ≡ Some (stood_at work)
@@ -87,23 +87,23 @@ IsOther (Panicked turn) = Unit {0}
 IsOther (CopyUnfit turn place number) = ⊥
 IsOther (ApplyUnfit turn place number) = ⊥
 
-stopped_stood : (course : Course) → stood_in (stopped course) ≡ stood_in course
+stopped_stood : (tool_phase : ToolPhase) → stood_in (stopped tool_phase) ≡ stood_in tool_phase
 stopped_stood (SettingUp setup tries) = refl
 stopped_stood (Migrating work) = refl
 
-resized_stood : (word : OperatorWord) (course : Course) → stood_in (resizes word course) ≡ stood_in course
+resized_stood : (word : OperatorWord) (tool_phase : ToolPhase) → stood_in (resizes word tool_phase) ≡ stood_in tool_phase
 resized_stood (ChunkSize size) (Migrating work) = refl
 resized_stood (ChunkSize size) (SettingUp setup tries) = refl
-resized_stood Throttle course = refl
-resized_stood NoThrottle course = refl
-resized_stood Unpostpone course = refl
-resized_stood Panic course = refl
-resized_stood Wait course = refl
+resized_stood Throttle tool_phase = refl
+resized_stood NoThrottle tool_phase = refl
+resized_stood Unpostpone tool_phase = refl
+resized_stood Panic tool_phase = refl
+resized_stood Wait tool_phase = refl
 
 -- a loss isn't a refusal
 lost_copies : (step : CopyStep) (place number : ℕ) → copiers.progress_at step answers.Lost ≡ Unfit place number → ⊥
 lost_copies Choosing place number is = cc
-lost_copies (Spanning told size) place number is = cc
+lost_copies (Spanning reported size) place number is = cc
 lost_copies (Copying chunk copied) place number is = cc
 lost_copies (Committing chunk) place number is = cc
 
@@ -125,7 +125,7 @@ lost_fits (Client client) work place number is = cc
 
 -- ONE TURN MORE
 
-module _ (plan : PlanData) (journal : List Entry) (entry : Entry) (numbered : (moment plan journal).tool.turns ≡ length journal) (was : GroundStands plan journal (stood_in (moment plan journal).tool.course) (moment plan journal).tool.reason) where
+module _ (plan : PlanData) (journal : List Entry) (entry : Entry) (numbered : (moment plan journal).tool.turns ≡ length journal) (was : GroundStands plan journal (stood_in (moment plan journal).tool.tool_phase) (moment plan journal).tool.reason) where
   abbrev more : List Entry
   more = journal ++ entry ∷ []
 
@@ -136,7 +136,7 @@ module _ (plan : PlanData) (journal : List Entry) (entry : Entry) (numbered : (m
   tool = record now.tool { turns = now.tool.turns + 1 }
 
   abbrev New : Tool → Type 0
-  New other = GroundStands plan more (stood_in other.course) other.reason
+  New other = GroundStands plan more (stood_in other.tool_phase) other.reason
 
   turn_more : (turn : ℕ) (front : List Entry) (one : Entry) → HasTurn journal turn front one → HasTurn more turn front one
   turn_more turn front one has = record { rest = has.rest ++ entry ∷ []; whole = ap (λ (j : List Entry). j ++ entry ∷ []) has.whole ∙ append_assoc front (one ∷ has.rest) (entry ∷ []); numbered = has.numbered }
@@ -149,7 +149,7 @@ module _ (plan : PlanData) (journal : List Entry) (entry : Entry) (numbered : (m
     actor = is.actor;
     uncut = is.uncut;
     work = is.work;
-    course = is.course;
+    tool_phase = is.tool_phase;
     going = is.going;
     unfit = is.unfit;
     stays = is.stays;
@@ -163,16 +163,16 @@ module _ (plan : PlanData) (journal : List Entry) (entry : Entry) (numbered : (m
   grown stood (Some (ApplyUnfit turn place number)) is = unfit_more stood Apply turn place number is
 
   kept : New tool
-  kept = grown (stood_in now.tool.course) now.tool.reason was
+  kept = grown (stood_in now.tool.tool_phase) now.tool.reason was
 
   here : HasTurn more tool.turns journal entry
   here = record { rest = []; whole = refl; numbered = ap (λ (n : ℕ). n + 1) numbered }
 
   none_new : (other : Tool) → other.reason ≡ None → New other
-  none_new other none = subst (GroundStands plan more (stood_in other.course)) (sym none) tt
+  none_new other none = subst (GroundStands plan more (stood_in other.tool_phase)) (sym none) tt
 
-  at_work : (work : Work) → now.tool.course ≡ Migrating work → GroundStands plan more (Some (stood_at work)) now.tool.reason
-  at_work work course = subst (λ (c : Course). GroundStands plan more (stood_in c) now.tool.reason) course kept
+  at_work : (work : Work) → now.tool.tool_phase ≡ Migrating work → GroundStands plan more (Some (stood_at work)) now.tool.reason
+  at_work work tool_phase = subst (λ (c : ToolPhase). GroundStands plan more (stood_in c) now.tool.reason) tool_phase kept
 
   -- the first ground stays
   first_stays : (reason : Reason) → ((stood : Option Stood) → GroundStands plan more stood (Some reason)) → (old : Option Reason) (stood : Option Stood) → GroundStands plan more stood old → GroundStands plan more stood (first_reason old reason)
@@ -186,10 +186,10 @@ module _ (plan : PlanData) (journal : List Entry) (entry : Entry) (numbered : (m
   other_stands (ApplyUnfit turn place number) is stood = absurd is
 
   reverts_new : (reason : Reason) → IsOther reason → (other : Tool) → New other → New (reverts reason other)
-  reverts_new reason is other holds = by (is_renamed other.course) where
-    by : (b : Bool) → New (cond b other (record other { reason = first_reason other.reason reason; course = stopped other.course }))
+  reverts_new reason is other holds = by (is_renamed other.tool_phase) where
+    by : (b : Bool) → New (cond b other (record other { reason = first_reason other.reason reason; tool_phase = stopped other.tool_phase }))
     by true = holds
-    by false = subst (λ (s : Option Stood). GroundStands plan more s (first_reason other.reason reason)) (sym (stopped_stood other.course)) (first_stays reason (other_stands reason is) other.reason (stood_in other.course) holds)
+    by false = subst (λ (s : Option Stood). GroundStands plan more s (first_reason other.reason reason)) (sym (stopped_stood other.tool_phase)) (first_stays reason (other_stands reason is) other.reason (stood_in other.tool_phase) holds)
 
   spends_new : (task : Task) (tries : List ℕ) (other : Tool) → New other → New (spends plan task tries other)
   spends_new task tries other holds = by (length tries == plan.options.default_retries) where
@@ -201,15 +201,15 @@ module _ (plan : PlanData) (journal : List Entry) (entry : Entry) (numbered : (m
   attempt_new true work cutover other holds = spends_new tasks.CutOver (work.attempt_tries ++ other.turns ∷ []) (working (record work { cutover = cutover; attempt_tries = work.attempt_tries ++ other.turns ∷ [] }) other) holds
   attempt_new false work cutover other holds = holds
 
-  role_new : (role : Role) (answer : Answer) (work : Work) → now.tool.course ≡ Migrating work → New (cutover_took plan role answer work tool)
-  role_new role answer work course = attempt_new (is_failure work.cutover.phase (cutovers.took role work.cutover answer).phase) work (cutovers.took role work.cutover answer) tool (at_work work course)
+  role_new : (role : Role) (answer : Answer) (work : Work) → now.tool.tool_phase ≡ Migrating work → New (cutover_took plan role answer work tool)
+  role_new role answer work tool_phase = attempt_new (is_failure work.cutover.phase (cutovers.took role work.cutover answer).phase) work (cutovers.took role work.cutover answer) tool (at_work work tool_phase)
 
-  drains_new : (other : Tool) → New other → New (drains plan other.course other)
-  drains_new other holds = by other.course refl where
-    by : (course : Course) → other.course ≡ course → New (drains plan course other)
+  drains_new : (other : Tool) → New other → New (drains plan other.tool_phase other)
+  drains_new other holds = by other.tool_phase refl where
+    by : (tool_phase : ToolPhase) → other.tool_phase ≡ tool_phase → New (drains plan tool_phase other)
     by (SettingUp setup tries) same = holds
     by (Migrating work) same =
-        let turned : CutOver = cutovers.applier_turn work.applier.hint work.cutover in attempt_new (is_failure work.cutover.phase turned.phase) work turned other (subst (λ (c : Course). GroundStands plan more (stood_in c) other.reason) same holds)
+        let turned : CutOver = cutovers.applier_turn work.applier.hint work.cutover in attempt_new (is_failure work.cutover.phase turned.phase) work turned other (subst (λ (c : ToolPhase). GroundStands plan more (stood_in c) other.reason) same holds)
 
   -- in a revert nothing is taken
   unless_new : (other : Tool) → (now.tool.reason ≡ None → New other) → New (cond (is_reverting now.tool.reason) tool other)
@@ -221,72 +221,72 @@ module _ (plan : PlanData) (journal : List Entry) (entry : Entry) (numbered : (m
   setup_new : (setup : Setup) (tries : List ℕ) (answer : Answer) → now.tool.reason ≡ None → New (setup_took plan setup tries answer tool)
   setup_new setup tries answer none = by (is_bad answer) where
     again : Tool
-    again = record tool { course = SettingUp Listing (tries ++ tool.turns ∷ []) }
+    again = record tool { tool_phase = SettingUp Listing (tries ++ tool.turns ∷ []) }
 
-    by : (b : Bool) → New (cond b (spends plan tasks.Setup (tries ++ tool.turns ∷ []) again) (record tool { course = course_of plan tool.operator.size (setup_after plan.table setup answer) tries }))
+    by : (b : Bool) → New (cond b (spends plan tasks.Setup (tries ++ tool.turns ∷ []) again) (record tool { tool_phase = tool_phase_of plan tool.operator.size (setup_after plan.table setup answer) tries }))
     by true = spends_new tasks.Setup (tries ++ tool.turns ∷ []) again (none_new again none)
-    by false = none_new (record tool { course = course_of plan tool.operator.size (setup_after plan.table setup answer) tries }) none
+    by false = none_new (record tool { tool_phase = tool_phase_of plan tool.operator.size (setup_after plan.table setup answer) tries }) none
 
   -- the answer is the turn's, or the session is lost between calls
   abbrev Heard : Answer → Type 0
   Heard answer = (answer ≡ answers.Lost) ⊎ ((answer ≡ entry.answer) × (entry.asked ≡ Cut → ⊥))
 
   -- a value is refused in this turn, the first ground of a revert
-  unfit_new : (who : Actor) (answer : Answer) (work : Work) → now.tool.course ≡ Migrating work → entry.actor ≡ who → Heard answer → now.tool.reason ≡ None → (place number : ℕ) → progress_of who work answer ≡ Unfit place number → (stood : Option Stood) → stood ≡ Some (stood_at work)
+  unfit_new : (who : Actor) (answer : Answer) (work : Work) → now.tool.tool_phase ≡ Migrating work → entry.actor ≡ who → Heard answer → now.tool.reason ≡ None → (place number : ℕ) → progress_of who work answer ≡ Unfit place number → (stood : Option Stood) → stood ≡ Some (stood_at work)
       → IsUnfitTurn plan more stood who tool.turns place number
-  unfit_new who answer work course same (inl lost) none place number unfit stood stays = absurd (lost_fits who work place number (ap (progress_of who work) (sym lost) ∙ unfit))
-  unfit_new who answer work course same (inr (heard, uncut)) none place number unfit stood stays = record {
+  unfit_new who answer work tool_phase same (inl lost) none place number unfit stood stays = absurd (lost_fits who work place number (ap (progress_of who work) (sym lost) ∙ unfit))
+  unfit_new who answer work tool_phase same (inr (heard, uncut)) none place number unfit stood stays = record {
     front = journal;
     entry = entry;
     has = here;
     actor = same;
     uncut = uncut;
     work = work;
-    course = course;
+    tool_phase = tool_phase;
     going = none;
     unfit = ap (progress_of who work) (sym heard) ∙ unfit;
     stays = stays;
   }
 
   -- unless the RENAME was done
-  unless_done : (reason : Reason) → now.tool.reason ≡ None → GroundStands plan more (stood_in (stopped now.tool.course)) (Some reason) → (b : Bool) → New (cond b tool (record tool { reason = first_reason now.tool.reason reason; course = stopped now.tool.course }))
+  unless_done : (reason : Reason) → now.tool.reason ≡ None → GroundStands plan more (stood_in (stopped now.tool.tool_phase)) (Some reason) → (b : Bool) → New (cond b tool (record tool { reason = first_reason now.tool.reason reason; tool_phase = stopped now.tool.tool_phase }))
   unless_done reason none new true = kept
-  unless_done reason none new false = subst (λ (old : Option Reason). GroundStands plan more (stood_in (stopped now.tool.course)) (first_reason old reason)) (sym none) new
+  unless_done reason none new false = subst (λ (old : Option Reason). GroundStands plan more (stood_in (stopped now.tool.tool_phase)) (first_reason old reason)) (sym none) new
 
-  stays_stood : (work : Work) → now.tool.course ≡ Migrating work → stood_in (stopped now.tool.course) ≡ Some (stood_at work)
-  stays_stood work course = stopped_stood now.tool.course ∙ ap stood_in course
+  stays_stood : (work : Work) → now.tool.tool_phase ≡ Migrating work → stood_in (stopped now.tool.tool_phase) ≡ Some (stood_at work)
+  stays_stood work tool_phase = stopped_stood now.tool.tool_phase ∙ ap stood_in tool_phase
 
-  copy_new : (answer : Answer) (work : Work) → now.tool.course ≡ Migrating work → entry.actor ≡ Copy → Heard answer → now.tool.reason ≡ None → New (copy_took plan answer work tool)
-  copy_new answer work course who heard none = told (copiers.progress work.copier answer) refl where
+  copy_new : (answer : Answer) (work : Work) → now.tool.tool_phase ≡ Migrating work → entry.actor ≡ Copy → Heard answer → now.tool.reason ≡ None → New (copy_took plan answer work tool)
+  copy_new answer work tool_phase who heard none = reported (copiers.progress work.copier answer) refl where
     copier : Copier
     copier = copiers.took tool.turns work.copier answer
 
     failed : Tool
     failed = working (record work { copier = copier; chunk_tries = work.chunk_tries ++ tool.turns ∷ [] }) tool
 
-    told : (progress : Progress) → copiers.progress work.copier answer ≡ progress → New (copy_after plan work progress copier tool)
-    told Going is = none_new (working (record work { copier = copier }) tool) none
-    told TaskDone is = none_new (working (record work { copier = copier; chunk_tries = [] }) tool) none
-    told TaskFailed is = spends_new (tasks.Chunk copier.number) (work.chunk_tries ++ tool.turns ∷ []) failed (none_new failed none)
-    told (Unfit place number) is =
-        unless_done (CopyUnfit tool.turns place number) none (unfit_new Copy answer work course who heard none place number is (stood_in (stopped now.tool.course)) (stays_stood work course)) (is_renamed now.tool.course)
+    reported : (progress : Progress) → copiers.progress work.copier answer ≡ progress → New (copy_after plan work progress copier tool)
+    reported Going is = none_new (working (record work { copier = copier }) tool) none
+    reported TaskDone is = none_new (working (record work { copier = copier; chunk_tries = [] }) tool) none
+    reported TaskFailed is = spends_new (tasks.Chunk copier.number) (work.chunk_tries ++ tool.turns ∷ []) failed (none_new failed none)
+    reported (Unfit place number) is =
+        unless_done (CopyUnfit tool.turns place number) none (unfit_new Copy answer work tool_phase who heard none place number is (stood_in (stopped now.tool.tool_phase)) (stays_stood work tool_phase)) (is_renamed now.tool.tool_phase)
 
-  apply_new : (answer : Answer) (work : Work) → now.tool.course ≡ Migrating work → entry.actor ≡ Apply → Heard answer → now.tool.reason ≡ None → New (apply_took plan answer work tool)
-  apply_new answer work course who heard none = told (appliers.progress work.applier answer) refl where
+  apply_new : (answer : Answer) (work : Work) → now.tool.tool_phase ≡ Migrating work → entry.actor ≡ Apply → Heard answer → now.tool.reason ≡ None → New (apply_took plan answer work tool)
+  apply_new answer work tool_phase who heard none = reported (appliers.progress work.applier answer) refl where
     applier : Applier
     applier = appliers.took tool.turns work.applier answer
 
     failed : Tool
     failed = working (record work { applier = applier; batch_tries = work.batch_tries ++ tool.turns ∷ [] }) tool
 
-    told : (progress : Progress) → appliers.progress work.applier answer ≡ progress → New (apply_after plan work progress applier tool)
-    told Going is = none_new (working (record work { applier = applier }) tool) none
-    told TaskDone is = none_new (working (record work { applier = applier; batch_tries = [] }) tool) none
-    told TaskFailed is = spends_new (tasks.Batch applier.position) (work.batch_tries ++ tool.turns ∷ []) failed (none_new failed none)
-    told (Unfit place number) is =
-        unless_done (ApplyUnfit tool.turns place number) none (unfit_new Apply answer work course who heard none place number is (stood_in (stopped now.tool.course)) (stays_stood work course)) (is_renamed now.tool.course)
+    reported : (progress : Progress) → appliers.progress work.applier answer ≡ progress → New (apply_after plan work progress applier tool)
+    reported Going is = none_new (working (record work { applier = applier }) tool) none
+    reported TaskDone is = none_new (working (record work { applier = applier; batch_tries = [] }) tool) none
+    reported TaskFailed is = spends_new (tasks.Batch applier.position) (work.batch_tries ++ tool.turns ∷ []) failed (none_new failed none)
+    reported (Unfit place number) is =
+        unless_done (ApplyUnfit tool.turns place number) none (unfit_new Apply answer work tool_phase who heard none place number is (stood_in (stopped now.tool.tool_phase)) (stays_stood work tool_phase)) (is_renamed now.tool.tool_phase)
 
-  actor_new : (answer : Answer) → Heard answer → (actor : Actor) → entry.actor ≡ actor → (course : Course) → now.tool.course ≡ course → New (actor_took plan actor answer course tool)
+  actor_new : (answer : Answer) → Heard answer → (actor : Actor) → entry.actor ≡ actor → (tool_phase : ToolPhase) → now.tool.tool_phase ≡ tool_phase → New (actor_took plan actor answer tool_phase tool)
   actor_new answer heard Insp who (SettingUp setup tries) same = unless_new (setup_took plan setup tries answer tool) (setup_new setup tries answer)
   actor_new answer heard Insp who (Migrating work) same = role_new Inspector answer work same
   actor_new answer heard Copy who (Migrating work) same = unless_new (copy_took plan answer work tool) (copy_new answer work same who heard)
@@ -307,12 +307,12 @@ module _ (plan : PlanData) (journal : List Entry) (entry : Entry) (numbered : (m
   counts_new actor other holds = holds
 
   abbrev taken : OperatorWord → Tool
-  taken word = record tool { operator = commanded word tool.operator; course = resizes word tool.course }
+  taken word = record tool { operator = commanded word tool.operator; tool_phase = resizes word tool.tool_phase }
 
   command_new : (word : OperatorWord) → New (command_took word tool)
   command_new word = by word (resized word) where
     resized : (word : OperatorWord) → New (taken word)
-    resized word = subst (λ (s : Option Stood). GroundStands plan more s now.tool.reason) (sym (resized_stood word now.tool.course)) kept
+    resized word = subst (λ (s : Option Stood). GroundStands plan more s now.tool.reason) (sym (resized_stood word now.tool.tool_phase)) kept
 
     by : (word : OperatorWord) → New (taken word) → New (panics word (taken word))
     by Panic holds = reverts_new (Panicked tool.turns) tt (taken Panic) holds
@@ -322,14 +322,14 @@ module _ (plan : PlanData) (journal : List Entry) (entry : Entry) (numbered : (m
     by Unpostpone holds = holds
     by Wait holds = holds
 
-  heard_new : (entry.asked ≡ Cut → ⊥) → New (turn_counts plan entry.actor (actor_took plan entry.actor entry.answer tool.course tool))
-  heard_new uncut = counts_new entry.actor (actor_took plan entry.actor entry.answer tool.course tool) (actor_new entry.answer (inr (refl, uncut)) entry.actor refl now.tool.course refl)
+  heard_new : (entry.asked ≡ Cut → ⊥) → New (turn_counts plan entry.actor (actor_took plan entry.actor entry.answer tool.tool_phase tool))
+  heard_new uncut = counts_new entry.actor (actor_took plan entry.actor entry.answer tool.tool_phase tool) (actor_new entry.answer (inr (refl, uncut)) entry.actor refl now.tool.tool_phase refl)
 
   asked_new : (asked : Asked) → entry.asked ≡ asked → New (asked_took plan now.server entry asked tool)
   asked_new (Command word) asks = command_new word
   asked_new Cut asks = by (has_work now.server entry.session) where
-    by : (b : Bool) → New (cond b (actor_took plan entry.actor answers.Lost tool.course tool) tool)
-    by true = actor_new answers.Lost (inl refl) entry.actor refl now.tool.course refl
+    by : (b : Bool) → New (cond b (actor_took plan entry.actor answers.Lost tool.tool_phase tool) tool)
+    by true = actor_new answers.Lost (inl refl) entry.actor refl now.tool.tool_phase refl
     by false = kept
   asked_new (Call request) asks = heard_new (λ cut. no (sym asks ∙ cut)) where
     no : Call request ≡ Cut → ⊥
@@ -346,7 +346,7 @@ module _ (plan : PlanData) (journal : List Entry) (entry : Entry) (numbered : (m
 
 pub record IsGrounded (plan : PlanData) (journal : List Entry) : Type 0 where
   pub together : IsTogether plan journal
-  pub ground : GroundStands plan journal (stood_in (moment plan journal).tool.course) (moment plan journal).tool.reason
+  pub ground : GroundStands plan journal (stood_in (moment plan journal).tool.tool_phase) (moment plan journal).tool.reason
 
 grounded_more : (plan : PlanData) (journal : List Entry) (entry : Entry) → IsRun plan journal entry → IsGrounded plan journal → IsGrounded plan (journal ++ entry ∷ [])
 grounded_more plan journal entry run is = record { together = together_more plan journal entry is.together run; ground = ground_more plan journal entry is.together.turns is.ground }

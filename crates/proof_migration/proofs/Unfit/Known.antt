@@ -6,7 +6,7 @@ use Rattle.proof_journals.specs.Run.Kept.{IsKept}
 use Rattle.proof_journals.specs.Machine.Runnable.{IsRunnable}
 use Rattle.proof_journals.proofs.Machine.Journals.{IsRun, IsTogether}
 use Rattle.proof_journals.proofs.Machine.Seated.{IsServed}
-use Rattle.proof_migration.proofs.Course.Unaltered.Away.{IsKnownAsked, all_asked}
+use Rattle.proof_migration.proofs.ToolPhase.Unaltered.Away.{IsKnownAsked, all_asked}
 use Rattle.proof_migration.proofs.Program.Turns.Follows.{kept_front, kept_run}
 
 pub record IsKnownTurn (plan : PlanData) (journal : List Entry) (entry : Entry) : Type 0 where

@@ -1,7 +1,7 @@
 -- What the applier's statements are refused: a value has a place only where the row that they write has no image there.
 use Rattle.std.proofs.Common.{◌≡◌, ℕ, Bool, true, false, cond, List, [], ◌∷◌, map, Option, Some, None, Result, Ok, Err, refl, sym, ap, ◌∙◌, subst}
 use Rattle.std.specs.Option.{option_map}
-use Rattle.base_values.specs.Storing.{error_number}
+use Rattle.base_values.specs.StoredValues.{error_number}
 use Rattle.base_values.specs.declared.unfit.Unfit.{Unfit as Fault}
 use Rattle.base_values.specs.declared.value.Value.{Value}
 use Rattle.base_values.specs.declared.gho_schema.schema.Schema.{Schema}
@@ -21,23 +21,23 @@ use Rattle.server_model.specs.declared.request.Request.TheVariants as requests
 use Rattle.server_model.specs.declared.work.Work.{Work}
 use Rattle.server_model.specs.declared.work.Work.TheVariants as works
 use Rattle.server_model.specs.Answers.{refuses, refuses_value}
-use Rattle.server_model.specs.Checking.{are_distinct, work_of}
+use Rattle.server_model.specs.Checks.{are_distinct, work_of}
 use Rattle.server_model.specs.Effects.{effect_unless, is_outside}
-use Rattle.server_model.specs.Jobs.{job_of, job_says, result_in, table_of}
+use Rattle.server_model.specs.Operations.{operation_of, operation_result, result_in, table_of}
 use Rattle.server_model.specs.Rows.{change_rows, rows_met, same_row}
-use Rattle.server_model.specs.Saying.{change_first, clashes_besides, result_or_refusal, tells, updated, updates, with_sets}
-use Rattle.server_model.specs.Serving.{does, done}
+use Rattle.server_model.specs.StatementResults.{change_first, clashes_besides, result_or_refusal, tells, updated, updates, with_sets}
+use Rattle.server_model.specs.PlainServer.{does, done}
 use Rattle.server_model.specs.States.{State, is_in_transaction, session_of, view, writes_of}
 use Rattle.tool_program.specs.EventApplier.Appliers.{Doing, row_done}
 use Rattle.tool_program.specs.EventApplier.Appliers.Doing.{Putting, Removing, Changing}
 use Rattle.proof_journals.specs.Ghost.Rows.Moments.{Row}
 use Rattle.proof_journals.specs.Ghost.Rows.Timelines.{IsPlanned, Migration}
 use Rattle.proof_journals.specs.Ghost.Statements.{by_key, delete_at, unfit_at, update_at}
-use Rattle.proof_migration.specs.Migration.Applier.Finding.{FindsRows}
+use Rattle.proof_migration.specs.Migration.Applier.FoundColumns.{FindsRows}
 use Rattle.proof_migration.proofs.Migration.Applier.Keys.{new_at}
 use Rattle.proof_migration.proofs.Migration.Applier.Planning.{DoesRows}
 use Rattle.proof_migration.proofs.Migration.Applier.Statements.{change_unfit, change_unsaid, change_work, put_unfit, put_work, remove_unsaid, remove_work, said, said_of}
-use Rattle.proof_journals.specs.Machine.Tabling.{schema_of}
+use Rattle.proof_journals.specs.Machine.MigrationTables.{schema_of}
 use Rattle.proof_journals.proofs.Machine.Schemas.{schema_events}
 
 -- the row has no image at this place, with this number
@@ -78,9 +78,9 @@ updates_fit columns row schema sets (old ∷ met) rows =
       by false true r s one two = tt
       by false false r s one two = two
 
-told_fits : (columns : List MapColumn) (row : Row) (r : Result (List Change) Answer) → ErrFits columns row r → RowFits columns row (result_or_refusal r).answer
-told_fits columns row (Ok all) fits = tt
-told_fits columns row (Err refusal) fits = fits
+reported_fits : (columns : List MapColumn) (row : Row) (r : Result (List Change) Answer) → ErrFits columns row r → RowFits columns row (result_or_refusal r).answer
+reported_fits columns row (Ok all) fits = tt
+reported_fits columns row (Err refusal) fits = fits
 
 -- where the values don't store, the first row that is met is refused
 met_fits : (columns : List MapColumn) (row : Row) (schema : Schema) (at : UnfitAt) (met rows : List Row) → converted_row columns row ≡ Err at → RowFits columns row (updated schema (Err at) met rows).answer
@@ -94,29 +94,29 @@ module _ (m : Migration) (rows : List Row) (plan : IsPlanned m rows) (finds : Fi
   Fits row answer = RowFits m.columns row answer
 
   -- what its work on the new table tells
-  abbrev Told : Doing → List Row → Type 0
-  Told doing view = Fits (row_done (Some doing)) (tells m.new view (work_of m.new (said m.new m.columns doing))).answer
+  abbrev Reported : Doing → List Row → Type 0
+  Reported doing view = Fits (row_done (Some doing)) (tells m.new view (work_of m.new (said m.new m.columns doing))).answer
 
-  by_work : (doing : Doing) (view : List Row) (work : Work) → work_of m.new (said m.new m.columns doing) ≡ work → Fits (row_done (Some doing)) (tells m.new view work).answer → Told doing view
+  by_work : (doing : Doing) (view : List Row) (work : Work) → work_of m.new (said m.new m.columns doing) ≡ work → Fits (row_done (Some doing)) (tells m.new view work).answer → Reported doing view
   by_work doing view work is fits = subst (λ (w : Work). Fits (row_done (Some doing)) (tells m.new view w).answer) (sym is) fits
 
-  put_told : (row : Row) (view : List Row) → Told (Putting row) view
+  put_reported : (row : Row) (view : List Row) → Reported (Putting row) view
   unfolding tells
-  put_told row view = by (converted_row m.columns row) refl where
-    by : (made : Result Row UnfitAt) → converted_row m.columns row ≡ made → Told (Putting row) view
+  put_reported row view = by (converted_row m.columns row) refl where
+    by : (made : Result Row UnfitAt) → converted_row m.columns row ≡ made → Reported (Putting row) view
     by (Ok made) imaged = by_work (Putting row) view (works.Replace made) (put_work m rows plan finds row made imaged) tt
     by (Err at) imaged = by_work (Putting row) view (works.Refuse (refuses_value at)) (put_unfit m rows plan finds row at imaged) (no_converted_row m.columns row at imaged)
 
-  remove_told : (row : Row) (view : List Row) → IsRow m.schema.columns row → Told (Removing row) view
+  remove_reported : (row : Row) (view : List Row) → IsRow m.schema.columns row → Reported (Removing row) view
   unfolding tells
-  remove_told row view fits = by (are_distinct (key_places m.new)) refl where
-    by : (once : Bool) → are_distinct (key_places m.new) ≡ once → Told (Removing row) view
+  remove_reported row view fits = by (are_distinct (key_places m.new)) refl where
+    by : (once : Bool) → are_distinct (key_places m.new) ≡ once → Reported (Removing row) view
     by true once = by_work (Removing row) view (delete_at (new_at m rows plan finds).place (key_of (key_places m.schema) row)) (remove_work m rows plan finds row fits once) tt
     by false twice = by_work (Removing row) view (works.Refuse (refuses ER_NOT_SUPPORTED_YET)) (remove_unsaid m rows plan finds row twice) tt
 
-  change_told : (old new : Row) (view : List Row) → IsRow m.schema.columns old → Told (Changing old new) view
+  change_reported : (old new : Row) (view : List Row) → IsRow m.schema.columns old → Reported (Changing old new) view
   unfolding tells
-  change_told old new view fits = by (are_distinct (key_places m.new)) refl (converted_row m.columns new) refl where
+  change_reported old new view fits = by (are_distinct (key_places m.new)) refl (converted_row m.columns new) refl where
     key : Row
     key = key_of (key_places m.schema) old
 
@@ -126,17 +126,17 @@ module _ (m : Migration) (rows : List Row) (plan : IsPlanned m rows) (finds : Fi
     met : List Row
     met = rows_met m.new (by_key place key) view
 
-    by : (once : Bool) → are_distinct (key_places m.new) ≡ once → (made : Result Row UnfitAt) → converted_row m.columns new ≡ made → Told (Changing old new) view
+    by : (once : Bool) → are_distinct (key_places m.new) ≡ once → (made : Result Row UnfitAt) → converted_row m.columns new ≡ made → Reported (Changing old new) view
     by false twice made imaged = by_work (Changing old new) view (works.Refuse (refuses ER_NOT_SUPPORTED_YET)) (change_unsaid m rows plan finds old new twice) tt
     by true once (Ok made) imaged =
         by_work (Changing old new) view (update_at place key made) (change_work m rows plan finds old new made fits once imaged)
-        (told_fits m.columns new (updates m.new (map Some made) met view) (updates_fit m.columns new m.new (map Some made) met view))
+        (reported_fits m.columns new (updates m.new (map Some made) met view) (updates_fit m.columns new m.new (map Some made) met view))
     by true once (Err at) imaged = by_work (Changing old new) view (unfit_at place key at) (change_unfit m rows plan finds old new at fits once imaged) (met_fits m.columns new m.new at met view imaged)
 
-  doing_told : (doing : Doing) (view : List Row) → DoesRows m.schema.columns doing → Told doing view
-  doing_told (Putting row) view fits = put_told row view
-  doing_told (Removing row) view fits = remove_told row view fits
-  doing_told (Changing old new) view fits = change_told old new view fits.0
+  doing_reported : (doing : Doing) (view : List Row) → DoesRows m.schema.columns doing → Reported doing view
+  doing_reported (Putting row) view fits = put_reported row view
+  doing_reported (Removing row) view fits = remove_reported row view fits
+  doing_reported (Changing old new) view fits = change_reported old new view fits.0
 
   -- WHAT THE SERVER ANSWERS
 
@@ -148,12 +148,12 @@ module _ (m : Migration) (rows : List Row) (plan : IsPlanned m rows) (finds : Fi
     row = row_done (Some doing)
 
     table_fits : (table : TableRows) → table.schema ≡ m.new → Fits row (tells table.schema table.rows (work_of table.schema statement)).answer
-    table_fits table same = subst (λ (s : Schema). Fits row (tells s table.rows (work_of s statement)).answer) (sym same) (doing_told doing table.rows fits)
+    table_fits table same = subst (λ (s : Schema). Fits row (tells s table.rows (work_of s statement)).answer) (sym same) (doing_reported doing table.rows fits)
 
-    says_fits : (seen : Database) → schema_of m.new.name seen ≡ Some m.new → Fits row (job_says seen (job_of statement)).answer
-    unfolding job_says
+    says_fits : (seen : Database) → schema_of m.new.name seen ≡ Some m.new → Fits row (operation_result seen (operation_of statement)).answer
+    unfolding operation_result
     says_fits seen stands = by (find_table (table_of statement) seen) (ap (λ (n : List ℕ). schema_of n seen) (said_of m doing) ∙ stands) where
-      by : (one : Option TableRows) → option_map (λ table. table.schema) one ≡ Some m.new → Fits row (result_in (job_of statement) one).answer
+      by : (one : Option TableRows) → option_map (λ table. table.schema) one ≡ Some m.new → Fits row (result_in (operation_of statement) one).answer
       by None is = absurd cc
       by (Some table) is = table_fits table (let same : table.schema ≡ m.new = cc in same)
 
@@ -164,10 +164,10 @@ module _ (m : Migration) (rows : List Row) (plan : IsPlanned m rows) (finds : Fi
       seen : Database
       seen = view number found
 
-      told : Fits row (job_says seen (job_of statement)).answer
-      told = says_fits seen (schema_events m.new.name found.tables (writes_of (session_of number found.sessions)) ∙ stands)
+      reported : Fits row (operation_result seen (operation_of statement)).answer
+      reported = says_fits seen (schema_events m.new.name found.tables (writes_of (session_of number found.sessions)) ∙ stands)
 
       by : (outside busy : Bool) → Fits row (does (effect_unless outside busy seen found (requests.Do statement)) found number).answer
       by true busy = tt
-      by false true = told
-      by false false = told
+      by false true = reported
+      by false false = reported

@@ -17,7 +17,7 @@ use Rattle.server_model.specs.declared.outcome.Cause.TheVariants as causes
 use Rattle.server_model.specs.declared.outcome.Progress.TheVariants.{Unfit}
 use Rattle.server_model.specs.declared.outcome.Verdict.TheVariants as verdicts
 use Rattle.server_model.specs.Entries.{answer_at}
-use Rattle.server_model.specs.Reading.{keys_in}
+use Rattle.server_model.specs.EarlierAnswers.{keys_in}
 use Rattle.server_model.specs.States.{State}
 use Rattle.plan_data.specs.PlanData.{PlanData, new_map, old_schema}
 use Rattle.tool_program.specs.JournalWords.Histories.{history, is_alter}
@@ -31,18 +31,18 @@ use Rattle.tool_program.specs.EventApplier.Appliers as appliers
 use Rattle.tool_program.specs.EventApplier.Appliers.{Doing, doing_at, row_done, unfit_key}
 use Rattle.tool_program.specs.Failures.{IsUnfit, Stands, concerned, row_in}
 use Rattle.tool_program.specs.Programs.{Follows}
-use Rattle.tool_program.specs.Tools.{Course, SettingUp, Migrating, Reason, CopyUnfit, ApplyUnfit, Spent, Panicked, Work, is_reverting, moment}
+use Rattle.tool_program.specs.Tools.{ToolPhase, SettingUp, Migrating, Reason, CopyUnfit, ApplyUnfit, Spent, Panicked, Work, is_reverting, moment}
 use Rattle.tool_program.specs.Verdicts.{apply_key, cause_of, new_column_name, copy_key, ended_so, has_ended, reverted_by, verdict_of}
 use Rattle.proof_journals.specs.Ghost.Rows.Moments.{Row}
 use Rattle.proof_journals.specs.Ghost.Rows.Timelines.{Migration}
-use Rattle.proof_journals.specs.Ghost.Holding.{Clustered}
+use Rattle.proof_journals.specs.Ghost.HeldKeys.{Clustered}
 use Rattle.proof_journals.proofs.Ghost.Keys.{clustered}
 use Rattle.proof_migration.specs.Migration.Planning.{migration_of}
 use Rattle.proof_journals.specs.Run.Kept.{IsKept}
-use Rattle.proof_migration.specs.Course.Runnable.{AlterablePlansAreRunnable}
+use Rattle.proof_migration.specs.ToolPhase.Runnable.{AlterablePlansAreRunnable}
 use Rattle.proof_journals.proofs.Machine.Journals.{all_runs}
-use Rattle.proof_migration.specs.Course.Unaltered.{IsUnaltered}
-use Rattle.proof_migration.proofs.Course.Unaltered.Away.{all_asked, unaltered_front}
+use Rattle.proof_migration.specs.ToolPhase.Unaltered.{IsUnaltered}
+use Rattle.proof_migration.proofs.ToolPhase.Unaltered.Away.{all_asked, unaltered_front}
 use Rattle.proof_migration.specs.Program.Turns.Goes.{Goes}
 use Rattle.proof_migration.specs.Program.Turns.Laws.{GoesSomehow, IsMigrationOf}
 use Rattle.proof_migration.proofs.Program.Turns.Follows.{kept_front}
@@ -73,22 +73,22 @@ module _ (journal : List Entry) (turn : ℕ) (front : List Entry) (entry : Entry
 
 -- the key that was told is told in the longer journal
 key_more : (journal more : List Entry) (step : CopyStep) (key : List Value) → key_at journal step ≡ Some key → key_at (journal ++ more) step ≡ Some key
-key_more journal more (Copying chunk copied) key is = by (answer_at journal chunk.told) refl where
-  by : (answer : Option Answer) → answer_at journal chunk.told ≡ answer → key_at (journal ++ more) (Copying chunk copied) ≡ Some key
+key_more journal more (Copying chunk copied) key is = by (answer_at journal chunk.reported) refl where
+  by : (answer : Option Answer) → answer_at journal chunk.reported ≡ answer → key_at (journal ++ more) (Copying chunk copied) ≡ Some key
   by None none = absurd (no (sym (ap (λ (a : Option Answer). slice_get (keys_in a) copied) none) ∙ is)) where
     no : None ≡ Some key → ⊥
     no same = cc
-  by (Some answer) some = ap (λ (a : Option Answer). slice_get (keys_in a) copied) (answer_more journal more chunk.told answer some ∙ sym some) ∙ is
+  by (Some answer) some = ap (λ (a : Option Answer). slice_get (keys_in a) copied) (answer_more journal more chunk.reported answer some ∙ sym some) ∙ is
 key_more journal more Choosing key is = absurd cc
-key_more journal more (Spanning told size) key is = absurd cc
+key_more journal more (Spanning reported size) key is = absurd cc
 key_more journal more (Committing chunk) key is = absurd cc
 
-copy_key_is : (journal : List Entry) (course : Course) (stood : Stood) (key : List Value) → stood_in course ≡ Some stood → key_at journal stood.step ≡ Some key → copy_key journal course ≡ key
+copy_key_is : (journal : List Entry) (tool_phase : ToolPhase) (stood : Stood) (key : List Value) → stood_in tool_phase ≡ Some stood → key_at journal stood.step ≡ Some key → copy_key journal tool_phase ≡ key
 copy_key_is journal (SettingUp setup tries) stood key here is = absurd cc
 copy_key_is journal (Migrating work) stood key here is =
     let one : stood_at work ≡ stood = cc in ap (λ (k : Option (List Value)). unwrap_or k []) (ap (λ (s : Stood). key_at journal s.step) one ∙ is)
 
-apply_key_is : (plan : PlanData) (journal : List Entry) (course : Course) (stood : Stood) → stood_in course ≡ Some stood → apply_key plan journal course ≡ unfit_key journal (key_places (old_schema plan)) stood.applier
+apply_key_is : (plan : PlanData) (journal : List Entry) (tool_phase : ToolPhase) (stood : Stood) → stood_in tool_phase ≡ Some stood → apply_key plan journal tool_phase ≡ unfit_key journal (key_places (old_schema plan)) stood.applier
 apply_key_is plan journal (SettingUp setup tries) stood here = absurd cc
 apply_key_is plan journal (Migrating work) stood here = let one : stood_at work ≡ stood = cc in ap (λ (s : Stood). unfit_key journal (key_places (old_schema plan)) s.applier) one
 
@@ -119,7 +119,7 @@ record IsRefused (plan : PlanData) (front : List Entry) (entry : Entry) (key : L
   none : HasNoConvertedRow (new_map plan) row place number
 
 module _ (plan : PlanData) (m : Migration) (at : Clustered m.schema) (rows : List Row) (of : IsMigrationOf plan m rows) (found : find_table m.name plan.tables ≡ Some (record { schema = m.schema; rows = rows })) (journal : List Entry) (kept : IsKept plan journal) (off : IsUnaltered plan journal)
-    (who : Actor) (turn place number : ℕ) (is : IsUnfitTurn plan journal (stood_in (moment plan journal).tool.course) who turn place number) where
+    (who : Actor) (turn place number : ℕ) (is : IsUnfitTurn plan journal (stood_in (moment plan journal).tool.tool_phase) who turn place number) where
   abbrev more : List Entry
   more = is.entry ∷ is.has.rest
 
@@ -139,13 +139,13 @@ module _ (plan : PlanData) (m : Migration) (at : Clustered m.schema) (rows : Lis
   going = ap is_reverting is.going
 
   somehow : GoesSomehow plan m at rows is.front
-  somehow = followers_go plan m at rows of found is.front is.work front_kept front_off going is.course
+  somehow = followers_go plan m at rows of found is.front is.work front_kept front_off going is.tool_phase
 
   same_work : (one other : Work) → Migrating one ≡ Migrating other → one ≡ other
   same_work one other same = cc
 
   goes : Goes plan m at rows is.front is.work
-  goes = subst (Goes plan m at rows is.front) (same_work somehow.work is.work (sym somehow.course ∙ is.course)) somehow.goes
+  goes = subst (Goes plan m at rows is.front) (same_work somehow.work is.work (sym somehow.tool_phase ∙ is.tool_phase)) somehow.goes
 
   front_server : (moment plan is.front).server ≡ state_at plan is.front
   front_server = (all_asked plan is.front of.runs front_kept.faithful front_kept.follows).marking.tabled.all.tool.server
@@ -175,27 +175,27 @@ module _ (plan : PlanData) (m : Migration) (at : Clustered m.schema) (rows : Lis
 
   module _ (again : StoresAgain) (same : is.entry.actor ≡ Copy) (unfit : copiers.progress is.work.copier is.entry.answer ≡ Unfit place number) where
     abbrev own_key : List Value
-    own_key = key again plan m at rows of is.front is.entry turn_kept is.work is.course going goes same is.uncut place number unfit
+    own_key = key again plan m at rows of is.front is.entry turn_kept is.work is.tool_phase going goes same is.uncut place number unfit
 
     copied : IsUnfitRow plan (state_at plan is.front).tables own_key place number
-    copied = is_unfit again plan m at rows of is.front is.entry turn_kept is.work is.course going goes same is.uncut place number unfit
+    copied = is_unfit again plan m at rows of is.front is.entry turn_kept is.work is.tool_phase going goes same is.uncut place number unfit
 
-    copy_key_now : copy_key journal (moment plan journal).tool.course ≡ own_key
+    copy_key_now : copy_key journal (moment plan journal).tool.tool_phase ≡ own_key
     copy_key_now =
-        copy_key_is journal (moment plan journal).tool.course (stood_at is.work) own_key is.stays
+        copy_key_is journal (moment plan journal).tool.tool_phase (stood_at is.work) own_key is.stays
         (ap (λ (j : List Entry). key_at j is.work.copier.step) is.has.whole
-        ∙ key_more is.front more is.work.copier.step own_key (key_is again plan m at rows of is.front is.entry turn_kept is.work is.course going goes same is.uncut place number unfit))
+        ∙ key_more is.front more is.work.copier.step own_key (key_is again plan m at rows of is.front is.entry turn_kept is.work is.tool_phase going goes same is.uncut place number unfit))
 
     copy_concerned : concerned plan is.front (moment plan is.front) is.entry.actor own_key ≡ Some copied.row
     copy_concerned =
         ap (λ (a : Actor). concerned plan is.front (moment plan is.front) a own_key) same ∙ ap (λ (s : State). row_in (find_table plan.table s.tables) own_key) front_server ∙ copied.concerned
 
-    pub copy_stands : IsUnfit plan journal turn (copy_key journal (moment plan journal).tool.course) (new_column_name plan place) number
+    pub copy_stands : IsUnfit plan journal turn (copy_key journal (moment plan journal).tool.tool_phase) (new_column_name plan place) number
     copy_stands =
         subst (λ (k : List Value). IsUnfit plan journal turn k (new_column_name plan place) number) (sym copy_key_now)
         (stands_so own_key
         (record {
-          refused = was_refused again plan m at rows of is.front is.entry turn_kept is.work is.course going goes same is.uncut place number unfit;
+          refused = was_refused again plan m at rows of is.front is.entry turn_kept is.work is.tool_phase going goes same is.uncut place number unfit;
           row = copied.row;
           concerned = copy_concerned;
           keyed = copied.keyed;
@@ -206,7 +206,7 @@ module _ (plan : PlanData) (m : Migration) (at : Clustered m.schema) (rows : Lis
 
   module _ (same : is.entry.actor ≡ Apply) (unfit : appliers.progress is.work.applier is.entry.answer ≡ Unfit place number) where
     abbrev applied : List Value
-    applied = applies.row plan m at rows of is.front is.entry turn_kept is.work is.course going goes same is.uncut place number unfit
+    applied = applies.row plan m at rows of is.front is.entry turn_kept is.work is.tool_phase going goes same is.uncut place number unfit
 
     abbrev applied_key : List Value
     applied_key = key_of (key_places (old_schema plan)) applied
@@ -215,33 +215,33 @@ module _ (plan : PlanData) (m : Migration) (at : Clustered m.schema) (rows : Lis
     doing_now : doing_at journal is.work.applier is.work.applier.step ≡ doing_at is.front is.work.applier is.work.applier.step
     doing_now =
         ap (λ (j : List Entry). doing_at j is.work.applier is.work.applier.step) is.has.whole
-        ∙ applies.doing_more plan m at rows of is.front is.entry turn_kept is.work is.course going goes same is.uncut place number unfit more
+        ∙ applies.doing_more plan m at rows of is.front is.entry turn_kept is.work is.tool_phase going goes same is.uncut place number unfit more
 
-    apply_key_now : apply_key plan journal (moment plan journal).tool.course ≡ applied_key
+    apply_key_now : apply_key plan journal (moment plan journal).tool.tool_phase ≡ applied_key
     apply_key_now =
-        apply_key_is plan journal (moment plan journal).tool.course (stood_at is.work) is.stays ∙ ap (λ (d : Option Doing). key_of (key_places (old_schema plan)) (row_done d)) doing_now
-        ∙ ap (key_of (key_places (old_schema plan))) (applies.row_is plan m at rows of is.front is.entry turn_kept is.work is.course going goes same is.uncut place number unfit)
+        apply_key_is plan journal (moment plan journal).tool.tool_phase (stood_at is.work) is.stays ∙ ap (λ (d : Option Doing). key_of (key_places (old_schema plan)) (row_done d)) doing_now
+        ∙ ap (key_of (key_places (old_schema plan))) (applies.row_is plan m at rows of is.front is.entry turn_kept is.work is.tool_phase going goes same is.uncut place number unfit)
 
-    pub apply_stands : IsUnfit plan journal turn (apply_key plan journal (moment plan journal).tool.course) (new_column_name plan place) number
+    pub apply_stands : IsUnfit plan journal turn (apply_key plan journal (moment plan journal).tool.tool_phase) (new_column_name plan place) number
     apply_stands =
         subst (λ (k : List Value). IsUnfit plan journal turn k (new_column_name plan place) number) (sym apply_key_now)
         (stands_so applied_key
         (record {
-          refused = applies.was_refused plan m at rows of is.front is.entry turn_kept is.work is.course going goes same is.uncut place number unfit;
+          refused = applies.was_refused plan m at rows of is.front is.entry turn_kept is.work is.tool_phase going goes same is.uncut place number unfit;
           row = applied;
-          concerned = applies.row_concerned plan m at rows of is.front is.entry turn_kept is.work is.course going goes same is.uncut place number unfit applied_key;
+          concerned = applies.row_concerned plan m at rows of is.front is.entry turn_kept is.work is.tool_phase going goes same is.uncut place number unfit applied_key;
           keyed = refl;
-          none = applies.no_converted_row plan m at rows of is.front is.entry turn_kept is.work is.course going goes same is.uncut place number unfit;
+          none = applies.no_converted_row plan m at rows of is.front is.entry turn_kept is.work is.tool_phase going goes same is.uncut place number unfit;
         }))
 
 -- such a turn, where the work is as behind the whole journal
 abbrev Turn : PlanData → List Entry → Actor → ℕ → ℕ → ℕ → Type 0
-Turn plan journal who turn place number = IsUnfitTurn plan journal (stood_in (moment plan journal).tool.course) who turn place number
+Turn plan journal who turn place number = IsUnfitTurn plan journal (stood_in (moment plan journal).tool.tool_phase) who turn place number
 
 -- *Unfit rows stand*
 pub rows_stand : StoresAgain → AlterablePlansAreRunnable → UnfitRowsStand
 unfolding Stands Follows
-rows_stand again runnable plan alterable worded serial journal kept turn key column number verdict = by one.reason one.same (subst (GroundStands plan journal (stood_in (moment plan journal).tool.course)) one.is grounded.ground) where
+rows_stand again runnable plan alterable worded serial journal kept turn key column number verdict = by one.reason one.same (subst (GroundStands plan journal (stood_in (moment plan journal).tool.tool_phase)) one.is grounded.ground) where
   one : IsGround plan journal (causes.Unfit turn key column number)
   one = ground plan journal (causes.Unfit turn key column number) verdict
 
@@ -257,24 +257,24 @@ rows_stand again runnable plan alterable worded serial journal kept turn key col
   off : IsUnaltered plan journal
   off = unaltered_so plan journal (causes.Unfit turn key column number) verdict
 
-  copied : (place : ℕ) → Turn plan journal Copy turn place number → IsUnfit plan journal turn (copy_key journal (moment plan journal).tool.course) (new_column_name plan place) number
+  copied : (place : ℕ) → Turn plan journal Copy turn place number → IsUnfit plan journal turn (copy_key journal (moment plan journal).tool.tool_phase) (new_column_name plan place) number
   copied place is = copy_stands plan (migration_of alterable.table.schema alterable.new) at alterable.table.rows of (own_table plan alterable) journal kept off Copy turn place number is again is.actor is.unfit
 
-  applied : (place : ℕ) → Turn plan journal Apply turn place number → IsUnfit plan journal turn (apply_key plan journal (moment plan journal).tool.course) (new_column_name plan place) number
+  applied : (place : ℕ) → Turn plan journal Apply turn place number → IsUnfit plan journal turn (apply_key plan journal (moment plan journal).tool.tool_phase) (new_column_name plan place) number
   applied place is = apply_stands plan (migration_of alterable.table.schema alterable.new) at alterable.table.rows of (own_table plan alterable) journal kept off Apply turn place number is is.actor is.unfit
 
   -- the verdict's turn, key, column and number are those of the ground
-  named : (who : Actor) (other place told : ℕ) (own : List Value) → causes.Unfit other own (new_column_name plan place) told ≡ causes.Unfit turn key column number → (Turn plan journal who turn place number → IsUnfit plan journal turn own (new_column_name plan place) number) → Turn plan journal who other place told → IsUnfit plan journal turn key column number
-  named who other place told own same stands is =
+  named : (who : Actor) (other place reported : ℕ) (own : List Value) → causes.Unfit other own (new_column_name plan place) reported ≡ causes.Unfit turn key column number → (Turn plan journal who turn place number → IsUnfit plan journal turn own (new_column_name plan place) number) → Turn plan journal who other place reported → IsUnfit plan journal turn key column number
+  named who other place reported own same stands is =
       let a : other ≡ turn = cc in
       let b : own ≡ key = cc in
       let c : new_column_name plan place ≡ column = cc in
-      let d : told ≡ number = cc in
+      let d : reported ≡ number = cc in
       subst (λ (k : List Value). IsUnfit plan journal turn k column number) b
-      (subst (λ (n : List ℕ). IsUnfit plan journal turn own n number) c (stands (subst (λ (n : ℕ). Turn plan journal who turn place n) d (subst (λ (t : ℕ). Turn plan journal who t place told) a is))))
+      (subst (λ (n : List ℕ). IsUnfit plan journal turn own n number) c (stands (subst (λ (n : ℕ). Turn plan journal who turn place n) d (subst (λ (t : ℕ). Turn plan journal who t place reported) a is))))
 
-  by : (reason : Reason) → cause_of plan journal (moment plan journal).tool reason ≡ causes.Unfit turn key column number → GroundStands plan journal (stood_in (moment plan journal).tool.course) (Some reason) → IsUnfit plan journal turn key column number
-  by (CopyUnfit other place told) same is = named Copy other place told (copy_key journal (moment plan journal).tool.course) same (copied place) is
-  by (ApplyUnfit other place told) same is = named Apply other place told (apply_key plan journal (moment plan journal).tool.course) same (applied place) is
+  by : (reason : Reason) → cause_of plan journal (moment plan journal).tool reason ≡ causes.Unfit turn key column number → GroundStands plan journal (stood_in (moment plan journal).tool.tool_phase) (Some reason) → IsUnfit plan journal turn key column number
+  by (CopyUnfit other place reported) same is = named Copy other place reported (copy_key journal (moment plan journal).tool.tool_phase) same (copied place) is
+  by (ApplyUnfit other place reported) same is = named Apply other place reported (apply_key plan journal (moment plan journal).tool.tool_phase) same (applied place) is
   by (Spent spent tries) same is = absurd cc
   by (Panicked other) same is = absurd cc

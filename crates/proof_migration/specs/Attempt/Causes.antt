@@ -9,11 +9,11 @@ use Rattle.tool_program.specs.JournalWords.Journals.{IsFaithful}
 use Rattle.tool_program.specs.Failures.{Stands}
 use Rattle.tool_program.specs.Programs.{Follows}
 use Rattle.tool_program.specs.Verdicts.{verdict_of}
-use Rattle.proof_journals.specs.Machine.Forming.{IsFitting}
-use Rattle.proof_journals.specs.Machine.Tabling.{TableStands}
+use Rattle.proof_journals.specs.Machine.FormedPlans.{IsFitting}
+use Rattle.proof_journals.specs.Machine.MigrationTables.{TableExists}
 
 -- *Spent cut-overs stand*: each failed try of a cut-over that is spent does, since no sentry is refused.
 abbrev pub SpentCutOversStand : Type 0
 SpentCutOversStand =
-    (plan : PlanData) (journal : List Entry) (turns : List ℕ) → IsFitting plan → TableStands plan → IsFaithful plan journal → Follows plan journal → 0 < plan.options.drain_limit → verdict_of plan journal ≡ Reverted (causes.Spent tasks.CutOver turns)
+    (plan : PlanData) (journal : List Entry) (turns : List ℕ) → IsFitting plan → TableExists plan → IsFaithful plan journal → Follows plan journal → 0 < plan.options.drain_limit → verdict_of plan journal ≡ Reverted (causes.Spent tasks.CutOver turns)
     → Stands plan journal (causes.Spent tasks.CutOver turns)

@@ -9,8 +9,8 @@ use Rattle.tool_program.specs.declared.cutover_core.cutover.Phase.TheVariants.{A
 use Rattle.tool_program.specs.declared.cutover_core.cutover.Stage.TheVariants.{Guarding, Exchanging}
 use Rattle.tool_program.specs.Programs.{Follows}
 use Rattle.tool_program.specs.Tools.{Work, Migrating, moment}
-use Rattle.proof_journals.specs.Machine.Forming.{IsFitting}
-use Rattle.proof_journals.specs.Machine.Tabling.{TableStands}
+use Rattle.proof_journals.specs.Machine.FormedPlans.{IsFitting}
+use Rattle.proof_journals.specs.Machine.MigrationTables.{TableExists}
 
 -- the sentry's CREATE waits while the sentry isn't made, and the RENAME after the unlock
 pub record IsWaiting (cutover : CutOver) : Type 0 where
@@ -19,4 +19,4 @@ pub record IsWaiting (cutover : CutOver) : Type 0 where
 
 -- *Attempts wait*: so does each, after every journal of a fitting plan whose migrated table exists.
 abbrev pub AttemptsWait : Type 0
-AttemptsWait = (plan : PlanData) (journal : List Entry) (work : Work) → IsFitting plan → TableStands plan → IsFaithful plan journal → Follows plan journal → (moment plan journal).tool.course ≡ Migrating work → IsWaiting work.cutover
+AttemptsWait = (plan : PlanData) (journal : List Entry) (work : Work) → IsFitting plan → TableExists plan → IsFaithful plan journal → Follows plan journal → (moment plan journal).tool.tool_phase ≡ Migrating work → IsWaiting work.cutover

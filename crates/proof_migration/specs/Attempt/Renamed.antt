@@ -11,10 +11,10 @@ use Rattle.tool_program.specs.declared.cutover_core.cutover.Clearing.TheVariants
 use Rattle.tool_program.specs.declared.cutover_core.cutover.Phase.{Phase}
 use Rattle.tool_program.specs.declared.cutover_core.cutover.Phase.TheVariants.{Resting, Attempting, Ending, Finishing, Finished}
 use Rattle.tool_program.specs.Programs.{Follows}
-use Rattle.tool_program.specs.Tools.{Course, SettingUp, Migrating, moment}
+use Rattle.tool_program.specs.Tools.{ToolPhase, SettingUp, Migrating, moment}
 use Rattle.proof_journals.specs.Plans.{IsSerialPlan}
 use Rattle.proof_journals.specs.Machine.Runnable.{IsRunnable}
-use Rattle.proof_journals.specs.Machine.Tabling.{schema_of}
+use Rattle.proof_journals.specs.Machine.MigrationTables.{schema_of}
 
 -- the tool looks at the tables, of which none has the new one's name; or it knows that the RENAME was done
 abbrev pub IsRenamedAt : PlanData → Database → Phase → Type 0
@@ -25,10 +25,10 @@ IsRenamedAt plan tables (Ending (Drops left)) = ⊥
 IsRenamedAt plan tables (Finishing clearing) = Unit {0}
 IsRenamedAt plan tables Finished = Unit {0}
 
-abbrev pub CourseRenamed : PlanData → Database → Course → Type 0
-CourseRenamed plan tables (SettingUp setup tries) = ⊥
-CourseRenamed plan tables (Migrating work) = IsRenamedAt plan tables work.cutover.phase
+abbrev pub ToolPhaseRenamed : PlanData → Database → ToolPhase → Type 0
+ToolPhaseRenamed plan tables (SettingUp setup tries) = ⊥
+ToolPhaseRenamed plan tables (Migrating work) = IsRenamedAt plan tables work.cutover.phase
 
 -- *Renames are seen*: so it is after every journal in whose history the ALTER is.
 abbrev pub RenamesAreSeen : Type 0
-RenamesAreSeen = (plan : PlanData) (journal : List Entry) → IsRunnable plan → IsSerialPlan plan → IsFaithful plan journal → Follows plan journal → list_any is_alter (history plan journal) ≡ true → CourseRenamed plan (state_at plan journal).tables (moment plan journal).tool.course
+RenamesAreSeen = (plan : PlanData) (journal : List Entry) → IsRunnable plan → IsSerialPlan plan → IsFaithful plan journal → Follows plan journal → list_any is_alter (history plan journal) ≡ true → ToolPhaseRenamed plan (state_at plan journal).tables (moment plan journal).tool.tool_phase

@@ -13,7 +13,7 @@ use Rattle.tool_program.specs.CutoverCore.CutOvers.{is_resting}
 use Rattle.tool_program.specs.JournalWords.Journals.{IsFaithful}
 use Rattle.tool_program.specs.Failures.{IsTurn, IsFailedTry, Stands}
 use Rattle.tool_program.specs.Programs.{Follows}
-use Rattle.tool_program.specs.Tools.{Course, SettingUp, Migrating, Moment}
+use Rattle.tool_program.specs.Tools.{ToolPhase, SettingUp, Migrating, Moment}
 use Rattle.tool_program.specs.Verdicts.{verdict_of}
 
 -- *Panic stands*: it was commanded in the turn that the verdict names.
@@ -28,7 +28,7 @@ SpentTasksStand =
 
 -- THE CUT-OVER'S
 
-abbrev pub rests : Course → Bool
+abbrev pub rests : ToolPhase → Bool
 rests (SettingUp setup tries) = false
 rests (Migrating work) = is_resting work.cutover.phase
 
@@ -38,7 +38,7 @@ pub record IsRefusedSentry (plan : PlanData) (journal : List Entry) (turn : ℕ)
   pub before : Moment
   pub is : IsTurn plan journal turn entry before
   pub actor : entry.actor ≡ Lock
-  pub resting : rests before.tool.course ≡ true
+  pub resting : rests before.tool.tool_phase ≡ true
   pub number : ℕ
   pub column : Option ℕ
   pub refused : entry.answer ≡ answers.Refused number column

@@ -8,11 +8,11 @@ use Rattle.server_model.specs.declared.request.Request.{Request}
 use Rattle.server_model.specs.declared.request.Request.TheVariants as requests
 use Rattle.server_model.specs.declared.session.Limits.{Limits}
 use Rattle.server_model.specs.Answers.{ok}
-use Rattle.server_model.specs.Jobs.{table_of}
+use Rattle.server_model.specs.Operations.{table_of}
 use Rattle.server_model.specs.States.{names_in}
 use Rattle.tool_program.specs.JournalWords.Journals.{may_lose, opens}
 use Rattle.proof_journals.specs.Scenes.{Scene, SessionHold}
-use Rattle.proof_journals.specs.Turns.{about, scene_state, told_at}
+use Rattle.proof_journals.specs.Turns.{about, scene_state, reported_at}
 use Rattle.proof_journals.specs.Ghost.Rows.Timelines.{Migration}
 use Rattle.proof_journals.specs.Ghost.Invariant.{NotOf}
 
@@ -23,12 +23,12 @@ IsOther m name = (bytes_eq m.name name ≡ false) × (bytes_eq m.new.name name �
 -- *Keeps away*: the request writes no row of the new table, and makes, drops and, where that is done, renames neither it nor the
 -- migrated one.
 abbrev pub KeepsAway : Migration → Option Answer → Request → Type 0
-KeepsAway m told (requests.Do statement) = bytes_eq (table_of statement) m.new.name ≡ false
-KeepsAway m told (requests.CopyRow from into map key) = bytes_eq into m.new.name ≡ false
-KeepsAway m told (requests.Create schema) = IsOther m schema.name
-KeepsAway m told (requests.Drop name) = IsOther m name
-KeepsAway m told (requests.Rename pairs) = told ≡ Some ok → AllByRecursion (IsOther m) (names_in (requests.Rename pairs))
-KeepsAway m told request = Unit {0}
+KeepsAway m reported (requests.Do statement) = bytes_eq (table_of statement) m.new.name ≡ false
+KeepsAway m reported (requests.CopyRow from into map key) = bytes_eq into m.new.name ≡ false
+KeepsAway m reported (requests.Create schema) = IsOther m schema.name
+KeepsAway m reported (requests.Drop name) = IsOther m name
+KeepsAway m reported (requests.Rename pairs) = reported ≡ Some ok → AllByRecursion (IsOther m) (names_in (requests.Rename pairs))
+KeepsAway m reported request = Unit {0}
 
 -- no other session has written a row of the new table
 abbrev pub OthersAway : Migration → (ℕ → SessionHold) → ℕ → ℕ → Type 0
@@ -39,4 +39,4 @@ pub record IsOtherTurn (m : Migration) (limits : Limits) (scene : Scene) (journa
   pub sides : may_lose entry.asked ≡ false → entry.side ≡ None
   pub no_copier : (copier == entry.session) ≡ false
   pub no_applier : (applier == entry.session) ≡ false
-  pub away : (request : Request) → about (opens entry (scene_state limits scene journal)) entry.session entry.asked ≡ Some request → KeepsAway m (told_at entry.side entry.answer entry.missed) request
+  pub away : (request : Request) → about (opens entry (scene_state limits scene journal)) entry.session entry.asked ≡ Some request → KeepsAway m (reported_at entry.side entry.answer entry.missed) request

@@ -1,6 +1,6 @@
 -- Other sessions' turns keep the ghost relation; and over journals that follow the program the new table becomes the altered one.
 use Rattle.std.specs.Prelude.{◌≡◌, ℕ, List, [], ◌∷◌, ◌++◌, Some}
-use Rattle.base_values.specs.GhoSchema.Clustering.{clustered_place}
+use Rattle.base_values.specs.GhoSchema.ClusteredKey.{clustered_place}
 use Rattle.server_model.specs.declared.entry.Entry.{Entry}
 use Rattle.server_model.specs.declared.session.Limits.{Limits}
 use Rattle.base_values.specs.ToolNames.{ghost_name}
@@ -9,11 +9,11 @@ use Rattle.proof_journals.specs.Turns.{IsSceneRun, scene_state}
 use Rattle.proof_journals.specs.Ghost.Rows.Moments.{Row}
 use Rattle.proof_journals.specs.Ghost.Rows.Timelines.{IsPlanned, Migration}
 use Rattle.proof_journals.specs.Ghost.Copies.{IsAltered}
-use Rattle.proof_journals.specs.Ghost.Holding.{Clustered}
-use Rattle.proof_journals.specs.Ghost.Running.{ApplyPlan}
+use Rattle.proof_journals.specs.Ghost.HeldKeys.{Clustered}
+use Rattle.proof_journals.specs.Ghost.ToolTurns.{ApplyPlan}
 use Rattle.proof_journals.specs.Ghost.Tool.{CopyState}
-use Rattle.proof_migration.specs.Migration.Copier.Copying.{moment_of}
-use Rattle.proof_migration.specs.Migration.Applier.Finding.{FindsRows}
+use Rattle.proof_migration.specs.Migration.Copier.CopierPlace.{moment_of}
+use Rattle.proof_migration.specs.Migration.Applier.FoundColumns.{FindsRows}
 use Rattle.proof_migration.specs.Migration.Away.{IsOtherTurn}
 use Rattle.proof_migration.specs.Migration.Machines.{IsMigrationEnd, IsMigrationStart, Machines, MigrationMove, MigrationRun, MigrationStands, MigrationTurn, StandsAway, Step, journal_after, machines_after}
 

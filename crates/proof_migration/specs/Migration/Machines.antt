@@ -23,10 +23,10 @@ use Rattle.proof_journals.specs.Turns.{about, scene_state}
 use Rattle.proof_journals.specs.Ghost.Rows.Moments.{Row}
 use Rattle.proof_journals.specs.Ghost.Rows.Timelines.{Migration}
 use Rattle.proof_journals.specs.Ghost.Copies.{IsCopyStart}
-use Rattle.proof_journals.specs.Ghost.Holding.{Clustered}
-use Rattle.proof_journals.specs.Ghost.Running.{ToolMoment, ToolStands}
-use Rattle.proof_migration.specs.Migration.Copier.Copying.{CopierKnows, copy_state, moment_of}
-use Rattle.proof_migration.specs.Migration.Applier.Applying.{ApplierKnows, StepIsBusy, apply_plan}
+use Rattle.proof_journals.specs.Ghost.HeldKeys.{Clustered}
+use Rattle.proof_journals.specs.Ghost.ToolTurns.{ToolMoment, ToolStands}
+use Rattle.proof_migration.specs.Migration.Copier.CopierPlace.{CopierKnows, copy_state, moment_of}
+use Rattle.proof_migration.specs.Migration.Applier.ApplierPlace.{ApplierKnows, StepIsBusy, apply_plan}
 use Rattle.proof_migration.specs.Migration.Away.{IsOtherTurn, OthersAway}
 
 -- *The tool stands, and others keep away*
@@ -57,7 +57,7 @@ pub record MigrationStands (m : Migration) (at : Clustered m.schema) (rows : Lis
 -- the copier is between chunks; the applier is in no batch's statements
 abbrev pub IsBetween : CopyStep → Type 0
 IsBetween Choosing = Unit {0}
-IsBetween (Spanning told size) = Unit {0}
+IsBetween (Spanning reported size) = Unit {0}
 IsBetween step = ⊥
 
 abbrev pub IsUnbusy : ApplyStep → Type 0
@@ -111,7 +111,7 @@ pub data MigrationMove (limits : Limits) (scene : Scene) (journal : List Entry) 
   applier_moves : (session : ℕ) → hold_at (scene_state limits scene journal) before.applier_session ≡ no_hold → IsUnbusy (before.applier).step → hold_at (scene_state limits scene journal) session ≡ no_hold → (before.copier_session == session) ≡ false → after ≡ record before { applier_session = session }
       → MigrationMove limits scene journal before after
   chunks_resize : (size : ℕ) → 0 < size → after ≡ record before { copier = copiers.resized size before.copier } → MigrationMove limits scene journal before after
-  span_resizes : (told old size : ℕ) → (before.copier).step ≡ Spanning told old → 0 < size → after ≡ record before { copier = record (before.copier) { step = Spanning told size } } → MigrationMove limits scene journal before after
+  span_resizes : (reported old size : ℕ) → (before.copier).step ≡ Spanning reported old → 0 < size → after ≡ record before { copier = record (before.copier) { step = Spanning reported size } } → MigrationMove limits scene journal before after
 
 -- a step: an entry, or a move; and the machines after it
 pub data Step : Type 0 where
@@ -139,7 +139,7 @@ machines_after now (Moved next ∷ steps) = machines_after next steps
 pub record IsMigrationStart (m : Migration) (rows : List Row) (limits : Limits) (scene : Scene) (journal : List Entry) (now : Machines) : Type 0 where
   pub start : IsCopyStart m rows now.copier_session now.applier_session (moment_at m (scene_state limits scene journal) journal now)
   pub named : m.new.name ≡ ghost_name m.name
-  pub behind : (now.copier).behind ≡ None
+  pub following : (now.copier).following ≡ None
   pub choosing : (now.copier).step ≡ Choosing
   pub sized : 0 < (now.copier).size
   pub reading : (now.applier).step ≡ Reading

@@ -5,7 +5,7 @@ use Rattle.base_values.specs.declared.gho_schema.schema.Schema.{Schema}
 use Rattle.base_values.specs.GhoSchema.Tables.{IsTable}
 use Rattle.base_values.specs.declared.row_conversion.clause.Clause.{Clause}
 use Rattle.base_values.specs.SchemaRules.Valid.{IsValid}
-use Rattle.sql_change.specs.Altering.{altered}
+use Rattle.sql_change.specs.AlteredSchema.{altered}
 use Rattle.base_values.specs.ToolNames.{ghost_name}
 use Rattle.plan_data.specs.PlanData.{Altered}
 use Rattle.proof_journals.specs.Ghost.Rows.Timelines.{Migration, IsPlanned}

@@ -6,8 +6,8 @@ use Rattle.plan_data.specs.PlanData.{PlanData}
 use Rattle.proof_journals.specs.Plans.{IsSerialPlan}
 use Rattle.proof_journals.specs.Run.Kept.{IsKept}
 use Rattle.proof_journals.specs.Machine.Runnable.{IsRunnable}
-use Rattle.proof_journals.specs.Sentry.Turning.{IsTurned}
-use Rattle.proof_migration.specs.Course.Unaltered.{IsUnaltered}
+use Rattle.proof_journals.specs.Sentry.TurnResults.{IsTurned}
+use Rattle.proof_migration.specs.ToolPhase.Unaltered.{IsUnaltered}
 
 -- *Copiers are turned*: a turn of the copier's leaves the cut-over what the sentry relation asks; what was copied stays so.
 abbrev pub CopiersAreTurned : Type 0

@@ -13,7 +13,7 @@ use Rattle.proof_journals.specs.Plans.{IsSerialPlan}
 use Rattle.proof_journals.specs.Run.Kept.{IsKept}
 use Rattle.proof_journals.specs.Machine.Runnable.{IsRunnable}
 use Rattle.proof_journals.specs.Sentry.Sentries.{IsDraining, KnowsHint}
-use Rattle.proof_migration.specs.Course.Unaltered.{IsUnaltered}
+use Rattle.proof_migration.specs.ToolPhase.Unaltered.{IsUnaltered}
 
 -- the attempt that is under way hasn't written its hint row yet
 abbrev pub is_unhinted : Phase → Bool
@@ -41,4 +41,4 @@ pub record KnowsHints (plan : PlanData) (log : List RowEvent) (work : Work) : Ty
 
 -- *Hints are known* after every journal that is kept, until the RENAME is done.
 abbrev pub HintsAreKnown : Type 0
-HintsAreKnown = (plan : PlanData) (journal : List Entry) (work : Work) → IsRunnable plan → IsSerialPlan plan → IsKept plan journal → IsUnaltered plan journal → (moment plan journal).tool.course ≡ Migrating work → KnowsHints plan (state_at plan journal).log work
+HintsAreKnown = (plan : PlanData) (journal : List Entry) (work : Work) → IsRunnable plan → IsSerialPlan plan → IsKept plan journal → IsUnaltered plan journal → (moment plan journal).tool.tool_phase ≡ Migrating work → KnowsHints plan (state_at plan journal).log work

@@ -10,7 +10,7 @@ use Rattle.tool_program.specs.JournalWords.Sessions.{live_session}
 use Rattle.tool_program.specs.Programs.{Follows}
 use Rattle.tool_program.specs.Tools.{Work, Migrating, moment}
 use Rattle.proof_journals.specs.Run.Kept.{IsKept}
-use Rattle.proof_journals.specs.Sentry.Turning.{IsLockerFree, IsRenamerFree, last_session}
+use Rattle.proof_journals.specs.Sentry.TurnResults.{IsLockerFree, IsRenamerFree, last_session}
 
 -- a locker without a live session has nothing, and a renamer without one has no RENAME that waits
 pub record IsHeldLive (journal : List Entry) (work : Work) : Type 0 where
@@ -19,12 +19,12 @@ pub record IsHeldLive (journal : List Entry) (work : Work) : Type 0 where
 
 -- *Holds are live*: so it is after each faithful journal that follows the program.
 abbrev pub HoldsAreLive : Type 0
-HoldsAreLive = (plan : PlanData) (journal : List Entry) (work : Work) → IsFaithful plan journal → Follows plan journal → (moment plan journal).tool.course ≡ Migrating work → IsHeldLive journal work
+HoldsAreLive = (plan : PlanData) (journal : List Entry) (work : Work) → IsFaithful plan journal → Follows plan journal → (moment plan journal).tool.tool_phase ≡ Migrating work → IsHeldLive journal work
 
 -- *Lockers go on*: a turn of the locker's is in its last session, or the relation names none of its sessions.
 abbrev pub LockersGoOn : Type 0
-LockersGoOn = (plan : PlanData) (journal : List Entry) (entry : Entry) (work : Work) → IsKept plan (journal ++ entry ∷ []) → (moment plan journal).tool.course ≡ Migrating work → entry.actor ≡ Lock → is_command entry.asked ≡ false → (entry.session ≡ last_session journal Lock) ⊎ IsLockerFree work.cutover.phase
+LockersGoOn = (plan : PlanData) (journal : List Entry) (entry : Entry) (work : Work) → IsKept plan (journal ++ entry ∷ []) → (moment plan journal).tool.tool_phase ≡ Migrating work → entry.actor ≡ Lock → is_command entry.asked ≡ false → (entry.session ≡ last_session journal Lock) ⊎ IsLockerFree work.cutover.phase
 
 -- *Renamers go on*: likewise.
 abbrev pub RenamersGoOn : Type 0
-RenamersGoOn = (plan : PlanData) (journal : List Entry) (entry : Entry) (work : Work) → IsKept plan (journal ++ entry ∷ []) → (moment plan journal).tool.course ≡ Migrating work → entry.actor ≡ Ren → is_command entry.asked ≡ false → (entry.session ≡ last_session journal Ren) ⊎ IsRenamerFree work.cutover.phase
+RenamersGoOn = (plan : PlanData) (journal : List Entry) (entry : Entry) (work : Work) → IsKept plan (journal ++ entry ∷ []) → (moment plan journal).tool.tool_phase ≡ Migrating work → entry.actor ≡ Ren → is_command entry.asked ≡ false → (entry.session ≡ last_session journal Ren) ⊎ IsRenamerFree work.cutover.phase

@@ -9,11 +9,11 @@ use Rattle.proof_journals.specs.Plans.{IsSerialPlan}
 use Rattle.proof_journals.specs.Ghost.Rows.Moments.{Row}
 use Rattle.proof_journals.specs.Ghost.Rows.Timelines.{Migration}
 use Rattle.proof_journals.specs.Ghost.Copies.{IsAltered}
-use Rattle.proof_journals.specs.Ghost.Holding.{Clustered}
+use Rattle.proof_journals.specs.Ghost.HeldKeys.{Clustered}
 use Rattle.proof_migration.specs.Migration.Planning.{migration_of}
 use Rattle.proof_journals.specs.Run.Kept.{IsKept}
-use Rattle.proof_migration.specs.Course.Runnable.{IsAlterable, IsWorded}
-use Rattle.proof_migration.specs.Course.Unaltered.{IsUnaltered}
+use Rattle.proof_migration.specs.ToolPhase.Runnable.{IsAlterable, IsWorded}
+use Rattle.proof_migration.specs.ToolPhase.Unaltered.{IsUnaltered}
 use Rattle.proof_migration.specs.Program.Turns.Laws.{GoesSomehow, IsMark, IsMigrationOf}
 
 -- *Followers go*: from the opening tables on, over whatever turns follow the program, once the setup is over the migration goes,
@@ -21,7 +21,7 @@ use Rattle.proof_migration.specs.Program.Turns.Laws.{GoesSomehow, IsMark, IsMigr
 abbrev pub FollowersGo : Type 0
 FollowersGo =
     (plan : PlanData) (m : Migration) (at : Clustered m.schema) (rows : List Row) → IsMigrationOf plan m rows → find_table m.name plan.tables ≡ Some (record { schema = m.schema; rows = rows }) → (journal : List Entry) (work : Work) → IsKept plan journal → IsUnaltered plan journal
-    → is_reverting (moment plan journal).tool.reason ≡ false → (moment plan journal).tool.course ≡ Migrating work → GoesSomehow plan m at rows journal
+    → is_reverting (moment plan journal).tool.reason ≡ false → (moment plan journal).tool.tool_phase ≡ Migrating work → GoesSomehow plan m at rows journal
 
 -- *Followers alter*: in every journal that follows the program of an alterable plan, whatever is answered, refused, lost or
 -- repeated, at the mark the new table is the altered one.

@@ -6,8 +6,8 @@ use Rattle.plan_data.specs.PlanData.{PlanData}
 use Rattle.proof_journals.specs.Plans.{IsSerialPlan}
 use Rattle.proof_journals.specs.Run.Kept.{IsKept}
 use Rattle.proof_journals.specs.Machine.Runnable.{IsRunnable}
-use Rattle.proof_journals.specs.Sentry.Turning.{IsGuarded, IsTurned}
-use Rattle.proof_migration.specs.Course.Unaltered.{IsUnaltered}
+use Rattle.proof_journals.specs.Sentry.TurnResults.{IsGuarded, IsTurned}
+use Rattle.proof_migration.specs.ToolPhase.Unaltered.{IsUnaltered}
 
 -- *Lockers are turned*: a turn of the locker's leaves the cut-over what the sentry relation asks.
 abbrev pub LockersAreTurned : Type 0

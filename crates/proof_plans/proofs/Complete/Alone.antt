@@ -19,14 +19,14 @@ use Rattle.server_model.specs.Entries.{same_actor, is_client}
 use Rattle.plan_data.specs.PlanData.{PlanData}
 use Rattle.tool_program.specs.JournalWords.Clients.{Reached, client_after, became, after_turn, client_at, new_client, script_of, client_asks, line_asks}
 use Rattle.tool_program.specs.JournalWords.Journals.{turns_of}
-use Rattle.tool_program.specs.JournalWords.Keeping.{IsPlanned, IsStruck, KeepsPlan, TakesNext, commands_taken, cut_among, cut_due, side_due, struck_among, words_of}
+use Rattle.tool_program.specs.JournalWords.KeptPlans.{IsPlanned, IsStruck, KeepsPlan, TakesNext, commands_taken, cut_among, cut_due, side_due, struck_among, words_of}
 use Rattle.tool_program.specs.CutoverCore.CutOvers.{is_bad}
 use Rattle.tool_program.specs.Programs.{given}
 use Rattle.proof_journals.specs.Run.Kept.{IsKept}
 use Rattle.proof_journals.specs.Machine.Standings.{standing_of, serves_to, gives, IsAbout, is_called, is_polled}
 use Rattle.proof_journals.proofs.Machine.Journals.{IsRun, IsTogether, Asking, asking, calls_so, polls_so}
 use Rattle.proof_journals.proofs.Machine.Seated.{IsServed, own_heard}
-use Rattle.proof_migration.proofs.Course.CourseTurns.{gives_asked}
+use Rattle.proof_migration.proofs.ToolPhase.ToolPhaseTurns.{gives_asked}
 use Rattle.proof_journals.proofs.Ghost.Turns.{along_next}
 use Rattle.proof_migration.proofs.Program.Turns.Follows.{kept_run}
 use Rattle.proof_plans.specs.Complete.Quiet.{IsQuiet, is_timed_out}

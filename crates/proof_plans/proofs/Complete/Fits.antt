@@ -17,7 +17,7 @@ use Rattle.server_model.specs.declared.entry.Entry.{Entry}
 use Rattle.server_model.specs.declared.request.Request.{Request}
 use Rattle.server_model.specs.declared.request.Request.TheVariants as requests
 use Rattle.server_model.specs.Entries.{is_client, is_command}
-use Rattle.server_model.specs.Jobs.{after_events}
+use Rattle.server_model.specs.Operations.{after_events}
 use Rattle.server_model.specs.States.{State, session_of, view, writes_of}
 use Rattle.plan_data.specs.PlanData.{PlanData, new_map}
 use Rattle.base_values.specs.ToolNames.{ghost_name}
@@ -28,21 +28,21 @@ use Rattle.tool_program.specs.declared.event_applier.applier.ApplyStep.{ApplySte
 use Rattle.tool_program.specs.declared.event_applier.applier.ApplyStep.TheVariants as applying
 use Rattle.tool_program.specs.EventApplier.Appliers as appliers
 use Rattle.tool_program.specs.Programs.{tool_call}
-use Rattle.tool_program.specs.Tools.{Course, SettingUp, Migrating, Work, is_reverting, moment}
+use Rattle.tool_program.specs.Tools.{ToolPhase, SettingUp, Migrating, Work, is_reverting, moment}
 use Rattle.proof_journals.specs.Holdings.{Face, face_of}
 use Rattle.proof_journals.proofs.Faces.{faces_opened, writes_face}
 use Rattle.proof_migration.proofs.Migration.Copier.Rows.{found_all}
-use Rattle.proof_journals.specs.Machine.Keying.{IsKeyed}
+use Rattle.proof_journals.specs.Machine.TableKeys.{IsKeyed}
 use Rattle.proof_journals.specs.Machine.Laws.{has_keys}
-use Rattle.proof_journals.specs.Machine.Machines.{CourseStands, WorkStands, copier_asks}
+use Rattle.proof_journals.specs.Machine.Machines.{ToolPhaseStands, WorkStands, copier_asks}
 use Rattle.proof_journals.specs.Machine.Runnable.{IsRunnable}
 use Rattle.proof_journals.specs.Machine.Standings.{IsAbout, Standing, is_called, is_polled, standing_of}
-use Rattle.proof_journals.specs.Machine.Tabling.{CourseTables}
+use Rattle.proof_journals.specs.Machine.MigrationTables.{ToolPhaseTables}
 use Rattle.proof_journals.proofs.Machine.Journals.{Asking, IsRun, IsTogether, calls_so, copy_about, copier_had, polls_so}
 use Rattle.proof_journals.proofs.Machine.Keyed.{IsKeyedAll, copy_called, copy_uncopied}
 use Rattle.proof_journals.proofs.Machine.Seated.{IsServed}
-use Rattle.proof_migration.proofs.Course.CopyAnswers.{CopyFits, UnfitRow, own_copy}
-use Rattle.proof_migration.proofs.Course.Hearing.{opened_tables}
+use Rattle.proof_migration.proofs.ToolPhase.CopyAnswers.{CopyFits, UnfitRow, own_copy}
+use Rattle.proof_migration.proofs.ToolPhase.Hearing.{opened_tables}
 use Rattle.proof_plans.specs.Complete.Laws.{has_row, is_applying, is_copying, is_unfit}
 use Rattle.proof_plans.specs.Complete.Quiet.{AllHaveConvertedRows, HasConvertedRow, RowsHaveConvertedRows}
 use Rattle.proof_plans.proofs.Complete.ReadingOn.{ReadsOn}
@@ -73,7 +73,7 @@ reading_says (applying.Applying batch done part) is = absurd (false≢true is)
 reading_says (applying.Committing batch) is = absurd (false≢true is)
 
 module _ (again : StoresAgain) (plan : PlanData) (converted_rows : RowsHaveConvertedRows plan) (runs : IsRunnable plan) (journal : List Entry) (entry : Entry) (keyed : IsKeyedAll plan journal) (together : IsTogether plan journal) (run : IsRun plan journal entry) (none : (moment plan journal).tool.reason ≡ None)
-    (asks : Asking plan journal entry.actor entry.asked) (is : IsUntouched plan journal) (reads : ReadsOn (moment plan journal).tool.course) where
+    (asks : Asking plan journal entry.actor entry.asked) (is : IsUntouched plan journal) (reads : ReadsOn (moment plan journal).tool.tool_phase) where
   abbrev now : State
   now = state_at plan journal
 
@@ -86,7 +86,7 @@ module _ (again : StoresAgain) (plan : PlanData) (converted_rows : RowsHaveConve
   served : IsServed plan journal entry
   served = record { answered = run.answered; seated = record { session = run.followed.session } }
 
-  module _ (work : Work) (eq : (moment plan journal).tool.course ≡ Migrating work) (who : entry.actor ≡ Copy) (copies : is_copying work.copier.step ≡ true) where
+  module _ (work : Work) (eq : (moment plan journal).tool.tool_phase ≡ Migrating work) (who : entry.actor ≡ Copy) (copies : is_copying work.copier.step ≡ true) where
     -- the request, of the migrated table and the new one
     record Copies : Type 0 where
       request : Request
@@ -96,7 +96,7 @@ module _ (again : StoresAgain) (plan : PlanData) (converted_rows : RowsHaveConve
       left : has_keys request ≡ true → work.copier.is_copied ≡ false
 
     stands : WorkStands journal (is_reverting (moment plan journal).tool.reason) has work
-    stands = subst (CourseStands journal has (is_reverting (moment plan journal).tool.reason)) eq together.stands
+    stands = subst (ToolPhaseStands journal has (is_reverting (moment plan journal).tool.reason)) eq together.stands
 
     asked : Copies
     asked = by (subst (λ (a : Actor). Asking plan journal a entry.asked) who asks) where
@@ -108,8 +108,8 @@ module _ (again : StoresAgain) (plan : PlanData) (converted_rows : RowsHaveConve
         request = request;
         is_about = is_called called idle;
         kind = kind_of request (is_called called idle) (λ other about_other. same other about_other);
-        keys = copy_called plan journal request (moment plan journal).tool.course keyed.course call;
-        left = λ keys. copy_uncopied plan journal request work keys (ap (λ (c : Course). tool_call plan (moment plan journal).server journal (moment plan journal).tool c Copy) (sym eq) ∙ call);
+        keys = copy_called plan journal request (moment plan journal).tool.tool_phase keyed.tool_phase call;
+        left = λ keys. copy_uncopied plan journal request work keys (ap (λ (c : ToolPhase). tool_call plan (moment plan journal).server journal (moment plan journal).tool c Copy) (sym eq) ∙ call);
       } where
         same : (other : Request) → IsAbout other (has Copy) entry.asked → other ≡ request
         same other (is_called asks_other none_other) = one (sym asks_other ∙ called) where
@@ -135,7 +135,7 @@ module _ (again : StoresAgain) (plan : PlanData) (converted_rows : RowsHaveConve
 
         uncopied : (b : Bool) → work.copier.is_copied ≡ b → work.copier.is_copied ≡ false
         uncopied false copied = copied
-        uncopied true copied = absurd (no (sym ((subst (CourseTables plan now.tables has) eq keyed.tabled.tables).copied copied) ∙ some)) where
+        uncopied true copied = absurd (no (sym ((subst (ToolPhaseTables plan now.tables has) eq keyed.tabled.tables).copied copied) ∙ some)) where
           no : None ≡ Some request → ⊥
           no both = cc
 
@@ -159,7 +159,7 @@ module _ (again : StoresAgain) (plan : PlanData) (converted_rows : RowsHaveConve
     own_fits_so : (key : List Value) → IsAbout (Own key) (has Copy) entry.asked → work.copier.is_copied ≡ false → is_unfit entry.answer ≡ false
     own_fits_so key about left =
         copy_fits plan seen key entry.answer (λ place number. imaged plan seen key place number table_seen converted_rows)
-        (own_copy again plan runs.mapped journal entry together.known served key (subst (λ (a : Actor). IsAbout (Own key) (has a) entry.asked) (sym who) about) locked ((subst (CourseTables plan now.tables has) eq keyed.tabled.tables).going left).tables)
+        (own_copy again plan runs.mapped journal entry together.known served key (subst (λ (a : Actor). IsAbout (Own key) (has a) entry.asked) (sym who) about) locked ((subst (ToolPhaseTables plan now.tables has) eq keyed.tabled.tables).going left).tables)
 
     copied_fits : is_unfit entry.answer ≡ false
     copied_fits = by work.copier.step copies asked.request asked.kind asked.keys asked.is_about asked.left where
@@ -172,15 +172,15 @@ module _ (again : StoresAgain) (plan : PlanData) (converted_rows : RowsHaveConve
       by step copies request kind keys about left = absurd (false≢true copies)
 
   -- *No value is refused of a row*
-  pub fits_so : has_row entry.actor (moment plan journal).tool.course ≡ true → is_unfit entry.answer ≡ false
-  fits_so rows = by entry.actor refl (moment plan journal).tool.course refl rows where
-    by : (actor : Actor) → entry.actor ≡ actor → (course : Course) → (moment plan journal).tool.course ≡ course → has_row actor course ≡ true → is_unfit entry.answer ≡ false
+  pub fits_so : has_row entry.actor (moment plan journal).tool.tool_phase ≡ true → is_unfit entry.answer ≡ false
+  fits_so rows = by entry.actor refl (moment plan journal).tool.tool_phase refl rows where
+    by : (actor : Actor) → entry.actor ≡ actor → (tool_phase : ToolPhase) → (moment plan journal).tool.tool_phase ≡ tool_phase → has_row actor tool_phase ≡ true → is_unfit entry.answer ≡ false
     by Copy who (Migrating work) eq rows = copied_fits work eq who rows
     by Apply who (Migrating work) eq rows = absurd (true≢false (sym rows ∙ reading_says work.applier.step (subst ReadsOn eq reads)))
     by Copy who (SettingUp setup tries) eq rows = absurd (false≢true rows)
     by Apply who (SettingUp setup tries) eq rows = absurd (false≢true rows)
-    by Op who course eq rows = absurd (false≢true rows)
-    by Insp who course eq rows = absurd (false≢true rows)
-    by Lock who course eq rows = absurd (false≢true rows)
-    by Ren who course eq rows = absurd (false≢true rows)
-    by (Client c) who course eq rows = absurd (false≢true rows)
+    by Op who tool_phase eq rows = absurd (false≢true rows)
+    by Insp who tool_phase eq rows = absurd (false≢true rows)
+    by Lock who tool_phase eq rows = absurd (false≢true rows)
+    by Ren who tool_phase eq rows = absurd (false≢true rows)
+    by (Client c) who tool_phase eq rows = absurd (false≢true rows)

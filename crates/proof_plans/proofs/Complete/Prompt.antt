@@ -17,8 +17,8 @@ use Rattle.server_model.specs.declared.session.HeldName.{HeldName}
 use Rattle.server_model.specs.declared.session.Session.{Session}
 use Rattle.server_model.specs.declared.session.Waiting.{Waiting}
 use Rattle.server_model.specs.Entries.{same_actor, is_client, is_command}
-use Rattle.server_model.specs.Locking.{need}
-use Rattle.server_model.specs.Serving.{calls, called_unless, done, serves}
+use Rattle.server_model.specs.Blockers.{need}
+use Rattle.server_model.specs.PlainServer.{calls, called_unless, done, serves}
 use Rattle.server_model.specs.States.{State, session_of, new_session, connected, is_live, is_waiting, waiting_of, locked_names, shared_names}
 use Rattle.plan_data.specs.PlanData.{PlanData}
 use Rattle.tool_program.specs.JournalWords.Journals.{opens, opens_if, state_at}
@@ -33,8 +33,8 @@ use Rattle.proof_journals.proofs.Journals.{JournalHolds, opened_waits}
 use Rattle.proof_journals.proofs.Waiting.{IsDone, done_answers}
 use Rattle.proof_journals.specs.Run.Laws.{Living, NoneWaits}
 use Rattle.server_model.proofs.LockedRows.Tests.{same_number}
-use Rattle.proof_migration.specs.Course.Laws.{IsOwned}
-use Rattle.proof_migration.proofs.Course.Owners.{AllOwned}
+use Rattle.proof_migration.specs.ToolPhase.Laws.{IsOwned}
+use Rattle.proof_migration.proofs.ToolPhase.Owners.{AllOwned}
 use Rattle.proof_journals.specs.Machine.Standings.{Standing, standing_in, standing_of}
 use Rattle.proof_journals.proofs.Machine.Journals.{IsRun}
 use Rattle.proof_journals.proofs.Machine.Seated.{IsKnown, IsServed, own_given}

@@ -17,8 +17,8 @@ use Rattle.proof_journals.specs.Machine.Runnable.{IsRunnable}
 use Rattle.proof_journals.proofs.Machine.Journals.{IsRun, IsTogether}
 use Rattle.proof_journals.proofs.Machine.Keyed.{all_keyed}
 use Rattle.proof_journals.proofs.Machine.Staying.{tables_stay}
-use Rattle.proof_migration.specs.Course.Unaltered.{IsUnaltered}
-use Rattle.proof_migration.proofs.Course.Unaltered.Away.{all_asked}
+use Rattle.proof_migration.specs.ToolPhase.Unaltered.{IsUnaltered}
+use Rattle.proof_migration.proofs.ToolPhase.Unaltered.Away.{all_asked}
 use Rattle.proof_migration.proofs.Program.Turns.Follows.{kept_front, kept_run}
 use Rattle.proof_plans.specs.Complete.Laws.{IsSmooth, gives_up}
 use Rattle.proof_plans.specs.Complete.Quiet.{IsQuiet, RowsHaveConvertedRows, is_timed_out}
@@ -31,14 +31,14 @@ use Rattle.proof_plans.proofs.Complete.Untouched.{IsUntouched, nothing_begins, n
 -- in this turn no wait is over, and no attempt has spent its turns for the drain
 pub record IsBounded (plan : PlanData) (before : List Entry) (entry : Entry) : Type 0 where
   pub timed : is_timed_out entry.answer ≡ false
-  pub drained : entry.actor ≡ Apply → attempt_goes_on (moment plan before).tool.course ≡ true → gives_up (moment plan (before ++ entry ∷ [])).tool.course ≡ false
+  pub drained : entry.actor ≡ Apply → attempt_goes_on (moment plan before).tool.tool_phase ≡ true → gives_up (moment plan (before ++ entry ∷ [])).tool.tool_phase ≡ false
 
 -- what is so behind such a run's turns
 pub record IsQuietSo (plan : PlanData) (journal : List Entry) : Type 0 where
   pub calm : IsCalm plan journal
   pub nobody : Nobody journal
-  pub reads : is_renamed (moment plan journal).tool.course ≡ false → ReadsOn (moment plan journal).tool.course
-  pub nothing : is_renamed (moment plan journal).tool.course ≡ false → (whole : List Entry) → Nobody whole → history (limits_of plan) (scene_of plan whole) journal ≡ []
+  pub reads : is_renamed (moment plan journal).tool.tool_phase ≡ false → ReadsOn (moment plan journal).tool.tool_phase
+  pub nothing : is_renamed (moment plan journal).tool.tool_phase ≡ false → (whole : List Entry) → Nobody whole → history (limits_of plan) (scene_of plan whole) journal ≡ []
 
 -- ONE TURN
 
@@ -62,7 +62,7 @@ module _ (again : StoresAgain) (plan : PlanData) (quiet : IsQuiet plan) (convert
   nobody_more = All-append (λ (one : Entry). is_client one.actor ≡ false) journal (entry ∷ []) is.nobody (kind, tt)
 
   -- once the RENAME is known
-  renamed_so : is_renamed (moment plan journal).tool.course ≡ true → IsQuietSo plan more
+  renamed_so : is_renamed (moment plan journal).tool.tool_phase ≡ true → IsQuietSo plan more
   renamed_so done = record {
     calm = calm_more plan journal entry run (λ going. absurd (true≢false (sym done ∙ going))) is.calm;
     nobody = nobody_more;
@@ -70,7 +70,7 @@ module _ (again : StoresAgain) (plan : PlanData) (quiet : IsQuiet plan) (convert
     nothing = λ going. absurd (true≢false (sym (renamed_more plan journal entry done is.calm.on.none).done ∙ going));
   }
 
-  module _ (going : is_renamed (moment plan journal).tool.course ≡ false) (within : IsBounded plan journal entry) where
+  module _ (going : is_renamed (moment plan journal).tool.tool_phase ≡ false) (within : IsBounded plan journal entry) where
     off : IsUnaltered plan journal
     off = unaltered plan journal runs serial before going is.calm.on.on
 
@@ -98,9 +98,9 @@ module _ (again : StoresAgain) (plan : PlanData) (quiet : IsQuiet plan) (convert
           nothing_more plan runs serial journal entry (all_asked plan journal runs before.faithful before.follows) run (unaltered plan more runs serial kept later calm_now.on.on) kind (never_cut plan quiet journal entry is.nobody kept together) (unlost plan quiet journal entry is.nobody kept together) whole none (is.nothing going whole none);
     }
 
-  pub quiet_more : (is_renamed (moment plan journal).tool.course ≡ false → IsBounded plan journal entry) → IsQuietSo plan more
-  quiet_more within = by (is_renamed (moment plan journal).tool.course) refl where
-    by : (b : Bool) → is_renamed (moment plan journal).tool.course ≡ b → IsQuietSo plan more
+  pub quiet_more : (is_renamed (moment plan journal).tool.tool_phase ≡ false → IsBounded plan journal entry) → IsQuietSo plan more
+  quiet_more within = by (is_renamed (moment plan journal).tool.tool_phase) refl where
+    by : (b : Bool) → is_renamed (moment plan journal).tool.tool_phase ≡ b → IsQuietSo plan more
     by true done = renamed_so done
     by false going = going_so going (within going)
 

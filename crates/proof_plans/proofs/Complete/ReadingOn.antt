@@ -23,27 +23,27 @@ use Rattle.tool_program.specs.declared.event_applier.applier.ApplyStep.{ApplySte
 use Rattle.tool_program.specs.declared.event_applier.applier.ApplyStep.TheVariants as applying
 use Rattle.tool_program.specs.Programs.{apply_call, rolls_back, tool_call}
 use Rattle.tool_program.specs.Setups.{Setup, Listing, Clearing, MakingLog, MakingGhost, Marking, Reaching, Ready, setup_after}
-use Rattle.tool_program.specs.Tools.{Work, Course, SettingUp, Migrating, Tool, Moment, stopped, is_reverting, course_of, moment}
-use Rattle.tool_program.proofs.OnlineCalls.Machines.{CourseIsNamed, named}
+use Rattle.tool_program.specs.Tools.{Work, ToolPhase, SettingUp, Migrating, Tool, Moment, stopped, is_reverting, tool_phase_of, moment}
+use Rattle.tool_program.proofs.OnlineCalls.Machines.{ToolPhaseIsNamed, named}
 use Rattle.proof_journals.specs.Plans.{limits_of, scene_of, IsSerialPlan}
 use Rattle.proof_journals.specs.Turns.{about}
-use Rattle.proof_journals.proofs.Joined.{told_answer, told_missed}
+use Rattle.proof_journals.proofs.Joined.{reported_answer, reported_missed}
 use Rattle.proof_journals.specs.Run.Kept.{IsKept}
-use Rattle.proof_journals.specs.Machine.Machines.{applier_asks, ApplierStands, CourseStands}
+use Rattle.proof_journals.specs.Machine.Machines.{applier_asks, ApplierStands, ToolPhaseStands}
 use Rattle.proof_journals.specs.Machine.Runnable.{IsRunnable}
 use Rattle.proof_journals.specs.Machine.Standings.{Standing, standing_of, needs_names}
 use Rattle.proof_journals.proofs.Machine.Asking.{waits_asks}
 use Rattle.proof_journals.proofs.Machine.Journals.{IsRun, IsTogether, Asking, apply_called, calls_so, polls_so}
-use Rattle.proof_migration.proofs.Course.CourseTurns.{Kept, AnswerKeeps, ResizeKeeps, UnfitKeeps, turn_kept}
+use Rattle.proof_migration.proofs.ToolPhase.ToolPhaseTurns.{Kept, AnswerKeeps, ResizeKeeps, UnfitKeeps, turn_kept}
 use Rattle.proof_journals.proofs.Sentry.Draining.{IsRead, on_both}
-use Rattle.proof_migration.specs.Course.Unaltered.{IsUnaltered}
+use Rattle.proof_migration.specs.ToolPhase.Unaltered.{IsUnaltered}
 use Rattle.proof_migration.proofs.Program.Hints.Known.{hints_go, hints_known}
 use Rattle.proof_migration.proofs.Program.Hints.States.{BatchIs, batch_is}
 use Rattle.proof_migration.proofs.Program.Hints.Telling.{both_tables, reading_said}
 use Rattle.proof_plans.proofs.Complete.Untouched.{IsUntouched, NoneOf}
 
 -- the applier is to read
-abbrev pub ReadsOn : Course → Type 0
+abbrev pub ReadsOn : ToolPhase → Type 0
 ReadsOn (SettingUp setup tries) = Unit {0}
 ReadsOn (Migrating work) = appliers.starts work.applier ≡ true
 
@@ -103,7 +103,7 @@ reading_call journal applier is = by applier.step is where
 -- ONE TURN
 
 module _ (plan : PlanData) (runs : IsRunnable plan) (serial : IsSerialPlan plan) (journal : List Entry) (entry : Entry) (kept : IsKept plan journal) (off : IsUnaltered plan journal) (run : IsRun plan journal entry) (together : IsTogether plan journal) (none : (moment plan journal).tool.reason ≡ None)
-    (uncut : entry.asked ≢ Cut) (unlost : entry.side ≡ None) (asks : Asking plan journal entry.actor entry.asked) (is : IsUntouched plan journal) (was : ReadsOn (moment plan journal).tool.course) where
+    (uncut : entry.asked ≢ Cut) (unlost : entry.side ≡ None) (asks : Asking plan journal entry.actor entry.asked) (is : IsUntouched plan journal) (was : ReadsOn (moment plan journal).tool.tool_phase) where
   abbrev now : Moment
   now = moment plan journal
 
@@ -116,20 +116,20 @@ module _ (plan : PlanData) (runs : IsRunnable plan) (serial : IsSerialPlan plan)
   going : is_reverting now.tool.reason ≡ false
   going = ap is_reverting none
 
-  reads_of : (work : Work) → now.tool.course ≡ Migrating work → appliers.starts work.applier ≡ true
+  reads_of : (work : Work) → now.tool.tool_phase ≡ Migrating work → appliers.starts work.applier ≡ true
   reads_of work eq = subst ReadsOn eq was
 
-  applier_had : (work : Work) → now.tool.course ≡ Migrating work → ApplierStands journal work.applier (has Apply)
-  applier_had work eq = by (subst (CourseStands journal has (is_reverting now.tool.reason)) eq together.stands).applier where
+  applier_had : (work : Work) → now.tool.tool_phase ≡ Migrating work → ApplierStands journal work.applier (has Apply)
+  applier_had work eq = by (subst (ToolPhaseStands journal has (is_reverting now.tool.reason)) eq together.stands).applier where
     by : (is_reverting now.tool.reason ≡ true) ⊎ ApplierStands journal work.applier (has Apply) → ApplierStands journal work.applier (has Apply)
     by (inl reverting) = absurd (true≢false (sym reverting ∙ going))
     by (inr stands) = stands
 
   -- what it read has no event of the table
-  read_none : entry.actor ≡ Apply → (work : Work) → now.tool.course ≡ Migrating work → (events : List RowEvent) (next : ℕ) → entry.answer ≡ answers.Events events next → appliers.planned work.applier events ≡ []
-  read_none who work eq events next told = by (subst (λ (a : Actor). Asking plan journal a entry.asked) who asks) where
+  read_none : entry.actor ≡ Apply → (work : Work) → now.tool.tool_phase ≡ Migrating work → (events : List RowEvent) (next : ℕ) → entry.answer ≡ answers.Events events next → appliers.planned work.applier events ≡ []
+  read_none who work eq events next reported = by (subst (λ (a : Actor). Asking plan journal a entry.asked) who asks) where
     own : work.applier.table ≡ plan.table
-    own = (subst (CourseIsNamed plan) eq (named plan journal)).applier
+    own = (subst (ToolPhaseIsNamed plan) eq (named plan journal)).applier
 
     some : 1 ≤ work.applier.batch
     some = let is_so : work.applier.batch ≡ plan.options.dml_batch_size = subst (BatchIs plan) eq (batch_is plan journal) in let fits = runs.fitting.batch in omega (arith, is_so, fits)
@@ -137,7 +137,7 @@ module _ (plan : PlanData) (runs : IsRunnable plan) (serial : IsSerialPlan plan)
     read : about (opens entry (state_at plan journal)) entry.session entry.asked ≡ Some (requests.ReadLog work.applier.position work.applier.batch (both_tables plan.table)) → IsRead plan.table (state_at plan journal).log work.applier.position events next
     read asked =
         reading_said plan.table (limits_of plan) (scene_of plan journal) journal entry work.applier.batch work.applier.position events next is.scene
-        (record { answer = told_answer (state_at plan journal) entry run.answered; missed = told_missed (state_at plan journal) entry run.answered }) unlost asked told some (hints_known plan journal work runs serial kept off eq).within
+        (record { answer = reported_answer (state_at plan journal) entry run.answered; missed = reported_missed (state_at plan journal) entry run.answered }) unlost asked reported some (hints_known plan journal work runs serial kept off eq).within
 
     planned : IsRead plan.table (state_at plan journal).log work.applier.position events next → appliers.planned work.applier events ≡ []
     planned one =
@@ -151,7 +151,7 @@ module _ (plan : PlanData) (runs : IsRunnable plan) (serial : IsSerialPlan plan)
     by : Asking plan journal Apply entry.asked → appliers.planned work.applier events ≡ []
     by (calls_so request called idle call) =
         let one : request ≡ appliers.next journal work.applier = apply_called plan journal work request
-        (ap (λ (b : Bool). cond b (rolls_back now.server (live_session journal Apply)) (apply_call plan now.server journal now.tool work)) (sym going) ∙ ap (λ (c : Course). tool_call plan now.server journal now.tool c Apply) (sym eq) ∙ call) in
+        (ap (λ (b : Bool). cond b (rolls_back now.server (live_session journal Apply)) (apply_call plan now.server journal now.tool work)) (sym going) ∙ ap (λ (c : ToolPhase). tool_call plan now.server journal now.tool c Apply) (sym eq) ∙ call) in
         planned
         (read
         (ap (about (opens entry (state_at plan journal)) entry.session) (called ∙ ap Call (one ∙ reading_call journal work.applier (reads_of work eq)))
@@ -162,12 +162,12 @@ module _ (plan : PlanData) (runs : IsRunnable plan) (serial : IsSerialPlan plan)
   -- EVERY ACTOR
 
   abbrev New : Kept
-  New b course = b ≡ false → ReadsOn course
+  New b tool_phase = b ≡ false → ReadsOn tool_phase
 
-  back : (b : Bool) (course : Course) → New b course → New true (stopped course)
-  back b course new same = absurd (true≢false same)
+  back : (b : Bool) (tool_phase : ToolPhase) → New b tool_phase → New true (stopped tool_phase)
+  back b tool_phase new same = absurd (true≢false same)
 
-  begins : (setup : Setup) (tries : List ℕ) → ReadsOn (course_of plan tool.operator.size setup tries)
+  begins : (setup : Setup) (tries : List ℕ) → ReadsOn (tool_phase_of plan tool.operator.size setup tries)
   begins (Ready position range) tries = refl
   begins Listing tries = tt
   begins (Clearing left) tries = tt
@@ -176,10 +176,10 @@ module _ (plan : PlanData) (runs : IsRunnable plan) (serial : IsSerialPlan plan)
   begins Marking tries = tt
   begins (Reaching position) tries = tt
 
-  unfit : (work : Work) → now.tool.course ≡ Migrating work → UnfitKeeps New work
+  unfit : (work : Work) → now.tool.tool_phase ≡ Migrating work → UnfitKeeps New work
   unfit work eq = record { renamed = λ renamed same. reads_of work eq; reverts = λ same. absurd (true≢false same) }
 
-  answer_keeps : (actor : Actor) → entry.actor ≡ actor → (course : Course) → now.tool.course ≡ course → AnswerKeeps plan New entry.answer tool actor course
+  answer_keeps : (actor : Actor) → entry.actor ≡ actor → (tool_phase : ToolPhase) → now.tool.tool_phase ≡ tool_phase → AnswerKeeps plan New entry.answer tool actor tool_phase
   answer_keeps Insp who (SettingUp setup tries) eq = record { reverting = λ reverting same. tt; again = λ onward bad more same. tt; goes = λ onward good same. begins (setup_after plan.table setup entry.answer) tries }
   answer_keeps Insp who (Migrating work) eq = λ tries same. reads_of work eq
   answer_keeps Lock who (Migrating work) eq = λ tries same. reads_of work eq
@@ -196,18 +196,18 @@ module _ (plan : PlanData) (runs : IsRunnable plan) (serial : IsSerialPlan plan)
   answer_keeps Lock who (SettingUp setup tries) eq = λ same. tt
   answer_keeps Ren who (SettingUp setup tries) eq = λ same. tt
 
-  resized : (size : ℕ) (course : Course) → now.tool.course ≡ course → ResizeKeeps New tool size course
+  resized : (size : ℕ) (tool_phase : ToolPhase) → now.tool.tool_phase ≡ tool_phase → ResizeKeeps New tool size tool_phase
   resized size (SettingUp setup tries) eq = λ same. tt
   resized size (Migrating work) eq = λ same. reads_of work eq
 
   -- *One turn more*
-  pub reads_more : is_reverting (moment plan (journal ++ entry ∷ [])).tool.reason ≡ false → ReadsOn (moment plan (journal ++ entry ∷ [])).tool.course
+  pub reads_more : is_reverting (moment plan (journal ++ entry ∷ [])).tool.reason ≡ false → ReadsOn (moment plan (journal ++ entry ∷ [])).tool.tool_phase
   reads_more onward =
       turn_kept plan New back journal entry (λ b work tries new. new)
       (record {
         commanded = λ word asked unsized same. was;
-        resized = λ size asked. resized size now.tool.course refl;
+        resized = λ size asked. resized size now.tool.tool_phase refl;
         idle = λ asked idle same. was;
         lost = λ asked worked. absurd (uncut asked);
-        heard = λ called commanded. answer_keeps entry.actor refl now.tool.course refl;
+        heard = λ called commanded. answer_keeps entry.actor refl now.tool.tool_phase refl;
       }) onward

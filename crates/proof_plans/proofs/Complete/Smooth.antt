@@ -52,17 +52,17 @@ use Rattle.tool_program.specs.Operators.{commanded}
 use Rattle.tool_program.specs.Online.{attempt_goes_on}
 use Rattle.tool_program.specs.Programs.{given, Follows}
 use Rattle.tool_program.specs.Setups.{Setup, Listing, Clearing, MakingLog, MakingGhost, Marking, Reaching, Ready, setup_after}
-use Rattle.tool_program.specs.Tools.{Work, Course, SettingUp, Migrating, Reason, CopyUnfit, ApplyUnfit, Spent, Panicked, Tool, Moment, first_reason, stopped, is_renamed, reverts, spends, is_reverting, working, copy_after, apply_after, attempt_after, is_failure, cutover_took, drains, course_of, actor_took, turn_counts, resizes, command_took, asked_took, took, moment}
+use Rattle.tool_program.specs.Tools.{Work, ToolPhase, SettingUp, Migrating, Reason, CopyUnfit, ApplyUnfit, Spent, Panicked, Tool, Moment, first_reason, stopped, is_renamed, reverts, spends, is_reverting, working, copy_after, apply_after, attempt_after, is_failure, cutover_took, drains, tool_phase_of, actor_took, turn_counts, resizes, command_took, asked_took, took, moment}
 use Rattle.tool_program.specs.Verdicts.{reverted_by, ended_so, has_ended, verdict_of}
-use Rattle.proof_journals.specs.Machine.Forming.{IsFitting}
+use Rattle.proof_journals.specs.Machine.FormedPlans.{IsFitting}
 use Rattle.proof_journals.specs.Machine.Laws.{TellsAlter, VerdictsTellTheAlter}
-use Rattle.proof_journals.specs.Machine.Machines.{CourseStands, WorkStands, PhaseHolds}
+use Rattle.proof_journals.specs.Machine.Machines.{ToolPhaseStands, WorkStands, PhaseHolds}
 use Rattle.proof_journals.specs.Machine.Standings.{standing_of, answers_to, IsAbout}
-use Rattle.proof_journals.specs.Machine.Tabling.{TableStands}
+use Rattle.proof_journals.specs.Machine.MigrationTables.{TableExists}
 use Rattle.proof_journals.proofs.Machine.CuttingOver.{LockerAsks}
 use Rattle.proof_journals.proofs.Machine.Journals.{IsRun, all_runs, asking, lock_about, about}
 use Rattle.proof_journals.proofs.Machine.Seated.{IsServed, own_fits}
-use Rattle.proof_migration.proofs.Course.CourseTurns.{gives_asked}
+use Rattle.proof_migration.proofs.ToolPhase.ToolPhaseTurns.{gives_asked}
 use Rattle.proof_migration.proofs.Attempt.Standing.{IsStanding, standing_more, all_standing}
 use Rattle.proof_migration.proofs.Attempt.Causes.Sentry.{sentry_unrefused}
 use Rattle.proof_journals.proofs.Sentry.Inductions.{moment_more}
@@ -84,7 +84,7 @@ copy_goes copier answer good fits = by copier.step answer good fits where
   by step answers.Lost good fits = absurd (true≢false good)
   by step (answers.TimedOut waited) good fits = absurd (true≢false good)
   by copying.Choosing answer good fits = tt
-  by (copying.Spanning told size) answer good fits = tt
+  by (copying.Spanning reported size) answer good fits = tt
   by (copying.Copying chunk done) (answers.Refused number (Some place)) good fits = absurd (true≢false (fits refl))
   by (copying.Copying chunk done) answer good fits = tt
   by (copying.Committing chunk) (answers.Ok count) good fits = tt
@@ -100,7 +100,7 @@ apply_goes applier answer good fits = by applier.step answer good fits where
   by : (step : ApplyStep) (answer : Answer) → is_bad answer ≡ false → (is_applying step ≡ true → is_unfit answer ≡ false) → IsGoing (appliers.progress_at applier step answer)
   by step answers.Lost good fits = absurd (true≢false good)
   by step (answers.TimedOut waited) good fits = absurd (true≢false good)
-  by applying.Reading (answers.Events events behind) good fits = planned (length (appliers.planned applier events) == 0)
+  by applying.Reading (answers.Events events following) good fits = planned (length (appliers.planned applier events) == 0)
   by applying.Reading answer good fits = tt
   by (applying.Beginning batch) answer good fits = tt
   by (applying.Applying batch done part) (answers.Refused number (Some place)) good fits = absurd (true≢false (fits refl))
@@ -196,19 +196,19 @@ ending_stays (Attempting stage) is = absurd (false≢true is)
 ending_stays (Finishing clearing) is = absurd (false≢true is)
 ending_stays Finished is = absurd (false≢true is)
 
-stopped_stays : (course : Course) → gives_up course ≡ true → gives_up (stopped course) ≡ true
+stopped_stays : (tool_phase : ToolPhase) → gives_up tool_phase ≡ true → gives_up (stopped tool_phase) ≡ true
 unfolding cutovers.reverted
 stopped_stays (SettingUp setup tries) is = absurd (false≢true is)
 stopped_stays (Migrating work) is = ending_stays work.cutover.phase is
 
-spends_stays : (plan : PlanData) (task : Task) (tries : List ℕ) (other : Tool) → gives_up other.course ≡ true → gives_up (spends plan task tries other).course ≡ true
+spends_stays : (plan : PlanData) (task : Task) (tries : List ℕ) (other : Tool) → gives_up other.tool_phase ≡ true → gives_up (spends plan task tries other).tool_phase ≡ true
 spends_stays plan task tries other is = by (length tries == plan.options.default_retries) where
-  reverting : (b : Bool) → gives_up (cond b other (record other { reason = first_reason other.reason (Spent task tries); course = stopped other.course })).course ≡ true
+  reverting : (b : Bool) → gives_up (cond b other (record other { reason = first_reason other.reason (Spent task tries); tool_phase = stopped other.tool_phase })).tool_phase ≡ true
   reverting true = is
-  reverting false = stopped_stays other.course is
+  reverting false = stopped_stays other.tool_phase is
 
-  by : (b : Bool) → gives_up (cond b (reverts (Spent task tries) other) other).course ≡ true
-  by true = reverting (is_renamed other.course)
+  by : (b : Bool) → gives_up (cond b (reverts (Spent task tries) other) other).tool_phase ≡ true
+  by true = reverting (is_renamed other.tool_phase)
   by false = is
 
 -- ONE TURN
@@ -216,9 +216,9 @@ spends_stays plan task tries other is = by (length tries == plan.options.default
 -- no ground to revert, and no attempt that ends
 pub record IsOn (one : Tool) : Type 0 where
   pub none : one.reason ≡ None
-  pub on : gives_up one.course ≡ false
+  pub on : gives_up one.tool_phase ≡ false
 
-module _ (plan : PlanData) (journal : List Entry) (entry : Entry) (is : IsStanding plan journal) (run : IsRun plan journal entry) (smooth : IsSmooth plan journal entry) (going : is_renamed (moment plan journal).tool.course ≡ false) (was : IsOn (moment plan journal).tool) where
+module _ (plan : PlanData) (journal : List Entry) (entry : Entry) (is : IsStanding plan journal) (run : IsRun plan journal entry) (smooth : IsSmooth plan journal entry) (going : is_renamed (moment plan journal).tool.tool_phase ≡ false) (was : IsOn (moment plan journal).tool) where
   abbrev now : Moment
   now = moment plan journal
 
@@ -238,82 +238,82 @@ module _ (plan : PlanData) (journal : List Entry) (entry : Entry) (is : IsStandi
   never_bad kind bad = true≢false (sym bad ∙ smooth.heard kind)
 
   -- the cut-over neither ends an attempt nor is done
-  undone : (work : Work) → now.tool.course ≡ Migrating work → cutovers.is_done work.cutover.phase ≡ false
+  undone : (work : Work) → now.tool.tool_phase ≡ Migrating work → cutovers.is_done work.cutover.phase ≡ false
   undone work eq = ap is_renamed (sym eq) ∙ going
 
-  unended : (work : Work) → now.tool.course ≡ Migrating work → is_ending work.cutover.phase ≡ false
+  unended : (work : Work) → now.tool.tool_phase ≡ Migrating work → is_ending work.cutover.phase ≡ false
   unended work eq = ap gives_up (sym eq) ∙ was.on
 
   -- the sentry's CREATE is done, or waits
-  begins : entry.asked ≢ Cut → (work : Work) → now.tool.course ≡ Migrating work → work.cutover.phase ≡ Resting → entry.actor ≡ Lock → is_ending (cutovers.begun entry.answer) ≡ false
+  begins : entry.asked ≢ Cut → (work : Work) → now.tool.tool_phase ≡ Migrating work → work.cutover.phase ≡ Resting → entry.actor ≡ Lock → is_ending (cutovers.begun entry.answer) ≡ false
   unfolding given
   begins uncut work eq resting who =
       lock_about plan journal entry is.tabled.all.tool run work eq stands
-      (asking plan journal Lock entry.asked is.tabled.all.tool.server (subst (λ (a : Actor). given plan journal a ≡ Some entry.asked) who (gives_asked plan journal entry entry.asked run.followed.given refl uncut))) (is_ending (cutovers.begun entry.answer) ≡ false) told where
+      (asking plan journal Lock entry.asked is.tabled.all.tool.server (subst (λ (a : Actor). given plan journal a ≡ Some entry.asked) who (gives_asked plan journal entry entry.asked run.followed.given refl uncut))) (is_ending (cutovers.begun entry.answer) ≡ false) reported where
         stands : WorkStands journal (is_reverting now.tool.reason) (standing_of plan journal) work
-        stands = subst (CourseStands journal (standing_of plan journal) (is_reverting now.tool.reason)) eq is.tabled.all.tool.stands
+        stands = subst (ToolPhaseStands journal (standing_of plan journal) (is_reverting now.tool.reason)) eq is.tabled.all.tool.stands
 
         creates : (request : Request) → LockerAsks work.cutover.table work.cutover.hold work.cutover.phase request → request ≡ requests.Create (sentry_schema work.cutover.table)
         creates request asks =
             subst (λ (h : Hold). LockerAsks work.cutover.table h Resting request) (subst (λ (p : Phase). PhaseHolds p work.cutover.hold) resting stands.phase) (subst (λ (p : Phase). LockerAsks work.cutover.table work.cutover.hold p request) resting asks)
 
-        told : (request : Request) → IsAbout request (standing_of plan journal Lock) entry.asked → LockerAsks work.cutover.table work.cutover.hold work.cutover.phase request → is_ending (cutovers.begun entry.answer) ≡ false
-        told request is_about asks =
+        reported : (request : Request) → IsAbout request (standing_of plan journal Lock) entry.asked → LockerAsks work.cutover.table work.cutover.hold work.cutover.phase request → is_ending (cutovers.begun entry.answer) ≡ false
+        reported request is_about asks =
             sentry_begins (sentry_schema work.cutover.table) entry.answer
             (ap (λ (r : Request). answers_to r entry.answer) (sym (creates request asks)) ∙ own_fits plan journal entry is.tabled.all.tool.known served request (about plan journal entry is.tabled.all.tool run Lock request who is_about))
             (smooth.heard (ap is_client who)) (λ number column refused. sentry_unrefused plan journal entry is run work eq resting who number column refused)
 
-  cut_on : entry.asked ≢ Cut → (role : Role) (work : Work) → now.tool.course ≡ Migrating work → is_client entry.actor ≡ false → (role ≡ Locker → entry.actor ≡ Lock) → IsOn (cutover_took plan role entry.answer work tool)
+  cut_on : entry.asked ≢ Cut → (role : Role) (work : Work) → now.tool.tool_phase ≡ Migrating work → is_client entry.actor ≡ false → (role ≡ Locker → entry.actor ≡ Lock) → IsOn (cutover_took plan role entry.answer work tool)
   cut_on uncut role work eq kind locks =
       subst (λ (b : Bool). IsOn (attempt_after plan b work (cutovers.took role work.cutover entry.answer) tool)) (sym calm)
       (record { none = was.none; on = quiet_after work.cutover.phase (cutovers.took role work.cutover entry.answer).phase (undone work eq) (unended work eq) calm }) where
         calm : is_failure work.cutover.phase (cutovers.took role work.cutover entry.answer).phase ≡ false
         calm = calm_took role work.cutover entry.answer (smooth.heard kind) (λ who resting. begins uncut work eq resting (locks who))
 
-  course_on : (setup : Setup) (tries : List ℕ) → gives_up (course_of plan tool.operator.size setup tries) ≡ false
-  course_on (Ready position range) tries = refl
-  course_on Listing tries = refl
-  course_on (Clearing left) tries = refl
-  course_on MakingLog tries = refl
-  course_on MakingGhost tries = refl
-  course_on Marking tries = refl
-  course_on (Reaching position) tries = refl
+  tool_phase_on : (setup : Setup) (tries : List ℕ) → gives_up (tool_phase_of plan tool.operator.size setup tries) ≡ false
+  tool_phase_on (Ready position range) tries = refl
+  tool_phase_on Listing tries = refl
+  tool_phase_on (Clearing left) tries = refl
+  tool_phase_on MakingLog tries = refl
+  tool_phase_on MakingGhost tries = refl
+  tool_phase_on Marking tries = refl
+  tool_phase_on (Reaching position) tries = refl
 
   setup_on : entry.actor ≡ Insp → (setup : Setup) (tries : List ℕ) → IsOn (actor_took plan Insp entry.answer (SettingUp setup tries) tool)
   setup_on who setup tries = by (is_reverting tool.reason) (is_bad entry.answer) refl where
     by : (a b : Bool) → is_bad entry.answer ≡ b
-        → IsOn (cond a tool (cond b (spends plan tasks.Setup (tries ++ tool.turns ∷ []) (record tool { course = SettingUp Listing (tries ++ tool.turns ∷ []) })) (record tool { course = course_of plan tool.operator.size (setup_after plan.table setup entry.answer) tries })))
+        → IsOn (cond a tool (cond b (spends plan tasks.Setup (tries ++ tool.turns ∷ []) (record tool { tool_phase = SettingUp Listing (tries ++ tool.turns ∷ []) })) (record tool { tool_phase = tool_phase_of plan tool.operator.size (setup_after plan.table setup entry.answer) tries })))
     by true b bad = unchanged
     by false true bad = absurd (never_bad (ap is_client who) bad)
-    by false false good = record { none = was.none; on = course_on (setup_after plan.table setup entry.answer) tries }
+    by false false good = record { none = was.none; on = tool_phase_on (setup_after plan.table setup entry.answer) tries }
 
-  copy_on : entry.actor ≡ Copy → (work : Work) → now.tool.course ≡ Migrating work → IsOn (actor_took plan Copy entry.answer (Migrating work) tool)
+  copy_on : entry.actor ≡ Copy → (work : Work) → now.tool.tool_phase ≡ Migrating work → IsOn (actor_took plan Copy entry.answer (Migrating work) tool)
   copy_on who work eq = by (is_reverting tool.reason) where
     copier : Copier
     copier = copiers.took tool.turns work.copier entry.answer
 
-    told : (progress : Progress) → IsGoing progress → IsOn (copy_after plan work progress copier tool)
-    told Going goes = record { none = was.none; on = unended work eq }
-    told TaskDone goes = record { none = was.none; on = unended work eq }
-    told TaskFailed goes = absurd goes
-    told (Unfit place number) goes = absurd goes
+    reported : (progress : Progress) → IsGoing progress → IsOn (copy_after plan work progress copier tool)
+    reported Going goes = record { none = was.none; on = unended work eq }
+    reported TaskDone goes = record { none = was.none; on = unended work eq }
+    reported TaskFailed goes = absurd goes
+    reported (Unfit place number) goes = absurd goes
 
     fits : is_copying work.copier.step ≡ true → is_unfit entry.answer ≡ false
-    fits copies = smooth.fits (ap (λ (a : Actor). has_row a now.tool.course) who ∙ ap (has_row Copy) eq ∙ copies)
+    fits copies = smooth.fits (ap (λ (a : Actor). has_row a now.tool.tool_phase) who ∙ ap (has_row Copy) eq ∙ copies)
 
     by : (a : Bool) → IsOn (cond a tool (copy_after plan work (copiers.progress work.copier entry.answer) copier tool))
     by true = unchanged
-    by false = told (copiers.progress work.copier entry.answer) (copy_goes work.copier entry.answer (smooth.heard (ap is_client who)) fits)
+    by false = reported (copiers.progress work.copier entry.answer) (copy_goes work.copier entry.answer (smooth.heard (ap is_client who)) fits)
 
   -- behind the applier's answer the cut-over is as before
   record Applied (one : Tool) : Type 0 where
     on : IsOn one
-    same : (work : Work) → one.course ≡ Migrating work → (old : Work) × (now.tool.course ≡ Migrating old) × (old.cutover ≡ work.cutover)
+    same : (work : Work) → one.tool_phase ≡ Migrating work → (old : Work) × (now.tool.tool_phase ≡ Migrating old) × (old.cutover ≡ work.cutover)
 
   unapplied : Applied tool
   unapplied = record { on = unchanged; same = λ work eq. (work, eq, refl) }
 
-  apply_on : entry.actor ≡ Apply → (course : Course) → now.tool.course ≡ course → Applied (actor_took plan Apply entry.answer course tool)
+  apply_on : entry.actor ≡ Apply → (tool_phase : ToolPhase) → now.tool.tool_phase ≡ tool_phase → Applied (actor_took plan Apply entry.answer tool_phase tool)
   apply_on who (SettingUp setup tries) eq = unapplied
   apply_on who (Migrating work) eq = by (is_reverting tool.reason) where
     applier : Applier
@@ -328,26 +328,26 @@ module _ (plan : PlanData) (journal : List Entry) (entry : Entry) (is : IsStandi
       same = λ other same. (work, eq, ap (λ (w : Work). w.cutover) (one_work (record work { applier = applier; batch_tries = tries }) other same));
     }
 
-    told : (progress : Progress) → IsGoing progress → Applied (apply_after plan work progress applier tool)
-    told Going goes = kept work.batch_tries
-    told TaskDone goes = kept []
-    told TaskFailed goes = absurd goes
-    told (Unfit place number) goes = absurd goes
+    reported : (progress : Progress) → IsGoing progress → Applied (apply_after plan work progress applier tool)
+    reported Going goes = kept work.batch_tries
+    reported TaskDone goes = kept []
+    reported TaskFailed goes = absurd goes
+    reported (Unfit place number) goes = absurd goes
 
     fits : is_applying work.applier.step ≡ true → is_unfit entry.answer ≡ false
-    fits says = smooth.fits (ap (λ (a : Actor). has_row a now.tool.course) who ∙ ap (has_row Apply) eq ∙ says)
+    fits statement_result = smooth.fits (ap (λ (a : Actor). has_row a now.tool.tool_phase) who ∙ ap (has_row Apply) eq ∙ statement_result)
 
     by : (a : Bool) → Applied (cond a tool (apply_after plan work (appliers.progress work.applier entry.answer) applier tool))
     by true = unapplied
-    by false = told (appliers.progress work.applier entry.answer) (apply_goes work.applier entry.answer (smooth.heard (ap is_client who)) fits)
+    by false = reported (appliers.progress work.applier entry.answer) (apply_goes work.applier entry.answer (smooth.heard (ap is_client who)) fits)
 
-  drain_on : entry.actor ≡ Apply → (other : Tool) → Applied other → (moment plan more).tool ≡ drains plan other.course other → (course : Course) → other.course ≡ course → IsOn (drains plan course other)
+  drain_on : entry.actor ≡ Apply → (other : Tool) → Applied other → (moment plan more).tool ≡ drains plan other.tool_phase other → (tool_phase : ToolPhase) → other.tool_phase ≡ tool_phase → IsOn (drains plan tool_phase other)
   drain_on who other at final (SettingUp setup tries) eq = at.on
   drain_on who other at final (Migrating work) eq = by (is_failure work.cutover.phase turned.phase) refl where
     turned : CutOver
     turned = cutovers.applier_turn work.applier.hint work.cutover
 
-    old : (one : Work) × (now.tool.course ≡ Migrating one) × (one.cutover ≡ work.cutover)
+    old : (one : Work) × (now.tool.tool_phase ≡ Migrating one) × (one.cutover ≡ work.cutover)
     old = at.same work eq
 
     phase_same : old.0.cutover.phase ≡ work.cutover.phase
@@ -356,7 +356,7 @@ module _ (plan : PlanData) (journal : List Entry) (entry : Entry) (is : IsStandi
     gone : is_failure work.cutover.phase turned.phase ≡ true → GaveUp work.cutover.phase turned.phase → ⊥
     gone fails gave =
         true≢false
-        (sym (ap (λ (t : Tool). gives_up t.course) (final ∙ ap (λ (c : Course). drains plan c other) eq ∙ ap (λ (b : Bool). attempt_after plan b work turned other) fails)
+        (sym (ap (λ (t : Tool). gives_up t.tool_phase) (final ∙ ap (λ (c : ToolPhase). drains plan c other) eq ∙ ap (λ (b : Bool). attempt_after plan b work turned other) fails)
         ∙ spends_stays plan tasks.CutOver (work.attempt_tries ++ other.turns ∷ []) (working (record work { cutover = turned; attempt_tries = work.attempt_tries ++ other.turns ∷ [] }) other) gave.ends)
         ∙ smooth.drained who (ap attempt_goes_on old.1 ∙ ap may_succeed phase_same ∙ gave.stood))
 
@@ -364,7 +364,7 @@ module _ (plan : PlanData) (journal : List Entry) (entry : Entry) (is : IsStandi
     by false calm = record { none = at.on.none; on = quiet_after work.cutover.phase turned.phase (ap cutovers.is_done (sym phase_same) ∙ undone old.0 old.1) (ap is_ending (sym phase_same) ∙ unended old.0 old.1) calm }
     by true fails = absurd (gone fails (turn_fails work.applier.hint work.cutover fails))
 
-  actor_on : entry.asked ≢ Cut → (actor : Actor) (course : Course) → now.tool.course ≡ course → entry.actor ≡ actor → IsOn (actor_took plan actor entry.answer course tool)
+  actor_on : entry.asked ≢ Cut → (actor : Actor) (tool_phase : ToolPhase) → now.tool.tool_phase ≡ tool_phase → entry.actor ≡ actor → IsOn (actor_took plan actor entry.answer tool_phase tool)
   actor_on uncut Insp (SettingUp setup tries) eq who = setup_on who setup tries
   actor_on uncut Insp (Migrating work) eq who = cut_on uncut Inspector work eq (ap is_client who) (λ role. absurd cc)
   actor_on uncut Copy (Migrating work) eq who = copy_on who work eq
@@ -380,26 +380,26 @@ module _ (plan : PlanData) (journal : List Entry) (entry : Entry) (is : IsStandi
   actor_on uncut Lock (SettingUp setup tries) eq who = unchanged
   actor_on uncut Ren (SettingUp setup tries) eq who = unchanged
 
-  counts_on : entry.asked ≢ Cut → (actor : Actor) → entry.actor ≡ actor → (moment plan more).tool ≡ turn_counts plan actor (actor_took plan actor entry.answer now.tool.course tool) → IsOn (turn_counts plan actor (actor_took plan actor entry.answer now.tool.course tool))
-  counts_on uncut Apply who final = drain_on who (actor_took plan Apply entry.answer now.tool.course tool) (apply_on who now.tool.course refl) final (actor_took plan Apply entry.answer now.tool.course tool).course refl
-  counts_on uncut actor who final = actor_on uncut actor now.tool.course refl who
+  counts_on : entry.asked ≢ Cut → (actor : Actor) → entry.actor ≡ actor → (moment plan more).tool ≡ turn_counts plan actor (actor_took plan actor entry.answer now.tool.tool_phase tool) → IsOn (turn_counts plan actor (actor_took plan actor entry.answer now.tool.tool_phase tool))
+  counts_on uncut Apply who final = drain_on who (actor_took plan Apply entry.answer now.tool.tool_phase tool) (apply_on who now.tool.tool_phase refl) final (actor_took plan Apply entry.answer now.tool.tool_phase tool).tool_phase refl
+  counts_on uncut actor who final = actor_on uncut actor now.tool.tool_phase refl who
 
   -- a loss between calls is a client's
-  lost_on : (actor : Actor) → is_client actor ≡ true → (course : Course) → IsOn (actor_took plan actor answers.Lost course tool)
+  lost_on : (actor : Actor) → is_client actor ≡ true → (tool_phase : ToolPhase) → IsOn (actor_took plan actor answers.Lost tool_phase tool)
   lost_on (Client c) kind (SettingUp setup tries) = unchanged
   lost_on (Client c) kind (Migrating work) = unchanged
-  lost_on Op kind course = absurd (false≢true kind)
-  lost_on Insp kind course = absurd (false≢true kind)
-  lost_on Copy kind course = absurd (false≢true kind)
-  lost_on Apply kind course = absurd (false≢true kind)
-  lost_on Lock kind course = absurd (false≢true kind)
-  lost_on Ren kind course = absurd (false≢true kind)
+  lost_on Op kind tool_phase = absurd (false≢true kind)
+  lost_on Insp kind tool_phase = absurd (false≢true kind)
+  lost_on Copy kind tool_phase = absurd (false≢true kind)
+  lost_on Apply kind tool_phase = absurd (false≢true kind)
+  lost_on Lock kind tool_phase = absurd (false≢true kind)
+  lost_on Ren kind tool_phase = absurd (false≢true kind)
 
   cut_client : entry.asked ≡ Cut → (b : Bool) → is_client entry.actor ≡ b → is_client entry.actor ≡ true
   cut_client cut true kind = kind
   cut_client cut false kind = absurd (smooth.uncut kind cut)
 
-  resized_on : (size : ℕ) (course : Course) → gives_up course ≡ false → gives_up (resizes (ChunkSize size) course) ≡ false
+  resized_on : (size : ℕ) (tool_phase : ToolPhase) → gives_up tool_phase ≡ false → gives_up (resizes (ChunkSize size) tool_phase) ≡ false
   resized_on size (SettingUp setup tries) on = on
   resized_on size (Migrating work) on = on
 
@@ -409,12 +409,12 @@ module _ (plan : PlanData) (journal : List Entry) (entry : Entry) (is : IsStandi
     by Panic asks = absurd (smooth.calm asks)
     by Throttle asks = record { none = was.none; on = was.on }
     by NoThrottle asks = record { none = was.none; on = was.on }
-    by (ChunkSize size) asks = record { none = was.none; on = resized_on size now.tool.course was.on }
+    by (ChunkSize size) asks = record { none = was.none; on = resized_on size now.tool.tool_phase was.on }
     by Unpostpone asks = record { none = was.none; on = was.on }
     by Wait asks = record { none = was.none; on = was.on }
   asked_on Cut asks final = by (has_work now.server entry.session) where
-    by : (b : Bool) → IsOn (cond b (actor_took plan entry.actor answers.Lost tool.course tool) tool)
-    by true = lost_on entry.actor (cut_client asks (is_client entry.actor) refl) now.tool.course
+    by : (b : Bool) → IsOn (cond b (actor_took plan entry.actor answers.Lost tool.tool_phase tool) tool)
+    by true = lost_on entry.actor (cut_client asks (is_client entry.actor) refl) now.tool.tool_phase
     by false = unchanged
   asked_on (Call request) asks final = counts_on (λ cut. no_cut (sym asks ∙ cut)) entry.actor refl final where
     no_cut : Call request ≡ Cut → ⊥
@@ -433,13 +433,13 @@ module _ (plan : PlanData) (journal : List Entry) (entry : Entry) (is : IsStandi
 -- ONCE THE RENAME IS KNOWN
 
 -- nothing is reverted any more
-reverts_rests : (reason : Reason) (one : Tool) → is_renamed one.course ≡ true → reverts reason one ≡ one
-reverts_rests reason one done = by (is_renamed one.course) done where
-  by : (b : Bool) → b ≡ true → cond b one (record one { reason = first_reason one.reason reason; course = stopped one.course }) ≡ one
+reverts_rests : (reason : Reason) (one : Tool) → is_renamed one.tool_phase ≡ true → reverts reason one ≡ one
+reverts_rests reason one done = by (is_renamed one.tool_phase) done where
+  by : (b : Bool) → b ≡ true → cond b one (record one { reason = first_reason one.reason reason; tool_phase = stopped one.tool_phase }) ≡ one
   by true done = refl
   by false done = absurd (false≢true done)
 
-spends_rests : (plan : PlanData) (task : Task) (tries : List ℕ) (one : Tool) → is_renamed one.course ≡ true → spends plan task tries one ≡ one
+spends_rests : (plan : PlanData) (task : Task) (tries : List ℕ) (one : Tool) → is_renamed one.tool_phase ≡ true → spends plan task tries one ≡ one
 spends_rests plan task tries one done = by (length tries == plan.options.default_retries) where
   by : (b : Bool) → cond b (reverts (Spent task tries) one) one ≡ one
   by true = reverts_rests (Spent task tries) one done
@@ -455,7 +455,7 @@ done_calm Finished after done = refl
 -- the RENAME is known, and there is no ground to revert
 pub record Rests (one : Tool) : Type 0 where
   pub none : one.reason ≡ None
-  pub done : is_renamed one.course ≡ true
+  pub done : is_renamed one.tool_phase ≡ true
 
 reverts_still : (reason : Reason) (one : Tool) → Rests one → Rests (reverts reason one)
 reverts_still reason one is = subst Rests (sym (reverts_rests reason one is.done)) is
@@ -525,15 +525,15 @@ done_stays role cutover answer done = by role where
   by Renamer = renamer cutover.phase answer done
 
 module _ (plan : PlanData) (tool : Tool) (is : Rests tool) where
-  work_done : (work : Work) → tool.course ≡ Migrating work → cutovers.is_done work.cutover.phase ≡ true
+  work_done : (work : Work) → tool.tool_phase ≡ Migrating work → cutovers.is_done work.cutover.phase ≡ true
   work_done work eq = ap is_renamed (sym eq) ∙ is.done
 
-  cut_rests : (role : Role) (answer : Answer) (work : Work) → tool.course ≡ Migrating work → Rests (cutover_took plan role answer work tool)
+  cut_rests : (role : Role) (answer : Answer) (work : Work) → tool.tool_phase ≡ Migrating work → Rests (cutover_took plan role answer work tool)
   cut_rests role answer work eq =
       subst (λ (b : Bool). Rests (attempt_after plan b work (cutovers.took role work.cutover answer) tool)) (sym (done_calm work.cutover.phase (cutovers.took role work.cutover answer).phase (work_done work eq)))
       (record { none = is.none; done = done_stays role work.cutover answer (work_done work eq) })
 
-  copy_rests : (answer : Answer) (work : Work) → tool.course ≡ Migrating work → Rests (actor_took plan Copy answer (Migrating work) tool)
+  copy_rests : (answer : Answer) (work : Work) → tool.tool_phase ≡ Migrating work → Rests (actor_took plan Copy answer (Migrating work) tool)
   copy_rests answer work eq = by (is_reverting tool.reason) where
     copier : Copier
     copier = copiers.took tool.turns work.copier answer
@@ -541,17 +541,17 @@ module _ (plan : PlanData) (tool : Tool) (is : Rests tool) where
     at : (tries : List ℕ) → Rests (working (record work { copier = copier; chunk_tries = tries }) tool)
     at tries = record { none = is.none; done = work_done work eq }
 
-    told : (progress : Progress) → Rests (copy_after plan work progress copier tool)
-    told Going = at work.chunk_tries
-    told TaskDone = at []
-    told TaskFailed = spends_still plan (tasks.Chunk copier.number) (work.chunk_tries ++ tool.turns ∷ []) (working (record work { copier = copier; chunk_tries = work.chunk_tries ++ tool.turns ∷ [] }) tool) (at (work.chunk_tries ++ tool.turns ∷ []))
-    told (Unfit place number) = reverts_still (CopyUnfit tool.turns place number) tool is
+    reported : (progress : Progress) → Rests (copy_after plan work progress copier tool)
+    reported Going = at work.chunk_tries
+    reported TaskDone = at []
+    reported TaskFailed = spends_still plan (tasks.Chunk copier.number) (work.chunk_tries ++ tool.turns ∷ []) (working (record work { copier = copier; chunk_tries = work.chunk_tries ++ tool.turns ∷ [] }) tool) (at (work.chunk_tries ++ tool.turns ∷ []))
+    reported (Unfit place number) = reverts_still (CopyUnfit tool.turns place number) tool is
 
     by : (a : Bool) → Rests (cond a tool (copy_after plan work (copiers.progress work.copier answer) copier tool))
     by true = is
-    by false = told (copiers.progress work.copier answer)
+    by false = reported (copiers.progress work.copier answer)
 
-  apply_rests : (answer : Answer) (course : Course) → tool.course ≡ course → Rests (actor_took plan Apply answer course tool)
+  apply_rests : (answer : Answer) (tool_phase : ToolPhase) → tool.tool_phase ≡ tool_phase → Rests (actor_took plan Apply answer tool_phase tool)
   apply_rests answer (SettingUp setup tries) eq = is
   apply_rests answer (Migrating work) eq = by (is_reverting tool.reason) where
     applier : Applier
@@ -560,24 +560,24 @@ module _ (plan : PlanData) (tool : Tool) (is : Rests tool) where
     at : (tries : List ℕ) → Rests (working (record work { applier = applier; batch_tries = tries }) tool)
     at tries = record { none = is.none; done = work_done work eq }
 
-    told : (progress : Progress) → Rests (apply_after plan work progress applier tool)
-    told Going = at work.batch_tries
-    told TaskDone = at []
-    told TaskFailed = spends_still plan (tasks.Batch applier.position) (work.batch_tries ++ tool.turns ∷ []) (working (record work { applier = applier; batch_tries = work.batch_tries ++ tool.turns ∷ [] }) tool) (at (work.batch_tries ++ tool.turns ∷ []))
-    told (Unfit place number) = reverts_still (ApplyUnfit tool.turns place number) tool is
+    reported : (progress : Progress) → Rests (apply_after plan work progress applier tool)
+    reported Going = at work.batch_tries
+    reported TaskDone = at []
+    reported TaskFailed = spends_still plan (tasks.Batch applier.position) (work.batch_tries ++ tool.turns ∷ []) (working (record work { applier = applier; batch_tries = work.batch_tries ++ tool.turns ∷ [] }) tool) (at (work.batch_tries ++ tool.turns ∷ []))
+    reported (Unfit place number) = reverts_still (ApplyUnfit tool.turns place number) tool is
 
     by : (a : Bool) → Rests (cond a tool (apply_after plan work (appliers.progress work.applier answer) applier tool))
     by true = is
-    by false = told (appliers.progress work.applier answer)
+    by false = reported (appliers.progress work.applier answer)
 
-  drain_rests : (other : Tool) → Rests other → (course : Course) → other.course ≡ course → Rests (drains plan course other)
+  drain_rests : (other : Tool) → Rests other → (tool_phase : ToolPhase) → other.tool_phase ≡ tool_phase → Rests (drains plan tool_phase other)
   drain_rests other rests (SettingUp setup tries) eq = rests
   drain_rests other rests (Migrating work) eq =
       let done : cutovers.is_done work.cutover.phase ≡ true = ap is_renamed (sym eq) ∙ rests.done in
       subst (λ (b : Bool). Rests (attempt_after plan b work (cutovers.applier_turn work.applier.hint work.cutover) other))
       (sym (done_calm work.cutover.phase (cutovers.applier_turn work.applier.hint work.cutover).phase done)) (record { none = rests.none; done = drained_stays work.applier.hint work.cutover done })
 
-  actor_rests : (answer : Answer) (actor : Actor) (course : Course) → tool.course ≡ course → Rests (actor_took plan actor answer course tool)
+  actor_rests : (answer : Answer) (actor : Actor) (tool_phase : ToolPhase) → tool.tool_phase ≡ tool_phase → Rests (actor_took plan actor answer tool_phase tool)
   actor_rests answer Insp (SettingUp setup tries) eq = absurd (false≢true (ap is_renamed (sym eq) ∙ is.done))
   actor_rests answer Insp (Migrating work) eq = cut_rests Inspector answer work eq
   actor_rests answer Copy (Migrating work) eq = copy_rests answer work eq
@@ -593,31 +593,31 @@ module _ (plan : PlanData) (tool : Tool) (is : Rests tool) where
   actor_rests answer Lock (SettingUp setup tries) eq = is
   actor_rests answer Ren (SettingUp setup tries) eq = is
 
-  counts_rest : (answer : Answer) (actor : Actor) → Rests (turn_counts plan actor (actor_took plan actor answer tool.course tool))
-  counts_rest answer Apply = drain_rests (actor_took plan Apply answer tool.course tool) (apply_rests answer tool.course refl) (actor_took plan Apply answer tool.course tool).course refl
-  counts_rest answer actor = actor_rests answer actor tool.course refl
+  counts_rest : (answer : Answer) (actor : Actor) → Rests (turn_counts plan actor (actor_took plan actor answer tool.tool_phase tool))
+  counts_rest answer Apply = drain_rests (actor_took plan Apply answer tool.tool_phase tool) (apply_rests answer tool.tool_phase refl) (actor_took plan Apply answer tool.tool_phase tool).tool_phase refl
+  counts_rest answer actor = actor_rests answer actor tool.tool_phase refl
 
-  resized_done : (size : ℕ) (course : Course) → is_renamed course ≡ true → is_renamed (resizes (ChunkSize size) course) ≡ true
+  resized_done : (size : ℕ) (tool_phase : ToolPhase) → is_renamed tool_phase ≡ true → is_renamed (resizes (ChunkSize size) tool_phase) ≡ true
   resized_done size (SettingUp setup tries) done = done
   resized_done size (Migrating work) done = done
 
   asked_rests : (state : State) (entry : Entry) (asked : Asked) → Rests (asked_took plan state entry asked tool)
   asked_rests state entry (Command word) = by word where
     by : (word : OperatorWord) → Rests (command_took word tool)
-    by Panic = reverts_still (Panicked tool.turns) (record tool { operator = commanded Panic tool.operator; course = tool.course }) (record { none = is.none; done = is.done })
+    by Panic = reverts_still (Panicked tool.turns) (record tool { operator = commanded Panic tool.operator; tool_phase = tool.tool_phase }) (record { none = is.none; done = is.done })
     by Throttle = record { none = is.none; done = is.done }
     by NoThrottle = record { none = is.none; done = is.done }
-    by (ChunkSize size) = record { none = is.none; done = resized_done size tool.course is.done }
+    by (ChunkSize size) = record { none = is.none; done = resized_done size tool.tool_phase is.done }
     by Unpostpone = record { none = is.none; done = is.done }
     by Wait = record { none = is.none; done = is.done }
   asked_rests state entry Cut = by (has_work state entry.session) where
-    by : (b : Bool) → Rests (cond b (actor_took plan entry.actor answers.Lost tool.course tool) tool)
-    by true = actor_rests answers.Lost entry.actor tool.course refl
+    by : (b : Bool) → Rests (cond b (actor_took plan entry.actor answers.Lost tool.tool_phase tool) tool)
+    by true = actor_rests answers.Lost entry.actor tool.tool_phase refl
     by false = is
   asked_rests state entry (Call request) = counts_rest entry.answer entry.actor
   asked_rests state entry Poll = counts_rest entry.answer entry.actor
 
-done_on : (course : Course) → is_renamed course ≡ true → gives_up course ≡ false
+done_on : (tool_phase : ToolPhase) → is_renamed tool_phase ≡ true → gives_up tool_phase ≡ false
 done_on (SettingUp setup tries) done = refl
 done_on (Migrating work) done = by work.cutover.phase done where
   by : (phase : Phase) → cutovers.is_done phase ≡ true → is_ending phase ≡ false
@@ -628,7 +628,7 @@ done_on (Migrating work) done = by work.cutover.phase done where
   by (Ending clearing) done = absurd (false≢true done)
 
 -- *Once the RENAME is known* no turn gives a ground to revert
-pub renamed_more : (plan : PlanData) (journal : List Entry) (entry : Entry) → is_renamed (moment plan journal).tool.course ≡ true → (moment plan journal).tool.reason ≡ None → Rests (moment plan (journal ++ entry ∷ [])).tool
+pub renamed_more : (plan : PlanData) (journal : List Entry) (entry : Entry) → is_renamed (moment plan journal).tool.tool_phase ≡ true → (moment plan journal).tool.reason ≡ None → Rests (moment plan (journal ++ entry ∷ [])).tool
 unfolding took
 renamed_more plan journal entry done none =
     subst (λ (m : Moment). Rests m.tool) (sym (moment_more plan journal entry))
@@ -640,18 +640,18 @@ pub record IsCalm (plan : PlanData) (journal : List Entry) : Type 0 where
   pub stands : IsStanding plan journal
   pub on : IsOn (moment plan journal).tool
 
-pub calm_more : (plan : PlanData) (journal : List Entry) (entry : Entry) → IsRun plan journal entry → (is_renamed (moment plan journal).tool.course ≡ false → IsSmooth plan journal entry) → IsCalm plan journal → IsCalm plan (journal ++ entry ∷ [])
-calm_more plan journal entry run smooth is = record { stands = standing_more plan journal entry is.stands run; on = by (is_renamed (moment plan journal).tool.course) refl } where
-  by : (b : Bool) → is_renamed (moment plan journal).tool.course ≡ b → IsOn (moment plan (journal ++ entry ∷ [])).tool
-  by true done = let rests = renamed_more plan journal entry done is.on.none in record { none = rests.none; on = done_on (moment plan (journal ++ entry ∷ [])).tool.course rests.done }
+pub calm_more : (plan : PlanData) (journal : List Entry) (entry : Entry) → IsRun plan journal entry → (is_renamed (moment plan journal).tool.tool_phase ≡ false → IsSmooth plan journal entry) → IsCalm plan journal → IsCalm plan (journal ++ entry ∷ [])
+calm_more plan journal entry run smooth is = record { stands = standing_more plan journal entry is.stands run; on = by (is_renamed (moment plan journal).tool.tool_phase) refl } where
+  by : (b : Bool) → is_renamed (moment plan journal).tool.tool_phase ≡ b → IsOn (moment plan (journal ++ entry ∷ [])).tool
+  by true done = let rests = renamed_more plan journal entry done is.on.none in record { none = rests.none; on = done_on (moment plan (journal ++ entry ∷ [])).tool.tool_phase rests.done }
   by false going = smooth_more plan journal entry is.stands run (smooth going) going is.on
 
-pub calm_begins : (plan : PlanData) → IsFitting plan → TableStands plan → IsCalm plan []
+pub calm_begins : (plan : PlanData) → IsFitting plan → TableExists plan → IsCalm plan []
 unfolding moment Follows
 calm_begins plan fit stands = record { stands = all_standing plan [] fit stands tt tt; on = record { none = refl; on = refl } }
 
 -- without a ground there is no revert
-pub unreverted : VerdictsTellTheAlter → (plan : PlanData) (journal : List Entry) → IsFitting plan → TableStands plan → IsFaithful plan journal → Follows plan journal → (moment plan journal).tool.reason ≡ None → has_ended plan journal ≡ true → verdict_of plan journal ≡ verdicts.Done
+pub unreverted : VerdictsTellTheAlter → (plan : PlanData) (journal : List Entry) → IsFitting plan → TableExists plan → IsFaithful plan journal → Follows plan journal → (moment plan journal).tool.reason ≡ None → has_ended plan journal ≡ true → verdict_of plan journal ≡ verdicts.Done
 unfolding verdict_of
 unreverted tells plan journal fit stands faithful follows none ended = by (list_any is_alter (history plan journal)) refl where
   tell : TellsAlter plan journal
@@ -672,5 +672,5 @@ pub smooth_are_done : VerdictsTellTheAlter → SmoothRunsAreDone
 unfolding Follows
 smooth_are_done tells plan journal fit stands faithful follows smooth ended =
     unreverted tells plan journal fit stands faithful follows
-    (Along-keeps (λ before entry. IsRun plan before entry × (is_renamed (moment plan before).tool.course ≡ false → IsSmooth plan before entry)) (IsCalm plan) (λ before entry one is. calm_more plan before entry one.0 one.1 is) [] journal
-    (Along-both (IsRun plan) (λ before entry. is_renamed (moment plan before).tool.course ≡ false → IsSmooth plan before entry) [] journal (all_runs plan [] journal faithful follows) smooth) (calm_begins plan fit stands)).on.none ended
+    (Along-keeps (λ before entry. IsRun plan before entry × (is_renamed (moment plan before).tool.tool_phase ≡ false → IsSmooth plan before entry)) (IsCalm plan) (λ before entry one is. calm_more plan before entry one.0 one.1 is) [] journal
+    (Along-both (IsRun plan) (λ before entry. is_renamed (moment plan before).tool.tool_phase ≡ false → IsSmooth plan before entry) [] journal (all_runs plan [] journal faithful follows) smooth) (calm_begins plan fit stands)).on.none ended

@@ -4,19 +4,19 @@ use Rattle.std.specs.List.{AllByRecursion}
 use Rattle.std.specs.Str.{bytes_eq}
 use Rattle.std.proofs.lemmas.Bool.{true≢false}
 use Rattle.base_values.proofs.SchemaRules.Lists.{All-append, All-weaker}
-use Rattle.server_locks.specs.RowLocks.Granting.{blocker_of_lock, blocker_of_set, refusal}
-use Rattle.server_locks.specs.RowLocks.Holding.{held_by}
+use Rattle.server_locks.specs.RowLocks.Grants.{blocker_of_lock, blocker_of_set, refusal}
+use Rattle.server_locks.specs.RowLocks.LockTable.{held_by}
 use Rattle.server_locks.specs.declared.row_locks.lock.HeldLock.{HeldLock}
 use Rattle.server_locks.specs.declared.row_locks.lock.Lock.{Lock}
-use Rattle.server_locks.specs.MetadataLocks.Granting as grants
-use Rattle.server_locks.specs.MetadataLocks.Granting.{holds, holding_session, is_on, least_holder, least_waiter, place_of, blocker_of_name, blocker_of_names}
+use Rattle.server_locks.specs.MetadataLocks.Grants as grants
+use Rattle.server_locks.specs.MetadataLocks.Grants.{holds, holding_session, is_on, least_holder, least_waiter, place_of, blocker_of_name, blocker_of_names}
 use Rattle.server_model.specs.declared.need.Need.{Need}
 use Rattle.server_model.specs.declared.session.HeldName.{HeldName}
 use Rattle.server_model.specs.declared.session.Session.{Session}
-use Rattle.server_model.specs.Locking.{blocker}
+use Rattle.server_model.specs.Blockers.{blocker}
 use Rattle.server_model.specs.States.{State, session_of, name_held, names_held, locks_held, kept_names, shared_names, locked_names, waiters}
 use Rattle.proof_journals.specs.Holdings.{names_of}
-use Rattle.proof_journals.specs.Run.Counting.{AreApart}
+use Rattle.proof_journals.specs.Run.Counts.{AreApart}
 use Rattle.proof_journals.proofs.Sentry.Holding.{both_none}
 use Rattle.server_model.proofs.LockedRows.Tests.{are_one, same_number}
 

@@ -14,7 +14,7 @@ use Rattle.server_model.specs.declared.entry.Entry.{Entry}
 use Rattle.server_model.specs.declared.request.Request.{Request}
 use Rattle.server_model.specs.declared.request.Request.TheVariants as requests
 use Rattle.server_model.specs.Entries.{is_client, is_command}
-use Rattle.server_model.specs.Jobs.{after_events}
+use Rattle.server_model.specs.Operations.{after_events}
 use Rattle.server_model.specs.States.{State}
 use Rattle.plan_data.specs.PlanData.{PlanData}
 use Rattle.tool_program.specs.JournalWords.Histories as histories
@@ -23,11 +23,11 @@ use Rattle.tool_program.specs.JournalWords.Journals.{opens, state_at}
 use Rattle.tool_program.specs.declared.cutover_core.cutover.Phase.{Phase}
 use Rattle.tool_program.specs.declared.cutover_core.cutover.Phase.TheVariants.{Resting, Attempting, Ending, Finishing, Finished}
 use Rattle.tool_program.specs.CutoverCore.CutOvers.{is_done, is_ending}
-use Rattle.tool_program.specs.Tools.{Course, SettingUp, Migrating, is_renamed, moment}
+use Rattle.tool_program.specs.Tools.{ToolPhase, SettingUp, Migrating, is_renamed, moment}
 use Rattle.proof_journals.specs.Holdings.{face_of, stored}
 use Rattle.proof_journals.specs.Plans.{is_client_session, limits_of, scene_of, IsSerialPlan}
 use Rattle.proof_journals.specs.Scenes.{PlainItem, Scene, Stored, is_mine, logged, seen, Alike, Serial}
-use Rattle.proof_journals.specs.Turns.{LineOutcome, Still, IsSceneRun, about, line_outcome, line_outcome_if, line_outcome_renamed, history, entry_adds, scene_state, told_at}
+use Rattle.proof_journals.specs.Turns.{LineOutcome, Still, IsSceneRun, about, line_outcome, line_outcome_if, line_outcome_renamed, history, entry_adds, scene_state, reported_at}
 use Rattle.proof_journals.proofs.Journals.{JournalHolds, journal_holds}
 use Rattle.proof_journals.proofs.Kept.{others_alike, unfound}
 use Rattle.proof_journals.proofs.Naming.{migrated_named}
@@ -35,17 +35,17 @@ use Rattle.proof_journals.proofs.PlanJournals.{plan_runs_are_scene_runs}
 use Rattle.proof_journals.specs.Run.Kept.{IsKept}
 use Rattle.proof_journals.specs.Machine.Runnable.{IsRunnable}
 use Rattle.proof_journals.proofs.Machine.Journals.{IsRun}
-use Rattle.proof_migration.specs.Course.Unaltered.{IsUnaltered}
-use Rattle.proof_migration.proofs.Course.Unaltered.Away.{IsKnownAsked, tool_adds, unaltered_entry}
-use Rattle.proof_migration.proofs.Course.Unaltered.Runs.{unaltered_runs}
-use Rattle.proof_migration.specs.Attempt.Renamed.{CourseRenamed, IsRenamedAt}
+use Rattle.proof_migration.specs.ToolPhase.Unaltered.{IsUnaltered}
+use Rattle.proof_migration.proofs.ToolPhase.Unaltered.Away.{IsKnownAsked, tool_adds, unaltered_entry}
+use Rattle.proof_migration.proofs.ToolPhase.Unaltered.Runs.{unaltered_runs}
+use Rattle.proof_migration.specs.Attempt.Renamed.{ToolPhaseRenamed, IsRenamedAt}
 use Rattle.proof_migration.proofs.Attempt.Renamed.Seen.{all_seen}
 use Rattle.proof_migration.proofs.Program.Turns.Asked.{about_so}
 use Rattle.proof_plans.specs.Complete.Laws.{gives_up}
 use Rattle.proof_plans.proofs.Complete.Alone.{Nobody}
 
 -- while no attempt ends, and the tool doesn't know that the RENAME was done, it isn't
-pub unaltered : (plan : PlanData) (journal : List Entry) → IsRunnable plan → IsSerialPlan plan → IsKept plan journal → is_renamed (moment plan journal).tool.course ≡ false → gives_up (moment plan journal).tool.course ≡ false → IsUnaltered plan journal
+pub unaltered : (plan : PlanData) (journal : List Entry) → IsRunnable plan → IsSerialPlan plan → IsKept plan journal → is_renamed (moment plan journal).tool.tool_phase ≡ false → gives_up (moment plan journal).tool.tool_phase ≡ false → IsUnaltered plan journal
 unaltered plan journal runs serial kept going on = by (list_any is_alter (histories.history plan journal)) refl where
   phase : (phase : Phase) → is_done phase ≡ false → is_ending phase ≡ false → IsRenamedAt plan (state_at plan journal).tables phase → ⊥
   phase Resting going on at = at
@@ -54,13 +54,13 @@ unaltered plan journal runs serial kept going on = by (list_any is_alter (histor
   phase (Finishing clearing) going on at = true≢false going
   phase Finished going on at = true≢false going
 
-  never : (course : Course) → is_renamed course ≡ false → gives_up course ≡ false → CourseRenamed plan (state_at plan journal).tables course → ⊥
+  never : (tool_phase : ToolPhase) → is_renamed tool_phase ≡ false → gives_up tool_phase ≡ false → ToolPhaseRenamed plan (state_at plan journal).tables tool_phase → ⊥
   never (SettingUp setup tries) going on at = at
   never (Migrating work) going on at = phase work.cutover.phase going on at
 
   by : (b : Bool) → list_any is_alter (histories.history plan journal) ≡ b → b ≡ false
   by false off = refl
-  by true marked = absurd (never (moment plan journal).tool.course going on (all_seen plan journal runs serial kept.faithful kept.follows marked))
+  by true marked = absurd (never (moment plan journal).tool.tool_phase going on (all_seen plan journal runs serial kept.faithful kept.follows marked))
 
 -- NOTHING HAPPENED
 
@@ -89,8 +89,8 @@ module _ (plan : PlanData) (runs : IsRunnable plan) (serial : IsSerialPlan plan)
   abbrev now : State
   now = state_at plan journal
 
-  told_is : (count : ℕ) → entry.answer ≡ answers.Ok count → answer_in entry.asked entry.side entry.answer entry.missed ≡ Some (answers.Ok count)
-  told_is count is = by entry.asked refl ∙ ap Some is where
+  reported_is : (count : ℕ) → entry.answer ≡ answers.Ok count → answer_in entry.asked entry.side entry.answer entry.missed ≡ Some (answers.Ok count)
+  reported_is count is = by entry.asked refl ∙ ap Some is where
     by : (asked : Asked) → entry.asked ≡ asked → answer_in asked entry.side entry.answer entry.missed ≡ Some entry.answer
     by Cut asks = absurd (uncut asks)
     by (Call request) asks = ap (λ s. answer_in (Call request) s entry.answer entry.missed) unlost
@@ -102,14 +102,14 @@ module _ (plan : PlanData) (runs : IsRunnable plan) (serial : IsSerialPlan plan)
     marks : list_any is_alter (histories.entry_adds plan journal entry) ≡ true
     marks =
         ap (list_any is_alter) (tool_adds plan serial journal entry runs.fitting known run kind entry.actor kind
-        ∙ ap (λ r. alters plan r (answer_in entry.asked entry.side entry.answer entry.missed)) (about_so plan serial runs.fitting journal entry known run off (requests.Rename pairs) is) ∙ ap (alters plan (Some (requests.Rename pairs))) (told_is count done))
+        ∙ ap (λ r. alters plan r (answer_in entry.asked entry.side entry.answer entry.missed)) (about_so plan serial runs.fitting journal entry known run off (requests.Rename pairs) is) ∙ ap (alters plan (Some (requests.Rename pairs))) (reported_is count done))
         ∙ ap (λ (b : Bool). list_any is_alter (cond b (Alter ∷ []) [])) takes
   never_marked request is takes count done = absurd (false≢true takes)
 
   still : (whole : List Entry) → Nobody whole → line_outcome (scene_of plan whole) now entry ≡ Still
   still whole nobody =
       ap (λ (b : Bool). line_outcome_if b (scene_of plan whole) (opens entry now) entry.session entry.asked entry.side entry.answer entry.missed) (no_client whole entry.session nobody)
-      ∙ ap (λ s. line_outcome_renamed (renames_away plan.table (about (opens entry now) entry.session entry.asked)) (told_at s entry.answer entry.missed)) unlost
+      ∙ ap (λ s. line_outcome_renamed (renames_away plan.table (about (opens entry now) entry.session entry.asked)) (reported_at s entry.answer entry.missed)) unlost
       ∙ still_unless (renames_away plan.table (about (opens entry now) entry.session entry.asked)) entry.answer (by (about (opens entry now) entry.session entry.asked) refl) where
         by : (request : Option Request) → about (opens entry now) entry.session entry.asked ≡ request → renames_away plan.table request ≡ true → (count : ℕ) → entry.answer ≡ answers.Ok count → ⊥
         by None is takes count done = false≢true takes

@@ -16,8 +16,8 @@ use Rattle.server_model.specs.declared.entry.Entry.{Entry}
 use Rattle.server_model.specs.declared.request.Request.{Request}
 use Rattle.server_model.specs.declared.request.Request.TheVariants as requests
 use Rattle.server_model.specs.Entries.{same_actor, is_client}
-use Rattle.server_model.specs.Locking.{blocker, need}
-use Rattle.server_model.specs.Serving.{called_unless, calls, serves}
+use Rattle.server_model.specs.Blockers.{blocker, need}
+use Rattle.server_model.specs.PlainServer.{called_unless, calls, serves}
 use Rattle.server_model.specs.States.{State, names_in}
 use Rattle.plan_data.specs.PlanData.{PlanData}
 use Rattle.base_values.specs.ToolNames.{log_name, old_name}
@@ -37,7 +37,7 @@ use Rattle.tool_program.specs.declared.cutover_core.cutover.Phase.{Phase}
 use Rattle.tool_program.specs.declared.cutover_core.cutover.Phase.TheVariants.{Resting, Attempting, Ending, Finishing, Finished}
 use Rattle.tool_program.specs.declared.cutover_core.cutover.Stage.TheVariants.{Locking, Hinting, Showing, Dropping, Unlocking}
 use Rattle.tool_program.specs.Programs.{apply_call, rolls_back, tool_call}
-use Rattle.tool_program.specs.Tools.{Work, Course, SettingUp, Migrating, Moment, is_renamed, is_reverting, moment}
+use Rattle.tool_program.specs.Tools.{Work, ToolPhase, SettingUp, Migrating, Moment, is_renamed, is_reverting, moment}
 use Rattle.proof_journals.specs.Plans.{limits_of, scene_of}
 use Rattle.proof_journals.proofs.Actors.{same_actor_is}
 use Rattle.proof_journals.proofs.Journals.{JournalHolds}
@@ -45,11 +45,11 @@ use Rattle.proof_journals.proofs.Waiting.{IsDone, done_answers}
 use Rattle.proof_journals.specs.Run.Laws.{Living, NoneWaits}
 use Rattle.server_model.proofs.LockedRows.Tests.{are_same, same_bytes}
 use Rattle.proof_migration.proofs.Attempt.Stages.{RenamerAt, StandsAt}
-use Rattle.proof_migration.proofs.Attempt.Standing.{CourseAt, IsStanding}
-use Rattle.proof_migration.proofs.Course.Owners.{AllOwned}
-use Rattle.proof_journals.specs.Machine.Machines.{ApplierStands, CourseStands, PhaseHolds, SetupStands, Stands, WorkStands, applier_busy, both_names, copier_asks, copier_busy, held, renaming}
+use Rattle.proof_migration.proofs.Attempt.Standing.{ToolPhaseAt, IsStanding}
+use Rattle.proof_migration.proofs.ToolPhase.Owners.{AllOwned}
+use Rattle.proof_journals.specs.Machine.Machines.{ApplierStands, ToolPhaseStands, PhaseHolds, SetupStands, Stands, WorkStands, applier_busy, both_names, copier_asks, copier_busy, held, renaming}
 use Rattle.proof_journals.specs.Machine.Standings.{Standing, answered, free, needs_names, serves_to, standing_in, standing_of, IsAbout, is_called}
-use Rattle.proof_journals.specs.Machine.Tabling.{CourseTables, Uncopied, WorkTables}
+use Rattle.proof_journals.specs.Machine.MigrationTables.{ToolPhaseTables, Uncopied, WorkTables}
 use Rattle.proof_journals.proofs.Machine.CuttingOver.{LockerAsks}
 use Rattle.proof_journals.proofs.Machine.Fitting.{IsPrompt}
 use Rattle.proof_journals.proofs.Machine.Journals.{Asking, IsRun, apply_called, calls_so, copier_had, lock_about, polls_so}
@@ -66,7 +66,7 @@ abbrev pub Unwaited : PlanData → List Entry → Type 0
 Unwaited plan journal = (a : Actor) → same_actor a Ren ≡ false → (standing_of plan journal a).waits ≡ None
 
 -- behind the range's end the copier would ask where a chunk ends
-abbrev pub Chosen : Course → Type 0
+abbrev pub Chosen : ToolPhase → Type 0
 Chosen (SettingUp setup tries) = Unit {0}
 Chosen (Migrating work) = work.copier.is_copied ≡ true → copiers.starts work.copier ≡ true
 
@@ -112,7 +112,7 @@ call_untimed state number request = by (blocker state number (need state number 
 
 starts_idle : (step : CopyStep) → copiers.is_choosing step ≡ true → copier_busy step ≡ false
 starts_idle copying.Choosing is = refl
-starts_idle (copying.Spanning told size) is = refl
+starts_idle (copying.Spanning reported size) is = refl
 starts_idle (copying.Copying chunk copied) is = absurd (false≢true is)
 starts_idle (copying.Committing chunk) is = absurd (false≢true is)
 
@@ -138,9 +138,9 @@ locked_off_log table = (Rattle.tool_program.proofs.OnlineCalls.Naming.not_log ta
 
 -- ONE TURN
 
-module _ (plan : PlanData) (journal : List Entry) (entry : Entry) (is : IsStanding plan journal) (none : (moment plan journal).tool.reason ≡ None) (on : gives_up (moment plan journal).tool.course ≡ false) (going : is_renamed (moment plan journal).tool.course ≡ false) (run : IsRun plan journal entry) (asks : Asking plan journal entry.actor entry.asked)
+module _ (plan : PlanData) (journal : List Entry) (entry : Entry) (is : IsStanding plan journal) (none : (moment plan journal).tool.reason ≡ None) (on : gives_up (moment plan journal).tool.tool_phase ≡ false) (going : is_renamed (moment plan journal).tool.tool_phase ≡ false) (run : IsRun plan journal entry) (asks : Asking plan journal entry.actor entry.asked)
     (uncut : entry.asked ≢ Cut) (unlost : entry.side ≡ None) (nobody : Nobody journal) (living : Living journal (state_at plan journal)) (owned : AllOwned plan journal) (lively : NoneWaits (state_at plan journal)) (holds : JournalHolds (limits_of plan) (scene_of plan journal) journal)
-    (reads : ReadsOn (moment plan journal).tool.course) (chosen : Chosen (moment plan journal).tool.course) (waits : Unwaited plan journal) where
+    (reads : ReadsOn (moment plan journal).tool.tool_phase) (chosen : Chosen (moment plan journal).tool.tool_phase) (waits : Unwaited plan journal) where
   abbrev now : Moment
   now = moment plan journal
 
@@ -167,7 +167,7 @@ module _ (plan : PlanData) (journal : List Entry) (entry : Entry) (is : IsStandi
   record IsCalled : Type 0 where
     request : Request
     asked : entry.asked ≡ Call request
-    call : tool_call plan now.server journal now.tool now.tool.course entry.actor ≡ Some request
+    call : tool_call plan now.server journal now.tool now.tool.tool_phase entry.actor ≡ Some request
 
   called_so : same_actor entry.actor Ren ≡ false → IsCalled
   called_so other = by asks where
@@ -224,15 +224,15 @@ module _ (plan : PlanData) (journal : List Entry) (entry : Entry) (is : IsStandi
 
   -- BEHIND THE SETUP
 
-  module _ (work : Work) (eq : now.tool.course ≡ Migrating work) where
+  module _ (work : Work) (eq : now.tool.tool_phase ≡ Migrating work) where
     at : WorkStands journal (is_reverting now.tool.reason) has work
-    at = subst (CourseStands journal has (is_reverting now.tool.reason)) eq is.tabled.all.tool.stands
+    at = subst (ToolPhaseStands journal has (is_reverting now.tool.reason)) eq is.tabled.all.tool.stands
 
     tables : WorkTables plan (state_at plan journal).tables has work
-    tables = subst (CourseTables plan (state_at plan journal).tables has) eq is.tabled.tables
+    tables = subst (ToolPhaseTables plan (state_at plan journal).tables has) eq is.tabled.tables
 
     cut : StandsAt plan (state_at plan journal).tables (has Insp).waits work.cutover.phase work.cutover.hold work.cutover.renamer_waits work.cutover.is_asked
-    cut = subst (CourseAt plan (state_at plan journal).tables (has Insp).waits) eq is.course
+    cut = subst (ToolPhaseAt plan (state_at plan journal).tables (has Insp).waits) eq is.tool_phase
 
     insp_harmless : (names : List (List ℕ)) → Harmless names (has Insp)
     insp_harmless names = unlocked_harmless names (has Insp) at.inspector.busy at.inspector.locked
@@ -276,7 +276,7 @@ module _ (plan : PlanData) (journal : List Entry) (entry : Entry) (is : IsStandi
       one = called_so other
 
       next : attempts.inspector_call work.cutover work.cutover.phase ≡ Some one.request
-      next = ap (λ (c : Course). tool_call plan now.server journal now.tool c Insp) (sym eq) ∙ ap (tool_call plan now.server journal now.tool now.tool.course) (sym who) ∙ one.call
+      next = ap (λ (c : ToolPhase). tool_call plan now.server journal now.tool c Insp) (sym eq) ∙ ap (tool_call plan now.server journal now.tool now.tool.tool_phase) (sym who) ∙ one.call
 
       hinting : work.cutover.phase ≡ Attempting Hinting → attempts.writes_hint work.cutover.table work.cutover.attempts ≡ one.request → is_wait entry.answer ≡ false
       hinting phase same =
@@ -327,12 +327,12 @@ module _ (plan : PlanData) (journal : List Entry) (entry : Entry) (is : IsStandi
 
       request_is : one.request ≡ appliers.next journal work.applier
       request_is = apply_called plan journal work one.request
-          (ap (λ (b : Bool). cond b (rolls_back now.server (live_session journal Apply)) (apply_call plan now.server journal now.tool work)) (sym onward) ∙ ap (λ (c : Course). tool_call plan now.server journal now.tool c Apply) (sym eq) ∙ ap (tool_call plan now.server journal now.tool now.tool.course) (sym who) ∙ one.call)
+          (ap (λ (b : Bool). cond b (rolls_back now.server (live_session journal Apply)) (apply_call plan now.server journal now.tool work)) (sym onward) ∙ ap (λ (c : ToolPhase). tool_call plan now.server journal now.tool c Apply) (sym eq) ∙ ap (tool_call plan now.server journal now.tool now.tool.tool_phase) (sym who) ∙ one.call)
 
     -- THE LOCKER
 
     lock_unwaits : entry.actor ≡ Lock → is_wait entry.answer ≡ false
-    lock_unwaits who = lock_about plan journal entry is.tabled.all.tool run work eq at asks_lock (is_wait entry.answer ≡ false) (λ request about kind. told request about (by work.cutover.hold work.cutover.phase refl refl request kind)) where
+    lock_unwaits who = lock_about plan journal entry is.tabled.all.tool run work eq at asks_lock (is_wait entry.answer ≡ false) (λ request about kind. reported request about (by work.cutover.hold work.cutover.phase refl refl request kind)) where
       other : same_actor entry.actor Ren ≡ false
       other = ap (λ (a : Actor). same_actor a Ren) who
 
@@ -342,9 +342,9 @@ module _ (plan : PlanData) (journal : List Entry) (entry : Entry) (is : IsStandi
       one : IsCalled
       one = called_so other
 
-      told : (request : Request) → IsAbout request (has Lock) entry.asked → (entry.asked ≡ Call request → is_wait entry.answer ≡ false) → is_wait entry.answer ≡ false
-      told request (is_called asked idle) then = then asked
-      told request (Rattle.proof_journals.specs.Machine.Standings.is_polled polled some) then = no_request request (sym (waits Lock refl) ∙ some)
+      reported : (request : Request) → IsAbout request (has Lock) entry.asked → (entry.asked ≡ Call request → is_wait entry.answer ≡ false) → is_wait entry.answer ≡ false
+      reported request (is_called asked idle) then = then asked
+      reported request (Rattle.proof_journals.specs.Machine.Standings.is_polled polled some) then = no_request request (sym (waits Lock refl) ∙ some)
 
       copied : ((left : work.copier.is_copied ≡ false) → ⊥) → work.copier.is_copied ≡ true
       copied never = at_copied work.copier.is_copied refl where
@@ -383,17 +383,17 @@ module _ (plan : PlanData) (journal : List Entry) (entry : Entry) (is : IsStandi
 
   -- EVERY ACTOR
 
-  unwaits : (actor : Actor) → entry.actor ≡ actor → same_actor actor Ren ≡ false → (course : Course) → now.tool.course ≡ course → is_wait entry.answer ≡ false
-  unwaits actor who other (SettingUp setup tries) eq = setup_unwaits (ap (λ (a : Actor). same_actor a Ren) who ∙ other) (subst (CourseStands journal has (is_reverting now.tool.reason)) eq is.tabled.all.tool.stands)
+  unwaits : (actor : Actor) → entry.actor ≡ actor → same_actor actor Ren ≡ false → (tool_phase : ToolPhase) → now.tool.tool_phase ≡ tool_phase → is_wait entry.answer ≡ false
+  unwaits actor who other (SettingUp setup tries) eq = setup_unwaits (ap (λ (a : Actor). same_actor a Ren) who ∙ other) (subst (ToolPhaseStands journal has (is_reverting now.tool.reason)) eq is.tabled.all.tool.stands)
   unwaits Insp who other (Migrating work) eq = insp_unwaits work eq who
   unwaits Copy who other (Migrating work) eq = copy_unwaits work eq who
   unwaits Apply who other (Migrating work) eq = apply_unwaits work eq who
   unwaits Lock who other (Migrating work) eq = lock_unwaits work eq who
   unwaits Ren who other (Migrating work) eq = absurd (true≢false other)
-  unwaits Op who other (Migrating work) eq = no_request one.request (ap (λ (c : Course). tool_call plan now.server journal now.tool c Op) (sym eq) ∙ ap (tool_call plan now.server journal now.tool now.tool.course) (sym who) ∙ one.call) where
+  unwaits Op who other (Migrating work) eq = no_request one.request (ap (λ (c : ToolPhase). tool_call plan now.server journal now.tool c Op) (sym eq) ∙ ap (tool_call plan now.server journal now.tool now.tool.tool_phase) (sym who) ∙ one.call) where
     one : IsCalled
     one = called_so (ap (λ (a : Actor). same_actor a Ren) who)
-  unwaits (Client n) who other (Migrating work) eq = no_request one.request (ap (λ (c : Course). tool_call plan now.server journal now.tool c (Client n)) (sym eq) ∙ ap (tool_call plan now.server journal now.tool now.tool.course) (sym who) ∙ one.call) where
+  unwaits (Client n) who other (Migrating work) eq = no_request one.request (ap (λ (c : ToolPhase). tool_call plan now.server journal now.tool c (Client n)) (sym eq) ∙ ap (tool_call plan now.server journal now.tool now.tool.tool_phase) (sym who) ∙ one.call) where
     one : IsCalled
     one = called_so (ap (λ (a : Actor). same_actor a Ren) who)
 
@@ -404,7 +404,7 @@ module _ (plan : PlanData) (journal : List Entry) (entry : Entry) (is : IsStandi
     own who =
         let here : same_actor entry.actor Ren ≡ false = ap (λ (b : Actor). same_actor b Ren) who ∙ other in
         let one : IsCalled = called_so here in
-        ap (λ (s : Standing). s.waits) (own_stands plan journal entry is.tabled.all.tool.known served one.request (is_called one.asked (waits entry.actor here))) ∙ answered_idle one.request entry.answer (has entry.actor) (unwaits entry.actor refl here now.tool.course refl)
+        ap (λ (s : Standing). s.waits) (own_stands plan journal entry is.tabled.all.tool.known served one.request (is_called one.asked (waits entry.actor here))) ∙ answered_idle one.request entry.answer (has entry.actor) (unwaits entry.actor refl here now.tool.tool_phase refl)
 
     by : (b : Bool) → same_actor entry.actor a ≡ b → (standing_of plan (journal ++ entry ∷ []) a).waits ≡ None
     by true same = let who : entry.actor ≡ a = same_actor_is entry.actor a same in subst (λ (b : Actor). (standing_of plan (journal ++ entry ∷ []) b).waits ≡ None) who (own who)

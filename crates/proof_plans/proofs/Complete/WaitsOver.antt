@@ -18,15 +18,15 @@ use Rattle.tool_program.specs.declared.chunk_copier.copier.Copier.{Copier}
 use Rattle.tool_program.specs.declared.chunk_copier.copier.CopyStep.{CopyStep}
 use Rattle.tool_program.specs.declared.chunk_copier.copier.CopyStep.TheVariants.{Choosing, Spanning, Copying, Committing}
 use Rattle.tool_program.specs.Setups.{Setup, Listing, Clearing, MakingLog, MakingGhost, Marking, Reaching, Ready, setup_after}
-use Rattle.tool_program.specs.Tools.{Work, Course, SettingUp, Migrating, Moment, Tool, course_of, is_renamed, is_reverting, moment}
+use Rattle.tool_program.specs.Tools.{Work, ToolPhase, SettingUp, Migrating, Moment, Tool, tool_phase_of, is_renamed, is_reverting, moment}
 use Rattle.proof_journals.specs.Plans.{limits_of, scene_of, IsSerialPlan}
 use Rattle.proof_journals.proofs.Actors.{same_actor_is}
 use Rattle.proof_journals.proofs.Journals.{journal_holds}
 use Rattle.proof_journals.specs.Run.Kept.{IsKept}
 use Rattle.proof_journals.proofs.Run.Living.{all_living}
 use Rattle.proof_journals.proofs.Run.Waits.{all_waits}
-use Rattle.proof_migration.proofs.Course.CourseTurns.{AnswerKeeps, Kept, ResizeKeeps, UnfitKeeps, turn_kept}
-use Rattle.proof_migration.proofs.Course.Owners.{together_owned}
+use Rattle.proof_migration.proofs.ToolPhase.ToolPhaseTurns.{AnswerKeeps, Kept, ResizeKeeps, UnfitKeeps, turn_kept}
+use Rattle.proof_migration.proofs.ToolPhase.Owners.{together_owned}
 use Rattle.proof_journals.specs.Machine.Laws.{VerdictsTellTheAlter}
 use Rattle.proof_journals.specs.Machine.Runnable.{IsRunnable}
 use Rattle.proof_journals.proofs.Machine.Journals.{Asking, IsRun}
@@ -51,14 +51,14 @@ chosen_took turn copier answer left copied = by copier.step answer copied where
   by : (step : CopyStep) (answer : Answer) → (copiers.after_answer turn copier step answer).is_copied ≡ true → copiers.starts (copiers.after_answer turn copier step answer) ≡ true
   by Choosing (answers.End end) is = never is
   by Choosing answer is = never is
-  by (Spanning told size) (answers.Keys keys end) is = never is
-  by (Spanning told size) answer is = never is
+  by (Spanning reported size) (answers.Keys keys end) is = never is
+  by (Spanning reported size) answer is = never is
   by (Copying chunk done) (answers.Ok count) is = never is
   by (Copying chunk done) answer is = never is
   by (Committing chunk) (answers.Ok count) is = refl
   by (Committing chunk) answer is = never is
 
-module _ (plan : PlanData) (journal : List Entry) (entry : Entry) (uncut : entry.asked ≢ Cut) (left : (work : Work) → (moment plan journal).tool.course ≡ Migrating work → entry.actor ≡ Copy → work.copier.is_copied ≡ false) (was : Chosen (moment plan journal).tool.course) where
+module _ (plan : PlanData) (journal : List Entry) (entry : Entry) (uncut : entry.asked ≢ Cut) (left : (work : Work) → (moment plan journal).tool.tool_phase ≡ Migrating work → entry.actor ≡ Copy → work.copier.is_copied ≡ false) (was : Chosen (moment plan journal).tool.tool_phase) where
   abbrev now : Moment
   now = moment plan journal
 
@@ -66,15 +66,15 @@ module _ (plan : PlanData) (journal : List Entry) (entry : Entry) (uncut : entry
   tool = record now.tool { turns = now.tool.turns + 1 }
 
   abbrev Next : Kept
-  Next reverting course = reverting ≡ false → Chosen course
+  Next reverting tool_phase = reverting ≡ false → Chosen tool_phase
 
-  work_chosen : (work : Work) → now.tool.course ≡ Migrating work → work.copier.is_copied ≡ true → copiers.starts work.copier ≡ true
+  work_chosen : (work : Work) → now.tool.tool_phase ≡ Migrating work → work.copier.is_copied ≡ true → copiers.starts work.copier ≡ true
   work_chosen work at = subst Chosen at was
 
-  unfit_keeps : (work : Work) → now.tool.course ≡ Migrating work → UnfitKeeps Next work
+  unfit_keeps : (work : Work) → now.tool.tool_phase ≡ Migrating work → UnfitKeeps Next work
   unfit_keeps work at = record { renamed = λ renamed onward. work_chosen work at; reverts = λ onward. absurd (true≢false onward) }
 
-  set_up : (setup : Setup) (tries : List ℕ) → Chosen (course_of plan tool.operator.size setup tries)
+  set_up : (setup : Setup) (tries : List ℕ) → Chosen (tool_phase_of plan tool.operator.size setup tries)
   set_up Listing tries = tt
   set_up (Clearing some) tries = tt
   set_up MakingLog tries = tt
@@ -83,7 +83,7 @@ module _ (plan : PlanData) (journal : List Entry) (entry : Entry) (uncut : entry
   set_up (Reaching position) tries = tt
   set_up (Ready position range) tries = λ copied. refl
 
-  keeps : (actor : Actor) → entry.actor ≡ actor → (course : Course) → now.tool.course ≡ course → AnswerKeeps plan Next entry.answer tool actor course
+  keeps : (actor : Actor) → entry.actor ≡ actor → (tool_phase : ToolPhase) → now.tool.tool_phase ≡ tool_phase → AnswerKeeps plan Next entry.answer tool actor tool_phase
   keeps Copy who (Migrating work) at =
       record { reverting = λ reverting onward. work_chosen work at; unfit = λ goes place number unfit. unfit_keeps work at; took = λ goes fits tries onward. chosen_took tool.turns work.copier entry.answer (left work at who) }
   keeps Copy who (SettingUp setup tries) at = λ onward. tt
@@ -100,21 +100,21 @@ module _ (plan : PlanData) (journal : List Entry) (entry : Entry) (uncut : entry
   keeps (Client c) who (SettingUp setup tries) at = λ onward. tt
   keeps (Client c) who (Migrating work) at = λ onward. work_chosen work at
 
-  sizes : (size : ℕ) (course : Course) → now.tool.course ≡ course → ResizeKeeps Next tool size course
+  sizes : (size : ℕ) (tool_phase : ToolPhase) → now.tool.tool_phase ≡ tool_phase → ResizeKeeps Next tool size tool_phase
   sizes size (Migrating work) at = λ onward. work_chosen work at
   sizes size (SettingUp setup tries) at = λ onward. tt
 
-  chosen_more : is_reverting (moment plan (journal ++ entry ∷ [])).tool.reason ≡ false → Chosen (moment plan (journal ++ entry ∷ [])).tool.course
+  chosen_more : is_reverting (moment plan (journal ++ entry ∷ [])).tool.reason ≡ false → Chosen (moment plan (journal ++ entry ∷ [])).tool.tool_phase
   chosen_more later =
-      turn_kept plan Next (λ b course new onward. absurd (true≢false onward)) journal entry (λ b work tries new. new)
-      (record { heard = λ called commanded. keeps entry.actor refl now.tool.course refl; lost = λ cut worked. absurd (uncut cut); idle = λ cut none onward. was; resized = λ size asked. sizes size now.tool.course refl; commanded = λ word asked unsized onward. was }) later
+      turn_kept plan Next (λ b tool_phase new onward. absurd (true≢false onward)) journal entry (λ b work tries new. new)
+      (record { heard = λ called commanded. keeps entry.actor refl now.tool.tool_phase refl; lost = λ cut worked. absurd (uncut cut); idle = λ cut none onward. was; resized = λ size asked. sizes size now.tool.tool_phase refl; commanded = λ word asked unsized onward. was }) later
 
 -- ONE TURN
 
 record IsIdleSo (plan : PlanData) (journal : List Entry) : Type 0 where
   quiet : IsQuietSo plan journal
-  waits : is_renamed (moment plan journal).tool.course ≡ false → Unwaited plan journal
-  chosen : is_renamed (moment plan journal).tool.course ≡ false → Chosen (moment plan journal).tool.course
+  waits : is_renamed (moment plan journal).tool.tool_phase ≡ false → Unwaited plan journal
+  chosen : is_renamed (moment plan journal).tool.tool_phase ≡ false → Chosen (moment plan journal).tool.tool_phase
 
 module _ (again : StoresAgain) (plan : PlanData) (quiet : IsQuiet plan) (converted_rows : RowsHaveConvertedRows plan) (runs : IsRunnable plan) (serial : IsSerialPlan plan) (journal : List Entry) (entry : Entry) (kept : IsKept plan (journal ++ entry ∷ [])) (is : IsIdleSo plan journal) where
   earlier : IsKept plan journal
@@ -132,7 +132,7 @@ module _ (again : StoresAgain) (plan : PlanData) (quiet : IsQuiet plan) (convert
   heard : entry.side ≡ None
   heard = unlost plan quiet journal entry is.quiet.nobody kept is.quiet.calm.stands.tabled.all.tool
 
-  module _ (going : is_renamed (moment plan journal).tool.course ≡ false) where
+  module _ (going : is_renamed (moment plan journal).tool.tool_phase ≡ false) where
     scene : IsUntouched plan journal
     scene = untouched plan journal runs serial earlier (unaltered plan journal runs serial earlier going is.quiet.calm.on.on) is.quiet.nobody (is.quiet.nothing going journal is.quiet.nobody)
 
@@ -144,7 +144,7 @@ module _ (again : StoresAgain) (plan : PlanData) (quiet : IsQuiet plan) (convert
     waits_now = unwaited_more plan journal entry is.quiet.calm.stands is.quiet.calm.on.none is.quiet.calm.on.on going here asked uncut heard is.quiet.nobody (all_living plan journal earlier.faithful earlier.sessions) (together_owned plan journal earlier.faithful earlier.follows).owned (all_waits plan journal earlier.faithful earlier.sessions)
         (journal_holds (limits_of plan) (scene_of plan journal) journal scene.scene) (is.quiet.reads going) (is.chosen going) (is.waits going)
 
-    copies_left : (work : Work) → (moment plan journal).tool.course ≡ Migrating work → entry.actor ≡ Copy → work.copier.is_copied ≡ false
+    copies_left : (work : Work) → (moment plan journal).tool.tool_phase ≡ Migrating work → entry.actor ≡ Copy → work.copier.is_copied ≡ false
     copies_left = copy_left plan journal entry is.quiet.calm.stands is.quiet.calm.on.none is.quiet.calm.on.on going here asked uncut heard is.quiet.nobody (all_living plan journal earlier.faithful earlier.sessions) (together_owned plan journal earlier.faithful earlier.follows).owned (all_waits plan journal earlier.faithful earlier.sessions)
         (journal_holds (limits_of plan) (scene_of plan journal) journal scene.scene) (is.quiet.reads going) (is.chosen going) (is.waits going)
 
@@ -159,9 +159,9 @@ module _ (again : StoresAgain) (plan : PlanData) (quiet : IsQuiet plan) (convert
       next : IsQuietSo plan (journal ++ entry ∷ [])
       next = quiet_more again plan quiet converted_rows runs serial journal entry kept is.quiet (λ same. bounded within)
 
-  idle_more : (is_renamed (moment plan journal).tool.course ≡ false → IsWithin plan journal entry) → IsIdleSo plan (journal ++ entry ∷ [])
-  idle_more within = by (is_renamed (moment plan journal).tool.course) refl where
-    by : (b : Bool) → is_renamed (moment plan journal).tool.course ≡ b → IsIdleSo plan (journal ++ entry ∷ [])
+  idle_more : (is_renamed (moment plan journal).tool.tool_phase ≡ false → IsWithin plan journal entry) → IsIdleSo plan (journal ++ entry ∷ [])
+  idle_more within = by (is_renamed (moment plan journal).tool.tool_phase) refl where
+    by : (b : Bool) → is_renamed (moment plan journal).tool.tool_phase ≡ b → IsIdleSo plan (journal ++ entry ∷ [])
     by false going = going_more going (within going)
     by true done = record {
       quiet = quiet_more again plan quiet converted_rows runs serial journal entry kept is.quiet (λ going. absurd (true≢false (sym done ∙ going)));
@@ -172,7 +172,7 @@ module _ (again : StoresAgain) (plan : PlanData) (quiet : IsQuiet plan) (convert
 -- WHOLE JOURNALS
 
 abbrev Within : PlanData → List Entry → Entry → Type 0
-Within plan before entry = is_renamed (moment plan before).tool.course ≡ false → IsWithin plan before entry
+Within plan before entry = is_renamed (moment plan before).tool.tool_phase ≡ false → IsWithin plan before entry
 
 all_idle : StoresAgain → (plan : PlanData) → IsQuiet plan → RowsHaveConvertedRows plan → IsRunnable plan → IsSerialPlan plan → (journal rest : List Entry) → IsKept plan (journal ++ rest) → Along (Within plan) journal rest → IsIdleSo plan journal → IsIdleSo plan (journal ++ rest)
 all_idle again plan quiet converted_rows runs serial journal [] kept within is = subst (IsIdleSo plan) (sym (append-nil journal)) is

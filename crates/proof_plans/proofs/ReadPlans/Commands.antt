@@ -16,8 +16,8 @@ use Rattle.plan_orders.specs.declared.operator.TheConstants.{CHUNK_SIZE_LIMIT, W
 use Rattle.plan_orders.specs.Numbers.{number_up_to}
 use Rattle.plan_orders.specs.Operators.{chunk_size_of, operator_word, once, waits, wait_of, command_of, line_command, next_line, commands_from, operator_of}
 use Rattle.plan_orders.specs.Refusals.{or_refused}
-use Rattle.plan_orders.specs.Spacing.{spaced_words, parts_at}
-use Rattle.proof_journals.specs.Machine.Forming.{SizeFits}
+use Rattle.plan_orders.specs.Words.{spaced_words, parts_at}
+use Rattle.proof_journals.specs.Machine.FormedPlans.{SizeFits}
 use Rattle.proof_plans.proofs.ReadPlans.Numbers.{number_some}
 
 -- a command that fits

@@ -8,7 +8,7 @@ use Rattle.std.proofs.lemmas.Bool.Decides.{nat_tests}
 use Rattle.std.proofs.lemmas.List.Elements.{filter-append}
 use Rattle.std.proofs.lemmas.List.Sums.{count_by-le-length, length-filter}
 use lib.Utf8.{encode, next}
-use Rattle.base_values.specs.Storing.{character_count}
+use Rattle.base_values.specs.StoredValues.{character_count}
 use Rattle.base_values.specs.SchemaRules.Limits.{is_name_length, is_table_name}
 use Rattle.server_model.specs.Conditions.{IsTableName}
 use Rattle.base_values.specs.ToolNames.{ghost_name, is_tool_name, log_name, old_name}

@@ -4,8 +4,8 @@ use Rattle.std.specs.List.{AllByRecursion, list_any, flat_map}
 use Rattle.std.specs.Option.{option_map}
 use Rattle.std.specs.Str.{IsUtf8, bytes_eq}
 use Rattle.proof_schemas.specs.Alters.Laws.{ReadClausesWriteKinds}
-use Rattle.sql_change.specs.Altering.{altered}
-use Rattle.sql_alter.specs.Reading.{alter_at}
+use Rattle.sql_change.specs.AlteredSchema.{altered}
+use Rattle.sql_alter.specs.AlterText.{alter_at}
 use Rattle.table_store.specs.Databases.{TableRows, find_table}
 use Rattle.base_values.proofs.SchemaRules.Lists.{All-append}
 use Rattle.base_values.proofs.SchemaRules.Steps.{bind_ok, ok_is, kept_out}
@@ -33,16 +33,16 @@ use Rattle.plan_reader.proofs.Opened.{alter_was, opening_is}
 use Rattle.plan_reader.specs.PlanTables.Tables.{IsSound, tables_of}
 use Rattle.proof_plans.specs.ReadPlans.Schemas.{IsAccepted, ReadPlansAreAccepted}
 use Rattle.plan_orders.specs.TurnOrder.Turns.{turns_of}
-use Rattle.server_model.specs.Jobs.{table_of}
+use Rattle.server_model.specs.Operations.{table_of}
 use Rattle.base_values.specs.ToolNames.{ghost_name, log_name, old_name, is_tool_name}
-use Rattle.tool_program.specs.JournalWords.Keeping.{words_of}
+use Rattle.tool_program.specs.JournalWords.KeptPlans.{words_of}
 use Rattle.proof_journals.specs.Plans.{names_of, script_names}
 use Rattle.proof_journals.specs.Machine.Scripts.{LinesFit}
-use Rattle.proof_journals.specs.Machine.Tabling.{TableStands}
-use Rattle.proof_migration.specs.Course.Ready.{LinesEnd, ScriptsEnd}
-use Rattle.proof_migration.specs.Course.Runnable.{AlterablePlansAreRunnable, IsWorded}
+use Rattle.proof_journals.specs.Machine.MigrationTables.{TableExists}
+use Rattle.proof_migration.specs.ToolPhase.Ready.{LinesEnd, ScriptsEnd}
+use Rattle.proof_migration.specs.ToolPhase.Runnable.{AlterablePlansAreRunnable, IsWorded}
 use Rattle.server_model.proofs.LockedRows.Tests.{nor_left, nor_right, turned_bytes}
-use Rattle.proof_plans.specs.ReadPlans.Laws.{ReadAttemptsDrain, ReadPlansAreAlterable, ReadPlansAreRunnable, ReadPlansAreSerial, ReadPlansAreWorded, ReadScriptsEnd, ReadTablesStand}
+use Rattle.proof_plans.specs.ReadPlans.Laws.{ReadAttemptsDrain, ReadPlansAreAlterable, ReadPlansAreRunnable, ReadPlansAreSerial, ReadPlansAreWorded, ReadScriptsEnd, ReadTablesExist}
 use Rattle.proof_plans.proofs.ReadPlans.Commands.{operator_fits}
 use Rattle.proof_plans.proofs.ReadPlans.Names.{names_fit}
 use Rattle.proof_plans.proofs.ReadPlans.Numbers.{options_ranged}
@@ -149,15 +149,15 @@ ordered_is clients texts orders is =
 
 -- PLANS
 
-table_stands : (plan : PlanData) → IsAccepted plan → TableStands plan
-table_stands plan is =
+table_exists : (plan : PlanData) → IsAccepted plan → TableExists plan
+table_exists plan is =
     let found = ap (λ (t : Option TableRows). option_map (λ table. table.schema) t) is.found in
     let old : old_schema plan ≡ is.table.schema = ap (λ (t : Option TableRows). unwrap_or (option_map (λ table. table.schema) t) no_schema) is.found in
     found ∙ ap Some (sym old)
 
 -- *Read tables stand*
-pub tables_stand : ReadPlansAreAccepted → ReadTablesStand
-tables_stand accepted bytes plan is = table_stands plan (accepted bytes plan is)
+pub tables_exist : ReadPlansAreAccepted → ReadTablesExist
+tables_exist accepted bytes plan is = table_exists plan (accepted bytes plan is)
 
 -- *Read plans are serial*
 pub plans_serial : ReadPlansAreAccepted → ReadPlansAreSerial

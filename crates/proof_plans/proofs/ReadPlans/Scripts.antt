@@ -18,7 +18,7 @@ use Rattle.sql_statement.specs.Lines.{asked_of, of_statement, line_of, is_empty,
 use Rattle.sql_statement.specs.Statements.{statement_of}
 use Rattle.sql_statement.specs.Scripts.{names_one_of, open_after, ended_before, unless_tool, fitting, fitting_line, at_line, numbered, next_line, lines_from, script_of}
 use Rattle.proof_journals.specs.Machine.Scripts.{LinesFit, WordFits, inside_after}
-use Rattle.proof_migration.specs.Course.Ready.{LinesEnd}
+use Rattle.proof_migration.specs.ToolPhase.Ready.{LinesEnd}
 
 -- what a line's text asks, where no fault was found
 abbrev is_some_line : Option ScriptWord → Bool
@@ -41,18 +41,18 @@ line_is text asked is = by text.is_faulty is where
   by false is = asked_is text.words asked is
 
 -- how a line stands in its transaction
-record Fits (is_open : Bool) (asked : ScriptWord) (behind : Bool) : Type 0 where
+record Fits (is_open : Bool) (asked : ScriptWord) (following : Bool) : Type 0 where
   pub fits : WordFits is_open asked
-  pub behind_is : behind ≡ inside_after is_open asked
+  pub behind_is : following ≡ inside_after is_open asked
 
-opens : (is_open behind : Bool) (asked : ScriptWord) → open_after is_open asked ≡ Ok behind → Fits is_open asked behind
-opens true behind Begin is = absurd cc
-opens false behind Begin is = record { fits = refl; behind_is = cc }
-opens true behind Commit is = record { fits = refl; behind_is = cc }
-opens false behind Commit is = absurd cc
-opens true behind Rollback is = record { fits = refl; behind_is = cc }
-opens false behind Rollback is = absurd cc
-opens is_open behind (Do statement) is = record { fits = tt; behind_is = cc }
+opens : (is_open following : Bool) (asked : ScriptWord) → open_after is_open asked ≡ Ok following → Fits is_open asked following
+opens true following Begin is = absurd cc
+opens false following Begin is = record { fits = refl; behind_is = cc }
+opens true following Commit is = record { fits = refl; behind_is = cc }
+opens false following Commit is = absurd cc
+opens true following Rollback is = record { fits = refl; behind_is = cc }
+opens false following Rollback is = absurd cc
+opens is_open following (Do statement) is = record { fits = tt; behind_is = cc }
 
 -- where lines are no more to come, the transaction has ended
 ends : (is_open some : Bool) → (is_open && not some) ≡ false → some ≡ false → is_open ≡ false
@@ -60,19 +60,19 @@ ends true true off none = absurd (true≢false none)
 ends true false off none = off
 ends false some off none = refl
 
-record IsFitting (tools texts : List (List ℕ)) (is_open : Bool) (asked : ScriptWord) (behind : Bool) : Type 0 where
-  pub fits : Fits is_open asked behind
-  pub ended : has_lines texts ≡ false → behind ≡ false
+record IsFitting (tools texts : List (List ℕ)) (is_open : Bool) (asked : ScriptWord) (following : Bool) : Type 0 where
+  pub fits : Fits is_open asked following
+  pub ended : has_lines texts ≡ false → following ≡ false
   pub named : names_one_of tools asked ≡ false
 
-fitting_is : (tools texts : List (List ℕ)) (is_open behind : Bool) (asked : ScriptWord) → fitting tools texts is_open (Some asked) ≡ Ok behind → IsFitting tools texts is_open asked behind
+fitting_is : (tools texts : List (List ℕ)) (is_open following : Bool) (asked : ScriptWord) → fitting tools texts is_open (Some asked) ≡ Ok following → IsFitting tools texts is_open asked following
 unfolding fitting
-fitting_is tools texts is_open behind asked is =
-    let opened = bind_ok (open_after is_open asked) _ behind is in
-    let ended = bind_ok (ended_before texts opened.0) (λ b. unless_tool tools b asked) behind opened.2 in
+fitting_is tools texts is_open following asked is =
+    let opened = bind_ok (open_after is_open asked) _ following is in
+    let ended = bind_ok (ended_before texts opened.0) (λ b. unless_tool tools b asked) following opened.2 in
     let closes = kept_out (opened.0 && not (has_lines texts)) opened.0 ended.0 codes.LeftOpen ended.1 in
-    let named = kept_out (names_one_of tools asked) ended.0 behind codes.ToolTable ended.2 in
-    let same : opened.0 ≡ behind = closes.1 ∙ named.1 in
+    let named = kept_out (names_one_of tools asked) ended.0 following codes.ToolTable ended.2 in
+    let same : opened.0 ≡ following = closes.1 ∙ named.1 in
     record {
       fits = subst (Fits is_open asked) same (opens is_open opened.0 asked opened.1);
       ended = λ none. sym same ∙ ends opened.0 (has_lines texts) closes.0 none;
@@ -90,19 +90,19 @@ was_read number (Ok y) x is = cc
 was_read number (Err code) x is = absurd cc
 
 -- one line more in front
-more : (tools texts : List (List ℕ)) (text : List ℕ) (number : ℕ) (is_open behind : Bool) (asked : Option ScriptWord) (others : List ScriptLine) → is_line (text_words text) ≡ is_some_line asked → fitting tools texts is_open asked ≡ Ok behind → AreLines tools texts behind others
+more : (tools texts : List (List ℕ)) (text : List ℕ) (number : ℕ) (is_open following : Bool) (asked : Option ScriptWord) (others : List ScriptLine) → is_line (text_words text) ≡ is_some_line asked → fitting tools texts is_open asked ≡ Ok following → AreLines tools texts following others
     → AreLines tools (text ∷ texts) is_open (numbered number asked ++ others)
 unfolding fitting
-more tools texts text number is_open behind None others line is are =
-    let same : is_open ≡ behind = cc in
+more tools texts text number is_open following None others line is are =
+    let same : is_open ≡ following = cc in
     let lines_same : has_lines (text ∷ texts) ≡ has_lines texts = ap (λ (b : Bool). b || has_lines texts) line in
     record {
       fit = subst (λ (b : Bool). LinesFit b others) (sym same) are.fit;
       end = λ ended. subst (λ (b : Bool). LinesEnd b others) (sym same) (are.end (λ none. sym same ∙ ended (lines_same ∙ none)));
       named = are.named;
     }
-more tools texts text number is_open behind (Some asked) others line is are =
-    let fits = fitting_is tools texts is_open behind asked is in
+more tools texts text number is_open following (Some asked) others line is are =
+    let fits = fitting_is tools texts is_open following asked is in
     record {
       fit = (fits.fits.fits, subst (λ (b : Bool). LinesFit b others) fits.fits.behind_is are.fit);
       end = λ ended. subst (λ (b : Bool). LinesEnd b others) fits.fits.behind_is (are.end fits.ended);
@@ -120,8 +120,8 @@ lines_are tools is_open number (text ∷ texts) script is =
     let asked = bind_ok (line_of (text_words text)) _ line.0 was in
     let fits = bind_ok (fitting tools texts is_open asked.0) (λ is_open. Ok (asked.0, is_open)) line.0 asked.2 in
     let both : (asked.0, fits.0) ≡ line.0 = ok_is {C = ScriptCode} (asked.0, fits.0) line.0 fits.2 in
-    let behind : AreLines tools texts fits.0 others.0 = subst (λ (b : Bool). AreLines tools texts b others.0) (sym (ap (λ (l : Option ScriptWord × Bool). l.1) both)) (lines_are tools line.0.1 (next_line number) texts others.0 others.1) in
-    let made = more tools texts text number is_open fits.0 asked.0 others.0 (line_is (text_words text) asked.0 asked.1) fits.1 behind in
+    let following : AreLines tools texts fits.0 others.0 = subst (λ (b : Bool). AreLines tools texts b others.0) (sym (ap (λ (l : Option ScriptWord × Bool). l.1) both)) (lines_are tools line.0.1 (next_line number) texts others.0 others.1) in
+    let made = more tools texts text number is_open fits.0 asked.0 others.0 (line_is (text_words text) asked.0 asked.1) fits.1 following in
     subst (AreLines tools (text ∷ texts) is_open)
     (ap (λ (l : Option ScriptWord × Bool). numbered number l.0 ++ others.0) both ∙ ok_is {C = ScriptRefusal} (numbered number line.0.0 ++ others.0) script others.2) made
 

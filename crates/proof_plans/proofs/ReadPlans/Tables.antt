@@ -10,7 +10,7 @@ use Rattle.base_values.proofs.SchemaRules.Steps.{bind_ok, ok_is, kept_out, some_
 use Rattle.base_values.specs.SchemaRules.Limits.{is_table_name, is_name_length}
 use Rattle.base_values.specs.ToolNames.{is_tool_name}
 use Rattle.sql_create.specs.Laws.{ReadSchemasAreValid}
-use Rattle.sql_create.specs.Reading.{schema_at}
+use Rattle.sql_create.specs.CreateText.{schema_at}
 use Rattle.proof_schemas.specs.ReadAgain.{ReadSchemasAreDeclared}
 use Rattle.plan_keys.specs.Limits.{TableData}
 use Rattle.plan_reader.specs.declared.plan_tables.fault.TableRefusal.{TableRefusal}

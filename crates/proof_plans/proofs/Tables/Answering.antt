@@ -17,11 +17,11 @@ use Rattle.table_store.specs.declared.renames.NotRenamed.TheVariants as reasons
 use Rattle.table_store.specs.declared.renames.Pair.{Pair}
 use Rattle.table_store.proofs.ChangedTables.{found_where}
 use Rattle.server_model.specs.Chunks.{chunk_end, ends_of, keys_of, span_keys}
-use Rattle.server_model.specs.Effects.{all_stand, begins, created, effect_unless, effect_within, defined, dropped, is_outside, locks_if, of_table, renamed_or, result_effect}
-use Rattle.server_model.specs.Jobs.{Job, after_events, copy_from, copy_job, copy_work, job_of, job_says, result_in, says, table_of}
-use Rattle.server_model.specs.Locking.{blocker, need, need_within}
-use Rattle.server_model.specs.Serving.{called_unless, calls, does, done, is_over, polled_of, polled_over, polled_unless, polls, without_waiting}
-use Rattle.server_model.specs.Showing.{events_read}
+use Rattle.server_model.specs.Effects.{all_exist, begins, created, effect_unless, effect_within, defined, dropped, is_outside, locks_if, of_table, renamed_or, result_effect}
+use Rattle.server_model.specs.Operations.{Operation, after_events, copy_from, copy_operation, copy_work, operation_of, operation_result, result_in, statement_result, table_of}
+use Rattle.server_model.specs.Blockers.{blocker, need, need_within}
+use Rattle.server_model.specs.PlainServer.{called_unless, calls, does, done, is_over, polled_of, polled_over, polled_unless, polls, without_waiting}
+use Rattle.server_model.specs.Listings.{events_read}
 use Rattle.server_model.specs.States.{State, is_in_transaction, session_of, view, waiting_of, writes_of}
 use Rattle.server_model.specs.declared.answer.Answer.TheVariants as answers
 use Rattle.server_model.specs.declared.need.Need.{Need}
@@ -59,18 +59,18 @@ module _ (name : List ℕ) where
 
   -- STATEMENTS AND COPIES
 
-  says_other : (seen : Database) (job : Job) → name ≡ job.table → Stands name seen → ((schema : Schema) → IsFine (job.work schema)) → IsOther (job_says seen job).answer
-  unfolding job_says
-  says_other seen job same stands fine = other_if (λ found. IsOther (result_in job found).answer) seen job.table same stands (λ found. tells_other found.schema found.rows (job.work found.schema) (fine found.schema))
+  says_other : (seen : Database) (operation : Operation) → name ≡ operation.table → Stands name seen → ((schema : Schema) → IsFine (operation.work schema)) → IsOther (operation_result seen operation).answer
+  unfolding operation_result
+  says_other seen operation same stands fine = other_if (λ found. IsOther (result_in operation found).answer) seen operation.table same stands (λ found. tells_other found.schema found.rows (operation.work found.schema) (fine found.schema))
 
   copied_fine : (made : Option (Result (List Value) UnfitAt)) (schema : Schema) → IsFine (copy_work made schema)
   copied_fine None schema = refl
   copied_fine (Some (Err at)) schema = unfit_other at
   copied_fine (Some (Ok values)) schema = copy_fine schema values
 
-  copy_says : (seen : Database) (from into : List ℕ) (map : List MapColumn) (key : List Value) → name ≡ from → name ≡ into → Stands name seen → IsOther (job_says seen (copy_job seen from into map key)).answer
+  copy_says : (seen : Database) (from into : List ℕ) (map : List MapColumn) (key : List Value) → name ≡ from → name ≡ into → Stands name seen → IsOther (operation_result seen (copy_operation seen from into map key)).answer
   copy_says seen from into map key one two stands =
-      says_other seen (copy_job seen from into map key) two stands
+      says_other seen (copy_operation seen from into map key) two stands
       (λ schema. other_if (λ found. IsFine (copy_from found map key schema)) seen from one stands (λ found. copied_fine (option_map (converted_row map) (row_at_key found key)) schema))
 
   -- WHAT IS DONE
@@ -125,7 +125,7 @@ module _ (name : List ℕ) where
   within_other busy seen state number requests.Commit sees stands alone = refl
   within_other busy seen state number requests.Rollback sees stands alone = refl
   within_other busy seen state number (requests.Do statement) sees stands alone =
-      resulted state number busy (need_within seen (requests.Do statement)) (says seen statement) (says_other seen (job_of statement) (first_is name (table_of statement) true alone).0 sees (λ schema. work_fine schema statement))
+      resulted state number busy (need_within seen (requests.Do statement)) (statement_result seen statement) (says_other seen (operation_of statement) (first_is name (table_of statement) true alone).0 sees (λ schema. work_fine schema statement))
   within_other busy seen state number (requests.Ends table) sees stands alone =
       other_if (λ found. IsOther (of_table found (λ t. ends_of (keys_of (key_places t.schema) t.rows)))) state.tables table (first_is name table true alone).0 stands (λ found. ends_other (keys_of (key_places found.schema) found.rows))
   within_other busy seen state number (requests.ChunkEnd table low top size) sees stands alone = other_if (λ found. IsOther (of_table found (λ t. answers.End (chunk_end low top size t)))) state.tables table (first_is name table true alone).0 stands (λ found. refl)
@@ -133,8 +133,8 @@ module _ (name : List ℕ) where
       other_if (λ found. IsOther (does (begins found span size (need_within seen (requests.BeginSpan table span size))) state number).answer) state.tables table (first_is name table true alone).0 stands (λ found. refl)
   within_other busy seen state number (requests.CopyRow from into map key) sees stands alone =
       let both = first_is name from _ alone in
-      resulted state number busy (need_within seen (requests.CopyRow from into map key)) (job_says seen (copy_job seen from into map key)) (copy_says seen from into map key both.0 (first_is name into true both.1).0 sees)
-  within_other busy seen state number (requests.LockTables names) sees stands alone = locks_other state number names (all_stand names state.tables) (ap not (none_lacks state.tables names stands alone))
+      resulted state number busy (need_within seen (requests.CopyRow from into map key)) (operation_result seen (copy_operation seen from into map key)) (copy_says seen from into map key both.0 (first_is name into true both.1).0 sees)
+  within_other busy seen state number (requests.LockTables names) sees stands alone = locks_other state number names (all_exist names state.tables) (ap not (none_lacks state.tables names stands alone))
   within_other busy seen state number requests.Unlock sees stands alone = refl
   within_other busy seen state number (requests.Create schema) sees stands alone = created_other state number schema (has_table schema.name state.tables)
   within_other busy seen state number (requests.Drop table) sees stands alone = dropped_other state number table (has_table table state.tables)

@@ -15,9 +15,9 @@ use Rattle.proof_journals.proofs.Journals.{JournalHolds, journal_holds}
 use Rattle.proof_journals.proofs.PlanJournals.{plan_runs_are_scene_runs}
 use Rattle.proof_journals.specs.Run.Kept.{IsKept}
 use Rattle.proof_journals.specs.Machine.Runnable.{IsRunnable}
-use Rattle.proof_migration.specs.Course.Marked.{MarkedJournalsAreRuns}
-use Rattle.proof_migration.specs.Course.Runnable.{IsAlterable, IsWorded}
-use Rattle.proof_migration.proofs.Course.Unaltered.Away.{all_asked}
+use Rattle.proof_migration.specs.ToolPhase.Marked.{MarkedJournalsAreRuns}
+use Rattle.proof_migration.specs.ToolPhase.Runnable.{IsAlterable, IsWorded}
+use Rattle.proof_migration.proofs.ToolPhase.Unaltered.Away.{all_asked}
 use Rattle.proof_migration.proofs.Program.Turns.Follows.{kept_front, kept_run}
 use Rattle.proof_migration.specs.Laws.{RenamesFindTheAltered}
 use Rattle.proof_migration.specs.Once.{RenamesComeOnce}

@@ -31,7 +31,7 @@ use Rattle.tool_program.specs.JournalWords.Histories as histories
 use Rattle.tool_program.specs.JournalWords.Histories.{Alter, alters, entry_adds, history, is_alter, answer_in}
 use Rattle.tool_program.specs.JournalWords.Journals.{may_lose, state_at}
 use Rattle.tool_program.specs.Programs.{IsGiven, given, tool_call}
-use Rattle.tool_program.specs.Tools.{Course, Migrating, SettingUp, Work, is_reverting, moment}
+use Rattle.tool_program.specs.Tools.{ToolPhase, Migrating, SettingUp, Work, is_reverting, moment}
 use Rattle.tool_program.proofs.OnlineCalls.Naming.{not_old}
 use Rattle.server_model.proofs.LockedRows.Tests.{turned_bytes}
 use Rattle.proof_journals.specs.Plans.{IsSerialPlan}
@@ -41,11 +41,11 @@ use Rattle.proof_journals.proofs.Moves.{renamed_new, renamed_other}
 use Rattle.proof_journals.proofs.Ghost.Turns.{along_next}
 use Rattle.proof_journals.specs.Run.Kept.{IsKept}
 use Rattle.proof_journals.specs.Sentry.Sentries.{Fits}
-use Rattle.proof_journals.specs.Sentry.Turning.{CourseHolds, IsGuarded, last_session}
+use Rattle.proof_journals.specs.Sentry.TurnResults.{ToolPhaseHolds, IsGuarded, last_session}
 use Rattle.proof_journals.proofs.Sentry.Inductions.{all_guarded}
 use Rattle.proof_journals.proofs.Sentry.Serving.{exchanged}
 use Rattle.proof_journals.specs.Machine.Machines as machines
-use Rattle.proof_journals.specs.Machine.Machines.{CourseStands, PhaseHolds, WorkStands, held}
+use Rattle.proof_journals.specs.Machine.Machines.{ToolPhaseStands, PhaseHolds, WorkStands, held}
 use Rattle.proof_journals.specs.Machine.Runnable.{IsRunnable}
 use Rattle.proof_journals.specs.Machine.Standings.{IsAbout, Standing, answered, free, is_called, is_polled, standing_of}
 use Rattle.proof_journals.proofs.Machine.CuttingOver.{LockerAsks}
@@ -53,19 +53,19 @@ use Rattle.proof_journals.proofs.Machine.Journals.{Asking, IsRun, IsTogether, as
 use Rattle.proof_journals.proofs.Machine.Marks.{ghost_not_old, history_more}
 use Rattle.proof_journals.proofs.Machine.Schemas.{is_quiet}
 use Rattle.proof_journals.proofs.Machine.Seated.{IsServed, others_stand, own_lost}
-use Rattle.proof_journals.proofs.Machine.Tabling.{Behind, behind, may_define, rests, waits_on}
-use Rattle.proof_migration.specs.Course.Unaltered.{IsUnaltered}
-use Rattle.proof_migration.specs.Course.Waits.{WaitsAreTold}
-use Rattle.proof_migration.proofs.Course.CourseTurns.{gives_asked}
-use Rattle.proof_migration.proofs.Course.Unaltered.Asking.{AskedAs, ToolCall, exchange_takes}
-use Rattle.proof_migration.proofs.Course.Unaltered.Away.{IsKnownAsked, all_asked, as_tool, tool_adds}
-use Rattle.proof_migration.specs.Attempt.Renamed.{CourseRenamed, IsRenamedAt}
+use Rattle.proof_journals.proofs.Machine.Tabling.{Following, following, may_define, rests, waits_on}
+use Rattle.proof_migration.specs.ToolPhase.Unaltered.{IsUnaltered}
+use Rattle.proof_migration.specs.ToolPhase.Waits.{WaitsAreReported}
+use Rattle.proof_migration.proofs.ToolPhase.ToolPhaseTurns.{gives_asked}
+use Rattle.proof_migration.proofs.ToolPhase.Unaltered.Asking.{AskedAs, ToolCall, exchange_takes}
+use Rattle.proof_migration.proofs.ToolPhase.Unaltered.Away.{IsKnownAsked, all_asked, as_tool, tool_adds}
+use Rattle.proof_migration.specs.Attempt.Renamed.{ToolPhaseRenamed, IsRenamedAt}
 use Rattle.proof_migration.proofs.Attempt.Renamed.Seen.{all_seen}
 use Rattle.proof_migration.proofs.Program.Turns.Follows.{kept_front, kept_run}
 use Rattle.proof_migration.specs.Once.{RenamesComeOnce}
 use Rattle.proof_migration.specs.CutOver.{IsRename, JournalsAreTurned}
 use Rattle.proof_migration.proofs.Once.Renames.{Renaming, exchanges, renamed_past, renaming}
-use Rattle.proof_migration.proofs.Once.Past.{CoursePast, IsPast, NoMake, call_makes, goes_past, makes, ren_asks, told_renamed}
+use Rattle.proof_migration.proofs.Once.Past.{ToolPhasePast, IsPast, NoMake, call_makes, goes_past, makes, ren_asks, reported_renamed}
 use Rattle.proof_migration.proofs.CutOver.Renames.{Found, renames_found}
 use Rattle.proof_plans.specs.ReadPlans.Laws.{ReadPlansAreRunnable, ReadPlansAreSerial}
 use Rattle.proof_plans.specs.Laws.{AcceptedRunsKeepTheOldTable}
@@ -162,8 +162,8 @@ module _ (definitions_are_done : DefinitionsAreDone) (plan : PlanData) (runs : I
 
   -- what the inspector waits with behind the RENAME
   inspector_of : (journal : List Entry) → IsPast plan journal → NoMake (standing_of plan journal Insp).waits
-  inspector_of journal past = by (moment plan journal).tool.course past where
-    by : (course : Course) → CoursePast plan (state_at plan journal).tables (standing_of plan journal Insp).waits course → NoMake (standing_of plan journal Insp).waits
+  inspector_of journal past = by (moment plan journal).tool.tool_phase past where
+    by : (tool_phase : ToolPhase) → ToolPhasePast plan (state_at plan journal).tables (standing_of plan journal Insp).waits tool_phase → NoMake (standing_of plan journal Insp).waits
     by (SettingUp setup tries) at = absurd at
     by (Migrating work) at = at.1
 
@@ -195,20 +195,20 @@ module _ (definitions_are_done : DefinitionsAreDone) (plan : PlanData) (runs : I
     served : IsServed plan journal entry
     served = record { answered = run.answered; seated = record { session = run.followed.session } }
 
-    renamed : CourseRenamed plan (state_at plan journal).tables (moment plan journal).tool.course
+    renamed : ToolPhaseRenamed plan (state_at plan journal).tables (moment plan journal).tool.tool_phase
     renamed = all_seen plan journal runs serial before.faithful before.follows passed.altered
 
     record Working : Type 0 where
       work : Work
-      course : (moment plan journal).tool.course ≡ Migrating work
+      tool_phase : (moment plan journal).tool.tool_phase ≡ Migrating work
       at : IsRenamedAt plan (state_at plan journal).tables work.cutover.phase
       stands : WorkStands journal (is_reverting (moment plan journal).tool.reason) has work
 
     working : Working
-    working = by (moment plan journal).tool.course refl renamed together.stands where
-      by : (course : Course) → (moment plan journal).tool.course ≡ course → CourseRenamed plan (state_at plan journal).tables course → CourseStands journal has (is_reverting (moment plan journal).tool.reason) course → Working
-      by (SettingUp setup tries) course at stands = absurd at
-      by (Migrating work) course at stands = record { work = work; course = course; at = at; stands = stands }
+    working = by (moment plan journal).tool.tool_phase refl renamed together.stands where
+      by : (tool_phase : ToolPhase) → (moment plan journal).tool.tool_phase ≡ tool_phase → ToolPhaseRenamed plan (state_at plan journal).tables tool_phase → ToolPhaseStands journal has (is_reverting (moment plan journal).tool.reason) tool_phase → Working
+      by (SettingUp setup tries) tool_phase at stands = absurd at
+      by (Migrating work) tool_phase at stands = record { work = work; tool_phase = tool_phase; at = at; stands = stands }
 
     -- NO TABLE IS MADE
 
@@ -227,7 +227,7 @@ module _ (definitions_are_done : DefinitionsAreDone) (plan : PlanData) (runs : I
     lock_unmade : entry.actor ≡ Lock → may_lose entry.asked ≡ true → IsUnmade Lock
     unfolding given
     lock_unmade same calls =
-        lock_about plan journal entry together run working.work working.course working.stands (asking plan journal Lock entry.asked together.server (gives Lock same calls)) (IsUnmade Lock)
+        lock_about plan journal entry together run working.work working.tool_phase working.stands (asking plan journal Lock entry.asked together.server (gives Lock same calls)) (IsUnmade Lock)
         (λ request is_about kind. record {
           request = request;
           is_about = is_about;
@@ -241,14 +241,14 @@ module _ (definitions_are_done : DefinitionsAreDone) (plan : PlanData) (runs : I
       by (calls_so request asks idle call) = record {
         request = request;
         is_about = is_called asks idle;
-        unmade = call_makes working.work.cutover working.work.cutover.phase request (ap (λ (c : Course). tool_call plan (moment plan journal).server journal (moment plan journal).tool c Insp) (sym working.course) ∙ call);
+        unmade = call_makes working.work.cutover working.work.cutover.phase request (ap (λ (c : ToolPhase). tool_call plan (moment plan journal).server journal (moment plan journal).tool c Insp) (sym working.tool_phase) ∙ call);
       }
       by (polls_so request asks some) = record { request = request; is_about = is_polled asks some; unmade = subst NoMake some passed.inspector }
 
     ren_unmade : entry.actor ≡ Ren → may_lose entry.asked ≡ true → IsUnmade Ren
     unfolding given
     ren_unmade same calls =
-        ren_about plan journal entry together run working.work working.course working.stands (asking plan journal Ren entry.asked together.server (gives Ren same calls)) (IsUnmade Ren)
+        ren_about plan journal entry together run working.work working.tool_phase working.stands (asking plan journal Ren entry.asked together.server (gives Ren same calls)) (IsUnmade Ren)
         (λ request is_about kind. record { request = request; is_about = is_about; unmade = ap makes kind })
 
     -- an actor's turn
@@ -276,14 +276,14 @@ module _ (definitions_are_done : DefinitionsAreDone) (plan : PlanData) (runs : I
     -- WHAT THE LOCKER WAITS WITH
 
     locker_called : entry.actor ≡ Lock → may_lose entry.asked ≡ true → NoMake (now_has Lock).waits
-    locker_called same calls = by (behind turn.request entry.answer (has Lock)) where
+    locker_called same calls = by (following turn.request entry.answer (has Lock)) where
       turn : IsUnmade Lock
       turn = lock_unmade same calls
 
       waits_now : (now_has Lock).waits ≡ (answered turn.request entry.answer (has Lock)).waits
       waits_now = ap (λ (s : Standing). s.waits) (has_now plan journal entry together run Lock turn.request same turn.is_about)
 
-      by : Behind turn.request entry.answer (has Lock) → NoMake (now_has Lock).waits
+      by : Following turn.request entry.answer (has Lock) → NoMake (now_has Lock).waits
       by (rests none) = subst NoMake (sym (waits_now ∙ none)) tt
       by (waits_on one is) = subst NoMake (sym (waits_now ∙ ap (λ (a : Answer). (answered turn.request a (has Lock)).waits) is)) turn.unmade
 
@@ -304,11 +304,11 @@ module _ (definitions_are_done : DefinitionsAreDone) (plan : PlanData) (runs : I
 
     -- the RENAME isn't done again
     never_renamed : (request : Request) → histories.about journal entry ≡ Some request → AskedAs plan entry.actor request → (pairs : List Pair) (count : ℕ) → request ≡ requests.Rename pairs → answer_in entry.asked entry.side entry.answer entry.missed ≡ Some (answers.Ok count) → ⊥
-    never_renamed request about asks pairs count is told = by entry.actor refl (subst (AskedAs plan entry.actor) is asks) where
+    never_renamed request about asks pairs count is reported = by entry.actor refl (subst (AskedAs plan entry.actor) is asks) where
       as_asked : is_client entry.actor ≡ false → ToolCall plan (requests.Rename pairs) entry.actor → ⊥
       as_asked tool call = (goes_past definitions_are_done plan journal entry serial runs known run passed.past).unaltered
           (ap (list_any is_alter) (tool_adds plan serial journal entry runs.fitting known run tool entry.actor tool) ∙ ap (λ (r : Option Request). list_any is_alter (alters plan r (answer_in entry.asked entry.side entry.answer entry.missed))) (about ∙ ap Some is)
-          ∙ ap (λ (t : Option Answer). list_any is_alter (alters plan (Some (requests.Rename pairs)) t)) told ∙ ap (λ (b : Bool). list_any is_alter (cond b (Alter ∷ []) [])) (exchange_takes plan.table pairs call.1))
+          ∙ ap (λ (t : Option Answer). list_any is_alter (alters plan (Some (requests.Rename pairs)) t)) reported ∙ ap (λ (b : Bool). list_any is_alter (cond b (Alter ∷ []) [])) (exchange_takes plan.table pairs call.1))
 
       by : (actor : Actor) → entry.actor ≡ actor → AskedAs plan entry.actor (requests.Rename pairs) → ⊥
       by (Client c) same asked = subst (λ (a : Actor). AskedAs plan a (requests.Rename pairs)) same asked
@@ -341,7 +341,7 @@ module _ (definitions_are_done : DefinitionsAreDone) (plan : PlanData) (runs : I
       left : (request : Request) → histories.about journal entry ≡ Some request → AskedAs plan entry.actor request → Left plan journal entry Old request → After
       left request about asks (left_so same) = same_table same
       left request about asks (left_gone none) = subst (IsAsItWas plan.table was) (sym none) tt
-      left request about asks (left_renamed pairs count is told) = absurd (never_renamed request about asks pairs count is told)
+      left request about asks (left_renamed pairs count is reported) = absurd (never_renamed request about asks pairs count is reported)
 
       calls_so_far : (request : Request) → Asks request → may_lose entry.asked ≡ true
       calls_so_far request (is_called asks none) = ap may_lose asks
@@ -376,7 +376,7 @@ module _ (definitions_are_done : DefinitionsAreDone) (plan : PlanData) (runs : I
 pub record RenameLaws : Type 0 where
   pub alone : ExclusiveIsAlone
   pub done : DefinitionsAreDone
-  pub told : WaitsAreTold
+  pub reported : WaitsAreReported
   pub turned : JournalsAreTurned
 
 module _ (laws : RenameLaws) (plan : PlanData) (runs : IsRunnable plan) (serial : IsSerialPlan plan) (was : TableRows) (journal : List Entry) (entry : Entry) (rename : IsRename plan journal entry) (stood : find_table plan.table (state_at plan journal).tables ≡ Some was) where
@@ -396,7 +396,7 @@ module _ (laws : RenameLaws) (plan : PlanData) (runs : IsRunnable plan) (serial 
   served_here = record { answered = run_here.answered; seated = record { session = run_here.followed.session } }
 
   finds : Found plan journal entry
-  finds = renames_found laws.alone laws.done laws.told laws.turned plan journal entry runs serial rename
+  finds = renames_found laws.alone laws.done laws.reported laws.turned plan journal entry runs serial rename
 
   renaming_here : Renaming laws.done plan journal entry runs serial rename.kept rename.unaltered rename.alters
   renaming_here = renaming laws.done plan journal entry runs serial rename.kept rename.unaltered rename.alters
@@ -405,26 +405,26 @@ module _ (laws : RenameLaws) (plan : PlanData) (runs : IsRunnable plan) (serial 
   renamer = (exchanges laws.done plan journal entry runs serial rename.kept rename.unaltered rename.alters).0
 
   stands_before : WorkStands journal (is_reverting (moment plan journal).tool.reason) (standing_of plan journal) finds.work
-  stands_before = subst (CourseStands journal (standing_of plan journal) (is_reverting (moment plan journal).tool.reason)) finds.course together_before.stands
+  stands_before = subst (ToolPhaseStands journal (standing_of plan journal) (is_reverting (moment plan journal).tool.reason)) finds.tool_phase together_before.stands
 
   becomes : find_table (old_name plan.table) (state_at plan (journal ++ entry ∷ [])).tables ≡ Some (name_table (old_name plan.table) was)
   becomes =
       exchange_moves plan.table (state_at plan journal).tables (state_at plan (journal ++ entry ∷ [])).tables was
-      (told_renamed laws.done plan journal entry serial runs known_before run_here finds.work finds.course (ren_asks laws.done plan journal entry serial runs known_before run_here finds.work finds.course finds.asks renamer) renaming_here.count renaming_here.is_told) stood
+      (reported_renamed laws.done plan journal entry serial runs known_before run_here finds.work finds.tool_phase (ren_asks laws.done plan journal entry serial runs known_before run_here finds.work finds.tool_phase finds.asks renamer) renaming_here.count renaming_here.is_reported) stood
 
   -- the locker waits to make no table
   guarded : IsGuarded plan journal
   guarded = all_guarded plan journal (laws.turned plan journal runs serial before_it rename.unaltered)
 
   fits_with : (b : Bool) → finds.work.cutover.renamer_waits ≡ b → machines.renaming finds.work.cutover.table b ≡ standing_of plan journal Ren → (request : Request) → (standing_of plan journal Ren).waits ≡ Some request → Fits finds.work.cutover.phase finds.work.cutover.hold true
-  fits_with true waits is request some = subst (Fits finds.work.cutover.phase finds.work.cutover.hold) waits (subst (CourseHolds plan (moment plan journal).server (last_session journal Lock) (last_session journal Ren)) finds.course guarded.course).fits
+  fits_with true waits is request some = subst (Fits finds.work.cutover.phase finds.work.cutover.hold) waits (subst (ToolPhaseHolds plan (moment plan journal).server (last_session journal Lock) (last_session journal Ren)) finds.tool_phase guarded.tool_phase).fits
   fits_with false waits is request some = absurd (no (ap (λ (s : Standing). s.waits) is ∙ some)) where
     no : None ≡ Some request → ⊥
     no same = cc
 
   locker_rests : Asking plan journal Ren entry.asked → NoMake (held finds.work.cutover.table finds.work.cutover.hold).waits
   locker_rests (calls_so request asks idle call) =
-      called_rests finds.work request (ap (λ (c : Course). tool_call plan (moment plan journal).server journal (moment plan journal).tool c Ren) (sym finds.course) ∙ call) stands_before.phase
+      called_rests finds.work request (ap (λ (c : ToolPhase). tool_call plan (moment plan journal).server journal (moment plan journal).tool c Ren) (sym finds.tool_phase) ∙ call) stands_before.phase
   locker_rests (polls_so request asks some) =
       waiting_rests finds.work.cutover.table finds.work.cutover.phase finds.work.cutover.hold
       (fits_with finds.work.cutover.renamer_waits refl (sym stands_before.renamer) request some)

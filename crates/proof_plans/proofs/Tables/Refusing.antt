@@ -1,11 +1,11 @@
 -- Which numbers a statement's work is refused with, where its table stands: never ER_NO_SUCH_TABLE.
 use Rattle.std.proofs.Common.{◌≡◌, ℕ, ◌+◌, ◌==◌, Bool, true, false, cond, List, [], ◌∷◌, length, map, Option, Some, None, Result, Ok, Err, refl}
 use Rattle.std.specs.List.{list_any, position, slice_get}
-use Rattle.base_values.specs.Storing.{error_number, stores, seeks}
+use Rattle.base_values.specs.StoredValues.{error_number, stores, seeks}
 use Rattle.base_values.specs.declared.unfit.Unfit.{Unfit}
 use Rattle.base_values.specs.declared.unfit.Unfit.TheVariants as unfit
 use Rattle.base_values.specs.declared.value.Value.{Value}
-use Rattle.base_values.specs.GhoSchema.Clustering.{clustered_place}
+use Rattle.base_values.specs.GhoSchema.ClusteredKey.{clustered_place}
 use Rattle.base_values.specs.GhoSchema.Rows.{key_places}
 use Rattle.base_values.specs.GhoSchema.Tables.{clash}
 use Rattle.base_values.specs.declared.gho_schema.schema.Column.{Column}
@@ -30,9 +30,9 @@ use Rattle.server_model.specs.declared.work.Selection.TheVariants.{AllColumns, C
 use Rattle.server_model.specs.declared.work.Work.{Work}
 use Rattle.server_model.specs.declared.work.Work.TheVariants as works
 use Rattle.server_model.specs.Answers.{refuses, refuses_value}
-use Rattle.server_model.specs.Checking.{◌>>=◌, are_distinct, beside, given_or, has_columns, is_only, keyed, new_row, or_refused, or_unknown, place_of, places_listed, places_named, reach_equal, reach_of, reach_range, row_from, select_of, selection_of, wanted_at, wanted_each, unless, update_of, value_at, work_of}
+use Rattle.server_model.specs.Checks.{◌>>=◌, are_distinct, beside, given_or, has_columns, is_only, keyed, new_row, or_refused, or_unknown, place_of, places_listed, places_named, reach_equal, reach_of, reach_range, row_from, select_of, selection_of, wanted_at, wanted_each, unless, update_of, value_at, work_of}
 use Rattle.server_model.specs.Rows.{change_rows, rows_met, same_row}
-use Rattle.server_model.specs.Saying.{change_first, clashes_besides, only, result_or_refusal, selected, tells, updated, updates, with_sets}
+use Rattle.server_model.specs.StatementResults.{change_first, clashes_besides, only, result_or_refusal, selected, tells, updated, updates, with_sets}
 use Rattle.proof_plans.specs.Tables.{is_missing}
 
 -- the answer isn't ER_NO_SUCH_TABLE
@@ -197,12 +197,12 @@ updates_fine schema sets (old ∷ met) rows =
       by false true r s one two = refl
       by false false r s one two = two
 
-told_other : (r : Result (List Change) Answer) → Fine Any r → IsOther (result_or_refusal r).answer
-told_other (Ok all) fine = refl
-told_other (Err refusal) fine = fine
+reported_other : (r : Result (List Change) Answer) → Fine Any r → IsOther (result_or_refusal r).answer
+reported_other (Ok all) fine = refl
+reported_other (Err refusal) fine = fine
 
 updated_other : (schema : Schema) (sets : Result (List (Option Value)) UnfitAt) (met rows : List (List Value)) → IsOther (updated schema sets met rows).answer
-updated_other schema (Ok sets) met rows = told_other (updates schema sets met rows) (updates_fine schema sets met rows)
+updated_other schema (Ok sets) met rows = reported_other (updates schema sets met rows) (updates_fine schema sets met rows)
 updated_other schema (Err at) [] rows = refl
 updated_other schema (Err at) (row ∷ met) rows = unfit_other at
 

@@ -9,10 +9,10 @@ use Rattle.table_store.specs.Databases.{Database, TableRows, find_table, has_tab
 use Rattle.table_store.specs.declared.renames.NotRenamed.{NotRenamed}
 use Rattle.table_store.specs.declared.renames.Pair.{Pair}
 use Rattle.server_model.specs.Answers.{ok}
-use Rattle.server_model.specs.Effects.{all_stand, begins, effect_unless, effect_within, defined, dropped, is_outside, locks_if, nothing_needed, renamed_or, result_effect, created}
-use Rattle.server_model.specs.Jobs.{Job, after_events, change_table, copy_job, events_of, job_says, result_in, says, table_of, job_of}
-use Rattle.server_model.specs.Locking.{blocker, need, need_within}
-use Rattle.server_model.specs.Serving.{Served, at_rest, called_unless, calls, counting, does, done, goes_on, holding, is_over, locking, loses, polled_of, polled_over, polled_unless, polls, unlocking, without_waiting}
+use Rattle.server_model.specs.Effects.{all_exist, begins, effect_unless, effect_within, defined, dropped, is_outside, locks_if, nothing_needed, renamed_or, result_effect, created}
+use Rattle.server_model.specs.Operations.{Operation, after_events, change_table, copy_operation, events_of, operation_result, result_in, statement_result, table_of, operation_of}
+use Rattle.server_model.specs.Blockers.{blocker, need, need_within}
+use Rattle.server_model.specs.PlainServer.{Served, at_rest, called_unless, calls, counting, does, done, goes_on, holding, is_over, locking, loses, polled_of, polled_over, polled_unless, polls, unlocking, without_waiting}
 use Rattle.server_model.specs.States.{State, is_in_transaction, new_session, session_of, view, waiting_of, with_session, writes_of}
 use Rattle.server_model.specs.declared.answer.Answer.{Answer}
 use Rattle.server_model.specs.declared.answer.Answer.TheVariants as answers
@@ -67,12 +67,12 @@ module _ (name : List ℕ) where
   found_events (event ∷ events) tables none =
       found_events events (with_change event.table (change_table event.change) tables) none.1 ∙ found_after event.table name event.change tables ∙ ap (λ (b : Bool). change_if b event.change (find_table name tables)) none.0
 
-  job_none : (tables : Database) (job : Job) → bytes_eq job.table name ≡ false → NoneOf name (job_says tables job).events
-  unfolding job_says
-  job_none tables job off = by (find_table job.table tables) where
-    by : (found : Option TableRows) → NoneOf name (result_in job found).events
+  operation_none : (tables : Database) (operation : Operation) → bytes_eq operation.table name ≡ false → NoneOf name (operation_result tables operation).events
+  unfolding operation_result
+  operation_none tables operation off = by (find_table operation.table tables) where
+    by : (found : Option TableRows) → NoneOf name (result_in operation found).events
     by None = tt
-    by (Some table) = none_of_other job.table _ off
+    by (Some table) = none_of_other operation.table _ off
 
   -- SESSIONS
 
@@ -140,7 +140,7 @@ module _ (name : List ℕ) where
   within_spared busy seen state number requests.Commit off all = written requests.Commit _ [] state number tt all
   within_spared busy seen state number requests.Rollback off all = record { unwritten = with_unwritten number at_rest state.sessions (λ session own. tt) all; table = λ off. stays refl }
   within_spared busy seen state number (requests.Do statement) off all =
-      resulted (requests.Do statement) busy (need_within seen (requests.Do statement)) (says seen statement) state number (job_none seen (job_of statement) off) all
+      resulted (requests.Do statement) busy (need_within seen (requests.Do statement)) (statement_result seen statement) state number (operation_none seen (operation_of statement) off) all
   within_spared busy seen state number (requests.Ends table) off all = rested (requests.Ends table) _ state all
   within_spared busy seen state number (requests.ChunkEnd table low top size) off all = rested (requests.ChunkEnd table low top size) _ state all
   within_spared busy seen state number (requests.BeginSpan table span size) off all = by (find_table table state.tables) where
@@ -148,8 +148,8 @@ module _ (name : List ℕ) where
     by None = rested (requests.BeginSpan table span size) _ state all
     by (Some found) = grown (requests.BeginSpan table span size) _ (need_within seen (requests.BeginSpan table span size)) [] state number tt all
   within_spared busy seen state number (requests.CopyRow from into map key) off all =
-      resulted (requests.CopyRow from into map key) busy (need_within seen (requests.CopyRow from into map key)) (job_says seen (copy_job seen from into map key)) state number (job_none seen (copy_job seen from into map key) off) all
-  within_spared busy seen state number (requests.LockTables names) off all = by (all_stand names state.tables) where
+      resulted (requests.CopyRow from into map key) busy (need_within seen (requests.CopyRow from into map key)) (operation_result seen (copy_operation seen from into map key)) state number (operation_none seen (copy_operation seen from into map key) off) all
+  within_spared busy seen state number (requests.LockTables names) off all = by (all_exist names state.tables) where
     by : (b : Bool) → Spared name state.tables (requests.LockTables names) (does (locks_if b names) state number)
     by true = record { unwritten = with_unwritten number (locking names) state.sessions (λ session own. own) all; table = λ off. stays refl }
     by false = rested (requests.LockTables names) _ state all

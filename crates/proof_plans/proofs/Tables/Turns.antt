@@ -13,8 +13,8 @@ use Rattle.base_script.specs.declared.actor.Side.{Side}
 use Rattle.base_script.specs.declared.actor.Side.TheVariants.{Before, After}
 use Rattle.server_model.specs.Along.{Along-keeps}
 use Rattle.server_model.specs.Entries.{is_client, is_command}
-use Rattle.server_model.specs.Jobs.{table_of}
-use Rattle.server_model.specs.Serving.{leaves, serves}
+use Rattle.server_model.specs.Operations.{table_of}
+use Rattle.server_model.specs.PlainServer.{leaves, serves}
 use Rattle.server_model.specs.States.{State, connected, is_live, waiting_of}
 use Rattle.server_model.specs.declared.answer.Answer.{Answer}
 use Rattle.server_model.specs.declared.answer.Answer.TheVariants as answers
@@ -33,7 +33,7 @@ use Rattle.tool_program.specs.Programs.{Follows, IsGiven, given}
 use Rattle.proof_journals.specs.Plans.{IsSerialPlan, client_names, scene_of}
 use Rattle.proof_journals.specs.Scenes.{Stored}
 use Rattle.proof_journals.specs.Turns.{ClientAsks, answer_at, inner, missed_at, request_of}
-use Rattle.proof_journals.proofs.Joined.{told_answer, told_missed}
+use Rattle.proof_journals.proofs.Joined.{reported_answer, reported_missed}
 use Rattle.proof_journals.proofs.Journals.{opened_waits, stored_opened}
 use Rattle.server_model.proofs.LockedRows.Tests.{are_same, same_bytes}
 use Rattle.proof_journals.specs.Machine.Runnable.{IsRunnable}
@@ -44,8 +44,8 @@ use Rattle.proof_journals.proofs.Machine.Marks.{ghost_not_old}
 use Rattle.proof_journals.proofs.Machine.Polling.{given_idle, given_waits}
 use Rattle.proof_journals.proofs.Machine.Seated.{IsServed, own_waiting, state_more}
 use Rattle.proof_journals.proofs.Machine.Tabling.{QuietAt, given_quiet}
-use Rattle.proof_migration.proofs.Course.Unaltered.Asking.{AskedAs, ToolCall, given_asked}
-use Rattle.proof_migration.proofs.Course.Unaltered.Away.{IsKnownAsked, asked_begins, asked_more, tool_not_mine}
+use Rattle.proof_migration.proofs.ToolPhase.Unaltered.Asking.{AskedAs, ToolCall, given_asked}
+use Rattle.proof_migration.proofs.ToolPhase.Unaltered.Away.{IsKnownAsked, asked_begins, asked_more, tool_not_mine}
 use Rattle.proof_migration.proofs.Once.Past.{makes}
 use Rattle.proof_plans.specs.Tables.{IsFound, is_missing, names_alone}
 use Rattle.proof_plans.proofs.Tables.Refusing.{IsOther}
@@ -105,17 +105,17 @@ module _ (plan : PlanData) (journal : List Entry) (entry : Entry) (known : IsKno
 
   -- A TABLE THAT STANDS
 
-  told_other : (asked : Asked) (side : Option Side) (answer : Answer) (missed : Option Answer) → (side ≡ None → IsOther answer) → (side ≡ Some After → is_missing missed ≡ false) → is_missing (answer_in asked side answer missed) ≡ false
-  told_other Cut side answer missed one two = refl
-  told_other (Call request) None answer missed one two = one refl
-  told_other (Call request) (Some Before) answer missed one two = refl
-  told_other (Call request) (Some After) answer missed one two = two refl
-  told_other Poll None answer missed one two = one refl
-  told_other Poll (Some Before) answer missed one two = refl
-  told_other Poll (Some After) answer missed one two = two refl
-  told_other (Command word) None answer missed one two = one refl
-  told_other (Command word) (Some Before) answer missed one two = refl
-  told_other (Command word) (Some After) answer missed one two = two refl
+  reported_other : (asked : Asked) (side : Option Side) (answer : Answer) (missed : Option Answer) → (side ≡ None → IsOther answer) → (side ≡ Some After → is_missing missed ≡ false) → is_missing (answer_in asked side answer missed) ≡ false
+  reported_other Cut side answer missed one two = refl
+  reported_other (Call request) None answer missed one two = one refl
+  reported_other (Call request) (Some Before) answer missed one two = refl
+  reported_other (Call request) (Some After) answer missed one two = two refl
+  reported_other Poll None answer missed one two = one refl
+  reported_other Poll (Some Before) answer missed one two = refl
+  reported_other Poll (Some After) answer missed one two = two refl
+  reported_other (Command word) None answer missed one two = one refl
+  reported_other (Command word) (Some Before) answer missed one two = refl
+  reported_other (Command word) (Some After) answer missed one two = two refl
 
   served_other : (name : List ℕ) (request : Request) → IsAbout request (has entry.actor) entry.asked → Stands name now.tables → names_alone name request ≡ true → IsOther (inner now entry)
   served_other name request (is_called asks none) stands alone = subst (λ (a : Asked). IsOther (serves open_now entry.session a).answer) (sym asks) (called_other name open_now entry.session request (ap (λ (t : Database). is_some (find_table name t)) opened_tables ∙ stands) alone)
@@ -123,12 +123,12 @@ module _ (plan : PlanData) (journal : List Entry) (entry : Entry) (known : IsKno
       subst (λ (a : Asked). IsOther (serves open_now entry.session a).answer) (sym asks)
       (polled_other name open_now entry.session request (waits_open request (ap is_command asks) some) (ap (λ (t : Database). is_some (find_table name t)) opened_tables ∙ stands) alone)
 
-  told_found : (name : List ℕ) (request : Request) → IsAbout request (has entry.actor) entry.asked → Stands name now.tables → names_alone name request ≡ true → is_missing (answer_in entry.asked entry.side entry.answer entry.missed) ≡ false
-  told_found name request is_about stands alone =
+  reported_found : (name : List ℕ) (request : Request) → IsAbout request (has entry.actor) entry.asked → Stands name now.tables → names_alone name request ≡ true → is_missing (answer_in entry.asked entry.side entry.answer entry.missed) ≡ false
+  reported_found name request is_about stands alone =
       let other : IsOther (inner now entry) = served_other name request is_about stands alone in
-      told_other entry.asked entry.side entry.answer entry.missed
-      (λ side. ap (λ (a : Answer). is_missing (Some a)) (told_answer now entry run.answered ∙ ap (λ (s : Option Side). answer_at s (inner now entry)) side) ∙ other)
-      (λ side. ap is_missing (told_missed now entry run.answered ∙ ap (λ (s : Option Side). missed_at s (inner now entry)) side) ∙ other)
+      reported_other entry.asked entry.side entry.answer entry.missed
+      (λ side. ap (λ (a : Answer). is_missing (Some a)) (reported_answer now entry run.answered ∙ ap (λ (s : Option Side). answer_at s (inner now entry)) side) ∙ other)
+      (λ side. ap is_missing (reported_missed now entry run.answered ∙ ap (λ (s : Option Side). missed_at s (inner now entry)) side) ∙ other)
 
   -- *It is found*
   pub turn_found : (name : List ℕ) → Stands name now.tables → IsFound name (histories.about journal entry) (answer_in entry.asked entry.side entry.answer entry.missed)
@@ -141,7 +141,7 @@ module _ (plan : PlanData) (journal : List Entry) (entry : Entry) (known : IsKno
     rests Poll waits is = absurd (true≢false is)
 
     by : TurnAbout plan journal entry → IsFound name (histories.about journal entry) (answer_in entry.asked entry.side entry.answer entry.missed)
-    by (asks_so request is_about about asks quiet) = subst (λ (r : Option Request). IsFound name r (answer_in entry.asked entry.side entry.answer entry.missed)) (sym about) (told_found name request is_about stands)
+    by (asks_so request is_about about asks quiet) = subst (λ (r : Option Request). IsFound name r (answer_in entry.asked entry.side entry.answer entry.missed)) (sym about) (reported_found name request is_about stands)
     by (rests_so is) = rests entry.asked (request_waiting journal entry.actor) is
 
   -- A TABLE THAT NOBODY WRITES
@@ -201,8 +201,8 @@ module _ (plan : PlanData) (journal : List Entry) (entry : Entry) (known : IsKno
       after_lost : (side : Option Side) → entry.side ≡ side → side ≡ Some After → find_table name (leaves side open_now entry.session entry.asked).tables ≡ find_table name (serves open_now entry.session entry.asked).after.tables
       after_lost side at is = ap (λ (s : Option Side). find_table name (leaves s open_now entry.session entry.asked).tables) is ∙ ap (find_table name) (lost_tables name (serves open_now entry.session entry.asked).after entry.session)
 
-      told_call : (side : Option Side) → answer_in entry.asked side entry.answer entry.missed ≡ answer_in Poll side entry.answer entry.missed
-      told_call side = about_call is_about where
+      reported_call : (side : Option Side) → answer_in entry.asked side entry.answer entry.missed ≡ answer_in Poll side entry.answer entry.missed
+      reported_call side = about_call is_about where
         about_call : IsAbout request (has entry.actor) entry.asked → answer_in entry.asked side entry.answer entry.missed ≡ answer_in Poll side entry.answer entry.missed
         about_call (is_polled asks some) = ap (λ (a : Asked). answer_in a side entry.answer entry.missed) asks
         about_call (is_called asks none) = ap (λ (a : Asked). answer_in a side entry.answer entry.missed) asks ∙ called side where
@@ -219,11 +219,11 @@ module _ (plan : PlanData) (journal : List Entry) (entry : Entry) (known : IsKno
       by None at (stays same) = left_so (left_tables None entry.asked at refl same)
       by None at (goes none) = left_gone (more_is None at ∙ none)
       by None at (renames pairs count is given) =
-          left_renamed pairs count is (ap (λ (s : Option Side). answer_in entry.asked s entry.answer entry.missed) at ∙ told_call None ∙ ap Some (told_answer now entry run.answered ∙ ap (λ (s : Option Side). answer_at s (inner now entry)) at ∙ given))
+          left_renamed pairs count is (ap (λ (s : Option Side). answer_in entry.asked s entry.answer entry.missed) at ∙ reported_call None ∙ ap Some (reported_answer now entry run.answered ∙ ap (λ (s : Option Side). answer_at s (inner now entry)) at ∙ given))
       by (Some After) at (stays same) = left_so (left_tables (Some After) entry.asked at refl (after_lost (Some After) at refl ∙ same))
       by (Some After) at (goes none) = left_gone (more_is (Some After) at ∙ after_lost (Some After) at refl ∙ none)
       by (Some After) at (renames pairs count is given) =
-          left_renamed pairs count is (ap (λ (s : Option Side). answer_in entry.asked s entry.answer entry.missed) at ∙ told_call (Some After) ∙ told_missed now entry run.answered ∙ ap (λ (s : Option Side). missed_at s (inner now entry)) at ∙ ap Some given)
+          left_renamed pairs count is (ap (λ (s : Option Side). answer_in entry.asked s entry.answer entry.missed) at ∙ reported_call (Some After) ∙ reported_missed now entry run.answered ∙ ap (λ (s : Option Side). missed_at s (inner now entry)) at ∙ ap Some given)
 
 -- THE OLD TABLE
 

@@ -19,13 +19,13 @@ use Rattle.tool_program.specs.CutoverCore.CutOvers.{is_bad, is_ending}
 use Rattle.tool_program.specs.JournalWords.Journals.{IsFaithful}
 use Rattle.tool_program.specs.Online.{attempt_goes_on}
 use Rattle.tool_program.specs.Programs.{Follows}
-use Rattle.tool_program.specs.Tools.{Course, SettingUp, Migrating, is_renamed, moment}
+use Rattle.tool_program.specs.Tools.{ToolPhase, SettingUp, Migrating, is_renamed, moment}
 use Rattle.tool_program.specs.Verdicts.{has_ended, verdict_of}
-use Rattle.proof_journals.specs.Machine.Forming.{IsFitting}
-use Rattle.proof_journals.specs.Machine.Tabling.{TableStands}
+use Rattle.proof_journals.specs.Machine.FormedPlans.{IsFitting}
+use Rattle.proof_journals.specs.Machine.MigrationTables.{TableExists}
 
 -- an attempt ends that didn't succeed
-abbrev pub gives_up : Course → Bool
+abbrev pub gives_up : ToolPhase → Bool
 gives_up (SettingUp setup tries) = false
 gives_up (Migrating work) = is_ending work.cutover.phase
 
@@ -38,10 +38,10 @@ abbrev pub is_applying : ApplyStep → Bool
 is_applying (Applying batch done part) = true
 is_applying step = false
 
-abbrev pub has_row : Actor → Course → Bool
+abbrev pub has_row : Actor → ToolPhase → Bool
 has_row Copy (Migrating work) = is_copying work.copier.step
 has_row Apply (Migrating work) = is_applying work.applier.step
-has_row actor course = false
+has_row actor tool_phase = false
 
 -- a value was refused for its column
 abbrev pub is_unfit : Answer → Bool
@@ -54,14 +54,14 @@ is_unfit answer = false
 pub record IsSmooth (plan : PlanData) (before : List Entry) (entry : Entry) : Type 0 where
   pub heard : is_client entry.actor ≡ false → is_bad entry.answer ≡ false
   pub uncut : is_client entry.actor ≡ false → entry.asked ≢ Cut
-  pub fits : has_row entry.actor (moment plan before).tool.course ≡ true → is_unfit entry.answer ≡ false
-  pub drained : entry.actor ≡ Apply → attempt_goes_on (moment plan before).tool.course ≡ true → gives_up (moment plan (before ++ entry ∷ [])).tool.course ≡ false
+  pub fits : has_row entry.actor (moment plan before).tool.tool_phase ≡ true → is_unfit entry.answer ≡ false
+  pub drained : entry.actor ≡ Apply → attempt_goes_on (moment plan before).tool.tool_phase ≡ true → gives_up (moment plan (before ++ entry ∷ [])).tool.tool_phase ≡ false
   pub calm : entry.asked ≢ Command Panic
 
 -- *Smooth run*: each turn is smooth, until the tool knows that the RENAME was done.
 abbrev pub IsSmoothRun : PlanData → List Entry → Type 0
-IsSmoothRun plan journal = Along (λ before entry. is_renamed (moment plan before).tool.course ≡ false → IsSmooth plan before entry) [] journal
+IsSmoothRun plan journal = Along (λ before entry. is_renamed (moment plan before).tool.tool_phase ≡ false → IsSmooth plan before entry) [] journal
 
 -- *Smooth runs are done*: the verdict of a smooth run that has ended is *done*.
 abbrev pub SmoothRunsAreDone : Type 0
-SmoothRunsAreDone = (plan : PlanData) (journal : List Entry) → IsFitting plan → TableStands plan → IsFaithful plan journal → Follows plan journal → IsSmoothRun plan journal → has_ended plan journal ≡ true → verdict_of plan journal ≡ Done
+SmoothRunsAreDone = (plan : PlanData) (journal : List Entry) → IsFitting plan → TableExists plan → IsFaithful plan journal → Follows plan journal → IsSmoothRun plan journal → has_ended plan journal ≡ true → verdict_of plan journal ≡ Done

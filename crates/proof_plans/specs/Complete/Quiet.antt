@@ -46,11 +46,11 @@ is_timed_out answer = false
 -- *Within limits*: in this turn the renamer's wait isn't over, and no attempt has spent its turns for the drain.
 pub record IsWithin (plan : PlanData) (before : List Entry) (entry : Entry) : Type 0 where
   pub timed : entry.actor ≡ Ren → is_timed_out entry.answer ≡ false
-  pub drained : entry.actor ≡ Apply → attempt_goes_on (moment plan before).tool.course ≡ true → gives_up (moment plan (before ++ entry ∷ [])).tool.course ≡ false
+  pub drained : entry.actor ≡ Apply → attempt_goes_on (moment plan before).tool.tool_phase ≡ true → gives_up (moment plan (before ++ entry ∷ [])).tool.tool_phase ≡ false
 
 -- *A run within limits*: each turn is, until the tool knows that the RENAME was done.
 abbrev pub IsWithinLimits : PlanData → List Entry → Type 0
-IsWithinLimits plan journal = Along (λ before entry. is_renamed (moment plan before).tool.course ≡ false → IsWithin plan before entry) [] journal
+IsWithinLimits plan journal = Along (λ before entry. is_renamed (moment plan before).tool.tool_phase ≡ false → IsWithin plan before entry) [] journal
 
 -- *Quiet runs are done*: of a quiet plan, each of whose rows can be converted, the verdict of a run within limits that has
 -- ended is *done*.

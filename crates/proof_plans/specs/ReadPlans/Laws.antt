@@ -5,9 +5,9 @@ use Rattle.plan_data.specs.PlanData.{PlanData}
 use Rattle.plan_reader.specs.Plans.{read}
 use Rattle.proof_journals.specs.Plans.{IsSerialPlan}
 use Rattle.proof_journals.specs.Machine.Runnable.{IsRunnable}
-use Rattle.proof_journals.specs.Machine.Tabling.{TableStands}
-use Rattle.proof_migration.specs.Course.Ready.{ScriptsEnd}
-use Rattle.proof_migration.specs.Course.Runnable.{IsAlterable, IsWorded}
+use Rattle.proof_journals.specs.Machine.MigrationTables.{TableExists}
+use Rattle.proof_migration.specs.ToolPhase.Ready.{ScriptsEnd}
+use Rattle.proof_migration.specs.ToolPhase.Runnable.{IsAlterable, IsWorded}
 
 -- *Was read*: the plan of some bytes, whose table's name is a text, as every `Name` is
 pub record WasRead (plan : PlanData) : Type 0 where
@@ -20,8 +20,8 @@ abbrev pub ReadPlansAreSerial : Type 0
 ReadPlansAreSerial = (bytes : List ℕ) (plan : PlanData) → read bytes ≡ Ok plan → IsSerialPlan plan
 
 -- *Read tables stand*: the migrated table is one of the plan's.
-abbrev pub ReadTablesStand : Type 0
-ReadTablesStand = (bytes : List ℕ) (plan : PlanData) → read bytes ≡ Ok plan → TableStands plan
+abbrev pub ReadTablesExist : Type 0
+ReadTablesExist = (bytes : List ℕ) (plan : PlanData) → read bytes ≡ Ok plan → TableExists plan
 
 -- *Read scripts end*: the last line of none leaves a transaction open.
 abbrev pub ReadScriptsEnd : Type 0

@@ -16,11 +16,11 @@ use Rattle.proof_schemas.proofs.Grammar.{kind_at-is, listed-all}
 use Rattle.sql_change.specs.declared.code.AlterCode.{AlterCode}
 use Rattle.sql_change.specs.declared.code.AlterCode.TheVariants as refusals
 use Rattle.base_values.proofs.SchemaRules.Steps.{bind_ok, ok_is}
-use Rattle.sql_alter.specs.Adding.{add_column_at, add_index_at, add_at, change_at, modify_at}
+use Rattle.sql_alter.specs.Additions.{add_column_at, add_index_at, add_at, change_at, modify_at}
 use Rattle.sql_alter.specs.Clauses.{clause_at, alone, list_at, clauses_at, front_at, unless_faulty, read}
 use Rattle.sql_alter.specs.Column.{primary_at, new_attributes_at, new_column_at, column_position_at}
 use Rattle.sql_alter.specs.Pieces.{Read, in_alter, after_column, is_index_word, is_out_of_scope}
-use Rattle.sql_alter.specs.Removing.{drop_column_at, drop_index_at, drop_at, rename_column_at, rename_at}
+use Rattle.sql_alter.specs.Removals.{drop_column_at, drop_index_at, drop_at, rename_column_at, rename_at}
 use Rattle.proof_schemas.specs.Alters.Laws.{IsClause, ReadClausesWriteKinds}
 
 -- what each that is read has

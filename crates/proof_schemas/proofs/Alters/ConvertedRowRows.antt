@@ -1,12 +1,12 @@
 -- The image of a row is a row of the altered table.
 use Rattle.std.proofs.Common.{◌≡◌, ℕ, suc, ◌+◌, List, [], ◌∷◌, length, Option, Ok, refl, sym, ap, subst, arith}
 use Rattle.base_values.specs.Laws.{StoresAgain}
-use Rattle.base_values.specs.Storing.{stores}
+use Rattle.base_values.specs.StoredValues.{stores}
 use Rattle.base_values.specs.declared.value.Value.{Value}
 use Rattle.base_values.specs.declared.gho_schema.schema.Column.{Column}
 use Rattle.base_values.specs.GhoSchema.Tables.{IsRow}
 use Rattle.base_values.specs.RowConversion.ConvertedRows.{source, converted_row_from, converted_row}
-use Rattle.sql_change.specs.Altering.{source_of, map_of}
+use Rattle.sql_change.specs.AlteredSchema.{source_of, map_of}
 use Rattle.proof_schemas.specs.Alters.Laws.{Altered, ConvertedRowsAreRows, MapsFit}
 use Rattle.proof_schemas.proofs.Alters.ConvertedRows.{front-of, made-is}
 use Rattle.proof_schemas.proofs.Alters.KeepingKeys.{ends}

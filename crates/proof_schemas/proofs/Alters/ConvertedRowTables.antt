@@ -3,7 +3,7 @@ use Rattle.std.proofs.Common.{◌≡◌, ℕ, Bool, true, false, not, eqb, List,
 use Rattle.std.specs.declared.cmp.Ordering.TheVariants.{Less}
 use Rattle.std.specs.List.{AllByRecursion}
 use Rattle.std.specs.Result.{result_ok}
-use Rattle.base_values.specs.Comparing.{compare_keys}
+use Rattle.base_values.specs.KeyOrder.{compare_keys}
 use Rattle.base_values.specs.Laws.{StoresAgain}
 use Rattle.base_values.specs.declared.value.Value.{Value}
 use Rattle.base_values.specs.declared.gho_schema.schema.Index.{Index}
@@ -14,11 +14,11 @@ use Rattle.base_values.specs.GhoSchema.Tables.{IsRow, Ascends, Apart, clash}
 use Rattle.base_values.specs.declared.row_conversion.conversion_fault.UnfitAt.{UnfitAt}
 use Rattle.base_values.specs.declared.row_conversion.map.MapColumn.{MapColumn}
 use Rattle.base_values.specs.RowConversion.ConvertedRows.{converted_row, converted_rows}
-use Rattle.base_values.specs.GhoSchema.Clustering.{clustered_key}
+use Rattle.base_values.specs.GhoSchema.ClusteredKey.{clustered_key}
 use Rattle.base_values.specs.SchemaRules.Reasons.{first_reason}
 use Rattle.sql_change.specs.declared.code.AlterCode.TheVariants as codes
-use Rattle.sql_change.specs.declared.so_far.Standing.{Standing}
-use Rattle.sql_change.specs.Altering.{keeps_key, result_reasons}
+use Rattle.sql_change.specs.declared.so_far.AlteredSoFar.{AlteredSoFar}
+use Rattle.sql_change.specs.AlteredSchema.{keeps_key, result_reasons}
 use Rattle.base_values.proofs.SchemaRules.Steps.{none_first}
 use Rattle.proof_schemas.specs.Alters.Laws.{Altered, KeepsKeys, ConvertedRowsKeepClusteredKeys, AlteredTablesAreTables}
 use Rattle.proof_schemas.proofs.Alters.ConvertedRowRows.{converted_rows_are_rows}
@@ -110,12 +110,12 @@ pub record Both (a b : Option Index) : Type 0 where
   pub there : a ≡ Some old
   pub here : b ≡ Some index
 
-both-there : (standing : Standing) (a b : Option Index) → keeps_key standing a b ≡ true → Both a b
+both-there : (standing : AlteredSoFar) (a b : Option Index) → keeps_key standing a b ≡ true → Both a b
 both-there standing (Some old) (Some index) e = record { old = old; index = index; there = refl; here = refl }
 both-there standing (Some old) None e = absurd cc
 both-there standing None b e = absurd cc
 
-pub both-clustered : (schema : Schema) (standing : Standing) → first_reason (result_reasons schema standing) ≡ None → Both (clustered_key schema) (clustered_key standing.schema)
+pub both-clustered : (schema : Schema) (standing : AlteredSoFar) → first_reason (result_reasons schema standing) ≡ None → Both (clustered_key schema) (clustered_key standing.schema)
 both-clustered schema standing none =
     let changed = not (keeps_key standing (clustered_key schema) (clustered_key standing.schema)) in
     let first = none_first (eqb (length standing.schema.columns) 0) codes.AllColumnsDropped ((changed, codes.ClusteredKeyChange) ∷ []) none in

@@ -9,7 +9,7 @@ use Rattle.base_values.specs.declared.kind.Kind.{Kind}
 use Rattle.base_values.specs.declared.kind.Kind.TheVariants.{Int, VarChar, VarBinary}
 use Rattle.base_values.specs.declared.value.Value.{Value}
 use Rattle.base_values.specs.declared.value.Value.TheVariants.{Null, Num, Text, Blob}
-use Rattle.base_values.specs.Storing.{lowest, highest, character_count, text_number, in_range, text_within, bytes_within, as_number, stores}
+use Rattle.base_values.specs.StoredValues.{lowest, highest, character_count, text_number, in_range, text_within, bytes_within, as_number, stores}
 use Rattle.base_values.specs.declared.gho_schema.schema.Column.{Column}
 use Rattle.base_values.specs.declared.gho_schema.schema.Schema.{Schema}
 use Rattle.base_values.specs.GhoSchema.Rows.{key_of}
@@ -18,8 +18,8 @@ use Rattle.base_values.specs.declared.row_conversion.conversion_fault.UnfitAt.{U
 use Rattle.base_values.specs.declared.row_conversion.map.MapColumn.{MapColumn}
 use Rattle.base_values.specs.declared.row_conversion.map.Origin.TheVariants.{Old}
 use Rattle.base_values.specs.RowConversion.ConvertedRows.{source, before, value_first, converted_row_from, converted_row}
-use Rattle.sql_change.specs.declared.so_far.Standing.{Standing}
-use Rattle.sql_change.specs.Altering.{map_of}
+use Rattle.sql_change.specs.declared.so_far.AlteredSoFar.{AlteredSoFar}
+use Rattle.sql_change.specs.AlteredSchema.{map_of}
 use Rattle.sql_change.specs.Columns.{is_key_conversion}
 use Rattle.proof_schemas.proofs.Alters.Traces.{SamePlace, SamePlaces}
 
@@ -172,7 +172,7 @@ map-at (c ∷ columns) (o ∷ origins) (suc place) before column at from = map-a
 
 -- ---- keys
 
-module _ (old : Schema) (standing : Standing) (row made : List Value) (is : IsRow old.columns row) (e : converted_row (map_of standing.schema.columns standing.origins) row ≡ Ok made) where
+module _ (old : Schema) (standing : AlteredSoFar) (row made : List Value) (is : IsRow old.columns row) (e : converted_row (map_of standing.schema.columns standing.origins) row ≡ Ok made) where
   value-same : (place before : ℕ) → SamePlace old standing place before → slice_get made place ≡ slice_get row before
   value-same place before same =
       let there = row-at old.columns row before same.source is same.there in

@@ -5,20 +5,20 @@ use Rattle.std.specs.Ordering.{is_eq}
 use Rattle.std.proofs.lemmas.Bool.{eqb-true, and_parts, not-false}
 use Rattle.std.proofs.lemmas.Map.Keys.{any_passes_from_place}
 use Rattle.base_values.specs.declared.value.Value.{Value}
-use Rattle.base_values.specs.Comparing.{compare_keys}
+use Rattle.base_values.specs.KeyOrder.{compare_keys}
 use Rattle.base_values.specs.declared.gho_schema.schema.Index.{Index}
 use Rattle.base_values.specs.declared.gho_schema.schema.Schema.{Schema}
 use Rattle.base_values.specs.GhoSchema.Rows.{key_of}
 use Rattle.base_values.specs.GhoSchema.Tables.{no_null}
 use Rattle.base_values.specs.declared.row_conversion.clause.Clause.{Clause}
-use Rattle.base_values.specs.GhoSchema.Clustering.{is_not_null, clustered_place, unique_at, clustered_key}
+use Rattle.base_values.specs.GhoSchema.ClusteredKey.{is_not_null, clustered_place, unique_at, clustered_key}
 use Rattle.base_values.specs.SchemaRules.Reasons.{first_reason}
 use Rattle.base_values.specs.SchemaRules.Valid.{IsValid}
 use Rattle.sql_change.specs.declared.code.AlterCode.{AlterCode}
 use Rattle.sql_change.specs.declared.code.AlterCode.TheVariants as codes
-use Rattle.sql_change.specs.declared.so_far.Standing.{Standing}
-use Rattle.sql_change.specs.Altering.{steps, is_origin, same_columns, keeps_key, result_reasons, map_of, result_of, altered}
-use Rattle.sql_change.specs.Standing.{start}
+use Rattle.sql_change.specs.declared.so_far.AlteredSoFar.{AlteredSoFar}
+use Rattle.sql_change.specs.AlteredSchema.{steps, is_origin, same_columns, keeps_key, result_reasons, map_of, result_of, altered}
+use Rattle.sql_change.specs.AlteredSoFar.{start}
 use Rattle.base_values.proofs.SchemaRules.Steps.{bind_ok, unless_ok, none_first, ok_is}
 use Rattle.proof_schemas.specs.Alters.Laws.{Altered, KeepsKeys, Stays, ConvertedRowsKeepKeys, ConvertedRowsStayApart, ClusteredKeysStay}
 use Rattle.proof_schemas.proofs.Alters.ConvertedRows.{key-same}
@@ -27,7 +27,7 @@ use Rattle.proof_schemas.proofs.Alters.Traces.{SamePlaces, Traced}
 
 -- the table after the last clause
 pub record Ends (approve : Bool) (schema : Schema) (clauses : List Clause) (new : Altered) : Type 0 where
-  pub standing : Standing
+  pub standing : AlteredSoFar
   pub kept : Kept schema standing
   pub reasons : first_reason (result_reasons schema standing) ≡ None
   pub is : (standing.schema, map_of standing.schema.columns standing.origins) ≡ new
@@ -47,7 +47,7 @@ at-place P [] i x all e = absurd cc
 at-place P (y ∷ xs) zero x all e = let same : y ≡ x = cc in subst P same all.0
 at-place P (y ∷ xs) (suc i) x all e = at-place P xs i x all.1 e
 
-stays-in : (schema : Schema) (standing : Standing) (place : ℕ) (index : Index) → Kept schema standing → slice_get standing.schema.uniques place ≡ Some index → Stays schema (standing.schema, map_of standing.schema.columns standing.origins) index
+stays-in : (schema : Schema) (standing : AlteredSoFar) (place : ℕ) (index : Index) → Kept schema standing → slice_get standing.schema.uniques place ≡ Some index → Stays schema (standing.schema, map_of standing.schema.columns standing.origins) index
 stays-in schema standing place index kept e =
     let t = at-place (Traced schema standing) standing.schema.uniques place index kept.traced e in
     record { place = t.place; old = t.source; stands = t.stands; name = t.name; keeps = λ row made is h. key-same schema standing row made is h index.places t.source.places t.places }
@@ -99,7 +99,7 @@ origin-is (Some None) before place e h = absurd cc
 origin-is None before place e h = absurd cc
 
 -- the places that were the columns' are the old key's
-pub same_columns-are : (old : Schema) (standing : Standing) (places sources before : List ℕ) → SamePlaces old standing places sources → same_columns standing.origins places before ≡ true → sources ≡ before
+pub same_columns-are : (old : Schema) (standing : AlteredSoFar) (places sources before : List ℕ) → SamePlaces old standing places sources → same_columns standing.origins places before ≡ true → sources ≡ before
 unfolding same_columns
 same_columns-are old standing [] [] [] same e = refl
 same_columns-are old standing [] [] (b ∷ before) same e = absurd cc
@@ -117,7 +117,7 @@ clustered-place schema None index e = absurd cc
 pub clustered-stands : (schema : Schema) (index : Index) → clustered_key schema ≡ Some index → (place : ℕ) × (slice_get schema.uniques place ≡ Some index)
 clustered-stands schema index e = clustered-place schema (clustered_place schema) index e
 
-pub keeps-parts : (standing : Standing) (old index : Index) (a b : Option Index) → a ≡ Some old → b ≡ Some index → keeps_key standing a b ≡ true → same_columns standing.origins index.places old.places ≡ true
+pub keeps-parts : (standing : AlteredSoFar) (old index : Index) (a b : Option Index) → a ≡ Some old → b ≡ Some index → keeps_key standing a b ≡ true → same_columns standing.origins index.places old.places ≡ true
 keeps-parts standing old index (Some x) (Some y) e f h =
     let same : x ≡ old = index-is x old e in
     let also : y ≡ index = index-is y index f in
@@ -126,7 +126,7 @@ keeps-parts standing old index (Some x) (Some y) e f h =
 keeps-parts standing old index None b e f h = absurd cc
 keeps-parts standing old index (Some x) None e f h = absurd cc
 
-clustered-in : (schema : Schema) (standing : Standing) (old index : Index) → Kept schema standing → first_reason (result_reasons schema standing) ≡ None → clustered_key schema ≡ Some old → clustered_key standing.schema ≡ Some index
+clustered-in : (schema : Schema) (standing : AlteredSoFar) (old index : Index) → Kept schema standing → first_reason (result_reasons schema standing) ≡ None → clustered_key schema ≡ Some old → clustered_key standing.schema ≡ Some index
     → KeepsKeys schema (standing.schema, map_of standing.schema.columns standing.origins) old index
 clustered-in schema standing old index kept none there here row made is h =
     let changed = not (keeps_key standing (clustered_key schema) (clustered_key standing.schema)) in

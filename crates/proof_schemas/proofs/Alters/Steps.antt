@@ -11,18 +11,18 @@ use Rattle.base_values.specs.declared.row_conversion.clause.Clause.TheVariants.{
 use Rattle.base_values.specs.declared.row_conversion.clause.NewColumn.{NewColumn}
 use Rattle.base_values.specs.declared.row_conversion.clause.ColumnPosition.{ColumnPosition}
 use Rattle.base_values.specs.SchemaRules.Results.{◌>>=◌}
-use Rattle.base_values.specs.GhoSchema.Clustering.{clustered_place}
+use Rattle.base_values.specs.GhoSchema.ClusteredKey.{clustered_place}
 use Rattle.base_values.specs.SchemaRules.Reasons.{first_reason}
 use Rattle.base_values.specs.SchemaRules.Valid.{IsKey, IsValid}
 use Rattle.base_values.specs.SchemaRules.Limits.{is_column_name}
 use Rattle.sql_change.specs.declared.code.AlterCode.{AlterCode}
 use Rattle.sql_change.specs.declared.code.AlterCode.TheVariants as codes
-use Rattle.sql_change.specs.declared.so_far.Standing.{Standing}
-use Rattle.sql_change.specs.Altering.{step, steps}
-use Rattle.sql_change.specs.Changing.{add_reasons, added, dropped_at, dropped, rename_reasons, with_name, renamed_in, renamed_at, renamed, change_reasons, changed_nullable, changed_in, is_unapproved, unless_unapproved, changed_column, changed_at, changed}
+use Rattle.sql_change.specs.declared.so_far.AlteredSoFar.{AlteredSoFar}
+use Rattle.sql_change.specs.AlteredSchema.{step, steps}
+use Rattle.sql_change.specs.ClauseResults.{add_reasons, added, dropped_at, dropped, rename_reasons, with_name, renamed_in, renamed_at, renamed, change_reasons, changed_nullable, changed_in, is_unapproved, unless_unapproved, changed_column, changed_at, changed}
 use Rattle.sql_change.specs.Columns.{has_column, is_column_position, beside, found_at, column_named, is_in_keys, is_key_conversion, is_conversion, column_position_place, lacks_default, unless_lacking, column_of, fitting}
-use Rattle.sql_change.specs.Indexing.{index_name, index_reasons, index_of, with_index, indexed_as, indexed, index_place, is_clustered, without_unique, without_index, unindexed_at, unindexed}
-use Rattle.sql_change.specs.Standing.{places_from, start, put_in, taken_out, origin_at, Stands}
+use Rattle.sql_change.specs.IndexClauses.{index_name, index_reasons, index_of, with_index, indexed_as, indexed, index_place, is_clustered, without_unique, without_index, unindexed_at, unindexed}
+use Rattle.sql_change.specs.AlteredSoFar.{places_from, start, put_in, taken_out, origin_at, Stands}
 use Rattle.base_values.proofs.SchemaRules.Lists.{All-remove}
 use Rattle.base_values.proofs.SchemaRules.Steps.{bind_ok, unless_ok, none_first, ok_is, kept_out, some_is}
 use Rattle.sql_change.proofs.Tables.{column_named-within, column_position_place-within, fitting-is, approved-is, step-stands, start-stands}
@@ -45,7 +45,7 @@ column_named-here columns name found e = found_at-here columns _ found e
 
 -- ---- the clauses
 
-added-traced : (old : Schema) (standing next : Standing) (written : NewColumn) (column_position : ColumnPosition) → Stands standing → AllTraced old standing → added standing written column_position ≡ Ok next → AllTraced old next
+added-traced : (old : Schema) (standing next : AlteredSoFar) (written : NewColumn) (column_position : ColumnPosition) → Stands standing → AllTraced old standing → added standing written column_position ≡ Ok next → AllTraced old next
 unfolding added
 added-traced old standing next written column_position stands all e =
     let columns = standing.schema.columns in
@@ -54,7 +54,7 @@ added-traced old standing next written column_position stands all e =
     let made = bind_ok (column_of None written (unwrap_or written.nullable true)) (λ column. fitting (put_in standing place column)) next let_in.1 in
     subst (AllTraced old) (fitting-is (put_in standing place made.0) next made.2) (put_in-traced old standing place made.0 stands (column_position_place-within columns column_position (length columns) (omega arith)) all)
 
-dropped_at-traced : (old : Schema) (standing next : Standing) (found : Option (ℕ × Column)) → AllTraced old standing → dropped_at standing found ≡ Ok next → AllTraced old next
+dropped_at-traced : (old : Schema) (standing next : AlteredSoFar) (found : Option (ℕ × Column)) → AllTraced old standing → dropped_at standing found ≡ Ok next → AllTraced old next
 dropped_at-traced old standing next None all e = absurd cc
 dropped_at-traced old standing next (Some found) all e =
     let k = kept_out (is_in_keys standing.schema.uniques found.0) (taken_out standing found.0) next codes.KeyColumnDropped e in
@@ -74,7 +74,7 @@ set-other (x ∷ xs) zero (suc k) v ne = refl
 set-other (x ∷ xs) (suc i) zero v ne = refl
 set-other (x ∷ xs) (suc i) (suc k) v ne = set-other xs i k v (λ e. ne (ap suc e))
 
-module _ (old : Schema) (standing : Standing) (at : ℕ) (found : Column) (name : List ℕ) (here : slice_get standing.schema.columns at ≡ Some found) where
+module _ (old : Schema) (standing : AlteredSoFar) (at : ℕ) (found : Column) (name : List ℕ) (here : slice_get standing.schema.columns at ≡ Some found) where
   each-renamed-by : (place before : ℕ) (b : Bool) → eqb place at ≡ b → SamePlace old standing place before → SamePlace old (renamed_in standing at (with_name found name)) place before
   unfolding renamed_in
   each-renamed-by place before true e same =
@@ -101,7 +101,7 @@ module _ (old : Schema) (standing : Standing) (at : ℕ) (found : Column) (name 
   unfolding renamed_in
   renamed_in-traced all = all-kept old standing (renamed_in standing at (with_name found name)) (λ place before same. each-renamed-by place before (eqb place at) refl same) standing.schema.uniques all
 
-renamed_at-traced : (old : Schema) (approve : Bool) (standing next : Standing) (new : List ℕ) (found : Option (ℕ × Column)) → ((f : ℕ × Column) → found ≡ Some f → slice_get standing.schema.columns f.0 ≡ Some f.1) → AllTraced old standing
+renamed_at-traced : (old : Schema) (approve : Bool) (standing next : AlteredSoFar) (new : List ℕ) (found : Option (ℕ × Column)) → ((f : ℕ × Column) → found ≡ Some f → slice_get standing.schema.columns f.0 ≡ Some f.1) → AllTraced old standing
     → renamed_at approve standing new found ≡ Ok next → AllTraced old next
 renamed_at-traced old approve standing next new None here all e = absurd cc
 renamed_at-traced old approve standing next new (Some found) here all e =
@@ -129,7 +129,7 @@ sort-kept schema place column written column_position none =
     let third = none_first (has_column (remove schema.columns place) written.name) codes.RepeatedName ((converted, codes.KeyColumnConverted) ∷ (scope, codes.Scope) ∷ []) second.1 in
     (none_first converted codes.KeyColumnConverted ((scope, codes.Scope) ∷ []) third.1).0
 
-changed_at-traced : (old : Schema) (approve : Bool) (standing next : Standing) (written : NewColumn) (column_position : ColumnPosition) (found : Option (ℕ × Column)) → ((f : ℕ × Column) → found ≡ Some f → slice_get standing.schema.columns f.0 ≡ Some f.1)
+changed_at-traced : (old : Schema) (approve : Bool) (standing next : AlteredSoFar) (written : NewColumn) (column_position : ColumnPosition) (found : Option (ℕ × Column)) → ((f : ℕ × Column) → found ≡ Some f → slice_get standing.schema.columns f.0 ≡ Some f.1)
     → ((f : ℕ × Column) → found ≡ Some f → f.0 < length standing.schema.columns) → Stands standing → AllTraced old standing → changed_at approve standing written column_position found ≡ Ok next → AllTraced old next
 changed_at-traced old approve standing next written column_position None here within stands all e = absurd cc
 changed_at-traced old approve standing next written column_position (Some found) here within stands all e =
@@ -150,13 +150,13 @@ changed_at-traced old approve standing next written column_position (Some found)
 
 -- ---- indexes
 
-indexed_as-traced : (old : Schema) (standing next : Standing) (names : List (List ℕ)) (name : List ℕ) → AllTraced old standing → indexed_as standing names name ≡ Ok next → AllTraced old next
+indexed_as-traced : (old : Schema) (standing next : AlteredSoFar) (names : List (List ℕ)) (name : List ℕ) → AllTraced old standing → indexed_as standing names name ≡ Ok next → AllTraced old next
 indexed_as-traced old standing next names name all e =
     let index = index_of standing.schema names name in
     let let_in = unless_ok (first_reason (index_reasons standing.schema names name)) (Ok (with_index standing index)) next e in
     subst (AllTraced old) (ok_is {C = AlterCode} (with_index standing index) next let_in.1) (all-kept old standing (with_index standing index) (λ place before same. record { origin = same.origin; column = same.column; here = same.here; source = same.source; there = same.there; sort = same.sort }) standing.schema.uniques all)
 
-unindexed_at-traced : (old : Schema) (standing next : Standing) (unique index : Option ℕ) → AllTraced old standing → unindexed_at standing unique index ≡ Ok next → AllTraced old next
+unindexed_at-traced : (old : Schema) (standing next : AlteredSoFar) (unique index : Option ℕ) → AllTraced old standing → unindexed_at standing unique index ≡ Ok next → AllTraced old next
 unindexed_at-traced old standing next (Some place) index all e =
     subst (AllTraced old) (kept_out (is_clustered (clustered_place standing.schema) place) (without_unique standing place) next codes.ClusteredKeyChange e).1
     (all-kept old standing (without_unique standing place) (λ p before same. record { origin = same.origin; column = same.column; here = same.here; source = same.source; there = same.there; sort = same.sort }) (remove standing.schema.uniques place) (All-remove (Traced old standing) standing.schema.uniques place all))
@@ -165,7 +165,7 @@ unindexed_at-traced old standing next None (Some place) all e =
     (all-kept old standing (without_index standing place) (λ p before same. record { origin = same.origin; column = same.column; here = same.here; source = same.source; there = same.there; sort = same.sort }) standing.schema.uniques all)
 unindexed_at-traced old standing next None None all e = absurd cc
 
-step-traced : (old : Schema) (approve : Bool) (standing next : Standing) (clause : Clause) → Stands standing → AllTraced old standing → step approve standing clause ≡ Ok next → AllTraced old next
+step-traced : (old : Schema) (approve : Bool) (standing next : AlteredSoFar) (clause : Clause) → Stands standing → AllTraced old standing → step approve standing clause ≡ Ok next → AllTraced old next
 unfolding step dropped renamed changed indexed unindexed
 step-traced old approve standing next (Add column column_position) stands all e = added-traced old standing next column column_position stands all e
 step-traced old approve standing next (Drop name) stands all e = dropped_at-traced old standing next (column_named standing.schema.columns name) all e
@@ -176,11 +176,11 @@ step-traced old approve standing next (AddIndex name columns) stands all e = ind
 step-traced old approve standing next (DropIndex name) stands all e = unindexed_at-traced old standing next (index_place standing.schema.uniques name) (index_place standing.schema.indexes name) all e
 
 -- a table that stands, whose unique keys were there
-pub record Kept (old : Schema) (standing : Standing) : Type 0 where
+pub record Kept (old : Schema) (standing : AlteredSoFar) : Type 0 where
   pub stands : Stands standing
   pub traced : AllTraced old standing
 
-pub steps-kept : (old : Schema) (approve : Bool) (standing next : Standing) (clauses : List Clause) → Kept old standing → steps approve standing clauses ≡ Ok next → Kept old next
+pub steps-kept : (old : Schema) (approve : Bool) (standing next : AlteredSoFar) (clauses : List Clause) → Kept old standing → steps approve standing clauses ≡ Ok next → Kept old next
 unfolding steps
 steps-kept old approve standing next [] kept e = subst (Kept old) (ok_is {C = AlterCode} standing next e) kept
 steps-kept old approve standing next (clause ∷ clauses) kept e =

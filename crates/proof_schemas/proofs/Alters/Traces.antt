@@ -8,17 +8,17 @@ use Rattle.base_values.specs.declared.gho_schema.schema.Index.{Index}
 use Rattle.base_values.specs.declared.gho_schema.schema.Schema.{Schema}
 use Rattle.sql_change.specs.declared.places.PlaceChange.{PlaceChange}
 use Rattle.sql_change.specs.declared.places.PlaceChange.TheVariants.{Added, Dropped, Moved}
-use Rattle.sql_change.specs.declared.so_far.Standing.{Standing}
+use Rattle.sql_change.specs.declared.so_far.AlteredSoFar.{AlteredSoFar}
 use Rattle.sql_change.specs.Columns.{has_place, is_in_keys, is_key_conversion}
 use Rattle.sql_change.specs.Places.{opened, closed, place_after, index_after, keys_after}
-use Rattle.sql_change.specs.Standing.{with_columns, put_in, taken_out, origin_of, origin_at, moved_to, Stands}
+use Rattle.sql_change.specs.AlteredSoFar.{with_columns, put_in, taken_out, origin_of, origin_at, moved_to, Stands}
 use Rattle.base_values.proofs.SchemaRules.Lists.{All-map}
 use Rattle.proof_schemas.proofs.Alters.Places.{get-opened, get-closed, get-moved, get-moved_at}
 use Rattle.std.proofs.lemmas.Bool.{or_parts}
 use Rattle.base_values.proofs.SchemaRules.Steps.{some_is}
 
 -- a place of a column that was there, and the place where it was
-pub record SamePlace (old : Schema) (standing : Standing) (place before : ℕ) : Type 0 where
+pub record SamePlace (old : Schema) (standing : AlteredSoFar) (place before : ℕ) : Type 0 where
   pub origin : slice_get standing.origins place ≡ Some (Some before)
   pub column : Column
   pub here : slice_get standing.schema.columns place ≡ Some column
@@ -26,31 +26,31 @@ pub record SamePlace (old : Schema) (standing : Standing) (place before : ℕ) :
   pub there : slice_get old.columns before ≡ Some source
   pub sort : is_key_conversion source.kind column.kind ≡ true
 
-abbrev pub SamePlaces : Schema → Standing → List ℕ → List ℕ → Type 0
+abbrev pub SamePlaces : Schema → AlteredSoFar → List ℕ → List ℕ → Type 0
 SamePlaces old standing [] [] = Unit {0}
 SamePlaces old standing (place ∷ places) (before ∷ others) = SamePlace old standing place before × SamePlaces old standing places others
 SamePlaces old standing places others = ⊥
 
 -- a key that was there
-pub record Traced (old : Schema) (standing : Standing) (index : Index) : Type 0 where
+pub record Traced (old : Schema) (standing : AlteredSoFar) (index : Index) : Type 0 where
   pub place : ℕ
   pub source : Index
   pub stands : slice_get old.uniques place ≡ Some source
   pub name : source.name ≡ index.name
   pub places : SamePlaces old standing index.places source.places
 
-abbrev pub AllTraced : Schema → Standing → Type 0
+abbrev pub AllTraced : Schema → AlteredSoFar → Type 0
 AllTraced old standing = AllByRecursion (Traced old standing) standing.schema.uniques
 
 -- ---- a change of places
 
 -- where a place stands after the change
-pub record After (change : PlaceChange) (old : Schema) (next : Standing) (place before : ℕ) : Type 0 where
+pub record After (change : PlaceChange) (old : Schema) (next : AlteredSoFar) (place before : ℕ) : Type 0 where
   pub place_then : ℕ
   pub is : place_after change place ≡ Some place_then
   pub same : SamePlace old next place_then before
 
-module _ (change : PlaceChange) (old : Schema) (standing next : Standing) (P : ℕ → Type 0) (each : (place before : ℕ) → P place → SamePlace old standing place before → After change old next place before) where
+module _ (change : PlaceChange) (old : Schema) (standing next : AlteredSoFar) (P : ℕ → Type 0) (each : (place before : ℕ) → P place → SamePlace old standing place before → After change old next place before) where
   same_places : (places others : List ℕ) → AllByRecursion P places → SamePlaces old standing places others → SamePlaces old next (filter_map (place_after change) places) others
   same_places [] [] all same = tt
   same_places [] (q ∷ qs) all same = absurd same
@@ -75,7 +75,7 @@ anything : (places : List ℕ) → AllByRecursion Anything places
 anything [] = tt
 anything (p ∷ ps) = (tt, anything ps)
 
-with_anything : (old : Schema) (standing : Standing) (uniques : List Index) → AllByRecursion (Traced old standing) uniques → AllByRecursion (λ index. AllByRecursion Anything index.places × Traced old standing index) uniques
+with_anything : (old : Schema) (standing : AlteredSoFar) (uniques : List Index) → AllByRecursion (Traced old standing) uniques → AllByRecursion (λ index. AllByRecursion Anything index.places × Traced old standing index) uniques
 with_anything old standing [] all = tt
 with_anything old standing (index ∷ uniques) all = ((anything index.places, all.0), with_anything old standing uniques all.1)
 
@@ -86,7 +86,7 @@ others : (at : ℕ) (places : List ℕ) → list_any (λ own. eqb own at) places
 others at [] e = tt
 others at (p ∷ ps) e = let n = or_parts (eqb p at) (list_any (λ own. eqb own at) ps) e in (n.0, others at ps n.1)
 
-with_others : (old : Schema) (standing : Standing) (at : ℕ) (uniques : List Index) → list_any (has_place at) uniques ≡ false → AllByRecursion (Traced old standing) uniques → AllByRecursion (λ index. AllByRecursion (IsOther at) index.places × Traced old standing index) uniques
+with_others : (old : Schema) (standing : AlteredSoFar) (at : ℕ) (uniques : List Index) → list_any (has_place at) uniques ≡ false → AllByRecursion (Traced old standing) uniques → AllByRecursion (λ index. AllByRecursion (IsOther at) index.places × Traced old standing index) uniques
 with_others old standing at [] e all = tt
 with_others old standing at (index ∷ uniques) e all =
     let n = or_parts (has_place at index) (list_any (has_place at) uniques) e in
@@ -115,7 +115,7 @@ split_or true false true e = (refl, refl)
 split_or true b false e = absurd cc
 split_or false b c e = (refl, e)
 
-with_kept : (old : Schema) (standing : Standing) (from : ℕ) (kind new : Kind) (uniques : List Index) → (list_any (has_place from) uniques && not (is_key_conversion kind new)) ≡ false → AllByRecursion (Traced old standing) uniques
+with_kept : (old : Schema) (standing : AlteredSoFar) (from : ℕ) (kind new : Kind) (uniques : List Index) → (list_any (has_place from) uniques && not (is_key_conversion kind new)) ≡ false → AllByRecursion (Traced old standing) uniques
     → AllByRecursion (λ index. AllByRecursion (IsKept from kind new) index.places × Traced old standing index) uniques
 with_kept old standing from kind new [] e all = tt
 with_kept old standing from kind new (index ∷ uniques) e all =
@@ -147,7 +147,7 @@ same_sort (VarBinary i) = refl
 
 -- ---- the changes
 
-module _ (old : Schema) (standing : Standing) (at : ℕ) (column : Column) (stands : Stands standing) (le : at ≤ length standing.schema.columns) where
+module _ (old : Schema) (standing : AlteredSoFar) (at : ℕ) (column : Column) (stands : Stands standing) (le : at ≤ length standing.schema.columns) where
   each-added : (place before : ℕ) → Anything place → SamePlace old standing place before → After (Added at) old (put_in standing at column) place before
   unfolding put_in with_columns place_after
   each-added place before u same = record {
@@ -171,7 +171,7 @@ drop-after : (at place : ℕ) → eqb place at ≡ false → place_after (Droppe
 unfolding place_after
 drop-after at place other = rw other refl
 
-module _ (old : Schema) (standing : Standing) (at : ℕ) where
+module _ (old : Schema) (standing : AlteredSoFar) (at : ℕ) where
   each-dropped : (place before : ℕ) → IsOther at place → SamePlace old standing place before → After (Dropped at) old (taken_out standing at) place before
   unfolding taken_out with_columns
   each-dropped place before other same = record {
@@ -195,7 +195,7 @@ move-after : (from to place : ℕ) (b : Bool) → eqb place from ≡ b → place
 unfolding place_after
 move-after from to place b e = rw e refl
 
-module _ (old : Schema) (standing : Standing) (from to : ℕ) (found new : Column) (stands : Stands standing) (lt : from < length standing.schema.columns) (within : to < length standing.schema.columns) (here : slice_get standing.schema.columns from ≡ Some found) where
+module _ (old : Schema) (standing : AlteredSoFar) (from to : ℕ) (found new : Column) (stands : Stands standing) (lt : from < length standing.schema.columns) (within : to < length standing.schema.columns) (here : slice_get standing.schema.columns from ≡ Some found) where
   each-moved-by : (place before : ℕ) (b : Bool) → eqb place from ≡ b → IsKept from found.kind new.kind place → SamePlace old standing place before → After (Moved from to) old (moved_to standing from to new) place before
   unfolding moved_to with_columns
   each-moved-by place before true e kept same =
@@ -236,7 +236,7 @@ module _ (old : Schema) (standing : Standing) (from to : ℕ) (found new : Colum
 
 -- ---- the same places
 
-module _ (old : Schema) (standing next : Standing) (each : (place before : ℕ) → SamePlace old standing place before → SamePlace old next place before) where
+module _ (old : Schema) (standing next : AlteredSoFar) (each : (place before : ℕ) → SamePlace old standing place before → SamePlace old next place before) where
   places-kept : (places others : List ℕ) → SamePlaces old standing places others → SamePlaces old next places others
   places-kept [] [] same = tt
   places-kept [] (q ∷ qs) same = absurd same

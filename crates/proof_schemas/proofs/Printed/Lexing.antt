@@ -9,12 +9,12 @@ use Rattle.sql_words.specs.declared.front.Front.TheVariants.{Gap, Found}
 use Rattle.sql_words.specs.Characters.{is_white, is_name_byte}
 use Rattle.sql_words.specs.Front.{front_at, quoted}
 use Rattle.sql_words.specs.Quoted.{length_of, name_inside}
-use Rattle.sql_words.specs.Reading.{Reading, with_word, words_after}
-use Rattle.sql_words.proofs.Behind.{words_after-gap, words_after-end}
+use Rattle.sql_words.specs.Readings.{Reading, with_word, words_after}
+use Rattle.sql_words.proofs.Following.{words_after-gap, words_after-end}
 use Rattle.sql_words.proofs.Reprinted.{words_after-append}
 use Rattle.sql_grammar.specs.declared.token.Token.{Token}
 use Rattle.sql_grammar.specs.Tokens.{token_of}
-use Rattle.sql_show.specs.Printing.{quoted as quoted_name}
+use Rattle.sql_show.specs.SchemaText.{quoted as quoted_name}
 use Rattle.proof_schemas.specs.Printed.Laws.{CanQuote}
 use Rattle.proof_schemas.specs.Printed.Words.{name_word}
 

@@ -6,7 +6,7 @@ use Rattle.std.specs.Str.{all_ascii_digits}
 use Rattle.std.specs.Str.Parse.{digits_value}
 use Rattle.std.proofs.lemmas.Fmt.{decimal_is_IsNumeral_wide, length-decimal-le_wide}
 use Rattle.std.proofs.lemmas.Str.Parse.{IsNumeralModel, numerals_by_value, tells_all_ascii_digits}
-use Rattle.sql_words.specs.Meaning.{number_value, AreDigits}
+use Rattle.sql_words.specs.Meanings.{number_value, AreDigits}
 use Rattle.sql_words.proofs.NumberWords.{number_value-unsigned, number_value-minus}
 use Rattle.sql_grammar.proofs.WordValues.ReadBack.{decimal_digits, decimal_value}
 

@@ -8,18 +8,18 @@ use Rattle.base_values.specs.declared.kind.Kind.{Kind}
 use Rattle.base_values.specs.declared.kind.Kind.TheVariants.{Int, VarChar, VarBinary}
 use Rattle.base_values.specs.declared.value.Value.{Value}
 use Rattle.base_values.specs.declared.value.Value.TheVariants.{Null, Num, Text, Blob}
-use Rattle.base_values.specs.Printing.{printed}
+use Rattle.base_values.specs.Literals.{printed}
 use Rattle.base_values.specs.declared.gho_schema.schema.Column.{Column}
 use Rattle.sql_words.specs.declared.word.WordClass.TheVariants as class
 use Rattle.sql_words.specs.declared.front.Front.TheVariants.{Found}
 use Rattle.sql_words.specs.Characters.{begins_with}
 use Rattle.sql_words.specs.Front.{front_at}
-use Rattle.sql_words.specs.Meaning.{number_value}
+use Rattle.sql_words.specs.Meanings.{number_value}
 use Rattle.sql_words.specs.Printed.{printed_text, printed_bytes}
 use Rattle.sql_words.proofs.NumberWords.{front_at-number_value}
 use Rattle.sql_words.proofs.Reprinted.{front_at-printed_text, front_at-printed_bytes}
 use Rattle.sql_grammar.specs.declared.token.Token.{Token}
-use Rattle.sql_show.specs.Printing.{quoted, integer_name, printed_kind, written_default, printed_default, column_line, column_name, key_names, key_columns, unique_front, index_front}
+use Rattle.sql_show.specs.SchemaText.{quoted, integer_name, printed_kind, written_default, printed_default, column_line, column_name, key_names, key_columns, unique_front, index_front}
 use Rattle.proof_schemas.specs.Printed.Laws.{CanQuote, CanQuoteKey, CanPrintKind, CanPrintValue, CanPrintDefault, CanPrintColumn}
 use Rattle.proof_schemas.specs.Printed.Words.{keyword, name_word, sign_word, number_word, length_words, kind_words, null_words, written_words, default_words, column_words, names_words, places_words, unique_words, index_words}
 use Rattle.proof_schemas.proofs.Printed.Lexing.{Lexes, lex-gap, lex-word, IsEnd, Writes, Closes, Begins, closes-writes, writes-then, closes-then, closes-both, writes-closed, closes-name}

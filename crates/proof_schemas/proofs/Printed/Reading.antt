@@ -7,13 +7,13 @@ use Rattle.std.specs.Fmt.{decimal}
 use Rattle.std.specs.List.{position_or_len, AllByRecursion}
 use Rattle.std.proofs.lemmas.Bool.{lt-ltb, eq-eqb}
 use Rattle.std.proofs.lemmas.List.{take_at}
-use Rattle.sql_words.specs.Meaning.{quoted_name}
+use Rattle.sql_words.specs.Meanings.{quoted_name}
 use Rattle.sql_words.specs.Quoted.{name_inside}
 use Rattle.base_values.specs.declared.kind.Kind.{Kind}
 use Rattle.base_values.specs.declared.kind.Kind.TheVariants.{Int, VarChar, VarBinary}
 use Rattle.base_values.specs.declared.value.Value.{Value}
 use Rattle.base_values.specs.declared.value.Value.TheVariants.{Null, Num, Text, Blob}
-use Rattle.base_values.specs.Printing.{printed}
+use Rattle.base_values.specs.Literals.{printed}
 use Rattle.base_values.specs.declared.gho_schema.schema.Column.{Column}
 use Rattle.base_values.specs.GhoSchema.Names.{same_name}
 use Rattle.sql_words.specs.declared.word.WordClass.TheVariants as class
@@ -32,7 +32,7 @@ use Rattle.sql_create.specs.Columns.{unwritten_column, with_column_attribute, co
 use Rattle.base_values.specs.SchemaRules.Valid.{is_kind}
 use Rattle.proof_schemas.proofs.Printed.Numbers.{number_value-decimal, number_value-printed}
 use Rattle.sql_grammar.specs.Pieces.{after_name, name_at, after_sign, after_keyword, sign_at, number_at, keyword_at, literal_of, literal_at}
-use Rattle.sql_show.specs.Printing.{quoted, integer_name}
+use Rattle.sql_show.specs.SchemaText.{quoted, integer_name}
 use Rattle.proof_schemas.specs.Printed.Laws.{CanQuote, CanPrintKind, CanPrintDefault, CanPrintColumn, default_read, line_of, PrintedColumnsAreRead}
 use Rattle.proof_schemas.specs.Printed.Words.{keyword, name_word, sign_word, number_word, kind_words, null_words, default_words, column_words}
 

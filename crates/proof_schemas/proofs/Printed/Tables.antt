@@ -2,7 +2,7 @@
 use Rattle.std.proofs.Common.{◌≡◌, ℕ, false, List, [], ◌∷◌, ◌++◌, Result, Ok, Err, refl, ap, subst, ◌∙◌, codes, map, arith, append_assoc, append-nil}
 use Rattle.std.specs.List.{flat_map, AllByRecursion}
 use Rattle.base_values.specs.declared.value.Value.TheVariants.{Text}
-use Rattle.base_values.specs.Printing.{printed}
+use Rattle.base_values.specs.Literals.{printed}
 use Rattle.base_values.specs.declared.gho_schema.schema.Column.{Column}
 use Rattle.base_values.specs.declared.gho_schema.schema.Index.{Index}
 use Rattle.base_values.specs.declared.gho_schema.schema.Schema.{Schema}
@@ -10,10 +10,10 @@ use Rattle.sql_words.specs.declared.word.WordClass.TheVariants as class
 use Rattle.sql_words.specs.declared.word.WordFault.{WordFault}
 use Rattle.sql_words.specs.declared.front.Front.TheVariants.{Found}
 use Rattle.sql_words.specs.Front.{front_at}
-use Rattle.sql_words.specs.Reading.{Reading, words_of}
+use Rattle.sql_words.specs.Readings.{Reading, words_of}
 use Rattle.sql_grammar.specs.declared.token.Token.{Token}
 use Rattle.sql_grammar.specs.Tokens.{token_of, words_to, text_words}
-use Rattle.sql_show.specs.Printing.{quoted, column_line, key_columns, unique_front, unique_line, index_front, index_line, lines_of, joined, printed_comment, printed_schema}
+use Rattle.sql_show.specs.SchemaText.{quoted, column_line, key_columns, unique_front, unique_line, index_front, index_line, lines_of, joined, printed_comment, printed_schema}
 use Rattle.proof_schemas.specs.Printed.Laws.{CanQuoteKey, CanPrintColumn, CanPrint, PrintedSchemasHaveWords}
 use Rattle.proof_schemas.specs.Printed.Words.{keyword, name_word, sign_word, column_words, places_words, unique_words, index_words, lines_words, joined_words, comment_words, schema_words}
 use Rattle.proof_schemas.proofs.Printed.Lexing.{Lexes, lex-end, lex-gap, lex-word, IsEnd, Writes, Closes, Begins, closes-writes, writes-then, closes-then, closes-both, writes-closed, closes-name}

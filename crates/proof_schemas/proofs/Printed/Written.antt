@@ -3,7 +3,7 @@ use Rattle.std.proofs.Common.{◌≡◌, ℕ, zero, suc, ◌<◌, ◌≤◌, tru
 use Rattle.std.specs.List.{flat_map, AllByRecursion}
 use Rattle.std.specs.Str.{bytes_eq}
 use Rattle.std.proofs.lemmas.List.{length-map}
-use Rattle.base_values.specs.Printing.{printed}
+use Rattle.base_values.specs.Literals.{printed}
 use Rattle.base_values.specs.GhoSchema.Names.{same_name}
 use Rattle.base_values.specs.declared.gho_schema.schema.Column.{Column}
 use Rattle.base_values.specs.declared.gho_schema.schema.Index.{Index}
@@ -20,7 +20,7 @@ use Rattle.sql_create.specs.declared.written.Item.{Item}
 use Rattle.sql_create.specs.declared.written.Item.TheVariants as items
 use Rattle.base_values.specs.SchemaRules.Valid.{is_kind, IsColumn, IsKey, IsValid}
 use Rattle.sql_create.specs.Options.{value_words, comment_at, option_at, options_at}
-use Rattle.sql_show.specs.Printing.{column_name}
+use Rattle.sql_show.specs.SchemaText.{column_name}
 use Rattle.sql_create.specs.Written.{primary_item_at, after_key_word, item_at, items_at, table_at, written}
 use Rattle.proof_schemas.specs.Printed.Laws.{CanQuote, CanQuoteKey, CanPrintColumn, CanPrint, names_read, unique_read, index_read, line_of, table_read, PrintedSchemasAreWritten}
 use Rattle.proof_schemas.specs.Printed.Words.{name_word, sign_word, column_words, names_words, places_words, unique_words, index_words, lines_words, joined_words, comment_words, schema_words}
@@ -126,8 +126,8 @@ module _ (tail : List Token) where
   items-listed line item [] (x ∷ others) (suc fuel) first all lt = absurd all
   items-listed line item (next ∷ lines) [] (suc fuel) first all lt = absurd all
   items-listed line item (next ∷ lines) (x ∷ others) (suc fuel) first all lt =
-      let behind : (next ++ more_lines lines) ++ table_end ≡ next ++ (more_lines lines ++ table_end) = append_assoc next (more_lines lines) table_end in
-      rw (behind, first (codes ",") (next ++ (more_lines lines ++ table_end)) refl, items-listed next x lines others fuel all.0 all.1 (omega arith)) refl
+      let following : (next ++ more_lines lines) ++ table_end ≡ next ++ (more_lines lines ++ table_end) = append_assoc next (more_lines lines) table_end in
+      rw (following, first (codes ",") (next ++ (more_lines lines ++ table_end)) refl, items-listed next x lines others fuel all.0 all.1 (omega arith)) refl
 
 more-long : (lines : List (List Token)) → length lines ≤ length (more_lines lines)
 more-long [] = omega arith

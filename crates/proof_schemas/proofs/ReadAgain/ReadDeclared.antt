@@ -11,7 +11,7 @@ use Rattle.base_values.specs.declared.unfit.Unfit.{Unfit}
 use Rattle.base_values.specs.declared.kind.Kind.{Kind}
 use Rattle.base_values.specs.declared.value.Value.{Value}
 use Rattle.base_values.specs.declared.value.Value.TheVariants.{Null}
-use Rattle.base_values.specs.Storing.{stores}
+use Rattle.base_values.specs.StoredValues.{stores}
 use Rattle.base_values.specs.declared.gho_schema.schema.Column.{Column}
 use Rattle.base_values.specs.declared.gho_schema.schema.Index.{Index}
 use Rattle.base_values.specs.declared.gho_schema.schema.Schema.{Schema}
@@ -23,16 +23,16 @@ use Rattle.sql_create.specs.declared.keys.NamedKeys.{NamedKeys}
 use Rattle.sql_create.specs.declared.parts.Parts.{Parts}
 use Rattle.sql_create.specs.declared.written.WrittenColumn.{WrittenColumn}
 use Rattle.sql_create.specs.declared.written.WrittenKey.{WrittenKey}
-use Rattle.base_values.specs.GhoSchema.Clustering.{clustered_place}
+use Rattle.base_values.specs.GhoSchema.ClusteredKey.{clustered_place}
 use Rattle.base_values.specs.SchemaRules.Reasons.{Reasons, first_reason}
-use Rattle.sql_create.specs.Declaring.{column_names, size_reasons, are_known, name_reasons, nullable_of, declared_column, declared_columns, primary_index, key_index, schema_of, clustered, built, declared_parts, declared}
+use Rattle.sql_create.specs.DeclaredSchema.{column_names, size_reasons, are_known, name_reasons, nullable_of, declared_column, declared_columns, primary_index, key_index, schema_of, clustered, built, declared_parts, declared}
 use Rattle.base_values.specs.SchemaRules.Defaults.{stored, stored_default, defaults_fit, default_or}
 use Rattle.base_values.specs.SchemaRules.Names.{names_differ}
 use Rattle.sql_create.specs.Keys.{key_name, no_keys, with_key, named_keys}
 use Rattle.base_values.specs.SchemaRules.Limits.{is_column_name, is_table_name, is_reserved}
 use Rattle.base_values.specs.ToolNames.{is_tool_name}
 use Rattle.sql_create.specs.Parts.{parts_of}
-use Rattle.sql_create.specs.Reading.{schema_at}
+use Rattle.sql_create.specs.CreateText.{schema_at}
 use Rattle.sql_create.specs.Written.{written}
 use Rattle.proof_schemas.proofs.Columns.{made}
 use Rattle.base_values.proofs.SchemaRules.Lists.{All-append, All-anything, All-filter, All-map, fold-keeps}

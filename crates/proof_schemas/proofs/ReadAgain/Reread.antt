@@ -9,7 +9,7 @@ use Rattle.std.proofs.lemmas.List.Sums.{length-filter}
 use Rattle.base_values.specs.declared.kind.Kind.{Kind}
 use Rattle.base_values.specs.declared.value.Value.{Value}
 use Rattle.base_values.specs.declared.value.Value.TheVariants.{Null, Num, Text, Blob}
-use Rattle.base_values.specs.Storing.{stores}
+use Rattle.base_values.specs.StoredValues.{stores}
 use Rattle.base_values.specs.declared.gho_schema.schema.Column.{Column}
 use Rattle.base_values.specs.declared.gho_schema.schema.Index.{Index}
 use Rattle.base_values.specs.declared.gho_schema.schema.Schema.{Schema}
@@ -21,17 +21,17 @@ use Rattle.sql_create.specs.declared.keys.NamedKeys.{NamedKeys}
 use Rattle.sql_create.specs.declared.parts.Parts.{Parts}
 use Rattle.sql_create.specs.declared.written.WrittenColumn.{WrittenColumn}
 use Rattle.sql_create.specs.declared.written.WrittenKey.{WrittenKey}
-use Rattle.base_values.specs.GhoSchema.Clustering.{is_not_null, may_cluster, clustered_among, clustered_place, unique_at, clustered_key}
+use Rattle.base_values.specs.GhoSchema.ClusteredKey.{is_not_null, may_cluster, clustered_among, clustered_place, unique_at, clustered_key}
 use Rattle.base_values.specs.SchemaRules.Reasons.{Reasons, first_reason, unless}
-use Rattle.sql_create.specs.Declaring.{column_names, size_reasons, are_known, name_reasons, nullable_of, declared_column, declared_columns, primary_index, key_index, schema_of, clustered, built, declared_parts, declared}
+use Rattle.sql_create.specs.DeclaredSchema.{column_names, size_reasons, are_known, name_reasons, nullable_of, declared_column, declared_columns, primary_index, key_index, schema_of, clustered, built, declared_parts, declared}
 use Rattle.base_values.specs.SchemaRules.Defaults.{stored_default, defaults_fit, default_or}
 use Rattle.base_values.specs.SchemaRules.Names.{is_among, names_differ, place_of, places_of}
 use Rattle.sql_create.specs.Keys.{named_keys}
 use Rattle.base_values.specs.SchemaRules.Valid.{StoresDefault, IsColumn, IsKey, IsNotNull, IsValid}
 use Rattle.base_values.specs.SchemaRules.Limits.{is_column_name, is_table_name, is_reserved}
 use Rattle.base_values.specs.ToolNames.{is_tool_name}
-use Rattle.sql_show.specs.Printing.{column_name}
-use Rattle.sql_create.specs.Reading.{schema_at}
+use Rattle.sql_show.specs.SchemaText.{column_name}
+use Rattle.sql_create.specs.CreateText.{schema_at}
 use Rattle.proof_schemas.proofs.Columns.{made}
 use Rattle.base_values.proofs.SchemaRules.Lists.{All-at, All-append, slice_get-map-some, slice_get-within-some}
 use Rattle.base_values.proofs.SchemaRules.Steps.{there}

@@ -15,17 +15,17 @@ module _ {X : Type 0} (R : X → X → Type 0) (turned : (x y : X) → R x y →
   Apart [] = Unit {0}
   Apart (x ∷ xs) = AllByRecursion (R x) xs × Apart xs
 
-  all-put : (y x : X) (before behind : List X) → R y x → AllByRecursion (R y) (before ++ behind) → AllByRecursion (R y) (before ++ x ∷ behind)
-  all-put y x [] behind apart all = (apart, all)
-  all-put y x (b ∷ before) behind apart all = (all.0, all-put y x before behind apart all.1)
+  all-put : (y x : X) (before following : List X) → R y x → AllByRecursion (R y) (before ++ following) → AllByRecursion (R y) (before ++ x ∷ following)
+  all-put y x [] following apart all = (apart, all)
+  all-put y x (b ∷ before) following apart all = (all.0, all-put y x before following apart all.1)
 
-  apart-put : (x : X) (before behind : List X) → AllByRecursion (R x) before → AllByRecursion (R x) behind → Apart (before ++ behind) → Apart (before ++ x ∷ behind)
-  apart-put x [] behind ahead rest apart = (rest, apart)
-  apart-put x (b ∷ before) behind ahead rest apart = (all-put b x before behind (turned x b ahead.0) apart.0, apart-put x before behind ahead.1 rest apart.1)
+  apart-put : (x : X) (before following : List X) → AllByRecursion (R x) before → AllByRecursion (R x) following → Apart (before ++ following) → Apart (before ++ x ∷ following)
+  apart-put x [] following ahead rest apart = (rest, apart)
+  apart-put x (b ∷ before) following ahead rest apart = (all-put b x before following (turned x b ahead.0) apart.0, apart-put x before following ahead.1 rest apart.1)
 
-  apart-one : (test : X → Bool) (b : Bool) (x : X) (before behind : List X) → AllByRecursion (R x) before → AllByRecursion (R x) behind → Apart (before ++ behind) → Apart (cond b (x ∷ before) before ++ cond (not b) (x ∷ behind) behind)
-  apart-one test true x before behind ahead rest apart = (All-append (R x) before behind ahead rest, apart)
-  apart-one test false x before behind ahead rest apart = apart-put x before behind ahead rest apart
+  apart-one : (test : X → Bool) (b : Bool) (x : X) (before following : List X) → AllByRecursion (R x) before → AllByRecursion (R x) following → Apart (before ++ following) → Apart (cond b (x ∷ before) before ++ cond (not b) (x ∷ following) following)
+  apart-one test true x before following ahead rest apart = (All-append (R x) before following ahead rest, apart)
+  apart-one test false x before following ahead rest apart = apart-put x before following ahead rest apart
 
   pub apart-sorted : (test : X → Bool) (xs : List X) → Apart xs → Apart (filter test xs ++ filter (λ x. not (test x)) xs)
   apart-sorted test [] apart = tt

@@ -12,7 +12,7 @@ use Rattle.sql_words.specs.declared.front.Front.TheVariants.{Gap, Found}
 use Rattle.sql_words.specs.Characters.{is_white, is_name_start, is_name_byte, is_quote, is_sign}
 use Rattle.sql_words.specs.Quoted.{length_of, text_inside, bytes_inside, name_inside}
 use Rattle.sql_words.specs.Front.{begins_comment, begins_bytes, bytes_length, bytes_or_name, name_length, quoted, begins_number, digit_count, sign_width, number, most_digits, line_length, sign_length, front_at}
-use Rattle.sql_words.specs.Reading.{Reading, with_word, read_on, words_after, words_of}
+use Rattle.sql_words.specs.Readings.{Reading, with_word, read_on, words_after, words_of}
 use Rattle.sql_grammar.specs.declared.token.Token.{Token}
 use Rattle.sql_grammar.specs.Tokens.{token_of, words_or_none, cut_at, words_to, text_words}
 use Rattle.base_values.proofs.SchemaRules.Lists.{All-map}
@@ -115,11 +115,11 @@ on-read place bytes (Err fault) others is rest = λ words e. absurd cc
 on-read place bytes (Ok (Gap n)) others is rest = rest n
 on-read place bytes (Ok (Found class n)) others is rest = with-read (record { class = class; text = take n bytes; place = place }) (others n) (is class n refl) (rest n)
 
-behind-read : (read place : ℕ) (bytes : List ℕ) → AreBytes bytes → AreRead (words_after read place bytes)
+following-read : (read place : ℕ) (bytes : List ℕ) → AreBytes bytes → AreRead (words_after read place bytes)
 unfolding words_after
-behind-read read place [] are = λ words e. subst (AllByRecursion (λ (w : Reading). SoundText w.class w.text)) (ok_is {C = WordFault} [] words e) tt
-behind-read (suc read) place (b ∷ rest) are = behind-read read (suc place) rest are.1
-behind-read zero place (b ∷ rest) are = on-read place (b ∷ rest) (front_at place (b ∷ rest)) (λ n. words_after (n - 1) (suc place) rest) (front-sound place (b ∷ rest) are) (λ n. behind-read (n - 1) (suc place) rest are.1)
+following-read read place [] are = λ words e. subst (AllByRecursion (λ (w : Reading). SoundText w.class w.text)) (ok_is {C = WordFault} [] words e) tt
+following-read (suc read) place (b ∷ rest) are = following-read read (suc place) rest are.1
+following-read zero place (b ∷ rest) are = on-read place (b ∷ rest) (front_at place (b ∷ rest)) (λ n. words_after (n - 1) (suc place) rest) (front-sound place (b ∷ rest) are) (λ n. following-read (n - 1) (suc place) rest are.1)
 
 tokens-sound : (words : List Reading) → AllByRecursion (λ word. SoundText word.class word.text) words → AreSound (map token_of words)
 tokens-sound words all = All-map (λ (word : Reading). SoundText word.class word.text) Sound token_of (λ word sound. sound) words all
@@ -129,7 +129,7 @@ some-sound (Ok words) are = tokens-sound words (are words refl)
 some-sound (Err fault) are = tt
 
 cut-sound : (place : ℕ) (text : List ℕ) → AreBytes text → AreSound (cut_at place text).words
-cut-sound place text are = some-sound (words_of (take place text)) (behind-read 0 0 (take place text) (All-take (λ b. b < 256) place text are))
+cut-sound place text are = some-sound (words_of (take place text)) (following-read 0 0 (take place text) (All-take (λ b. b < 256) place text are))
 
 to-sound : (text : List ℕ) (read : Result (List Reading) WordFault) → AreBytes text → AreRead read → AreSound (words_to text read).words
 to-sound text (Ok words) are read = tokens-sound words (read words refl)
@@ -140,4 +140,4 @@ to-sound text (Err faults.Memory) are read = cut-sound 0 text are
 
 pub text-sound : (text : List ℕ) → AreBytes text → AreSound (text_words text).words
 unfolding text_words
-text-sound text are = to-sound text (words_of text) are (behind-read 0 0 text are)
+text-sound text are = to-sound text (words_of text) are (following-read 0 0 text are)

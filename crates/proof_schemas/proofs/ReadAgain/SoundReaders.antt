@@ -6,7 +6,7 @@ use Rattle.std.proofs.lemmas.Option.{cond_some}
 use Rattle.base_values.specs.declared.kind.Kind.{Kind}
 use Rattle.base_values.specs.declared.kind.Kind.TheVariants.{Int, VarChar, VarBinary}
 use Rattle.base_values.specs.declared.value.Value.{Value}
-use Rattle.sql_words.specs.Meaning.{name_of}
+use Rattle.sql_words.specs.Meanings.{name_of}
 use Rattle.sql_grammar.specs.declared.attributes.Attribute.{Attribute}
 use Rattle.sql_grammar.specs.declared.attributes.Attribute.TheVariants.{Nullable, Default, Passed}
 use Rattle.sql_grammar.specs.declared.code.SchemaCode.{SchemaCode}
@@ -165,9 +165,9 @@ any_word-sound (word ∷ rest) sound = any_word-by (is_sign word.class) (mismatc
 
 module _ {A C : Type 0} (P : A → Type 0) (item : List Token → Result (A × List Token) C) (ended : C) (each : (words : List Token) → AreSound words → Leaves P (item words)) where
   others-sound : (others : List Token → Result (List A × List Token) C) (first : A × List Token) (o : Option (List Token)) → P first.0 → AreSound first.1 → SomeSound o → ((words : List Token) → AreSound words → Leaves (AllByRecursion P) (others words)) → Leaves (AllByRecursion P) (with_others others first o)
-  others-sound others first None p sound behind rest = leaves-ok {C = C} (AllByRecursion P) (first.0 ∷ []) first.1 (p, tt) sound
-  others-sound others first (Some words) p sound behind rest =
-      leaves-bind (AllByRecursion P) (AllByRecursion P) (others words) (λ more. Ok (first.0 ∷ more.0, more.1)) (rest words (behind words refl)) (λ more all left. leaves-ok {C = C} (AllByRecursion P) (first.0 ∷ more.0) more.1 (p, all) left)
+  others-sound others first None p sound following rest = leaves-ok {C = C} (AllByRecursion P) (first.0 ∷ []) first.1 (p, tt) sound
+  others-sound others first (Some words) p sound following rest =
+      leaves-bind (AllByRecursion P) (AllByRecursion P) (others words) (λ more. Ok (first.0 ∷ more.0, more.1)) (rest words (following words refl)) (λ more all left. leaves-ok {C = C} (AllByRecursion P) (first.0 ∷ more.0) more.1 (p, all) left)
 
   pub listed-sound : (most : ℕ) (words : List Token) → AreSound words → Leaves (AllByRecursion P) (listed item ended most words)
   unfolding listed
@@ -194,18 +194,18 @@ width-number : (number : ℤ × List Token) → AreSound number.1 → LeavesWord
 width-number number left = sign-sound (codes ")") number.1 left
 
 width-by : (words : List Token) (o : Option (List Token)) → AreSound words → SomeSound o → LeavesWords (width_after words o)
-width-by words None sound behind other e = subst AreSound (ok_is {C = SchemaCode} words other e) sound
-width-by words (Some rest) sound behind other e =
+width-by words None sound following other e = subst AreSound (ok_is {C = SchemaCode} words other e) sound
+width-by words (Some rest) sound following other e =
     let b = bind_ok (number_at rest) (λ number. sign_at (codes ")") number.1) other e in
-    width-number b.0 (number_at-sound rest (behind rest refl) b.0 b.1).1 other b.2
+    width-number b.0 (number_at-sound rest (following rest refl) b.0 b.1).1 other b.2
 
 width-sound : (words : List Token) → AreSound words → LeavesWords (width_at words)
 unfolding width_at
 width-sound words sound = width-by words (after_sign (codes "(") words) sound (after_sign-sound (codes "(") words sound)
 
 signed-sound : (bytes : ℕ) (words : List Token) (o : Option (List Token)) → AreSound words → SomeSound o → AreSound (signed_kind bytes words o).1
-signed-sound bytes words None sound behind = sound
-signed-sound bytes words (Some rest) sound behind = behind rest refl
+signed-sound bytes words None sound following = sound
+signed-sound bytes words (Some rest) sound following = following rest refl
 
 within-sound : (rest : List Token) (o : Option ℕ) → AreSound rest → Leaves {A = ℕ} Anything (length_within rest o)
 within-sound rest (Some n) sound = leaves-ok {A = ℕ} {C = SchemaCode} Anything n rest tt sound
@@ -291,8 +291,8 @@ unfolding names_at
 names_at-sound words sound = listed-sound CanQuote name_at Syntax name_at-sound (length words) words sound
 
 closed-sound : (names : List (List ℕ)) (words : List Token) (o : Option (List Token)) → AreNames names → SomeSound o → Leaves AreNames (closed names words o)
-closed-sound names words None are behind = leaves-err AreNames (key_mismatch words)
-closed-sound names words (Some rest) are behind = leaves-ok {C = SchemaCode} AreNames names rest are (behind rest refl)
+closed-sound names words None are following = leaves-err AreNames (key_mismatch words)
+closed-sound names words (Some rest) are following = leaves-ok {C = SchemaCode} AreNames names rest are (following rest refl)
 
 pub key_columns-sound : (words : List Token) → AreSound words → Leaves AreNames (key_columns_at words)
 unfolding key_columns_at

@@ -10,7 +10,7 @@ use Rattle.base_values.specs.declared.kind.Kind.TheVariants.{Int, VarChar, VarBi
 use Rattle.base_values.specs.declared.value.Value.{Value}
 use Rattle.base_values.specs.declared.value.Value.TheVariants.{Null, Num, Text, Blob}
 use Rattle.base_values.specs.Laws.{StoresAgain}
-use Rattle.base_values.specs.Storing.{half, lowest, highest, in_range, text_within, bytes_within, as_number, text_number, stores}
+use Rattle.base_values.specs.StoredValues.{half, lowest, highest, in_range, text_within, bytes_within, as_number, text_number, stores}
 use Rattle.base_values.specs.declared.gho_schema.schema.Column.{Column}
 use Rattle.base_values.specs.declared.gho_schema.schema.Index.{Index}
 use Rattle.base_values.specs.declared.gho_schema.schema.Schema.{Schema}
@@ -25,15 +25,15 @@ use Rattle.sql_create.specs.declared.written.Item.{Item}
 use Rattle.sql_create.specs.declared.written.Item.TheVariants as items
 use Rattle.sql_create.specs.declared.written.WrittenColumn.{WrittenColumn}
 use Rattle.sql_create.specs.declared.written.WrittenKey.{WrittenKey}
-use Rattle.base_values.specs.GhoSchema.Clustering.{clustered_place}
+use Rattle.base_values.specs.GhoSchema.ClusteredKey.{clustered_place}
 use Rattle.base_values.specs.SchemaRules.Reasons.{first_reason}
-use Rattle.sql_create.specs.Declaring.{column_names, size_reasons, name_reasons, nullable_of, declared_column, declared_columns, primary_index, key_index, schema_of, clustered, built, declared_parts, declared}
+use Rattle.sql_create.specs.DeclaredSchema.{column_names, size_reasons, name_reasons, nullable_of, declared_column, declared_columns, primary_index, key_index, schema_of, clustered, built, declared_parts, declared}
 use Rattle.base_values.specs.SchemaRules.Defaults.{stored, stored_default, defaults_fit, default_or}
 use Rattle.base_values.specs.SchemaRules.Names.{is_among, spelled, numbered, first_free, first_column}
 use Rattle.sql_create.specs.Keys.{key_name, no_keys, with_key, named_keys}
 use Rattle.base_values.specs.SchemaRules.Valid.{is_kind, StoresDefault, IsColumn, IsValid}
 use Rattle.sql_create.specs.Parts.{no_parts, own_primary, own_key, with_item, parts_of}
-use Rattle.sql_create.specs.Reading.{schema_at}
+use Rattle.sql_create.specs.CreateText.{schema_at}
 use Rattle.sql_create.specs.Written.{written}
 use Rattle.proof_schemas.proofs.Columns.{made}
 use Rattle.base_values.proofs.SchemaRules.Lists.{All-append, All-filter, All-map, fold-keeps}

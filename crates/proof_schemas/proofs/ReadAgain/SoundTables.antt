@@ -52,8 +52,8 @@ primary-sound : (words : List Token) → AreSound words → LeavesSome SoundOwn 
 primary-sound words sound = words-some SoundOwn (keyword_at (codes "KEY") words) (λ rest. Ok (Some (Primary, rest))) (keyword-sound (codes "KEY") words sound) (λ rest left. some-ok {C = SchemaCode} SoundOwn Primary rest tt left)
 
 unique-sound : (words : List Token) (o : Option (List Token)) → AreSound words → SomeSound o → LeavesSome {C = SchemaCode} SoundOwn (Ok (unique_after words o))
-unique-sound words (Some rest) sound behind = some-ok {C = SchemaCode} SoundOwn Unique rest tt (behind rest refl)
-unique-sound words None sound behind = some-ok {C = SchemaCode} SoundOwn Unique words tt sound
+unique-sound words (Some rest) sound following = some-ok {C = SchemaCode} SoundOwn Unique rest tt (following rest refl)
+unique-sound words None sound following = some-ok {C = SchemaCode} SoundOwn Unique words tt sound
 
 plain-some : (read : Option (Attribute × List Token)) → ((x : Attribute × List Token) → read ≡ Some x → SoundAttribute x.0 × AreSound x.1) → LeavesSome {C = SchemaCode} SoundOwn (Ok (plain_of read))
 plain-some None is = some-none {C = SchemaCode} SoundOwn

@@ -9,7 +9,7 @@ use Rattle.base_values.specs.declared.value.Value.{Value}
 use Rattle.base_values.specs.declared.value.Value.TheVariants.{Null, Num, Text, Blob}
 use Rattle.sql_words.specs.declared.word.WordClass.{WordClass}
 use Rattle.sql_words.specs.declared.word.WordClass.TheVariants as class
-use Rattle.sql_words.specs.Meaning.{is_text, text_value, is_bytes, bytes_value, number_value, is_quoted_name, quoted_name, name_of}
+use Rattle.sql_words.specs.Meanings.{is_text, text_value, is_bytes, bytes_value, number_value, is_quoted_name, quoted_name, name_of}
 use Rattle.sql_words.specs.Quoted.{Piece, closing, and_then, value_of, escaped, text_inside, bytes_inside, name_inside}
 use Rattle.sql_grammar.specs.WordValues.ReadBack.{word_value}
 use Rattle.sql_grammar.specs.declared.token.Token.{Token}

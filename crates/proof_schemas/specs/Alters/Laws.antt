@@ -10,10 +10,10 @@ use Rattle.base_values.specs.declared.row_conversion.clause.Clause.{Clause}
 use Rattle.base_values.specs.declared.row_conversion.clause.Clause.TheVariants.{Add, Drop, Rename, Change, AddIndex, DropIndex}
 use Rattle.base_values.specs.declared.row_conversion.map.MapColumn.{MapColumn}
 use Rattle.base_values.specs.RowConversion.ConvertedRows.{converted_row, converted_rows}
-use Rattle.base_values.specs.GhoSchema.Clustering.{clustered_key}
+use Rattle.base_values.specs.GhoSchema.ClusteredKey.{clustered_key}
 use Rattle.base_values.specs.SchemaRules.Valid.{is_kind, IsValid}
-use Rattle.sql_change.specs.Altering.{altered}
-use Rattle.sql_alter.specs.Reading.{alter_at}
+use Rattle.sql_change.specs.AlteredSchema.{altered}
+use Rattle.sql_alter.specs.AlterText.{alter_at}
 
 -- an altered table
 abbrev pub Altered : Type 0

@@ -4,11 +4,11 @@ use Rattle.std.specs.List.{AllByRecursion}
 use Rattle.base_values.specs.declared.gho_schema.schema.Schema.{Schema}
 use Rattle.base_values.specs.declared.row_conversion.clause.Clause.{Clause}
 use Rattle.proof_schemas.specs.Alters.Laws.{Altered}
-use Rattle.sql_change.specs.Altering.{altered}
-use Rattle.sql_alter.specs.Reading.{alter_at}
+use Rattle.sql_change.specs.AlteredSchema.{altered}
+use Rattle.sql_alter.specs.AlterText.{alter_at}
 use Rattle.proof_schemas.specs.ReadAgain.{IsDeclared}
-use Rattle.sql_show.specs.Printing.{printed_schema}
-use Rattle.sql_create.specs.Reading.{schema_at}
+use Rattle.sql_show.specs.SchemaText.{printed_schema}
+use Rattle.sql_create.specs.CreateText.{schema_at}
 
 -- An ALTER of a schema that CREATE TABLE gives leaves one that CREATE TABLE gives.
 abbrev pub AlteredSchemasAreDeclared : Type 0

@@ -18,7 +18,7 @@ use Rattle.sql_create.specs.declared.written.Item.TheVariants as items
 use Rattle.sql_create.specs.declared.written.WrittenTable.{WrittenTable}
 use Rattle.base_values.specs.SchemaRules.Valid.{is_kind, IsValid}
 use Rattle.sql_create.specs.Written.{written}
-use Rattle.sql_show.specs.Printing.{column_name, printed_schema}
+use Rattle.sql_show.specs.SchemaText.{column_name, printed_schema}
 use Rattle.proof_schemas.specs.Printed.Words.{sign_word, column_words, schema_words}
 
 -- a name that can be between backquotes

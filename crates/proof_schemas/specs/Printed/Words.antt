@@ -6,12 +6,12 @@ use Rattle.base_values.specs.declared.kind.Kind.{Kind}
 use Rattle.base_values.specs.declared.kind.Kind.TheVariants.{Int, VarChar, VarBinary}
 use Rattle.base_values.specs.declared.value.Value.{Value}
 use Rattle.base_values.specs.declared.value.Value.TheVariants.{Null, Num, Text, Blob}
-use Rattle.base_values.specs.Printing.{printed}
+use Rattle.base_values.specs.Literals.{printed}
 use Rattle.sql_words.specs.declared.word.WordClass.TheVariants as class
 use Rattle.base_values.specs.declared.gho_schema.schema.Schema.{Schema}
 use Rattle.base_values.specs.declared.gho_schema.schema.Column.{Column}
 use Rattle.sql_grammar.specs.declared.token.Token.{Token}
-use Rattle.sql_show.specs.Printing.{quoted, integer_name, column_name}
+use Rattle.sql_show.specs.SchemaText.{quoted, integer_name, column_name}
 
 -- ---- words
 

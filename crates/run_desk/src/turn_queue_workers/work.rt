@@ -95,11 +95,11 @@ fn close_turn_queue<B: SharedState + Drop>(
 {
     let ending = ending_of(workers.as_slice());
     let passes = passes_of(workers, room);
-    let told = Snapshot::of(&passes);
+    let reported = Snapshot::of(&passes);
     Done {
         shared_state: turn_queue.close(passes),
         ending,
-        passes: told,
+        passes: reported,
     }
 }
 

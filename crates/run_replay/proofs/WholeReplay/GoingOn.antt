@@ -14,21 +14,21 @@ use Rattle.server_model.specs.Entries.{is_cut}
 use Rattle.server_model.specs.States.{State}
 use Rattle.plan_data.specs.PlanData.{PlanData}
 use Rattle.tool_program.specs.JournalWords.Journals.{opening, state_after, state_at, after_entry}
-use Rattle.tool_program.specs.JournalWords.Keeping.{cut_due}
+use Rattle.tool_program.specs.JournalWords.KeptPlans.{cut_due}
 use Rattle.tool_program.specs.JournalWords.Sessions.{NumbersSessions}
 use Rattle.proof_journals.proofs.Journals.{state_more}
 use Rattle.tool_program.specs.Orders.{actors, Queue, Choice, Walk, words_in, chosen, queue_left, queue_after, walked, queue_at, actor_of, next_actor, IsNext, ReplayOrder, IsReplay}
-use Rattle.proof_journals.specs.Run.Counting.{IsAfter}
+use Rattle.proof_journals.specs.Run.Counts.{IsAfter}
 use Rattle.proof_journals.specs.Run.Kept.{IsKept}
 use Rattle.proof_journals.proofs.Run.Keeping.{kept_none}
 use Rattle.run_turns.specs.declared.due_turns.migration_run.turn.Turn.{Turn}
-use Rattle.run_turns.specs.DueTurns.MigrationRun.Turning.{entry_on}
+use Rattle.run_turns.specs.DueTurns.MigrationRun.ServerTurns.{entry_on}
 use Rattle.run_turns.specs.DueTurns.Due.{due, next_entry}
 use Rattle.run_turns.proofs.DueTurns.Coming.{Comes, Cuts, Gives, comes, given_uncut}
 use Rattle.run_turns.proofs.DueTurns.Keeping.{turns_kept, turns_numbered}
 use Rattle.tool_program.specs.Verdicts.{has_ended}
 use Rattle.run_turns.specs.Runs.{RunView, is_over, TakesTurn, IsUnmoved, Stops}
-use Rattle.run_replay.specs.declared.whole_replay.place.Place.{Place}
+use Rattle.run_replay.specs.declared.whole_replay.place.OrderPlace.{OrderPlace}
 use Rattle.run_replay.specs.declared.whole_replay.place.NextTurn.{NextTurn}
 use Rattle.run_replay.specs.WholeReplay.Places.{queue_of, choice_of}
 use Rattle.run_replay.specs.WholeReplay.Replays.{IsFresh, IsReplaying, IsStalled, GoesOn}
@@ -84,7 +84,7 @@ module _ (plan : PlanData) (journal : List Entry) (actor : Actor) (turn : Turn) 
   unfolding entry_on
   actor_is = refl
 
-  goes : (place : Place) → IsNext (is_cut entry.asked) (next_actor plan journal) entry.actor → queue_of plan place ≡ queue_after plan (record { before = journal; queue = queue_at plan journal }) entry
+  goes : (place : OrderPlace) → IsNext (is_cut entry.asked) (next_actor plan journal) entry.actor → queue_of plan place ≡ queue_after plan (record { before = journal; queue = queue_at plan journal }) entry
       → IsReplaying (record { plan = plan; journal = journal ++ entry ∷ []; server = after_entry (state_at plan journal) entry }) place
   goes place next queue = record {
     kept = kept_more;
@@ -96,7 +96,7 @@ module _ (plan : PlanData) (journal : List Entry) (actor : Actor) (turn : Turn) 
   }
 
   -- a loss between calls
-  cut_goes : (place : Place) → is_some (cut_due plan journal) ≡ true → queue_of plan place ≡ queue_at plan journal → IsReplaying (record { plan = plan; journal = journal ++ entry ∷ []; server = after_entry (state_at plan journal) entry }) place
+  cut_goes : (place : OrderPlace) → is_some (cut_due plan journal) ≡ true → queue_of plan place ≡ queue_at plan journal → IsReplaying (record { plan = plan; journal = journal ++ entry ∷ []; server = after_entry (state_at plan journal) entry }) place
   cut_goes place cut queue = goes place (subst (λ (b : Bool). IsNext b (next_actor plan journal) entry.actor) (sym is) tt)
       (queue ∙ sym (ap (λ (b : Bool). cond b (queue_at plan journal) (queue_left (chosen plan journal (queue_at plan journal)) (queue_at plan journal))) is))
     where
@@ -108,7 +108,7 @@ module _ (plan : PlanData) (journal : List Entry) (actor : Actor) (turn : Turn) 
       is = ap is_cut (asked_is ∙ by (comes plan journal actor turn is_due))
 
   -- the next actor's turn
-  turn_goes : (place : Place) (choice : Choice) → is_some (cut_due plan journal) ≡ false → chosen plan journal (queue_at plan journal) ≡ Some choice → choice.actor ≡ actor → queue_of plan place ≡ choice.queue
+  turn_goes : (place : OrderPlace) (choice : Choice) → is_some (cut_due plan journal) ≡ false → chosen plan journal (queue_at plan journal) ≡ Some choice → choice.actor ≡ actor → queue_of plan place ≡ choice.queue
       → IsReplaying (record { plan = plan; journal = journal ++ entry ∷ []; server = after_entry (state_at plan journal) entry }) place
   unfolding next_actor
   turn_goes place choice uncut chooses same queue = goes place
@@ -132,11 +132,11 @@ module _ (plan : PlanData) (journal : List Entry) (actor : Actor) (turn : Turn) 
 abbrev view : RunView → State → Turn → RunView
 view before server turn = record { plan = before.plan; journal = before.journal ++ next_entry before.journal server turn ∷ []; server = after_entry server (next_entry before.journal server turn) }
 
-module _ (before : RunView) (actor : Actor) (after : RunView) (old : Place) (is : IsReplaying before old) (takes : TakesTurn before actor after) (going : is_over before.plan before.journal ≡ false) where
+module _ (before : RunView) (actor : Actor) (after : RunView) (old : OrderPlace) (is : IsReplaying before old) (takes : TakesTurn before actor after) (going : is_over before.plan before.journal ≡ false) where
   after_is : after ≡ view before (state_at before.plan before.journal) takes.turn
   after_is = takes.taken ∙ ap (λ (s : State). view before s takes.turn) is.server
 
-  gone_on : (place : Place) → IsReplaying (view before (state_at before.plan before.journal) takes.turn) place → GoesOn before after place
+  gone_on : (place : OrderPlace) → IsReplaying (view before (state_at before.plan before.journal) takes.turn) place → GoesOn before after place
   gone_on place replaying = record {
     replaying = subst (λ (r : RunView). IsReplaying r place) (sym after_is) replaying;
     plan = ap (λ (r : RunView). r.plan) after_is;
@@ -148,13 +148,13 @@ module _ (before : RunView) (actor : Actor) (after : RunView) (old : Place) (is 
   cut_taken cut = gone_on old (cut_goes before.plan before.journal actor takes.turn is.kept is.order is.numbered takes.is_due is.stops going old cut is.queue)
 
   -- by the next actor's turn
-  pub turn_taken : (next : NextTurn) → is_some (cut_due before.plan before.journal) ≡ false → Some (choice_of before.plan next) ≡ chosen before.plan before.journal (queue_of before.plan old) → next.actor ≡ actor → GoesOn before after next.behind
+  pub turn_taken : (next : NextTurn) → is_some (cut_due before.plan before.journal) ≡ false → Some (choice_of before.plan next) ≡ chosen before.plan before.journal (queue_of before.plan old) → next.actor ≡ actor → GoesOn before after next.following
   turn_taken next uncut chooses same =
-      gone_on next.behind
-      (turn_goes before.plan before.journal actor takes.turn is.kept is.order is.numbered takes.is_due is.stops going next.behind (choice_of before.plan next) uncut (sym (chooses ∙ ap (chosen before.plan before.journal) is.queue)) same refl)
+      gone_on next.following
+      (turn_goes before.plan before.journal actor takes.turn is.kept is.order is.numbered takes.is_due is.stops going next.following (choice_of before.plan next) uncut (sym (chooses ∙ ap (chosen before.plan before.journal) is.queue)) same refl)
 
 -- nobody's turn comes next
-pub stalls : (run : RunView) (place : Place) → IsReplaying run place → is_some (cut_due run.plan run.journal) ≡ false → None ≡ chosen run.plan run.journal (queue_of run.plan place) → IsStalled run.plan run.journal
+pub stalls : (run : RunView) (place : OrderPlace) → IsReplaying run place → is_some (cut_due run.plan run.journal) ≡ false → None ≡ chosen run.plan run.journal (queue_of run.plan place) → IsStalled run.plan run.journal
 unfolding next_actor
 stalls run place is uncut chooses = record {
   uncut = none (cut_due run.plan run.journal) uncut;
@@ -185,18 +185,18 @@ begins run count fresh is = record {
   queue = queue_begin run.plan count is ∙ ap (queue_at run.plan) (sym fresh.journal);
 }
 
-pub is_replay : (run : RunView) (place : Place) → IsReplaying run place → IsReplay run.plan run.journal
+pub is_replay : (run : RunView) (place : OrderPlace) → IsReplaying run place → IsReplay run.plan run.journal
 is_replay run place is = record { faithful = is.kept.faithful; planned = is.kept.planned; follows = is.kept.follows; order = is.order; numbered = is.numbered }
 
 -- a turn for which there was no memory leaves the turns before it
-pub still_replay : (before after : RunView) (place : Place) → IsReplaying before place → IsUnmoved before after → IsReplay after.plan after.journal
+pub still_replay : (before after : RunView) (place : OrderPlace) → IsReplaying before place → IsUnmoved before after → IsReplay after.plan after.journal
 still_replay before after place is still =
     subst (λ (p : PlanData). IsReplay p after.journal) (sym still.plan) (subst (IsReplay before.plan) (sym still.journal) (is_replay before place is))
 
-pub it_stops : (run : RunView) (place : Place) → IsReplaying run place → Stops run.plan run.journal
+pub it_stops : (run : RunView) (place : OrderPlace) → IsReplaying run place → Stops run.plan run.journal
 it_stops run place is = is.stops
 
-pub still_stops : (before after : RunView) (place : Place) → IsReplaying before place → IsUnmoved before after → Stops after.plan after.journal
+pub still_stops : (before after : RunView) (place : OrderPlace) → IsReplaying before place → IsUnmoved before after → Stops after.plan after.journal
 still_stops before after place is still = subst (λ (p : PlanData). Stops p after.journal) (sym still.plan) (subst (Stops before.plan) (sym still.journal) is.stops)
 
 -- a run that has as many turns as the plan allows is over

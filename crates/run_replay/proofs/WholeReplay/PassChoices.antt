@@ -47,7 +47,7 @@ client_at plan place from within =
 pub few_actors : (plan : PlanData) → length plan.clients ≤ 64 → length (actors plan) ≤ 70
 few_actors plan few = let count : length plan.clients + 6 ≡ length (actors plan) = actor_count plan in omega (arith, count, few)
 
-taken_first : (ready : Actor → Bool) (actor : Actor) (others : List Actor) → ready actor ≡ true → first_ready ready (actor ∷ others) ≡ Some (record { actor = actor; behind = others })
+taken_first : (ready : Actor → Bool) (actor : Actor) (others : List Actor) → ready actor ≡ true → first_ready ready (actor ∷ others) ≡ Some (record { actor = actor; following = others })
 unfolding first_ready
 taken_first ready actor others so = rw so refl
 
@@ -55,7 +55,7 @@ passed_first : (ready : Actor → Bool) (actor : Actor) (others : List Actor) �
 unfolding first_ready
 passed_first ready actor others none = rw none refl
 
-actor_taken : (ready : Actor → Bool) (all : List Actor) (place : ℕ) (actor : Actor) → slice_get all place ≡ Some actor → ready actor ≡ true → first_ready ready (drop place all) ≡ Some (record { actor = actor; behind = drop (place + 1) all })
+actor_taken : (ready : Actor → Bool) (all : List Actor) (place : ℕ) (actor : Actor) → slice_get all place ≡ Some actor → ready actor ≡ true → first_ready ready (drop place all) ≡ Some (record { actor = actor; following = drop (place + 1) all })
 actor_taken ready all place actor is so = ap (first_ready ready) (left_here all place actor is) ∙ taken_first ready actor (drop (place + 1) all) so
 
 -- one that isn't

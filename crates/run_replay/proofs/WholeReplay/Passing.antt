@@ -7,14 +7,14 @@ use Rattle.base_script.specs.declared.actor.Actor.TheVariants.{Op}
 use Rattle.server_model.specs.declared.entry.Asked.{Asked}
 use Rattle.server_model.specs.declared.entry.Entry.{Entry}
 use Rattle.plan_data.specs.PlanData.{PlanData}
-use Rattle.tool_program.specs.JournalWords.Keeping.{cut_due}
+use Rattle.tool_program.specs.JournalWords.KeptPlans.{cut_due}
 use Rattle.tool_program.specs.Orders.{actors, is_ready, Queue, Choice, Found, first_ready, from_pass, from_round, from_words, chosen}
 use Rattle.tool_program.specs.Programs.{given}
 use Rattle.run_turns.specs.DueTurns.Due.{given_turn, due_by, due}
 use Rattle.run_turns.specs.declared.run.Stepped.{Stepped}
 use Rattle.run_turns.specs.declared.run.Stepped.TheVariants.{Took, Idle, Over, NoMemory}
 use Rattle.run_turns.specs.Runs.{RunView, Steps}
-use Rattle.run_replay.specs.declared.whole_replay.place.Place.{Place}
+use Rattle.run_replay.specs.declared.whole_replay.place.OrderPlace.{OrderPlace}
 use Rattle.run_replay.specs.declared.whole_replay.place.NextTurn.{NextTurn}
 use Rattle.run_replay.specs.WholeReplay.Places.{queue_of, choice_of}
 use Rattle.run_replay.specs.WholeReplay.Replays.{IsReplaying, GoesOn, Passes}
@@ -27,7 +27,7 @@ unfolding first_ready
 first_is_ready ready [] found is = absurd (cc)
 first_is_ready ready (actor ∷ others) found is = by (ready actor) refl is (first_is_ready ready others found)
   where
-    by : (b : Bool) → ready actor ≡ b → cond b (Some (record { actor = actor; behind = others })) (first_ready ready others) ≡ Some found → (first_ready ready others ≡ Some found → ready found.actor ≡ true) → ready found.actor ≡ true
+    by : (b : Bool) → ready actor ≡ b → cond b (Some (record { actor = actor; following = others })) (first_ready ready others) ≡ Some found → (first_ready ready others ≡ Some found → ready found.actor ≡ true) → ready found.actor ≡ true
     by true so same rest = let one : actor ≡ found.actor = cc in subst (λ (a : Actor). ready a ≡ true) one so
     by false so same rest = rest same
 
@@ -72,15 +72,15 @@ ready_is_due plan journal actor uncut ready none = by (cut_due plan journal) unc
 -- THE ANSWERS
 
 -- a loss between calls
-pub pass_cut : (before : RunView) (place : Place) (stepped : Stepped) (after : RunView) → IsReplaying before place → is_some (cut_due before.plan before.journal) ≡ true → Steps before Op stepped after → Passes before stepped after place
+pub pass_cut : (before : RunView) (place : OrderPlace) (stepped : Stepped) (after : RunView) → IsReplaying before place → is_some (cut_due before.plan before.journal) ≡ true → Steps before Op stepped after → Passes before stepped after place
 pass_cut before place Took after is cut steps = cut_taken before Op after place is steps.1 steps.0 cut
 pass_cut before place Idle after is cut steps = absurd (cut_is_due before.plan before.journal Op cut steps.1)
 pass_cut before place Over after is cut steps = steps
 pass_cut before place NoMemory after is cut steps = steps.2
 
 -- the next actor's turn
-pub pass_turn : (before : RunView) (place : Place) (next : NextTurn) (stepped : Stepped) (after : RunView) → IsReplaying before place → is_some (cut_due before.plan before.journal) ≡ false → Some (choice_of before.plan next) ≡ chosen before.plan before.journal (queue_of before.plan place)
-    → Steps before next.actor stepped after → Passes before stepped after next.behind
+pub pass_turn : (before : RunView) (place : OrderPlace) (next : NextTurn) (stepped : Stepped) (after : RunView) → IsReplaying before place → is_some (cut_due before.plan before.journal) ≡ false → Some (choice_of before.plan next) ≡ chosen before.plan before.journal (queue_of before.plan place)
+    → Steps before next.actor stepped after → Passes before stepped after next.following
 pass_turn before place next Took after is uncut chooses steps = turn_taken before next.actor after place is steps.1 steps.0 next uncut chooses refl
 pass_turn before place next Idle after is uncut chooses steps =
     absurd (ready_is_due before.plan before.journal next.actor uncut (chosen_ready before.plan before.journal (queue_of before.plan place) (choice_of before.plan next) (sym chooses)) steps.1)
@@ -88,5 +88,5 @@ pass_turn before place next Over after is uncut chooses steps = steps
 pass_turn before place next NoMemory after is uncut chooses steps = steps.2
 
 -- nobody is ready
-pub pass_stalls : (run : RunView) (place : Place) → IsReplaying run place → is_some (cut_due run.plan run.journal) ≡ false → None ≡ chosen run.plan run.journal (queue_of run.plan place) → Passes run Idle run place
+pub pass_stalls : (run : RunView) (place : OrderPlace) → IsReplaying run place → is_some (cut_due run.plan run.journal) ≡ false → None ≡ chosen run.plan run.journal (queue_of run.plan place) → Passes run Idle run place
 pass_stalls run place is uncut chooses = (stalls run place is uncut chooses, refl)

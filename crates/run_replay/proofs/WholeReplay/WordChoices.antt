@@ -22,17 +22,17 @@ unfolding first_ready
 unready ready zero actor others none = refl
 unready ready (suc times) actor others none = rw none (unready ready times actor others none)
 
-one_less : (ready : Actor → Bool) (times less : ℕ) (actor : Actor) (others : List Actor) → times ≡ suc less → ready actor ≡ true → first_ready ready (repeat times (actor ∷ []) ++ others) ≡ Some (record { actor = actor; behind = repeat less (actor ∷ []) ++ others })
+one_less : (ready : Actor → Bool) (times less : ℕ) (actor : Actor) (others : List Actor) → times ≡ suc less → ready actor ≡ true → first_ready ready (repeat times (actor ∷ []) ++ others) ≡ Some (record { actor = actor; following = repeat less (actor ∷ []) ++ others })
 unfolding first_ready
 one_less ready times less actor others is so = rw (is, so) refl
 
-taken_at : (ready : Actor → Bool) (used : ℕ) (run : ActorRun) (runs : List ActorRun) → used < run.times → ready run.actor ≡ true → first_ready ready (words_from used (run ∷ runs)) ≡ Some (record { actor = run.actor; behind = words_from (used + 1) (run ∷ runs) })
+taken_at : (ready : Actor → Bool) (used : ℕ) (run : ActorRun) (runs : List ActorRun) → used < run.times → ready run.actor ≡ true → first_ready ready (words_from used (run ∷ runs)) ≡ Some (record { actor = run.actor; following = words_from (used + 1) (run ∷ runs) })
 unfolding words_from
 taken_at ready used run runs within so = let less : run.times - used ≡ suc (run.times - (used + 1)) = omega (arith, within) in one_less ready (run.times - used) (run.times - (used + 1)) run.actor (turns_in runs) less so
 
 -- a word whose actor is ready
 word_taken : (ready : Actor → Bool) (used index : ℕ) (runs : List ActorRun) (run : ActorRun) → slice_get runs index ≡ Some run → used < run.times → ready run.actor ≡ true
-    → first_ready ready (words_from used (drop index runs)) ≡ Some (record { actor = run.actor; behind = words_from (used + 1) (drop index runs) })
+    → first_ready ready (words_from used (drop index runs)) ≡ Some (record { actor = run.actor; following = words_from (used + 1) (drop index runs) })
 word_taken ready used index runs run is within so = rw (left_here runs index run is) (taken_at ready used run (drop (index + 1) runs) within so)
 
 spent_at : (ready : Actor → Bool) (used : ℕ) (run : ActorRun) (runs : List ActorRun) → run.times ≤ used → first_ready ready (words_from used (run ∷ runs)) ≡ first_ready ready (words_from 0 runs)

@@ -5,7 +5,7 @@ ghost use Rattle.tool_program.specs.Orders.{chosen};
 ghost use Rattle.run_replay.specs.WholeReplay.Places.{queue_of, choice_of};
 
 use crate::whole_replay::passes::next_in_pass;
-use crate::whole_replay::place::{NextTurn, Place};
+use crate::whole_replay::place::{NextTurn, OrderPlace};
 use crate::whole_replay::words::next_word;
 use run_turns::Run;
 use server_api::Serve;
@@ -13,7 +13,7 @@ use server_api::Serve;
 /// The actor whose turn comes next: that of the first word whose actor is ready; else the first ready one of the pass, else of
 /// the next pass.
 #[tactic(auto, using(crate::proofs::WholeReplay::Choices::by_words, crate::proofs::WholeReplay::Choices::by_round, crate::proofs::WholeReplay::Choices::by_pass))]
-pub(crate) fn choose<V: Serve>(run: &Run<'_, V>, place: Place) -> Option<NextTurn>
+pub(crate) fn choose<V: Serve>(run: &Run<'_, V>, place: OrderPlace) -> Option<NextTurn>
     ensures { option_map (choice_of run.now.plan) result ≡ chosen run.now.plan run.now.journal (queue_of run.now.plan place) }
 {
     if let Some(next) = next_word(run, place) {

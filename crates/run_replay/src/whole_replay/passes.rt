@@ -4,7 +4,7 @@ ghost use Rattle.std.specs.Prelude.{◌≡◌, ◌<◌, drop, length, slice_get,
 ghost use Rattle.tool_program.specs.Orders.{actors, is_ready, first_ready, from_pass};
 ghost use Rattle.run_replay.specs.WholeReplay.Places.{choice_of};
 
-use crate::whole_replay::place::{NextTurn, Place};
+use crate::whole_replay::place::{NextTurn, OrderPlace};
 use crate::whole_replay::words::run_count;
 use base_script::Actor;
 use run_turns::Run;
@@ -48,7 +48,7 @@ pub(crate) fn next_in_pass<V: Serve>(run: &Run<'_, V>, from: usize) -> Option<Ne
         if run.ready(actor) {
             return Some(NextTurn {
                 actor,
-                behind: Place {
+                following: OrderPlace {
                     run: words,
                     used: 0,
                     actor: place + 1,

@@ -4,7 +4,7 @@ use base_script::Actor;
 
 /// What is left of a replay's order: the plan's words from one on, and the actors of a pass from one on.
 #[derive(Clone, Copy)]
-pub(crate) struct Place {
+pub(crate) struct OrderPlace {
     /// The plan's run of words that comes next.
     pub(crate) run: usize,
     /// How many of its words are done.
@@ -19,5 +19,5 @@ pub(crate) struct NextTurn {
     /// Whose turn it is.
     pub(crate) actor: Actor,
     /// What is left after its turn.
-    pub(crate) behind: Place,
+    pub(crate) following: OrderPlace,
 }

@@ -2,7 +2,7 @@
 
 ghost use Rattle.std.specs.Prelude.{◌≡◌, ◌≢◌, None, true};
 ghost use Rattle.tool_program.specs.JournalWords.Journals.{state_at};
-ghost use Rattle.tool_program.specs.JournalWords.Keeping.{cut_due};
+ghost use Rattle.tool_program.specs.JournalWords.KeptPlans.{cut_due};
 ghost use Rattle.tool_program.specs.Orders.{next_actor, IsReplay};
 ghost use Rattle.run_turns.specs.Runs.{is_over, Stops};
 ghost use Rattle.run_replay.specs.declared.whole_replay.replays.Replayed.TheVariants as replayed;
@@ -10,7 +10,7 @@ ghost use Rattle.run_replay.specs.WholeReplay.Replays.{IsFresh, IsReplaying, Pas
 
 use crate::whole_replay::choice::choose;
 use crate::whole_replay::passes::actor_count;
-use crate::whole_replay::place::Place;
+use crate::whole_replay::place::OrderPlace;
 use base_script::Actor;
 use run_turns::{Run, Stepped};
 use server_api::Serve;
@@ -29,7 +29,7 @@ pub enum Replayed {
 /// Takes the turn that comes next: a loss between calls where one is due, which uses up no word and no place; else the next
 /// actor's.
 #[tactic(auto, using(crate::proofs::WholeReplay::Passing::pass_cut, crate::proofs::WholeReplay::Passing::pass_turn, crate::proofs::WholeReplay::Passing::pass_stalls))]
-fn pass<V: Serve>(run: &mut Run<'_, V>, place: &mut Place) -> Stepped
+fn pass<V: Serve>(run: &mut Run<'_, V>, place: &mut OrderPlace) -> Stepped
     requires { IsReplaying run.old place.old }
     ensures { Passes run.old result run.new place.new }
 {
@@ -44,7 +44,7 @@ fn pass<V: Serve>(run: &mut Run<'_, V>, place: &mut Place) -> Stepped
     };
     match run.step(next.actor) {
         Stepped::Took => {
-            *place = next.behind;
+            *place = next.following;
             Stepped::Took
         }
         Stepped::Idle => Stepped::Idle,
@@ -65,7 +65,7 @@ pub fn replay<V: Serve>(run: &mut Run<'_, V>) -> Replayed
     ensures stalled { result ≡ replayed.Stalled → IsStalled run.new.plan run.new.journal }
     ensures server { result ≢ replayed.NoMemory → run.new.server ≡ state_at run.new.plan run.new.journal }
 {
-    let mut place = Place {
+    let mut place = OrderPlace {
         run: 0,
         used: 0,
         actor: actor_count(run),

@@ -4,7 +4,7 @@ ghost use Rattle.std.specs.Prelude.{◌≡◌, ◌<◌, ◌&&◌, nat_lt, length
 ghost use Rattle.tool_program.specs.Orders.{is_ready, first_ready};
 ghost use Rattle.run_replay.specs.WholeReplay.Places.{queue_of, choice_of, by_word};
 
-use crate::whole_replay::place::{NextTurn, Place};
+use crate::whole_replay::place::{NextTurn, OrderPlace};
 use plan_data::ActorRun;
 use run_turns::Run;
 use server_api::Serve;
@@ -33,7 +33,7 @@ fn is_next<V: Serve>(run: &Run<'_, V>, words: ActorRun, used: u32) -> bool
 
 /// The actor of the first word that is left whose actor is ready; none where there is none.
 #[tactic(auto, using(crate::proofs::WholeReplay::WordChoices::by_taken, crate::proofs::WholeReplay::WordChoices::run_passed, crate::proofs::WholeReplay::WordChoices::by_spent))]
-pub(crate) fn next_word<V: Serve>(run: &Run<'_, V>, place: Place) -> Option<NextTurn>
+pub(crate) fn next_word<V: Serve>(run: &Run<'_, V>, place: OrderPlace) -> Option<NextTurn>
     ensures { option_map (choice_of run.now.plan) result ≡ by_word (queue_of run.now.plan place).round (first_ready (is_ready run.now.plan run.now.journal) (queue_of run.now.plan place).words) }
 {
     let mut used = place.used;
@@ -42,7 +42,7 @@ pub(crate) fn next_word<V: Serve>(run: &Run<'_, V>, place: Place) -> Option<Next
         if is_next(run, words, used) {
             return Some(NextTurn {
                 actor: words.actor,
-                behind: Place {
+                following: OrderPlace {
                     run: index,
                     used: used + 1,
                     actor: place.actor,

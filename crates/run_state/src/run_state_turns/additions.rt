@@ -5,9 +5,9 @@ ghost use Rattle.base_script.specs.declared.actor.Actor.TheVariants.{Client};
 ghost use Rattle.server_model.specs.States.{load, has_work};
 ghost use Rattle.tool_program.specs.JournalWords.Journals.{after_entry};
 ghost use Rattle.tool_program.specs.Tools.{moment};
-ghost use Rattle.tool_program.specs.ToolSetup.Meanings.{range_told};
+ghost use Rattle.tool_program.specs.ToolSetup.Meanings.{range_reported};
 ghost use Rattle.tool_state.specs.ToolState.Sound.{HasRoom};
-ghost use Rattle.proof_journals.specs.Run.Counting.{busy_count};
+ghost use Rattle.proof_journals.specs.Run.Counts.{busy_count};
 ghost use Rattle.run_state.specs.Books.{is_planned, actor_state_in, renames_of, AreReached, HasRoomFor, IsRunState};
 
 use crate::{RunState, script_of};
@@ -83,15 +83,15 @@ fn renames(run_state: &RunState<'_>, actor: Actor) -> bool
 
 /// Keeps what the next turn changes.
 #[tactic(auto, using(crate::proofs::ActorStates::renames_is))]
-fn keep(run_state: &mut RunState<'_>, entry: &Entry, told: TurnFacts)
+fn keep(run_state: &mut RunState<'_>, entry: &Entry, facts: TurnFacts)
     requires run_state { IsRunState run_state.old.plan.now run_state.old.journal.items run_state.old }
     requires planned { is_planned run_state.old.plan.now entry.now.actor ≡ true }
     requires few { length run_state.old.journal.items + 1 < 2 ^ 32 }
     requires room { HasRoom run_state.old.tool }
-    requires range { told.range ≡ range_told entry.now.answer }
-    requires work { told.had_work ≡ has_work (moment run_state.old.plan.now run_state.old.journal.items).server entry.now.session }
-    requires load { told.load ≡ load (after_entry (moment run_state.old.plan.now run_state.old.journal.items).server entry.now) }
-    requires busy { told.busy ≡ busy_count (after_entry (moment run_state.old.plan.now run_state.old.journal.items).server entry.now) }
+    requires range { facts.range ≡ range_reported entry.now.answer }
+    requires work { facts.had_work ≡ has_work (moment run_state.old.plan.now run_state.old.journal.items).server entry.now.session }
+    requires load { facts.load ≡ load (after_entry (moment run_state.old.plan.now run_state.old.journal.items).server entry.now) }
+    requires busy { facts.busy ≡ busy_count (after_entry (moment run_state.old.plan.now run_state.old.journal.items).server entry.now) }
     ensures run_state { IsRunState run_state.old.plan.now (run_state.old.journal.items ++ entry.now ∷ []) run_state.new }
     ensures plan { run_state.new.plan.now ≡ run_state.old.plan.now }
     ensures journal { run_state.new.journal ≡ run_state.old.journal }
@@ -99,29 +99,31 @@ fn keep(run_state: &mut RunState<'_>, entry: &Entry, told: TurnFacts)
     let plan = run_state.plan;
     let takes_away = renames(run_state, entry.actor);
     let alters = is_alter_turn(plan.table(), entry, takes_away);
-    run_state.tool.took(plan, entry, told.range, told.had_work);
+    run_state
+        .tool
+        .took(plan, entry, facts.range, facts.had_work);
     clients_took(run_state, entry);
     take_turn(&mut run_state.actor_states, plan.table(), entry);
-    run_state.load = told.load;
-    run_state.busy = told.busy;
+    run_state.load = facts.load;
+    run_state.busy = facts.busy;
     run_state.is_altered = run_state.is_altered || alters;
 }
 
 /// Writes the next turn after the others, and keeps what it changes.
 #[tactic(auto, using(crate::proofs::Keeping::written))]
-pub fn take(run_state: &mut RunState<'_>, entry: Entry, told: TurnFacts)
+pub fn take(run_state: &mut RunState<'_>, entry: Entry, facts: TurnFacts)
     requires run_state { IsRunState run_state.old.plan.now run_state.old.journal.items run_state.old }
     requires planned { is_planned run_state.old.plan.now entry.actor ≡ true }
     requires few { length run_state.old.journal.items + 1 < 2 ^ 32 }
     requires room { HasRoomFor run_state.old }
-    requires range { told.range ≡ range_told entry.answer }
-    requires work { told.had_work ≡ has_work (moment run_state.old.plan.now run_state.old.journal.items).server entry.session }
-    requires load { told.load ≡ load (after_entry (moment run_state.old.plan.now run_state.old.journal.items).server entry) }
-    requires busy { told.busy ≡ busy_count (after_entry (moment run_state.old.plan.now run_state.old.journal.items).server entry) }
+    requires range { facts.range ≡ range_reported entry.answer }
+    requires work { facts.had_work ≡ has_work (moment run_state.old.plan.now run_state.old.journal.items).server entry.session }
+    requires load { facts.load ≡ load (after_entry (moment run_state.old.plan.now run_state.old.journal.items).server entry) }
+    requires busy { facts.busy ≡ busy_count (after_entry (moment run_state.old.plan.now run_state.old.journal.items).server entry) }
     ensures run_state { IsRunState run_state.old.plan.now (run_state.old.journal.items ++ entry ∷ []) run_state.new }
     ensures plan { run_state.new.plan.now ≡ run_state.old.plan.now }
     ensures journal { run_state.new.journal.items ≡ run_state.old.journal.items ++ entry ∷ [] }
 {
-    keep(run_state, &entry, told);
+    keep(run_state, &entry, facts);
     run_state.journal.push_reserved(entry);
 }

@@ -18,7 +18,7 @@ use Rattle.server_model.specs.Entries.{is_cut}
 use Rattle.plan_data.specs.PlanData.{PlanData}
 use Rattle.tool_program.specs.JournalWords.Clients.{client_at, line_asks, client_asks}
 use Rattle.tool_program.specs.JournalWords.Journals.{turns_of, may_lose}
-use Rattle.tool_program.specs.JournalWords.Keeping.{words_of, or_first, cut_by, cut_among, cut_due, struck_among, side_due}
+use Rattle.tool_program.specs.JournalWords.KeptPlans.{words_of, or_first, cut_by, cut_among, cut_due, struck_among, side_due}
 use Rattle.tool_program.specs.JournalWords.Sessions.{live_session}
 use Rattle.tool_program.specs.Tools.{moment}
 use Rattle.tool_program.specs.Programs.{waits, tool_call, calls, commands, tool_asks, given}
@@ -70,7 +70,7 @@ asked_called false request asked is = calls_called request asked is
 
 tool_called : (plan : PlanData) (journal : List Entry) (actor : Actor) (asked : Asked) → tool_asks plan journal (moment plan journal) actor ≡ Some asked → may_lose asked ≡ true
 tool_called plan journal actor asked is =
-    asked_called (waits (moment plan journal).server (live_session journal actor)) (tool_call plan (moment plan journal).server journal (moment plan journal).tool (moment plan journal).tool.course actor) asked is
+    asked_called (waits (moment plan journal).server (live_session journal actor)) (tool_call plan (moment plan journal).server journal (moment plan journal).tool (moment plan journal).tool.tool_phase actor) asked is
 
 -- it is the operator's command, or else a call or a poll
 pub data Asks (actor : Actor) (asked : Asked) : Type 0 where

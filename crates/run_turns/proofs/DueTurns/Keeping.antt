@@ -10,26 +10,26 @@ use Rattle.server_model.specs.declared.entry.Asked.TheVariants.{Call, Poll, Comm
 use Rattle.server_model.specs.declared.entry.Entry.{Entry}
 use Rattle.server_model.specs.Entries.{is_client, is_command, is_cut}
 use Rattle.server_model.specs.States.{State}
-use Rattle.server_model.specs.Serving.{given_at}
+use Rattle.server_model.specs.PlainServer.{given_at}
 use Rattle.plan_data.specs.PlanData.{PlanData}
 use Rattle.tool_program.specs.JournalWords.Journals.{opening, state_at, after_entry, inner_answer, heard, missed, may_lose, IsAnswered}
-use Rattle.tool_program.specs.JournalWords.Keeping.{side_due, TakesNext, IsStruck, IsPlanned}
+use Rattle.tool_program.specs.JournalWords.KeptPlans.{side_due, TakesNext, IsStruck, IsPlanned}
 use Rattle.tool_program.specs.JournalWords.Sessions.{live_session, sessions_named, IsInSession, IsNumbered, NumbersSessions}
 use Rattle.tool_program.specs.Programs.{given, IsGiven, IsFollowed}
-use Rattle.proof_journals.specs.Run.Counting.{IsAfter}
+use Rattle.proof_journals.specs.Run.Counts.{IsAfter}
 use Rattle.proof_journals.specs.Run.Kept.{IsKept}
 use Rattle.proof_journals.specs.Run.Laws.{Living}
 use Rattle.proof_journals.proofs.Run.Keeping.{kept_more, next_of}
 use Rattle.proof_journals.proofs.Journals.{state_more}
 use Rattle.proof_journals.proofs.Run.Living.{all_living}
 use Rattle.run_turns.specs.declared.due_turns.migration_run.turn.Turn.{Turn}
-use Rattle.run_turns.specs.DueTurns.MigrationRun.Turning.{answer_on, entry_on}
+use Rattle.run_turns.specs.DueTurns.MigrationRun.ServerTurns.{answer_on, entry_on}
 use Rattle.run_turns.specs.DueTurns.Due.{session_at, next_entry}
 use Rattle.run_turns.specs.DueTurns.Laws.{IsKeptWith, DueTurnsAreKept, DueTurnsAreNumbered}
 use Rattle.run_turns.proofs.DueTurns.Coming.{Comes, Cuts, Gives, comes, Asks, Commands, Called, given_asks, given_uncut, operator_unstruck, Lives, cut_lives}
 use Rattle.run_turns.proofs.DueTurns.Serving.{answers_same, after_more}
 
-module _ (plan : PlanData) (journal : List Entry) (server : State) (actor : Actor) (turn : Turn) (kept : IsKept plan journal) (behind : IsAfter (state_at plan journal) server) (comes_so : Comes plan journal actor turn) where
+module _ (plan : PlanData) (journal : List Entry) (server : State) (actor : Actor) (turn : Turn) (kept : IsKept plan journal) (following : IsAfter (state_at plan journal) server) (comes_so : Comes plan journal actor turn) where
   abbrev session : ℕ
   session = session_at turn.asked (live_session journal turn.actor) server.made
 
@@ -51,7 +51,7 @@ module _ (plan : PlanData) (journal : List Entry) (server : State) (actor : Acto
 
   same_answer : answer_on server session turn ≡ inner_answer (state_at plan journal) entry
   unfolding entry_on inner_answer
-  same_answer = ap (given_at turn.side turn.asked) (answers_same (state_at plan journal) server (is_command turn.asked) (not (is_client turn.actor)) session turn.asked behind)
+  same_answer = ap (given_at turn.side turn.asked) (answers_same (state_at plan journal) server (is_command turn.asked) (not (is_client turn.actor)) session turn.asked following)
 
   answered : IsAnswered (state_at plan journal) entry
   unfolding entry_on
@@ -86,7 +86,7 @@ module _ (plan : PlanData) (journal : List Entry) (server : State) (actor : Acto
   living = all_living plan journal kept.faithful kept.sessions
 
   new_number : sessions_named journal < server.made + 1
-  new_number = let named : (state_at plan journal).made ≡ sessions_named journal = living.named in omega (arith, named, behind.made)
+  new_number = let named : (state_at plan journal).made ≡ sessions_named journal = living.named in omega (arith, named, following.made)
 
   given_of : (asked : Asked) → given plan journal turn.actor ≡ Some asked → IsGiven plan journal entry asked
   unfolding entry_on
@@ -126,12 +126,12 @@ module _ (plan : PlanData) (journal : List Entry) (server : State) (actor : Acto
   pub turn_kept : IsKeptWith plan journal server entry
   turn_kept = record {
     kept = kept_more plan journal entry kept answered planned followed;
-    behind = subst (λ (s : State). IsAfter s (after_entry server entry)) (sym (state_more (opening plan) journal entry)) (after_more (state_at plan journal) server entry behind);
+    following = subst (λ (s : State). IsAfter s (after_entry server entry)) (sym (state_more (opening plan) journal entry)) (after_more (state_at plan journal) server entry following);
   }
 
 -- *Due turns are kept*
 pub turns_kept : DueTurnsAreKept
-turns_kept plan journal server actor turn kept behind is = turn_kept plan journal server actor turn kept behind (comes plan journal actor turn is)
+turns_kept plan journal server actor turn kept following is = turn_kept plan journal server actor turn kept following (comes plan journal actor turn is)
 
 numbered_so : (journal : List Entry) (entry : Entry) (made : ℕ) (asked : Asked) (live : Option ℕ) → made ≡ sessions_named journal → entry.session ≡ session_at asked live made → IsNumbered journal entry asked live
 numbered_so journal entry made (Command word) live named is = tt

@@ -5,9 +5,9 @@ use Rattle.server_model.specs.declared.entry.Asked.{Asked}
 use Rattle.server_model.specs.declared.entry.Entry.{Entry}
 use Rattle.server_model.specs.Entries.{is_client, is_command}
 use Rattle.server_model.specs.States.{State, session_of, connected}
-use Rattle.server_model.specs.Serving.{Served, serves, leaves}
+use Rattle.server_model.specs.PlainServer.{Served, serves, leaves}
 use Rattle.tool_program.specs.JournalWords.Journals.{opens_if, opens, after_entry}
-use Rattle.proof_journals.specs.Run.Counting.{numbered, IsAfter}
+use Rattle.proof_journals.specs.Run.Counts.{numbered, IsAfter}
 use Rattle.proof_journals.proofs.Run.Numbering.{serves_numbered, leaves_numbered}
 use Rattle.proof_journals.proofs.Run.Turns.{turn_leaves, opened}
 
@@ -25,38 +25,38 @@ opened_numbered nothing tool number made state = by (nothing || is_some (session
     by false = refl
 
 -- *The answer is the same*
-pub answers_same : (told server : State) (nothing tool : Bool) (number : ℕ) (asked : Asked) → IsAfter told server
-    → (serves (opens_if nothing tool number server) number asked).answer ≡ (serves (opens_if nothing tool number told) number asked).answer
-answers_same told server nothing tool number asked behind =
-    ap (λ (s : State). (serves (opens_if nothing tool number s) number asked).answer) behind.same
-    ∙ ap (λ (s : State). (serves s number asked).answer) (opened_numbered nothing tool number server.made told)
-    ∙ ap (λ (served : Served). served.answer) (serves_numbered (made_after (nothing || is_some (session_of number told.sessions)) server.made number) (opens_if nothing tool number told) number asked)
+pub answers_same : (reported server : State) (nothing tool : Bool) (number : ℕ) (asked : Asked) → IsAfter reported server
+    → (serves (opens_if nothing tool number server) number asked).answer ≡ (serves (opens_if nothing tool number reported) number asked).answer
+answers_same reported server nothing tool number asked following =
+    ap (λ (s : State). (serves (opens_if nothing tool number s) number asked).answer) following.same
+    ∙ ap (λ (s : State). (serves s number asked).answer) (opened_numbered nothing tool number server.made reported)
+    ∙ ap (λ (served : Served). served.answer) (serves_numbered (made_after (nothing || is_some (session_of number reported.sessions)) server.made number) (opens_if nothing tool number reported) number asked)
 
 -- *It stays behind*
-pub after_more : (told server : State) (entry : Entry) → IsAfter told server → IsAfter (after_entry told entry) (after_entry server entry)
-after_more told server entry behind = record { made = subst (λ (n : ℕ). (after_entry told entry).made ≤ n) (sym made_is) below; same = same ∙ ap (λ (n : ℕ). numbered n (after_entry told entry)) (sym made_is) }
+pub after_more : (reported server : State) (entry : Entry) → IsAfter reported server → IsAfter (after_entry reported entry) (after_entry server entry)
+after_more reported server entry following = record { made = subst (λ (n : ℕ). (after_entry reported entry).made ≤ n) (sym made_is) below; same = same ∙ ap (λ (n : ℕ). numbered n (after_entry reported entry)) (sym made_is) }
   where
     there : Bool
-    there = is_command entry.asked || is_some (session_of entry.session told.sessions)
+    there = is_command entry.asked || is_some (session_of entry.session reported.sessions)
 
     more : ℕ
     more = made_after there server.made entry.session
 
-    same : after_entry server entry ≡ numbered more (after_entry told entry)
+    same : after_entry server entry ≡ numbered more (after_entry reported entry)
     same =
-        ap (λ (s : State). after_entry s entry) behind.same
-        ∙ ap (λ (s : State). leaves entry.side s entry.session entry.asked) (opened_numbered (is_command entry.asked) (not (is_client entry.actor)) entry.session server.made told)
-        ∙ leaves_numbered entry.side more (opens entry told) entry.session entry.asked
+        ap (λ (s : State). after_entry s entry) following.same
+        ∙ ap (λ (s : State). leaves entry.side s entry.session entry.asked) (opened_numbered (is_command entry.asked) (not (is_client entry.actor)) entry.session server.made reported)
+        ∙ leaves_numbered entry.side more (opens entry reported) entry.session entry.asked
 
     made_is : (after_entry server entry).made ≡ more
     made_is = ap (λ (s : State). s.made) same
 
-    told_is : (after_entry told entry).made ≡ made_after there told.made entry.session
-    told_is = (turn_leaves entry.side (opens entry told) entry.session entry.asked).made ∙ (opened (is_command entry.asked) (not (is_client entry.actor)) entry.session told).made
+    reported_is : (after_entry reported entry).made ≡ made_after there reported.made entry.session
+    reported_is = (turn_leaves entry.side (opens entry reported) entry.session entry.asked).made ∙ (opened (is_command entry.asked) (not (is_client entry.actor)) entry.session reported).made
 
-    grows : (b : Bool) → made_after b told.made entry.session ≤ made_after b server.made entry.session
-    grows true = behind.made
-    grows false = omega (arith, behind.made)
+    grows : (b : Bool) → made_after b reported.made entry.session ≤ made_after b server.made entry.session
+    grows true = following.made
+    grows false = omega (arith, following.made)
 
-    below : (after_entry told entry).made ≤ more
-    below = subst (λ (n : ℕ). n ≤ more) (sym told_is) (grows there)
+    below : (after_entry reported entry).made ≤ more
+    below = subst (λ (n : ℕ). n ≤ more) (sym reported_is) (grows there)

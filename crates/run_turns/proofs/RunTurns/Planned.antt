@@ -8,7 +8,7 @@ use Rattle.server_model.specs.declared.entry.Asked.{Asked}
 use Rattle.server_model.specs.declared.entry.Entry.{Entry}
 use Rattle.plan_data.specs.PlanData.{PlanData}
 use Rattle.tool_program.specs.JournalWords.Clients.{script_of, client_asks}
-use Rattle.tool_program.specs.JournalWords.Keeping.{cut_due}
+use Rattle.tool_program.specs.JournalWords.KeptPlans.{cut_due}
 use Rattle.tool_program.specs.JournalWords.Sessions.{live_session}
 use Rattle.tool_program.specs.Orders.{is_ready}
 use Rattle.tool_program.specs.Programs.{given}

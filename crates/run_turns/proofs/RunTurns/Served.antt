@@ -12,22 +12,22 @@ use Rattle.server_model.specs.declared.entry.Asked.{Asked}
 use Rattle.server_model.specs.declared.entry.Asked.TheVariants.{Call, Poll, Command, Cut}
 use Rattle.server_model.specs.declared.entry.Entry.{Entry}
 use Rattle.server_model.specs.Entries.{is_client, is_command}
-use Rattle.server_model.specs.Serving.{serves, leaves, given_at}
+use Rattle.server_model.specs.PlainServer.{serves, leaves, given_at}
 use Rattle.server_model.specs.States.{State, has_work, load}
 use Rattle.plan_data.specs.PlanData.{PlanData}
 use Rattle.tool_program.specs.JournalWords.Journals.{opening, opens_if, state_after, state_at, after_entry, heard, missed, IsAnswered}
-use Rattle.tool_program.specs.JournalWords.Keeping.{side_due}
+use Rattle.tool_program.specs.JournalWords.KeptPlans.{side_due}
 use Rattle.tool_program.specs.JournalWords.Sessions.{live_session}
 use Rattle.tool_program.specs.Programs.{IsFollowed, Follows}
 use Rattle.tool_program.specs.Tools.{moment}
-use Rattle.proof_journals.specs.Run.Counting.{numbered, IsAfter, busy_count}
+use Rattle.proof_journals.specs.Run.Counts.{numbered, IsAfter, busy_count}
 use Rattle.proof_journals.proofs.Run.Keeping.{kept_none}
 use Rattle.proof_journals.proofs.Run.Taking.{server_is}
 use Rattle.proof_journals.proofs.Run.Living.{never_lost}
 use Rattle.proof_journals.specs.Machine.Runnable.{IsRunnable}
 use Rattle.run_turns.specs.declared.due_turns.migration_run.counting.Counts.{Counts}
 use Rattle.run_turns.specs.declared.due_turns.migration_run.turn.Turn.{Turn}
-use Rattle.run_turns.specs.DueTurns.MigrationRun.Turning.{session_for, made_for, opened_on, entry_on, counts_of, MayTurn}
+use Rattle.run_turns.specs.DueTurns.MigrationRun.ServerTurns.{session_for, made_for, opened_on, entry_on, counts_of, MayTurn}
 use Rattle.run_turns.proofs.DueTurns.MigrationRun.Counted.{entry_same}
 use Rattle.run_state.specs.declared.run_state.RunState.{RunState}
 use Rattle.run_state.specs.Books.{is_planned, IsRunState}
@@ -36,10 +36,10 @@ use Rattle.run_turns.specs.DueTurns.Laws.{IsKeptWith}
 use Rattle.run_turns.proofs.DueTurns.Coming.{Comes, Cuts, Gives, comes, Asks, Commands, Called, given_asks, operator_unstruck}
 use Rattle.run_turns.proofs.DueTurns.Keeping.{turns_kept}
 use Rattle.run_turns.proofs.DueTurns.Serving.{after_more}
-use Rattle.run_turns.specs.DueTurns.DueCalls.Ranges.{ahead_of, IsTold}
+use Rattle.run_turns.specs.DueTurns.DueCalls.Ranges.{ahead_of, IsReported}
 use Rattle.run_turns.proofs.DueTurns.DueCalls.Asking.{turns_may_be}
 use Rattle.run_turns.proofs.DueTurns.DueCalls.Telling.{ranges_ahead}
-use Rattle.run_turns.specs.RunTurns.Running.{IsDue, IsRun}
+use Rattle.run_turns.specs.RunTurns.Invariants.{IsDue, IsRun}
 use Rattle.run_turns.proofs.RunTurns.Planned.{due_planned}
 
 -- THE SESSION
@@ -83,20 +83,20 @@ command_side plan journal turn due_so command = by (comes plan journal due_so.ac
 counts_same : (made : ℕ) (state : State) → counts_of (numbered made state) ≡ counts_of state
 counts_same made state = refl
 
-pub counts_after : (told server : State) → IsAfter told server → counts_of server ≡ counts_of told
-counts_after told server behind = ap counts_of behind.same ∙ counts_same server.made told
+pub counts_after : (reported server : State) → IsAfter reported server → counts_of server ≡ counts_of reported
+counts_after reported server following = ap counts_of following.same ∙ counts_same server.made reported
 
 work_same : (made : ℕ) (state : State) (session : ℕ) → has_work (numbered made state) session ≡ has_work state session
 work_same made state session = refl
 
-pub work_after : (told server : State) (session : ℕ) → IsAfter told server → has_work server session ≡ has_work told session
-work_after told server session behind = ap (λ (s : State). has_work s session) behind.same ∙ work_same server.made told session
+pub work_after : (reported server : State) (session : ℕ) → IsAfter reported server → has_work server session ≡ has_work reported session
+work_after reported server session following = ap (λ (s : State). has_work s session) following.same ∙ work_same server.made reported session
 
 tables_same : (made : ℕ) (state : State) → (numbered made state).tables ≡ state.tables
 tables_same made state = refl
 
-pub tables_after : (told server : State) → IsAfter told server → server.tables ≡ told.tables
-tables_after told server behind = ap (λ (s : State). s.tables) behind.same ∙ tables_same server.made told
+pub tables_after : (reported server : State) → IsAfter reported server → server.tables ≡ reported.tables
+tables_after reported server following = ap (λ (s : State). s.tables) following.same ∙ tables_same server.made reported
 
 pub run_state_counts : (plan : PlanData) (journal : List Entry) (run_state : RunState) (sessions : ℕ) (server : State) (counts : Counts) → IsRun plan journal run_state sessions server → counts.load ≡ run_state.load → counts.busy ≡ run_state.busy → counts ≡ counts_of server
 run_state_counts plan journal run_state sessions server counts run loads busies = both (loads ∙ run.run_state.load ∙ now_load) (busies ∙ run.run_state.busy ∙ now_busy)
@@ -124,14 +124,14 @@ may_turn plan journal run_state sessions server turn run due_so called less = tu
 pub command_is : (state : State) (turn : Turn) → is_command turn.asked ≡ true → turn.side ≡ None → record { actor = turn.actor; session = 0; asked = turn.asked; side = None; answer = answers.Ok 0; missed = None } ≡ entry_on state 0 turn
 command_is state turn command none =
     entry_same state 0 turn _ refl refl refl (sym none)
-    (sym (ap (λ (side : Option Side). heard side (given_at side turn.asked (serves (opened_on state 0 turn) 0 turn.asked).answer)) none ∙ told turn.asked (opened_on state 0 turn) command))
+    (sym (ap (λ (side : Option Side). heard side (given_at side turn.asked (serves (opened_on state 0 turn) 0 turn.asked).answer)) none ∙ reported turn.asked (opened_on state 0 turn) command))
     (sym (ap (λ (side : Option Side). missed side (given_at side turn.asked (serves (opened_on state 0 turn) 0 turn.asked).answer)) none))
   where
-    told : (asked : Asked) (server : State) → is_command asked ≡ true → heard None (given_at None asked (serves server 0 asked).answer) ≡ answers.Ok 0
-    told (Command word) server is = refl
-    told (Call request) server is = absurd (false≢true is)
-    told Poll server is = absurd (false≢true is)
-    told Cut server is = absurd (false≢true is)
+    reported : (asked : Asked) (server : State) → is_command asked ≡ true → heard None (given_at None asked (serves server 0 asked).answer) ≡ answers.Ok 0
+    reported (Command word) server is = refl
+    reported (Call request) server is = absurd (false≢true is)
+    reported Poll server is = absurd (false≢true is)
+    reported Cut server is = absurd (false≢true is)
 
 pub entry_of_command : (journal : List Entry) (server : State) (turn : Turn) → is_command turn.asked ≡ true → entry_on server 0 turn ≡ next_entry journal server turn
 entry_of_command journal server turn command = ap (λ (n : ℕ). entry_on server n turn) (sym (command_session turn.asked (live_session journal turn.actor) server.made command))
@@ -149,8 +149,8 @@ module _ (plan : PlanData) (journal : List Entry) (run_state : RunState) (sessio
   abbrev entry : Entry
   entry = next_entry journal server turn
 
-  abbrev told : State
-  told = state_at plan journal
+  abbrev reported : State
+  reported = state_at plan journal
 
   with : IsKeptWith plan journal server entry
   with = turns_kept plan journal server due_so.actor turn run.kept run.server due_so.is
@@ -166,7 +166,7 @@ module _ (plan : PlanData) (journal : List Entry) (run_state : RunState) (sessio
   along_last keeps before [] last kept = subst (λ all. keeps all last) (sym (append-nil before)) kept.0
   along_last keeps before (first ∷ entries) last kept = subst (λ all. keeps all last) (append_assoc before (first ∷ []) entries) (along_last keeps (before ++ first ∷ []) entries last kept.1)
 
-  answered : IsAnswered told entry
+  answered : IsAnswered reported entry
   answered = along_last (λ before one. IsAnswered (state_at plan before) one) [] journal entry with.kept.faithful
 
   followed : IsFollowed plan journal entry
@@ -178,26 +178,26 @@ module _ (plan : PlanData) (journal : List Entry) (run_state : RunState) (sessio
   entry_actor = refl
 
   -- the range that it is told is the one that was copied
-  pub told_ahead : (ahead : Option KeyRange) (tables : Database) → tables ≡ server.tables → ahead ≡ ahead_of plan tables turn.actor → IsTold ahead entry.answer
-  told_ahead ahead tables here is =
-      subst (λ (range : Option KeyRange). IsTold range entry.answer)
-      (sym (is ∙ ap (λ (d : Database). ahead_of plan d turn.actor) (here ∙ tables_after told server run.server) ∙ ap (ahead_of plan told.tables) (sym entry_actor)))
+  pub reported_ahead : (ahead : Option KeyRange) (tables : Database) → tables ≡ server.tables → ahead ≡ ahead_of plan tables turn.actor → IsReported ahead entry.answer
+  reported_ahead ahead tables here is =
+      subst (λ (range : Option KeyRange). IsReported range entry.answer)
+      (sym (is ∙ ap (λ (d : Database). ahead_of plan d turn.actor) (here ∙ tables_after reported server run.server) ∙ ap (ahead_of plan reported.tables) (sym entry_actor)))
       (ranges_ahead plan journal entry run.runs.fitting run.kept.faithful run.kept.follows answered followed)
 
-  pub work_told : (had : Bool) → had ≡ has_work server entry.session → had ≡ has_work (moment plan journal).server entry.session
-  work_told had is = is ∙ work_after told server entry.session run.server ∙ ap (λ (s : State). has_work s entry.session) (sym (server_is plan journal))
+  pub work_reported : (had : Bool) → had ≡ has_work server entry.session → had ≡ has_work (moment plan journal).server entry.session
+  work_reported had is = is ∙ work_after reported server entry.session run.server ∙ ap (λ (s : State). has_work s entry.session) (sym (server_is plan journal))
 
-  left_after : IsAfter (after_entry told entry) (after_entry server entry)
-  left_after = after_more told server entry run.server
+  left_after : IsAfter (after_entry reported entry) (after_entry server entry)
+  left_after = after_more reported server entry run.server
 
-  counts_told : (counts : Counts) (left : State) → counts ≡ counts_of left → left ≡ after_entry server entry → counts ≡ counts_of (after_entry (moment plan journal).server entry)
-  counts_told counts left are is = are ∙ ap counts_of is ∙ counts_after (after_entry told entry) (after_entry server entry) left_after ∙ ap (λ (s : State). counts_of (after_entry s entry)) (sym (server_is plan journal))
+  counts_reported : (counts : Counts) (left : State) → counts ≡ counts_of left → left ≡ after_entry server entry → counts ≡ counts_of (after_entry (moment plan journal).server entry)
+  counts_reported counts left are is = are ∙ ap counts_of is ∙ counts_after (after_entry reported entry) (after_entry server entry) left_after ∙ ap (λ (s : State). counts_of (after_entry s entry)) (sym (server_is plan journal))
 
-  pub load_told : (counts : Counts) (left : State) → counts ≡ counts_of left → left ≡ after_entry server entry → counts.load ≡ load (after_entry (moment plan journal).server entry)
-  load_told counts left are is = ap (λ (c : Counts). c.load) (counts_told counts left are is)
+  pub load_reported : (counts : Counts) (left : State) → counts ≡ counts_of left → left ≡ after_entry server entry → counts.load ≡ load (after_entry (moment plan journal).server entry)
+  load_reported counts left are is = ap (λ (c : Counts). c.load) (counts_reported counts left are is)
 
-  pub busy_told : (counts : Counts) (left : State) → counts ≡ counts_of left → left ≡ after_entry server entry → counts.busy ≡ busy_count (after_entry (moment plan journal).server entry)
-  busy_told counts left are is = ap (λ (c : Counts). c.busy) (counts_told counts left are is)
+  pub busy_reported : (counts : Counts) (left : State) → counts ≡ counts_of left → left ≡ after_entry server entry → counts.busy ≡ busy_count (after_entry (moment plan journal).server entry)
+  busy_reported counts left are is = ap (λ (c : Counts). c.busy) (counts_reported counts left are is)
 
   -- the run behind it
   pub run_more : (new : RunState) (bound : ℕ) (left : State) → length journal < plan.options.turn_limit → IsRunState plan (journal ++ entry ∷ []) new → left ≡ after_entry server entry → left.made ≤ bound → IsRun plan (journal ++ entry ∷ []) new bound left
@@ -206,7 +206,7 @@ module _ (plan : PlanData) (journal : List Entry) (run_state : RunState) (sessio
     kept = with.kept;
     bound = let more : length (journal ++ entry ∷ []) ≡ length journal + 1 = length-append journal (entry ∷ []) in omega (arith, more, room);
     run_state = kept;
-    server = subst (IsAfter (state_at plan (journal ++ entry ∷ []))) (sym is) with.behind;
+    server = subst (IsAfter (state_at plan (journal ++ entry ∷ []))) (sym is) with.following;
     made = made;
   }
 

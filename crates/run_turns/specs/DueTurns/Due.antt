@@ -6,11 +6,11 @@ use Rattle.server_model.specs.declared.entry.Asked.TheVariants.{Command, Cut}
 use Rattle.server_model.specs.declared.entry.Entry.{Entry}
 use Rattle.server_model.specs.States.{State}
 use Rattle.plan_data.specs.PlanData.{PlanData}
-use Rattle.tool_program.specs.JournalWords.Keeping.{cut_due, side_due}
+use Rattle.tool_program.specs.JournalWords.KeptPlans.{cut_due, side_due}
 use Rattle.tool_program.specs.JournalWords.Sessions.{live_session}
 use Rattle.tool_program.specs.Programs.{given}
 use Rattle.run_turns.specs.declared.due_turns.migration_run.turn.Turn.{Turn}
-use Rattle.run_turns.specs.DueTurns.MigrationRun.Turning.{session_for, entry_on}
+use Rattle.run_turns.specs.DueTurns.MigrationRun.ServerTurns.{session_for, entry_on}
 
 -- an actor's turn in which it asks this; its session is lost in it where a loss strikes
 abbrev pub own_turn : PlanData → List Entry → Actor → Asked → Turn

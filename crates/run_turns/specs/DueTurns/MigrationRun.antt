@@ -1,4 +1,4 @@
 -- A run of a plan on a server, turn by turn.
-pub mod Asking
+pub mod Requests
 pub mod Sessions
-pub mod Turning
+pub mod ServerTurns

@@ -4,10 +4,10 @@ ghost use Rattle.std.specs.Prelude.{◌≡◌, ◌≤◌, ◌<◌, true, None, I
 ghost use Rattle.server_model.specs.Entries.{is_command};
 ghost use Rattle.server_model.specs.States.{State, has_work};
 ghost use Rattle.tool_program.specs.JournalWords.Journals.{after_entry};
-ghost use Rattle.proof_journals.specs.Run.Counting.{IsAfter};
-ghost use Rattle.run_turns.specs.DueTurns.MigrationRun.Turning.{entry_on, made_for, counts_of};
+ghost use Rattle.proof_journals.specs.Run.Counts.{IsAfter};
+ghost use Rattle.run_turns.specs.DueTurns.MigrationRun.ServerTurns.{entry_on, made_for, counts_of};
 ghost use Rattle.run_turns.specs.DueTurns.Due.{next_entry};
-ghost use Rattle.run_turns.specs.RunTurns.Running.{IsDue, IsRun};
+ghost use Rattle.run_turns.specs.RunTurns.Invariants.{IsDue, IsRun};
 
 use crate::due_turns::migration_run::{Counts, Taken, Turn, has_work, take_turn};
 use run_state::RunState;

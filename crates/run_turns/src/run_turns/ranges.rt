@@ -2,8 +2,8 @@
 
 ghost use Rattle.std.specs.Prelude.{◌≡◌, IfOk};
 ghost use Rattle.table_store.specs.Databases.{database};
-ghost use Rattle.tool_program.specs.ToolSetup.Meanings.{range_told};
-ghost use Rattle.run_turns.specs.DueTurns.DueCalls.Ranges.{range_in, ahead_of, IsTold};
+ghost use Rattle.tool_program.specs.ToolSetup.Meanings.{range_reported};
+ghost use Rattle.run_turns.specs.DueTurns.DueCalls.Ranges.{range_in, ahead_of, IsReported};
 
 use base_script::Actor;
 use base_values::Name;
@@ -38,7 +38,7 @@ pub fn ahead_of(
 
 /// The range that an answer tells.
 fn range_of(answer: Answer) -> Option<KeyRange>
-    ensures { result ≡ range_told answer }
+    ensures { result ≡ range_reported answer }
 {
     match answer {
         Answer::Ends(range) => range,
@@ -47,9 +47,9 @@ fn range_of(answer: Answer) -> Option<KeyRange>
 }
 
 /// The range that an answer tells, where that is the one that was copied ahead.
-pub fn range_told(ahead: Option<KeyRange>, answer: &Answer) -> Option<KeyRange>
-    requires { IsTold ahead answer.now }
-    ensures { result ≡ range_told answer.now }
+pub fn range_reported(ahead: Option<KeyRange>, answer: &Answer) -> Option<KeyRange>
+    requires { IsReported ahead answer.now }
+    ensures { result ≡ range_reported answer.now }
 {
     match answer {
         Answer::Ends(_) => ahead,

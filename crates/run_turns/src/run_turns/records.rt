@@ -4,12 +4,12 @@ ghost use Rattle.std.specs.Prelude.{◌≡◌, ◌+◌, ◌<◌, ◌^◌, [], �
 ghost use Rattle.server_model.specs.States.{has_work, load};
 ghost use Rattle.tool_program.specs.JournalWords.Journals.{after_entry};
 ghost use Rattle.tool_program.specs.Tools.{moment};
-ghost use Rattle.proof_journals.specs.Run.Counting.{busy_count};
+ghost use Rattle.proof_journals.specs.Run.Counts.{busy_count};
 ghost use Rattle.run_state.specs.Books.{is_planned, HasRoomFor, IsRunState};
-ghost use Rattle.run_turns.specs.DueTurns.DueCalls.Ranges.{IsTold};
+ghost use Rattle.run_turns.specs.DueTurns.DueCalls.Ranges.{IsReported};
 
 use crate::due_turns::migration_run::Taken;
-use crate::run_turns::ranges::range_told;
+use crate::run_turns::ranges::range_reported;
 use run_state::RunState;
 use run_state::run_state_turns::{TurnFacts, take};
 use server_model::KeyRange;
@@ -20,7 +20,7 @@ pub fn keep(run_state: &mut RunState<'_>, ahead: Option<KeyRange>, taken: Taken)
     requires planned { is_planned run_state.old.plan.now taken.entry.actor ≡ true }
     requires few { length run_state.old.journal.items + 1 < 2 ^ 32 }
     requires room { HasRoomFor run_state.old }
-    requires told { IsTold ahead taken.entry.answer }
+    requires reported { IsReported ahead taken.entry.answer }
     requires work { taken.had_work ≡ has_work (moment run_state.old.plan.now run_state.old.journal.items).server taken.entry.session }
     requires load { taken.counts.load ≡ load (after_entry (moment run_state.old.plan.now run_state.old.journal.items).server taken.entry) }
     requires busy { taken.counts.busy ≡ busy_count (after_entry (moment run_state.old.plan.now run_state.old.journal.items).server taken.entry) }
@@ -28,11 +28,11 @@ pub fn keep(run_state: &mut RunState<'_>, ahead: Option<KeyRange>, taken: Taken)
     ensures plan { run_state.new.plan.now ≡ run_state.old.plan.now }
     ensures journal { run_state.new.journal.items ≡ run_state.old.journal.items ++ taken.entry ∷ [] }
 {
-    let told = TurnFacts {
-        range: range_told(ahead, &taken.entry.answer),
+    let reported = TurnFacts {
+        range: range_reported(ahead, &taken.entry.answer),
         had_work: taken.had_work,
         load: taken.counts.load,
         busy: taken.counts.busy,
     };
-    take(run_state, taken.entry, told);
+    take(run_state, taken.entry, reported);
 }

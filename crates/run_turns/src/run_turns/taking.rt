@@ -2,9 +2,9 @@
 
 ghost use Rattle.std.specs.Prelude.{◌≡◌, ◌+◌, ◌<◌, ◌^◌, [], ◌∷◌, ◌++◌, length, OnOk, OnErr};
 ghost use Rattle.tool_program.specs.JournalWords.Journals.{after_entry};
-ghost use Rattle.proof_journals.specs.Run.Counting.{IsAfter};
+ghost use Rattle.proof_journals.specs.Run.Counts.{IsAfter};
 ghost use Rattle.run_turns.specs.DueTurns.Due.{next_entry};
-ghost use Rattle.run_turns.specs.RunTurns.Running.{IsDue, IsRun};
+ghost use Rattle.run_turns.specs.RunTurns.Invariants.{IsDue, IsRun};
 
 use crate::due_turns::migration_run::Turn;
 use crate::run_turns::answers::serve_turn;
@@ -33,7 +33,7 @@ pub fn take<V: Serve>(
     ensures journal { OnOk result (run_state.new.journal.items ≡ run_state.old.journal.items ++ next_entry run_state.old.journal.items (V.state server.old) turn ∷ []) }
     ensures state { OnOk result (V.state server.new ≡ after_entry (V.state server.old) (next_entry run_state.old.journal.items (V.state server.old) turn)) }
     ensures still { OnErr result (run_state.new.journal.items ≡ run_state.old.journal.items) }
-    ensures behind { OnErr result (IsAfter (V.state server.old) (V.state server.new)) }
+    ensures following { OnErr result (IsAfter (V.state server.old) (V.state server.new)) }
 {
     let ahead = ahead_of(alloc, run_state.plan, server.tables(), turn.actor)?;
     reserve(run_state)?;

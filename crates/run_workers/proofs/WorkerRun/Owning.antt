@@ -5,7 +5,7 @@ use Rattle.std.proofs.lemmas.Bool.{true≢false}
 use Rattle.base_script.specs.declared.actor.Actor.{Actor}
 use Rattle.server_model.specs.Entries.{same_actor}
 use Rattle.proof_journals.proofs.Actors.{same_actor_is, same_actor_itself}
-use Rattle.tool_program.specs.Orders.{owned_from, is_among, behind}
+use Rattle.tool_program.specs.Orders.{owned_from, is_among, following}
 use Rattle.run_workers.proofs.WorkerRun.ActorStates.{Apart}
 
 -- an actor that isn't among others is none of them
@@ -83,8 +83,8 @@ among_place count worker place (suc i) actor (first ∷ all) apart is = by (plac
     by false = refl
 
 -- behind an own actor come the own ones from the next place on
-pub after_place : (count worker place i : ℕ) (actor : Actor) (all : List Actor) → Apart all → slice_get all i ≡ Some actor → ((place + i) % count == worker) ≡ true → behind actor (owned_from count worker place all) ≡ owned_from count worker (place + i + 1) (drop (i + 1) all)
-unfolding owned_from behind
+pub after_place : (count worker place i : ℕ) (actor : Actor) (all : List Actor) → Apart all → slice_get all i ≡ Some actor → ((place + i) % count == worker) ≡ true → following actor (owned_from count worker place all) ≡ owned_from count worker (place + i + 1) (drop (i + 1) all)
+unfolding owned_from following
 after_place count worker place zero actor [] apart is own = absurd (cc)
 after_place count worker place (suc i) actor [] apart is own = absurd (cc)
 after_place count worker place zero actor (first ∷ all) apart is own = by (place % count == worker) here ∙ ap (λ (n : ℕ). owned_from count worker n all) next
@@ -104,7 +104,7 @@ after_place count worker place zero actor (first ∷ all) apart is own = by (pla
     itself : same_actor first actor ≡ true
     itself = ap (same_actor first) (sym one) ∙ same_actor_itself first
 
-    by : (b : Bool) → b ≡ true → behind actor (cond b (first ∷ owned_from count worker (place + 1) all) (owned_from count worker (place + 1) all)) ≡ owned_from count worker (place + 1) all
+    by : (b : Bool) → b ≡ true → following actor (cond b (first ∷ owned_from count worker (place + 1) all) (owned_from count worker (place + 1) all)) ≡ owned_from count worker (place + 1) all
     by true is = rw itself refl
     by false is = absurd (true≢false (sym is))
 after_place count worker place (suc i) actor (first ∷ all) apart is own =
@@ -123,7 +123,7 @@ after_place count worker place (suc i) actor (first ∷ all) apart is own =
     differ : same_actor first actor ≡ false
     differ = is_other first actor all i apart.0 is
 
-    by : (b : Bool) → behind actor (cond b (first ∷ owned_from count worker (place + 1) all) (owned_from count worker (place + 1) all)) ≡ behind actor (owned_from count worker (place + 1) all)
+    by : (b : Bool) → following actor (cond b (first ∷ owned_from count worker (place + 1) all) (owned_from count worker (place + 1) all)) ≡ following actor (owned_from count worker (place + 1) all)
     by true = rw differ refl
     by false = refl
 

@@ -9,7 +9,7 @@ use Rattle.base_script.specs.declared.actor.Actor.{Actor}
 use Rattle.server_model.specs.declared.entry.Asked.{Asked}
 use Rattle.server_model.specs.declared.entry.Entry.{Entry}
 use Rattle.plan_data.specs.PlanData.{PlanData}
-use Rattle.tool_program.specs.JournalWords.Keeping.{cut_due}
+use Rattle.tool_program.specs.JournalWords.KeptPlans.{cut_due}
 use Rattle.tool_program.specs.Programs.{given}
 use Rattle.tool_program.specs.Orders.{actors, is_ready, is_poll, owned_from, owned, is_among, after_last, or_else, picked}
 use Rattle.run_turns.specs.DueTurns.Due.{given_turn, due_by, due}

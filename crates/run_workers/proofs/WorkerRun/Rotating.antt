@@ -12,7 +12,7 @@ use Rattle.base_script.specs.declared.actor.Actor.{Actor}
 use Rattle.server_model.specs.Entries.{is_cut}
 use Rattle.plan_data.specs.PlanData.{PlanData}
 use Rattle.server_model.proofs.LockedRows.Tests.{same_number, are_one}
-use Rattle.tool_program.specs.Orders.{actors, owned_from, owned, is_among, behind, Paired, taken_after, last_taken}
+use Rattle.tool_program.specs.Orders.{actors, owned_from, owned, is_among, following, Paired, taken_after, last_taken}
 use Rattle.run_workers.specs.declared.worker_run.seats.Member.{Member}
 use Rattle.run_workers.specs.WorkerRun.Workers.{GoesOnFrom, places_after}
 use Rattle.run_workers.proofs.WorkerRun.ActorStates.{actors_apart}
@@ -34,8 +34,8 @@ none_owned_of : (count worker place : ℕ) → owned_from count worker place [] 
 unfolding owned_from
 none_owned_of count worker place = refl
 
-none_after : (actor : Actor) → behind actor [] ≡ []
-unfolding behind
+none_after : (actor : Actor) → following actor [] ≡ []
+unfolding following
 none_after actor = refl
 
 -- a worker beyond those that there are owns nobody
@@ -50,7 +50,7 @@ no_own count worker place (first ∷ all) some beyond = by (place % count == wor
 
 stranger : (plan : PlanData) (count worker : ℕ) (last : Option Actor) → 0 < count → count ≤ worker → GoesOnFrom plan count worker 0 last
 stranger plan count worker None some beyond = sym (no_own count worker 0 (actors plan) some beyond)
-stranger plan count worker (Some actor) some beyond = let none : owned plan count worker ≡ [] = no_own count worker 0 (actors plan) some beyond in ap (behind actor) none ∙ none_after actor ∙ sym none
+stranger plan count worker (Some actor) some beyond = let none : owned plan count worker ≡ [] = no_own count worker 0 (actors plan) some beyond in ap (following actor) none ∙ none_after actor ∙ sym none
 
 at_end : (plan : PlanData) (count worker place : ℕ) (last : Option Actor) → last ≡ None → place ≡ length (actors plan) → GoesOnFrom plan count worker place last
 at_end plan count worker place None none is = sym (ap (λ (n : ℕ). owned_from count worker place (drop n (actors plan))) is ∙ ap (owned_from count worker place) (drop-length (actors plan)) ∙ none_owned_of count worker place)

@@ -19,7 +19,7 @@ use Rattle.tool_program.specs.Orders.{actors, is_ready, is_poll, owned, is_among
 use Rattle.proof_journals.specs.Run.Kept.{IsKept}
 use Rattle.proof_journals.proofs.Machine.Asking.{idle_waits, busy_waits}
 use Rattle.proof_journals.proofs.Machine.Polling.{AllTogether, given_idle, given_waits, all_formed}
-use Rattle.proof_migration.proofs.Course.Owners.{together_owned}
+use Rattle.proof_migration.proofs.ToolPhase.Owners.{together_owned}
 use Rattle.run_turns.proofs.DueTurns.Coming.{Asks, Commands, Called, given_asks, given_uncut}
 use Rattle.run_workers.specs.declared.worker_run.choice.Wanted.{Wanted}
 use Rattle.run_workers.specs.declared.worker_run.choice.Wanted.TheVariants.{Own, Idle, Waiting}

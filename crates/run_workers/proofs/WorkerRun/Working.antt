@@ -18,10 +18,10 @@ use Rattle.server_model.proofs.LockedRows.Tests.{are_one}
 use Rattle.proof_journals.proofs.Journals.{state_more}
 use Rattle.tool_program.specs.Orders.{actors, is_ready, owned, WorkerTurn, last_taken, picked, worker_actor, IsNext}
 use Rattle.tool_program.specs.Verdicts.{has_ended}
-use Rattle.proof_journals.specs.Run.Counting.{IsAfter}
+use Rattle.proof_journals.specs.Run.Counts.{IsAfter}
 use Rattle.proof_journals.specs.Run.Kept.{IsKept}
 use Rattle.proof_journals.proofs.Run.Keeping.{kept_none}
-use Rattle.run_turns.specs.DueTurns.MigrationRun.Turning.{entry_on}
+use Rattle.run_turns.specs.DueTurns.MigrationRun.ServerTurns.{entry_on}
 use Rattle.run_turns.specs.DueTurns.Due.{due, next_entry}
 use Rattle.run_turns.proofs.DueTurns.Coming.{Comes, Cuts, Gives, comes}
 use Rattle.run_turns.proofs.DueTurns.Keeping.{turns_kept, turns_numbered}

@@ -37,9 +37,9 @@ is_done f n size keys rows all over walked =
     (sym (append-nil keys) ∙ rw none at walked.keys_are, rw none at walked.left)
 
 -- where more than these rows are left, there are more keys
-pub cut_keys : {X : Type 0} (f : X → List Value) (span : Span) (size : ℕ) (items : List X) (next : X) (behind : List X) → drop size items ≡ next ∷ behind
+pub cut_keys : {X : Type 0} (f : X → List Value) (span : Span) (size : ℕ) (items : List X) (next : X) (following : List X) → drop size items ≡ next ∷ following
     → first_keys span size (map f items) ≡ answers.Keys (map f (take size items)) (last_of [] (map f (take size items)))
-cut_keys f span size items next behind more =
+cut_keys f span size items next following more =
     let less : size < length items = omega (arith, sym (length-drop size items) ∙ ap length more) in
     let long : nat_lt size (length (map f items)) ≡ true = lt-ltb size (length (map f items)) (subst (λ n. size < n) (sym (length-map items f)) less) in
     rw (take-map f size items) (rw long refl)

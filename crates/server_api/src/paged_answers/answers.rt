@@ -5,7 +5,7 @@ ghost use Rattle.base_values.specs.GhoSchema.Rows.{key_places};
 ghost use Rattle.table_store.specs.Databases.{database, find_table};
 ghost use Rattle.server_model.specs.Answers.{refuses};
 ghost use Rattle.server_model.specs.Chunks.{keys_of, ends_of, chunk_end, span_keys};
-ghost use Rattle.server_model.specs.Effects.{all_stand, of_table};
+ghost use Rattle.server_model.specs.Effects.{all_exist, of_table};
 
 use crate::paged_answers::chunk::{chunk_end, ends_of, span_keys};
 use base_values::mysql_errors::ER_NO_SUCH_TABLE;
@@ -68,8 +68,8 @@ pub fn keys_of_span(
 }
 
 /// Whether tables of all these names exist.
-pub fn all_stand(tables: &Tables, names: &[Name]) -> bool
-    ensures { result ≡ all_stand names.now (database tables.now) }
+pub fn all_exist(tables: &Tables, names: &[Name]) -> bool
+    ensures { result ≡ all_exist names.now (database tables.now) }
 {
     for name in names {
         if !tables.stands(name) {

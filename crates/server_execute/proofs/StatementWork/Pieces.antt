@@ -5,8 +5,8 @@ use Rattle.base_values.specs.declared.gho_schema.schema.Index.{Index}
 use Rattle.base_values.specs.GhoSchema.Rows.{key_of}
 use Rattle.server_locks.specs.declared.row_locks.lock.Lock.{Lock}
 use Rattle.table_store.proofs.Orders.{Row}
-use Rattle.server_model.specs.Saying.{with_sets}
-use Rattle.server_model.specs.Needing.{point_lock, points_from}
+use Rattle.server_model.specs.StatementResults.{with_sets}
+use Rattle.server_model.specs.Needs.{point_lock, points_from}
 
 -- without sets all stays
 pub with_no_sets : (row : Row) → with_sets [] row ≡ row

@@ -2,7 +2,7 @@
 
 ghost use Rattle.std.specs.Prelude.{◌≡◌, ◌++◌, OnOk, IfOk};
 ghost use Rattle.base_values.specs.GhoSchema.Rows.{key_of};
-ghost use Rattle.server_model.specs.Needing.{lock_on, point_lock, points_from, points, points_of};
+ghost use Rattle.server_model.specs.Needs.{lock_on, point_lock, points_from, points, points_of};
 
 use base_values::gho_schema::{Index, Schema, key_of};
 use base_values::{Duplicate, Row, Span, Value};
@@ -43,7 +43,7 @@ fn push_point(
 }
 
 /// Adds exclusive locks on the row's values of these unique keys.
-#[tactic(auto, using(crate::proofs::StatementWork::Pieces::points_more), unfolding(server_model::specs::Needing::points_from))]
+#[tactic(auto, using(crate::proofs::StatementWork::Pieces::points_more), unfolding(server_model::specs::Needs::points_from))]
 fn push_each(
     alloc: Global,
     into: &mut LockSet,

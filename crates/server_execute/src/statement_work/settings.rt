@@ -1,7 +1,7 @@
 //! The new rows of an UPDATE.
 
 ghost use Rattle.std.specs.Prelude.{◌≡◌, map, unwrap_or, IfOk};
-ghost use Rattle.server_model.specs.Saying.{with_sets};
+ghost use Rattle.server_model.specs.StatementResults.{with_sets};
 
 use base_values::{Duplicate, Row, Rows, Sequence, Value};
 use std::alloc::{AllocError, Global};
@@ -17,7 +17,7 @@ fn set_or(set: &Option<Value>, value: &Value) -> Result<Value, AllocError>
 }
 
 /// A copy of the row with its columns set to these values, where there are such.
-#[tactic(auto, using(server_model::proofs::LockedRows::Sets::with_sets_more, crate::proofs::StatementWork::Pieces::with_no_sets), unfolding(server_model::specs::Saying::with_sets))]
+#[tactic(auto, using(server_model::proofs::LockedRows::Sets::with_sets_more, crate::proofs::StatementWork::Pieces::with_no_sets), unfolding(server_model::specs::StatementResults::with_sets))]
 pub fn with_sets(alloc: Global, sets: &[Option<Value>], row: &[Value]) -> Result<Row, AllocError>
     ensures { IfOk result (λ new. new ≡ with_sets sets.now row.now) }
 {

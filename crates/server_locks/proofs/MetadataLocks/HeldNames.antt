@@ -7,11 +7,11 @@ use Rattle.std.proofs.lemmas.Cmp.{nat_list_eq_equiv}
 use Rattle.std.proofs.lemmas.List.Elements.{All-from_recursion}
 use Rattle.std.proofs.lemmas.List.Kept.{AllPairs-cons}
 use Rattle.server_locks.specs.declared.metadata_locks.request.Waiter.{Waiter}
-use Rattle.server_locks.specs.MetadataLocks.Granting.{HeldName, Place, place_of, ahead_of, holds, is_on, holding_session, least_holder, least_waiter, blocker_of_name, blocker_of_names}
+use Rattle.server_locks.specs.MetadataLocks.Grants.{HeldName, QueuePlace, place_of, ahead_of, holds, is_on, holding_session, least_holder, least_waiter, blocker_of_name, blocker_of_names}
 use Rattle.server_locks.specs.LeastSession.Least.{least}
 use Rattle.server_locks.proofs.LeastSession.Kept.{both, kept}
 use Rattle.server_locks.proofs.LeastSession.Sessions.{none_of, not_refused}
-use Rattle.server_locks.specs.MetadataLocks.Holding.{NameTable, LastAsk, held_by, added, asked_by, blocker_of, polled_by, polled_at, freed_if, is_known, undone_last, ended_at, held_before}
+use Rattle.server_locks.specs.MetadataLocks.LockTable.{NameTable, LastAsk, held_by, added, asked_by, blocker_of, polled_by, polled_at, freed_if, is_known, undone_last, ended_at, held_before}
 use Rattle.server_locks.specs.MetadataLocks.Laws.{Call, called, no_names, Bear, HeldNamesBear}
 use Rattle.server_locks.specs.MetadataLocks.Laws.Call.{Ask, Poll, Free, Undo, End}
 
@@ -197,11 +197,11 @@ asks None t session exclusive names e apart = (grants t session exclusive names 
 asks (Some by) t session true names e apart = (apart.0, apart.0)
 asks (Some by) t session false names e apart = apart
 
-polls_by : (blocker : Option ℕ) (t : NameTable) (session : ℕ) (place : Place) → blocker_of t session true place.request.names ≡ blocker → IsApart t → IsApart (polled_by blocker t session place)
+polls_by : (blocker : Option ℕ) (t : NameTable) (session : ℕ) (place : QueuePlace) → blocker_of t session true place.request.names ≡ blocker → IsApart t → IsApart (polled_by blocker t session place)
 polls_by None t session place e apart = (grants t session true place.request.names e apart.0, apart.0)
 polls_by (Some by) t session place e apart = apart
 
-polls : (place : Option Place) (t : NameTable) (session : ℕ) → IsApart t → IsApart (polled_at t session place)
+polls : (place : Option QueuePlace) (t : NameTable) (session : ℕ) → IsApart t → IsApart (polled_at t session place)
 polls None t session apart = apart
 polls (Some place) t session apart = polls_by (blocker_of t session true place.request.names) t session place refl apart
 
@@ -217,7 +217,7 @@ before_last : (last : Option LastAsk) (t : NameTable) → WasApart last → IsAp
 before_last None t was apart = apart.0
 before_last (Some ask) t was apart = was
 
-ends : (place : Option Place) (t : NameTable) → IsApart t → IsApart (ended_at place t)
+ends : (place : Option QueuePlace) (t : NameTable) → IsApart t → IsApart (ended_at place t)
 ends None t apart = (before_last t.last t apart.1 apart, tt)
 ends (Some place) t apart = (apart.0, tt)
 

@@ -4,10 +4,10 @@ use Rattle.std.specs.Cmp.Lexicographic.{pointwise}
 use Rattle.std.proofs.lemmas.List.{drop_more, drop_all}
 use Rattle.std.proofs.lemmas.List.Folds.{list_any-append}
 use Rattle.server_locks.specs.declared.metadata_locks.request.Request.{Request}
-use Rattle.server_locks.specs.MetadataLocks.Granting.{HeldName, has_name, is_on, holds, holding_session, least_holder, holder_of}
+use Rattle.server_locks.specs.MetadataLocks.Grants.{HeldName, has_name, is_on, holds, holding_session, least_holder, holder_of}
 use Rattle.server_locks.specs.LeastSession.Least.{least}
 use Rattle.server_locks.proofs.LeastSession.Sessions.{least-least, least-none}
-use Rattle.server_locks.specs.MetadataLocks.Holding.{held_by}
+use Rattle.server_locks.specs.MetadataLocks.LockTable.{held_by}
 use Rattle.server_locks.specs.MetadataLocks.Requests.{locks_of}
 
 no_name : (other strong : Bool) (s : ℕ) → None ≡ cond (other && (false && strong)) (Some s) None

@@ -7,8 +7,8 @@ use Rattle.std.proofs.lemmas.List.Elements.{filter-append}
 use Rattle.std.proofs.lemmas.List.Folds.{list_any-append}
 use Rattle.std.proofs.lemmas.Bool.Decides.{nat_tests}
 use Rattle.server_locks.specs.declared.metadata_locks.request.Request.{Request}
-use Rattle.server_locks.specs.MetadataLocks.Granting.{HeldName}
-use Rattle.server_locks.specs.MetadataLocks.Holding.{held_by}
+use Rattle.server_locks.specs.MetadataLocks.Grants.{HeldName}
+use Rattle.server_locks.specs.MetadataLocks.LockTable.{held_by}
 use Rattle.server_locks.specs.MetadataLocks.Requests.{locks_of, all_locks}
 
 full : (n : ℕ) → not (nat_eq (suc n) 0) ≡ true

@@ -7,8 +7,8 @@ use Rattle.std.proofs.Math.Bool.{or-not_self}
 use Rattle.std.proofs.lemmas.Bool.{or_right}
 use Rattle.std.proofs.lemmas.Cmp.{nat_list_eq_equiv}
 use Rattle.server_locks.specs.declared.metadata_locks.request.LockAnswer.TheVariants as answers
-use Rattle.server_locks.specs.MetadataLocks.Granting.{HeldName, has_name, holds, answer_by}
-use Rattle.server_locks.specs.MetadataLocks.Holding.{NameTable, held_by, added, asked_by, blocker_of}
+use Rattle.server_locks.specs.MetadataLocks.Grants.{HeldName, has_name, holds, answer_by}
+use Rattle.server_locks.specs.MetadataLocks.LockTable.{NameTable, held_by, added, asked_by, blocker_of}
 use Rattle.server_locks.specs.MetadataLocks.Laws.{GrantsWhole}
 use Rattle.server_locks.proofs.MetadataLocks.Holders.{holds-append, names_held}
 

@@ -12,10 +12,10 @@ use Rattle.base_values.proofs.SpanLaws.{meets_both_ways}
 use Rattle.server_locks.specs.declared.row_locks.lock.Lock.{Lock}
 use Rattle.server_locks.specs.declared.row_locks.lock.HeldLock.{HeldLock}
 use Rattle.server_locks.specs.declared.row_locks.lock.LockAnswer.TheVariants as answers
-use Rattle.server_locks.specs.RowLocks.Granting.{same_place, conflict, refusal, blocker_of_lock, blocker_of_set, answer_by}
+use Rattle.server_locks.specs.RowLocks.Grants.{same_place, conflict, refusal, blocker_of_lock, blocker_of_set, answer_by}
 use Rattle.server_locks.proofs.LeastSession.Kept.{both, kept}
 use Rattle.server_locks.proofs.LeastSession.Sessions.{none_of, not_refused}
-use Rattle.server_locks.specs.RowLocks.Holding.{LockTable, LastAsk, held_by, granted_unless, freed_if, before_ask}
+use Rattle.server_locks.specs.RowLocks.LockTable.{LockTable, LastAsk, held_by, granted_unless, freed_if, before_ask}
 use Rattle.server_locks.specs.RowLocks.Laws.{Call, called, no_locks, Bear, HeldLocksBear, ConflictBothWays, GrantsWhole}
 use Rattle.server_locks.specs.RowLocks.Laws.Call.{Ask, Free, Undo}
 

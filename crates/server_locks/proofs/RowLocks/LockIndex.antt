@@ -15,8 +15,8 @@ use Rattle.std.proofs.lemmas.List.Sums.{prefix_len-le-length}
 use Rattle.std.proofs.lemmas.Option.{slice_get_past}
 use Rattle.base_page_list.specs.Pages.{FailsOn}
 use Rattle.server_locks.specs.declared.row_locks.lock.Lock.{Lock}
-use Rattle.server_locks.specs.RowLocks.Granting.{conflict}
-use Rattle.server_locks.specs.RowLocks.Indexing.{is_point, compare_places, compare_locks, compare_at, is_after, is_point_lock, is_wide_lock, conflicts_with, conflicts_at, Rises, ArePoints, places_to, IsIndexed}
+use Rattle.server_locks.specs.RowLocks.Grants.{conflict}
+use Rattle.server_locks.specs.RowLocks.LockIndex.{is_point, compare_places, compare_locks, compare_at, is_after, is_point_lock, is_wide_lock, conflicts_with, conflicts_at, Rises, ArePoints, places_to, IsIndexed}
 use Rattle.server_locks.proofs.RowLocks.LockOrder.{before_none, after_none, by_place, all_places_total, all_locks_total}
 
 -- Places in order.

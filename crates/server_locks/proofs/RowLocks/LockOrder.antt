@@ -11,13 +11,13 @@ use Rattle.base_values.specs.declared.span.Bound.{Bound}
 use Rattle.base_values.specs.declared.span.Bound.TheVariants.{Open, Closed, Free}
 use Rattle.base_values.specs.declared.span.Span.{Span}
 use Rattle.base_values.specs.declared.value.Value.{Value}
-use Rattle.base_values.specs.Comparing.{compare_keys}
+use Rattle.base_values.specs.KeyOrder.{compare_keys}
 use Rattle.base_values.specs.Spans.{meets, point}
 use Rattle.base_values.proofs.Orders.{both_Equal, keys_total, tied_keys}
 use Rattle.base_values.proofs.SpanLaws.{point_meets, point_has_one}
 use Rattle.server_locks.specs.declared.row_locks.lock.Lock.{Lock}
-use Rattle.server_locks.specs.RowLocks.Granting.{same_place, conflict}
-use Rattle.server_locks.specs.RowLocks.Indexing.{are_one_key, is_point, end_key, compare_places, compare_locks, is_point_lock, conflicts_with}
+use Rattle.server_locks.specs.RowLocks.Grants.{same_place, conflict}
+use Rattle.server_locks.specs.RowLocks.LockIndex.{are_one_key, is_point, end_key, compare_places, compare_locks, is_point_lock, conflicts_with}
 
 pub places_total : IsTotalOrder compare_places
 places_total = then_total (on_total (λ (lock : Lock). lock.table) nat_list_cmp_total) (then_total (on_total (λ (lock : Lock). lock.key) nat_cmp_total) (on_total (λ (lock : Lock). end_key lock.span.low) keys_total))

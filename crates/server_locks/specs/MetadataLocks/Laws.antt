@@ -4,8 +4,8 @@ use Rattle.std.specs.Cmp.Lexicographic.{pointwise}
 use Rattle.std.specs.List.{AllByRecursion}
 use Rattle.server_locks.specs.declared.metadata_locks.request.Waiter.{Waiter}
 use Rattle.server_locks.specs.declared.metadata_locks.request.LockAnswer.TheVariants as answers
-use Rattle.server_locks.specs.MetadataLocks.Granting.{HeldName, has_name, holds, blocker_of_name, answer_by}
-use Rattle.server_locks.specs.MetadataLocks.Holding.{NameTable, blocker_of, asked, polled, freed, undone, ended}
+use Rattle.server_locks.specs.MetadataLocks.Grants.{HeldName, has_name, holds, blocker_of_name, answer_by}
+use Rattle.server_locks.specs.MetadataLocks.LockTable.{NameTable, blocker_of, asked, polled, freed, undone, ended}
 
 -- A call that may change the table. An ask says whether it is for exclusive locks.
 pub data Call : Type 0 where
@@ -50,6 +50,6 @@ GrantsWhole =
 -- later waits after the request.
 abbrev pub WaitersGoFirst : Type 0
 WaitersGoFirst =
-    (held : List HeldName) (front behind : List Waiter) (waiter : Waiter) (session : ℕ) (name : List ℕ)
+    (held : List HeldName) (front following : List Waiter) (waiter : Waiter) (session : ℕ) (name : List ℕ)
     → has_name waiter.names name ≡ true → waiter.session ≢ session → holds held session name false ≡ false
-    → blocker_of_name held (front ++ waiter ∷ behind) session name false ≢ None
+    → blocker_of_name held (front ++ waiter ∷ following) session name false ≢ None

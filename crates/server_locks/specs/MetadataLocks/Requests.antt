@@ -8,8 +8,8 @@ use Rattle.server_locks.specs.declared.metadata_locks.request.Waiter.{Waiter}
 use Rattle.server_locks.specs.declared.metadata_locks.locks.Mark.{Mark}
 use Rattle.server_locks.specs.declared.metadata_locks.locks.Step.{Step}
 use Rattle.server_locks.specs.declared.metadata_locks.locks.Step.TheVariants as steps
-use Rattle.server_locks.specs.MetadataLocks.Granting.{HeldName}
-use Rattle.server_locks.specs.MetadataLocks.Holding.{NameTable, LastAsk, held_by}
+use Rattle.server_locks.specs.MetadataLocks.Grants.{HeldName}
+use Rattle.server_locks.specs.MetadataLocks.LockTable.{NameTable, LastAsk, held_by}
 
 -- The locks of a granted request.
 abbrev pub locks_of : Request → List HeldName

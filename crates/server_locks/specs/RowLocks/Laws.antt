@@ -3,8 +3,8 @@ use Rattle.std.specs.Prelude.{◌≡◌, ◌≢◌, ℕ, false, List, [], ◌++�
 use Rattle.server_locks.specs.declared.row_locks.lock.Lock.{Lock}
 use Rattle.server_locks.specs.declared.row_locks.lock.HeldLock.{HeldLock}
 use Rattle.server_locks.specs.declared.row_locks.lock.LockAnswer.TheVariants as answers
-use Rattle.server_locks.specs.RowLocks.Granting.{conflict, answer_to}
-use Rattle.server_locks.specs.RowLocks.Holding.{LockTable, held_by, asked, freed, undone}
+use Rattle.server_locks.specs.RowLocks.Grants.{conflict, answer_to}
+use Rattle.server_locks.specs.RowLocks.LockTable.{LockTable, held_by, asked, freed, undone}
 
 -- A call that may change the table.
 pub data Call : Type 0 where

@@ -3,7 +3,7 @@ use Rattle.std.specs.Prelude.{List, take, Option}
 use Rattle.std.specs.Option.{option_map}
 use Rattle.server_locks.specs.declared.row_locks.lock.HeldLock.{HeldLock}
 use Rattle.server_locks.specs.declared.row_locks.locks.Mark.{Mark}
-use Rattle.server_locks.specs.RowLocks.Holding.{LockTable, LastAsk}
+use Rattle.server_locks.specs.RowLocks.LockTable.{LockTable, LastAsk}
 
 -- The ask that began at the mark.
 abbrev pub ask_at : List HeldLock → Mark → LastAsk

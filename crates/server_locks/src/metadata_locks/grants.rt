@@ -2,8 +2,8 @@
 
 ghost use Rattle.std.specs.Prelude.{◌≡◌, ◌==◌, ◌≤◌, not, false, filter, map, vec_len, vec_capacity, IfOk};
 ghost use Rattle.std.specs.List.{list_any};
-ghost use Rattle.server_locks.specs.MetadataLocks.Granting.{holds};
-ghost use Rattle.server_locks.specs.MetadataLocks.Holding.{added, held_by};
+ghost use Rattle.server_locks.specs.MetadataLocks.Grants.{holds};
+ghost use Rattle.server_locks.specs.MetadataLocks.LockTable.{added, held_by};
 ghost use Rattle.server_locks.specs.MetadataLocks.Requests.{locks_of, all_locks};
 
 use crate::metadata_locks::refusals::holds;

@@ -2,10 +2,10 @@
 
 ghost use Rattle.std.specs.Prelude.{◌≡◌, ℕ, ◌+◌, ◌-◌, ◌<◌, ◌≤◌, [], ◌++◌, map, take, drop, length, true, false, Some, None, IfOk, OnOk, OnErr, vec_len, vec_capacity};
 ghost use Rattle.server_locks.specs.declared.metadata_locks.request.Waiter.{Waiter};
-ghost use Rattle.server_locks.specs.MetadataLocks.Granting.{answer_by, holder_of};
-ghost use Rattle.server_locks.specs.MetadataLocks.Holding.{IsLastAskOf, blocker_of, blocker_of_poll, asked, asked_by, lined_up, polled, polled_by, freed, undone, ended, waits, can_end};
+ghost use Rattle.server_locks.specs.MetadataLocks.Grants.{answer_by, holder_of};
+ghost use Rattle.server_locks.specs.MetadataLocks.LockTable.{IsLastAskOf, blocker_of, blocker_of_poll, asked, asked_by, lined_up, polled, polled_by, freed, undone, ended, waits, can_end};
 ghost use Rattle.server_locks.specs.MetadataLocks.Requests.{as_waiter};
-ghost use Rattle.server_locks.specs.MetadataLocks.Waiting.{IsAt, round};
+ghost use Rattle.server_locks.specs.MetadataLocks.WaitQueue.{IsAt, round};
 
 use crate::metadata_locks::grants::{is_holding, names_to_add, take_away};
 use crate::metadata_locks::refusals::{blocker_of_names, holder_of};
@@ -47,7 +47,7 @@ pub struct MetaLocks {
 }
 
 impl Model for MetaLocks {
-    ghost use Rattle.server_locks.specs.MetadataLocks.Holding.{NameTable};
+    ghost use Rattle.server_locks.specs.MetadataLocks.LockTable.{NameTable};
 
     ghost Value = { NameTable };
 

@@ -1,7 +1,7 @@
 //! Who refuses a name.
 
 ghost use Rattle.std.specs.Prelude.{◌≡◌, true, false};
-ghost use Rattle.server_locks.specs.MetadataLocks.Granting.{holds, least_holder, least_waiter, waiting_session, holder_of, blocker_of_name, blocker_of_names};
+ghost use Rattle.server_locks.specs.MetadataLocks.Grants.{holds, least_holder, least_waiter, waiting_session, holder_of, blocker_of_name, blocker_of_names};
 ghost use Rattle.server_locks.specs.MetadataLocks.Requests.{all_locks};
 
 use crate::least_session::least;
@@ -61,7 +61,7 @@ impl Waiter {
 }
 
 /// The least other session that waits for the name.
-#[tactic(auto, using(crate::proofs::MetadataLocks::Holders::of_all), unfolding(crate::specs::MetadataLocks::Granting::least_waiter))]
+#[tactic(auto, using(crate::proofs::MetadataLocks::Holders::of_all), unfolding(crate::specs::MetadataLocks::Grants::least_waiter))]
 fn least_waiter(waiting: &[Waiter], session: u32, name: &Name) -> Option<u32>
     ensures { result ≡ least_waiter waiting.now session name.now }
 {
@@ -73,7 +73,7 @@ fn least_waiter(waiting: &[Waiter], session: u32, name: &Name) -> Option<u32>
 }
 
 /// The least session that refuses a shared lock on the name.
-#[tactic(auto, using(crate::proofs::MetadataLocks::Holders::of_all), unfolding(crate::specs::MetadataLocks::Granting::blocker_of_name))]
+#[tactic(auto, using(crate::proofs::MetadataLocks::Holders::of_all), unfolding(crate::specs::MetadataLocks::Grants::blocker_of_name))]
 fn blocker_of_shared(
     granted: &[Request],
     waiting: &[Waiter],
@@ -91,7 +91,7 @@ fn blocker_of_shared(
 }
 
 /// The least session that refuses an exclusive lock on the name.
-#[tactic(auto, using(crate::proofs::MetadataLocks::Holders::of_all), unfolding(crate::specs::MetadataLocks::Granting::blocker_of_name))]
+#[tactic(auto, using(crate::proofs::MetadataLocks::Holders::of_all), unfolding(crate::specs::MetadataLocks::Grants::blocker_of_name))]
 fn blocker_of_exclusive(
     granted: &[Request],
     waiting: &[Waiter],
@@ -128,7 +128,7 @@ fn blocker_of_name(
 }
 
 /// The least session that refuses one of the names.
-#[tactic(auto, using(crate::proofs::MetadataLocks::Holders::of_all), unfolding(crate::specs::MetadataLocks::Granting::blocker_of_names))]
+#[tactic(auto, using(crate::proofs::MetadataLocks::Holders::of_all), unfolding(crate::specs::MetadataLocks::Grants::blocker_of_names))]
 pub fn blocker_of_names(
     granted: &[Request],
     waiting: &[Waiter],

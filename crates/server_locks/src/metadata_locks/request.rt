@@ -1,7 +1,7 @@
 //! Requests for names, and their answers.
 
 ghost use Rattle.std.specs.Prelude.{◌≡◌, ◌&&◌, ◌||◌, not};
-ghost use Rattle.server_locks.specs.MetadataLocks.Granting.{has_name, least_holder};
+ghost use Rattle.server_locks.specs.MetadataLocks.Grants.{has_name, least_holder};
 ghost use Rattle.server_locks.specs.MetadataLocks.Requests.{locks_of};
 
 use base_values::{Name, Names};

@@ -1,8 +1,8 @@
 //! The requests that wait, in the order in which they came.
 
 ghost use Rattle.std.specs.Prelude.{◌≡◌, MatchOption, None, is_some};
-ghost use Rattle.server_locks.specs.MetadataLocks.Granting.{place_of, ahead_of};
-ghost use Rattle.server_locks.specs.MetadataLocks.Waiting.{IsAt};
+ghost use Rattle.server_locks.specs.MetadataLocks.Grants.{place_of, ahead_of};
+ghost use Rattle.server_locks.specs.MetadataLocks.WaitQueue.{IsAt};
 
 use crate::metadata_locks::request::Waiter;
 

@@ -2,13 +2,13 @@
 
 ghost use Rattle.std.specs.Prelude.{◌≡◌};
 ghost use Rattle.std.specs.List.{list_any};
-ghost use Rattle.server_locks.specs.RowLocks.Granting.{conflict};
+ghost use Rattle.server_locks.specs.RowLocks.Grants.{conflict};
 
 use crate::row_locks::lock::Lock;
 
 impl Lock {
     /// Whether different sessions can't hold both locks.
-    #[tactic(auto, unfolding(crate::specs::RowLocks::Granting::conflict))]
+    #[tactic(auto, unfolding(crate::specs::RowLocks::Grants::conflict))]
     pub(crate) fn conflicts(&self, other: &Lock) -> bool
         ensures { result ≡ conflict self.now other.now }
     {

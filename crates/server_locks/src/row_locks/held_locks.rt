@@ -5,7 +5,7 @@ mod lock_order;
 
 ghost use Rattle.std.specs.Prelude.{◌≡◌, ◌++◌, [], OnOk, OnErr};
 ghost use Rattle.std.specs.List.{list_any};
-ghost use Rattle.server_locks.specs.RowLocks.Granting.{conflict};
+ghost use Rattle.server_locks.specs.RowLocks.Grants.{conflict};
 
 use crate::row_locks::conflicts::any_conflicts;
 use crate::row_locks::held_locks::lock_index::LockIndex;
@@ -26,7 +26,7 @@ impl Model for HeldLocks {
     ghost use Rattle.std.specs.Prelude.{List, length};
     ghost use Rattle.base_page_list.specs.Pages.{flat};
     ghost use Rattle.server_locks.specs.declared.row_locks.lock.Lock.{Lock};
-    ghost use Rattle.server_locks.specs.RowLocks.Indexing.{IsIndexed};
+    ghost use Rattle.server_locks.specs.RowLocks.LockIndex.{IsIndexed};
 
     ghost Value = { List Lock };
 

@@ -2,7 +2,7 @@
 
 ghost use Rattle.std.specs.Prelude.{◌≡◌, ◌==◌, not, map, filter, IfOk};
 ghost use Rattle.std.specs.List.{list_any};
-ghost use Rattle.server_locks.specs.RowLocks.Holding.{held_by};
+ghost use Rattle.server_locks.specs.RowLocks.LockTable.{held_by};
 
 use base_values::{Duplicate, Name, Sequence, Span};
 use std::alloc::{AllocError, Global};

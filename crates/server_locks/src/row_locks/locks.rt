@@ -1,8 +1,8 @@
 //! The table of the row locks that are held.
 
 ghost use Rattle.std.specs.Prelude.{◌≡◌, [], None, IfOk, OnOk, OnErr};
-ghost use Rattle.server_locks.specs.RowLocks.Holding.{IsLastAskOf, asked, freed, undone};
-ghost use Rattle.server_locks.specs.RowLocks.Granting.{answer_to};
+ghost use Rattle.server_locks.specs.RowLocks.LockTable.{IsLastAskOf, asked, freed, undone};
+ghost use Rattle.server_locks.specs.RowLocks.Grants.{answer_to};
 
 use crate::row_locks::lock::{HeldLock, LockAnswer, LockSet, held_by, holds_one, take_away};
 use crate::row_locks::refusals::blocker_of_set;
@@ -26,7 +26,7 @@ pub struct RowLocks {
 }
 
 impl Model for RowLocks {
-    ghost use Rattle.server_locks.specs.RowLocks.Holding.{LockTable};
+    ghost use Rattle.server_locks.specs.RowLocks.LockTable.{LockTable};
 
     ghost Value = { LockTable };
 

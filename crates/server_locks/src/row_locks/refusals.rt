@@ -1,14 +1,14 @@
 //! Who refuses a lock.
 
 ghost use Rattle.std.specs.Prelude.{◌≡◌};
-ghost use Rattle.server_locks.specs.RowLocks.Granting.{refusal, blocker_of_lock, blocker_of_set};
+ghost use Rattle.server_locks.specs.RowLocks.Grants.{refusal, blocker_of_lock, blocker_of_set};
 
 use crate::least_session::least;
 use crate::row_locks::lock::{HeldLock, Lock};
 
 impl HeldLock {
     /// The session that holds this lock, where it refuses the session's.
-    #[tactic(auto, unfolding(crate::specs::RowLocks::Granting::refusal))]
+    #[tactic(auto, unfolding(crate::specs::RowLocks::Grants::refusal))]
     fn refusal(&self, session: u32, lock: &Lock) -> Option<u32>
         ensures { result ≡ refusal session lock.now self.now }
     {
@@ -21,7 +21,7 @@ impl HeldLock {
 }
 
 /// The least session that refuses the lock.
-#[tactic(auto, using(crate::proofs::RowLocks::Refusers::steps), unfolding(crate::specs::RowLocks::Granting::blocker_of_lock))]
+#[tactic(auto, using(crate::proofs::RowLocks::Refusers::steps), unfolding(crate::specs::RowLocks::Grants::blocker_of_lock))]
 fn blocker_of_lock(held: &[HeldLock], session: u32, lock: &Lock) -> Option<u32>
     ensures { result ≡ blocker_of_lock held.now session lock.now }
 {
@@ -33,7 +33,7 @@ fn blocker_of_lock(held: &[HeldLock], session: u32, lock: &Lock) -> Option<u32>
 }
 
 /// The least session that refuses one of the locks.
-#[tactic(auto, using(crate::proofs::RowLocks::Refusers::steps), unfolding(crate::specs::RowLocks::Granting::blocker_of_set))]
+#[tactic(auto, using(crate::proofs::RowLocks::Refusers::steps), unfolding(crate::specs::RowLocks::Grants::blocker_of_set))]
 pub fn blocker_of_set(held: &[HeldLock], session: u32, set: &[Lock]) -> Option<u32>
     ensures { result ≡ blocker_of_set held.now session set.now }
 {

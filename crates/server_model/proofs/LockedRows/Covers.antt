@@ -18,13 +18,13 @@ use Rattle.server_model.specs.declared.answer.Answer.{Answer}
 use Rattle.server_model.specs.declared.answer.Answer.TheVariants as answers
 use Rattle.server_model.specs.Answers.{refuses}
 use Rattle.server_locks.specs.declared.row_locks.lock.Lock.{Lock}
-use Rattle.server_locks.specs.RowLocks.Granting.{conflict}
+use Rattle.server_locks.specs.RowLocks.Grants.{conflict}
 use Rattle.table_store.proofs.Orders.{Row}
 use Rattle.server_model.specs.Rows.{rows_met, same_row, stands, lies_under, without_row, change_rows, change_all}
 use Rattle.server_model.specs.declared.work.Work.{Work}
 use Rattle.server_model.specs.declared.work.Work.TheVariants.{Refuse, Insert, Copy, Replace, Delete, Update, Select}
-use Rattle.server_model.specs.Saying.{only, displaced, with_sets, clashes_besides, change_first, updates, updated, tells, result_or_refusal}
-use Rattle.server_model.specs.Needing.{lock_on, points, points_of, needs}
+use Rattle.server_model.specs.StatementResults.{only, displaced, with_sets, clashes_besides, change_first, updates, updated, tells, result_or_refusal}
+use Rattle.server_model.specs.Needs.{lock_on, points, points_of, needs}
 use Rattle.server_model.specs.LockedRows.Agreeing.{covers, is_under, SameWhere, Among, Within}
 use Rattle.server_model.specs.LockedRows.Covering.{rows_of, RowsCovered, Covered, Apart}
 use Rattle.server_model.proofs.LockedRows.Standing.{one_row, stands-put, stands-filter}
@@ -65,9 +65,9 @@ updates_covered schema sets locks (old ∷ met) rows one two =
     (change_first change (updates schema sets met (change_rows (key_places schema) change rows))) (updates_covered schema sets locks met rows olds.1 news.1)
     (one_more schema locks change (updates schema sets met (change_rows (key_places schema) change rows)) (olds.0, (news.0, tt)) (updates_covered schema sets locks met (change_rows (key_places schema) change rows) olds.1 news.1))
 
-told_covered : (schema : Schema) (locks : List Lock) (result : Result (List Change) Answer) → ResultCovered schema locks result → Covered schema locks (result_or_refusal result).changes
-told_covered schema locks (Ok all) is = is
-told_covered schema locks (Err refusal) is = tt
+reported_covered : (schema : Schema) (locks : List Lock) (result : Result (List Change) Answer) → ResultCovered schema locks result → Covered schema locks (result_or_refusal result).changes
+reported_covered schema locks (Ok all) is = is
+reported_covered schema locks (Err refusal) is = tt
 
 insert_covered : (schema : Schema) (locks : List Lock) (row : Row) (refusal : Answer) (b : Bool) → Within (points schema row) locks
     → Covered schema locks (cond b (only refusal) (record { answer = answers.Ok 1; changes = changes.Write row ∷ [] })).changes
@@ -98,7 +98,7 @@ tells_covered schema rows (Update reach (Ok sets)) =
     let olds : List Lock = points_of schema met in
     let news : List Lock = points_of schema (map (with_sets sets) met) in
     let locks : List Lock = lock_on schema true reach ∷ (olds ++ news) in
-    told_covered schema locks (updates schema sets met rows)
+    reported_covered schema locks (updates schema sets met rows)
     (updates_covered schema sets locks met rows (within-right olds (lock_on schema true reach ∷ []) (olds ++ news) (within-left olds olds news (within-itself olds)))
     (within-right news (lock_on schema true reach ∷ olds) news (within-itself news)))
 tells_covered schema rows (Select reach selection) = tt

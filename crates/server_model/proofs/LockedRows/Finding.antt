@@ -15,13 +15,13 @@ use Rattle.table_store.proofs.Orders.{Row}
 use Rattle.server_model.specs.declared.work.StatementResult.{StatementResult}
 use Rattle.server_model.specs.Rows.{change_rows, change_all}
 use Rattle.server_model.specs.declared.work.Work.{Work}
-use Rattle.server_model.specs.Saying.{TableResult, tells}
-use Rattle.server_model.specs.Needing.{needs}
+use Rattle.server_model.specs.StatementResults.{TableResult, tells}
+use Rattle.server_model.specs.Needs.{needs}
 use Rattle.server_model.specs.LockedRows.Agreeing.{is_under, SameWhere, TablesAgree, Agree, Within}
 use Rattle.server_model.specs.LockedRows.Covering.{IsWellFormedTable, IsSound, RowsCovered, Covered, rows_of}
 use Rattle.server_model.specs.LockedRows.Databases.{TaskSound, WhereFound, IsWellFormedDatabase, EventsCovered}
 use Rattle.server_model.specs.LockedRows.Laws.{SaysAlike}
-use Rattle.server_model.specs.Jobs.{Job, events_of, result_in, job_says, needs_in, job_needs, change_table, after_events}
+use Rattle.server_model.specs.Operations.{Operation, events_of, result_in, operation_result, needs_in, operation_needs, change_table, after_events}
 use Rattle.server_model.proofs.LockedRows.Standing.{same-changed, same-within}
 use Rattle.server_model.proofs.LockedRows.Points.{under-within, within-within}
 use Rattle.server_model.proofs.LockedRows.Footprints.{AreAlike, footprint}
@@ -94,7 +94,7 @@ pub agree_within : (names more : List (List ℕ)) (some all : List Lock) (a b : 
 agree_within names more some all a b named within agree = record { tables = λ name is. tables_within some all (find_table name a) (find_table name b) within (agree.tables name (named name is)) }
 
 -- *Locked rows decide*
-alike_in : (task : Job) (locks : List Lock) (one two : Option TableRows) → TablesAgree locks one two → Within (needs_in task one) locks → WhereFound IsWellFormedTable one → WhereFound IsWellFormedTable two
+alike_in : (task : Operation) (locks : List Lock) (one two : Option TableRows) → TablesAgree locks one two → Within (needs_in task one) locks → WhereFound IsWellFormedTable one → WhereFound IsWellFormedTable two
     → (result_in task one ≡ result_in task two) × (needs_in task one ≡ needs_in task two)
 alike_in task locks None None agree within p q = (refl, refl)
 alike_in task locks None (Some y) agree within p q = absurd agree
@@ -105,12 +105,12 @@ alike_in task locks (Some x) (Some y) agree within p q =
     let same : SameWhere (is_under x.schema (needs x.schema x.rows work)) x.rows y.rows =
     same-within (is_under x.schema (needs x.schema x.rows work)) (is_under x.schema locks) x.rows y.rows (λ row is. under-within x.schema (needs x.schema x.rows work) locks row within is) agree.1 in
     let alike : AreAlike x.schema work x.rows y.rows = footprint x.schema work x.rows y.rows p.is_table.ascends ascends same in (
-      ap (λ (t : TableResult). let s : StatementResult = record { answer = t.answer; events = events_of task.table t.changes } in s) (alike.told ∙ ap (λ (s : Schema). tells s y.rows (task.work s)) agree.0),
+      ap (λ (t : TableResult). let s : StatementResult = record { answer = t.answer; events = events_of task.table t.changes } in s) (alike.executed ∙ ap (λ (s : Schema). tells s y.rows (task.work s)) agree.0),
       alike.needed ∙ ap (λ (s : Schema). needs s y.rows (task.work s)) agree.0,
     )
 
-pub says_alike : (names : List (List ℕ)) (locks : List Lock) (a b : Database) (task : Job) → Agree names locks a b → list_any (bytes_eq task.table) names ≡ true → Within (job_needs a task) locks → IsWellFormedDatabase a → IsWellFormedDatabase b → SaysAlike task a b
-unfolding job_says job_needs
+pub says_alike : (names : List (List ℕ)) (locks : List Lock) (a b : Database) (task : Operation) → Agree names locks a b → list_any (bytes_eq task.table) names ≡ true → Within (operation_needs a task) locks → IsWellFormedDatabase a → IsWellFormedDatabase b → SaysAlike task a b
+unfolding operation_result operation_needs
 says_alike names locks a b task agree named within p q =
     let both = alike_in task locks (find_table task.table a) (find_table task.table b) (agree.tables task.table named) within (p.each task.table) (q.each task.table) in
     record { said = both.0; needed = both.1 }
@@ -141,23 +141,23 @@ found_after_all table name (change ∷ changes) tables =
     ∙ found_all_step (bytes_eq table name) change changes (find_table name tables)
 
 -- the changes that a statement makes
-abbrev pub tells_in : Job → Option TableRows → List Change
+abbrev pub tells_in : Operation → Option TableRows → List Change
 tells_in task None = []
 tells_in task (Some x) = (tells x.schema x.rows (task.work x.schema)).changes
 
-well_formed_in : (task : Job) (name : List ℕ) (one other : Option TableRows) (b : Bool) → (b ≡ true → one ≡ other) → WhereFound (λ table. IsSound table.schema.columns (task.work table.schema)) one → WhereFound IsWellFormedTable other → WhereFound IsWellFormedTable (change_found_all b (tells_in task one) other)
+well_formed_in : (task : Operation) (name : List ℕ) (one other : Option TableRows) (b : Bool) → (b ≡ true → one ≡ other) → WhereFound (λ table. IsSound table.schema.columns (task.work table.schema)) one → WhereFound IsWellFormedTable other → WhereFound IsWellFormedTable (change_found_all b (tells_in task one) other)
 well_formed_in task name one None true same sound p = tt
 well_formed_in task name one (Some x) true same sound p =
     let here : IsSound x.schema.columns (task.work x.schema) = subst (λ (o : Option TableRows). WhereFound (λ table. IsSound table.schema.columns (task.work table.schema)) o) (same refl) sound in
     rw (same refl) (record { keyed = p.keyed; defaults = p.defaults; is_table = tells_well_formed x.schema p.keyed x.rows (task.work x.schema) here p.is_table })
 well_formed_in task name one other false same sound p = p
 
-said_events : (task : Job) (one : Option TableRows) → (result_in task one).events ≡ events_of task.table (tells_in task one)
+said_events : (task : Operation) (one : Option TableRows) → (result_in task one).events ≡ events_of task.table (tells_in task one)
 said_events task None = refl
 said_events task (Some x) = refl
 
-pub says_well_formed : (tables : Database) (task : Job) → TaskSound task tables → IsWellFormedDatabase tables → IsWellFormedDatabase (after_events tables (job_says tables task).events)
-unfolding job_says
+pub says_well_formed : (tables : Database) (task : Operation) → TaskSound task tables → IsWellFormedDatabase tables → IsWellFormedDatabase (after_events tables (operation_result tables task).events)
+unfolding operation_result
 says_well_formed tables task sound are =
     let own = task.table in
     rw (said_events task (find_table own tables))
@@ -180,13 +180,13 @@ covered_each names locks tables table t [] found named covered = tt
 covered_each names locks tables table t (change ∷ changes) found named covered =
     (record { named = named; covered = rw found covered.0 }, covered_each names locks tables table t changes found named covered.1)
 
-said_covered : (names : List (List ℕ)) (locks : List Lock) (tables : Database) (task : Job) (one : Option TableRows) → find_table task.table tables ≡ one → list_any (bytes_eq task.table) names ≡ true → Within (needs_in task one) locks
+said_covered : (names : List (List ℕ)) (locks : List Lock) (tables : Database) (task : Operation) (one : Option TableRows) → find_table task.table tables ≡ one → list_any (bytes_eq task.table) names ≡ true → Within (needs_in task one) locks
     → EventsCovered names locks tables (result_in task one).events
 said_covered names locks tables task None found named within = tt
 said_covered names locks tables task (Some x) found named within =
     covered_each names locks tables task.table x (tells x.schema x.rows (task.work x.schema)).changes found named
     (covered_more x.schema (needs x.schema x.rows (task.work x.schema)) locks (tells x.schema x.rows (task.work x.schema)).changes within (tells_covered x.schema x.rows (task.work x.schema)))
 
-pub says_covered : (names : List (List ℕ)) (locks : List Lock) (tables : Database) (task : Job) → list_any (bytes_eq task.table) names ≡ true → Within (job_needs tables task) locks → EventsCovered names locks tables (job_says tables task).events
-unfolding job_says job_needs
+pub says_covered : (names : List (List ℕ)) (locks : List Lock) (tables : Database) (task : Operation) → list_any (bytes_eq task.table) names ≡ true → Within (operation_needs tables task) locks → EventsCovered names locks tables (operation_result tables task).events
+unfolding operation_result operation_needs
 says_covered names locks tables task named within = said_covered names locks tables task (find_table task.table tables) refl named within

@@ -15,8 +15,8 @@ use Rattle.server_model.specs.declared.work.Reach.{Reach}
 use Rattle.server_model.specs.Rows.{reaches, rows_met, same_row, change_rows}
 use Rattle.server_model.specs.declared.work.Work.{Work}
 use Rattle.server_model.specs.declared.work.Work.TheVariants.{Refuse, Insert, Copy, Replace, Delete, Update, Select}
-use Rattle.server_model.specs.Saying.{displaced, with_sets, clashes_besides, updates, updated, tells, result_or_refusal}
-use Rattle.server_model.specs.Needing.{lock_on, points, points_of, needs}
+use Rattle.server_model.specs.StatementResults.{displaced, with_sets, clashes_besides, updates, updated, tells, result_or_refusal}
+use Rattle.server_model.specs.Needs.{lock_on, points, points_of, needs}
 use Rattle.server_model.specs.LockedRows.Agreeing.{is_under, SameWhere}
 use Rattle.server_model.proofs.LockedRows.Standing.{same-filter, same-any, same-within, same-changed}
 use Rattle.server_model.proofs.LockedRows.Points.{under-append, clash_under}
@@ -24,7 +24,7 @@ use Rattle.server_model.proofs.LockedRows.Tests.{same_bytes}
 
 -- what is said and needed on the one list is said and needed on the other
 pub record AreAlike (schema : Schema) (work : Work) (a b : List Row) : Type 0 where
-  pub told : tells schema a work ≡ tells schema b work
+  pub executed : tells schema a work ≡ tells schema b work
   pub needed : needs schema a work ≡ needs schema b work
 
 -- what is reached lies under the lock on it
@@ -66,30 +66,30 @@ updates_alike schema sets test (old ∷ met) a b same within =
 -- *Footprint law*
 pub footprint : (schema : Schema) (work : Work) (a b : List Row) → Ascends (key_places schema) a → Ascends (key_places schema) b → SameWhere (is_under schema (needs schema a work)) a b → AreAlike schema work a b
 unfolding tells needs
-footprint schema (Refuse refusal) a b one two same = record { told = refl; needed = refl }
+footprint schema (Refuse refusal) a b one two same = record { executed = refl; needed = refl }
 footprint schema (Insert row) a b one two same =
     let any : list_any (clash schema.uniques row) a ≡ list_any (clash schema.uniques row) b = same-any (clash schema.uniques row) a b (same-within (clash schema.uniques row) (is_under schema (points schema row)) a b (clash_under schema row) same) in
-    record { told = rw any refl; needed = refl }
+    record { executed = rw any refl; needed = refl }
 footprint schema (Copy row) a b one two same =
     let any : list_any (clash schema.uniques row) a ≡ list_any (clash schema.uniques row) b = same-any (clash schema.uniques row) a b (same-within (clash schema.uniques row) (is_under schema (points schema row)) a b (clash_under schema row) same) in
-    record { told = rw any refl; needed = refl }
+    record { executed = rw any refl; needed = refl }
 footprint schema (Replace row) a b one two same =
     let gone : displaced schema row a ≡ displaced schema row b =
     same-filter (clash schema.uniques row) (key_places schema) a b one two
     (same-within (clash schema.uniques row) (is_under schema (points schema row ++ points_of schema (displaced schema row a))) a b (λ other some. front_under schema (points schema row) (points_of schema (displaced schema row a)) other (clash_under schema row other some)) same) in
-    record { told = rw gone refl; needed = rw gone refl }
+    record { executed = rw gone refl; needed = rw gone refl }
 footprint schema (Delete reach) a b one two same =
     let met : rows_met schema reach a ≡ rows_met schema reach b =
     same-filter (reaches schema reach) (key_places schema) a b one two (same-within (reaches schema reach) (is_under schema (needs schema a (Delete reach))) a b (reach_under schema true reach (points_of schema (rows_met schema reach a))) same) in
-    record { told = rw met refl; needed = rw met refl }
+    record { executed = rw met refl; needed = rw met refl }
 footprint schema (Select reach selection) a b one two same =
     let met : rows_met schema reach a ≡ rows_met schema reach b = same-filter (reaches schema reach) (key_places schema) a b one two (same-within (reaches schema reach) (is_under schema (needs schema a (Select reach selection))) a b (reach_under schema false reach []) same) in
-    record { told = rw met refl; needed = refl }
+    record { executed = rw met refl; needed = refl }
 footprint schema (Update reach (Err at)) a b one two same =
     let met : rows_met schema reach a ≡ rows_met schema reach b =
     same-filter (reaches schema reach) (key_places schema) a b one two
     (same-within (reaches schema reach) (is_under schema (needs schema a (Update reach (Err at)))) a b (reach_under schema true reach (points_of schema (rows_met schema reach a) ++ [])) same) in
-    record { told = refused met; needed = rw met refl } where
+    record { executed = refused met; needed = rw met refl } where
       refused : rows_met schema reach a ≡ rows_met schema reach b → updated schema (Err at) (rows_met schema reach a) a ≡ updated schema (Err at) (rows_met schema reach b) b
       refused met = rw met (either (rows_met schema reach b)) where
         either : (met : List Row) → updated schema (Err at) met a ≡ updated schema (Err at) met b
@@ -103,4 +103,4 @@ footprint schema (Update reach (Ok sets)) a b one two same =
     clashes_within schema sets (is_under schema (needs schema a (Update reach (Ok sets)))) (rows_met schema reach a)
     (λ other is. back_under schema (lock_on schema true reach ∷ points_of schema (rows_met schema reach a)) (points_of schema (map (with_sets sets) (rows_met schema reach a))) other is) in
     let same_changes : updates schema sets (rows_met schema reach a) a ≡ updates schema sets (rows_met schema reach a) b = updates_alike schema sets (is_under schema (needs schema a (Update reach (Ok sets)))) (rows_met schema reach a) a b same within in
-    record { told = ap result_or_refusal (same_changes ∙ ap (λ (rows : List Row). updates schema sets rows b) met); needed = rw met refl }
+    record { executed = ap result_or_refusal (same_changes ∙ ap (λ (rows : List Row). updates schema sets rows b) met); needed = rw met refl }

@@ -5,7 +5,7 @@ use Rattle.std.proofs.lemmas.Bool.{false≢true}
 use Rattle.std.proofs.lemmas.List.Folds.{list_any-append}
 use Rattle.std.specs.Ordering.{is_eq}
 use Rattle.std.specs.List.{slice_get}
-use Rattle.base_values.specs.Comparing.{compare_keys}
+use Rattle.base_values.specs.KeyOrder.{compare_keys}
 use Rattle.base_values.specs.Spans.{has, point}
 use Rattle.base_values.proofs.Orders.{tied_keys}
 use Rattle.base_values.proofs.SpanLaws.{point_has_key}
@@ -16,7 +16,7 @@ use Rattle.base_values.specs.GhoSchema.Tables.{clash, no_null}
 use Rattle.server_locks.specs.declared.row_locks.lock.Lock.{Lock}
 use Rattle.table_store.proofs.Orders.{Row, is_Equal}
 use Rattle.server_model.specs.Rows.{lies_under}
-use Rattle.server_model.specs.Needing.{lock_on, point_lock, points_from, points}
+use Rattle.server_model.specs.Needs.{lock_on, point_lock, points_from, points}
 use Rattle.server_model.specs.LockedRows.Agreeing.{covers, is_under, Among, Within}
 use Rattle.server_model.proofs.LockedRows.Tests.{same_bytes}
 

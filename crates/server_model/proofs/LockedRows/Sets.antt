@@ -3,7 +3,7 @@ use Rattle.std.proofs.Common.{◌≡◌, List, ◌∷◌, Option, Some, None, re
 use Rattle.std.specs.Prelude.{unwrap_or}
 use Rattle.base_values.specs.declared.value.Value.{Value}
 use Rattle.table_store.proofs.Orders.{Row}
-use Rattle.server_model.specs.Saying.{with_sets}
+use Rattle.server_model.specs.StatementResults.{with_sets}
 
 -- one column more
 pub with_sets_more : (set : Option Value) (sets : List (Option Value)) (value : Value) (row : Row) → with_sets (set ∷ sets) (value ∷ row) ≡ unwrap_or set value ∷ with_sets sets row

@@ -4,7 +4,7 @@ use Rattle.std.specs.List.{AllByRecursion}
 use Rattle.base_values.specs.declared.value.Value.{Value}
 use Rattle.base_values.specs.declared.kind.Kind.{Kind}
 use Rattle.base_values.specs.declared.unfit.Unfit.{Unfit}
-use Rattle.base_values.specs.Storing.{stores}
+use Rattle.base_values.specs.StoredValues.{stores}
 use Rattle.base_values.proofs.StoredValues.{keeps}
 use Rattle.base_values.specs.declared.gho_schema.schema.Schema.{Schema}
 use Rattle.base_values.specs.declared.gho_schema.schema.Column.{Column}
@@ -18,7 +18,7 @@ use Rattle.server_model.specs.declared.work.Reach.{Reach}
 use Rattle.server_model.specs.declared.work.Selection.{Selection}
 use Rattle.server_model.specs.declared.work.Work.{Work}
 use Rattle.server_model.specs.declared.work.Work.TheVariants.{Insert, Replace, Delete, Update}
-use Rattle.server_model.specs.Checking.{◌>>=◌, value_at, given_or, beside, row_from, new_row, places_listed, unless, places_named, are_distinct, reach_of, selection_of, set_first, stored_set, sets_from, or_refused, update_of, select_of, work_of}
+use Rattle.server_model.specs.Checks.{◌>>=◌, value_at, given_or, beside, row_from, new_row, places_listed, unless, places_named, are_distinct, reach_of, selection_of, set_first, stored_set, sets_from, or_refused, update_of, select_of, work_of}
 use Rattle.base_values.specs.SchemaRules.Valid.{StoresDefault}
 use Rattle.server_model.specs.LockedRows.Covering.{SetsFit, IsSound}
 

@@ -21,7 +21,7 @@ use Rattle.server_model.specs.Rows.{change_all}
 use Rattle.server_model.specs.LockedRows.Agreeing.{TablesAgree, Agree, Within}
 use Rattle.server_model.specs.LockedRows.Covering.{IsWellFormedTable, IsSound, RowsCovered, rows_of, Apart}
 use Rattle.server_model.specs.LockedRows.Databases.{TaskSound, WhereFound, IsWellFormedDatabase, ChangeCovered, EventCovered, EventsCovered}
-use Rattle.server_model.specs.Jobs.{table_of, job_of, says, row_needs, change_table, after_events}
+use Rattle.server_model.specs.Operations.{table_of, operation_of, statement_result, row_needs, change_table, after_events}
 use Rattle.server_model.specs.Alone.{line_says, line_events, line_replies, Ran, lines_run, nothing_ran}
 use Rattle.server_model.specs.LockedRows.Laws.{StatementsKeepDatabases}
 use Rattle.server_model.specs.LockedRows.Stability.{RunSo, Stable}
@@ -52,16 +52,16 @@ more_alike one two word (marks.Lost Before) ran same = refl
 more_alike one two word (marks.Lost After) ran same = ap (λ (s : StatementResult). let r : Ran = record { replies = ran.replies ++ []; writes = ran.writes ++ s.events } in r) same
 
 -- a statement's work is sound
-sound_in : (statement : Statement) (found : Option TableRows) → WhereFound IsWellFormedTable found → WhereFound (λ table. IsSound table.schema.columns ((job_of statement).work table.schema)) found
+sound_in : (statement : Statement) (found : Option TableRows) → WhereFound IsWellFormedTable found → WhereFound (λ table. IsSound table.schema.columns ((operation_of statement).work table.schema)) found
 sound_in statement None is = tt
 sound_in statement (Some table) is = work_sound table.schema statement is.defaults
 
-pub statement_sound : (tables : Database) (statement : Statement) → IsWellFormedDatabase tables → TaskSound (job_of statement) tables
+pub statement_sound : (tables : Database) (statement : Statement) → IsWellFormedDatabase tables → TaskSound (operation_of statement) tables
 statement_sound tables statement is = sound_in statement (find_table (table_of statement) tables) (is.each (table_of statement))
 
 -- *Statements keep databases*
 pub statements_keep : StatementsKeepDatabases
-statements_keep tables statement is = says_well_formed tables (job_of statement) (statement_sound tables statement is) is
+statements_keep tables statement is = says_well_formed tables (operation_of statement) (statement_sound tables statement is) is
 
 -- what a line leaves is orderly
 line_well_formed : (tables : Database) (word : ScriptWord) (mark : Mark) → IsWellFormedDatabase tables → IsWellFormedDatabase (after_events tables (line_events tables word mark))
@@ -104,7 +104,7 @@ pub stable_statement : (names more : List (List ℕ)) (locks all : List Lock) (l
 stable_statement names more locks all lines ran tables statement mark stable well_formed named within mine needed =
     let here : RunSo lines ran tables = stable.each tables well_formed (agree_itself names locks tables) in
     stable_more names more locks all lines ran tables (words.Do statement) mark stable named within
-    (λ other is agree. more_alike tables other (words.Do statement) mark ran (says_alike more all (after_events tables ran.writes) (after_events other ran.writes) (job_of statement) (agree_events more all tables other ran.writes agree) mine needed here.well_formed is).said)
+    (λ other is agree. more_alike tables other (words.Do statement) mark ran (says_alike more all (after_events tables ran.writes) (after_events other ran.writes) (operation_of statement) (agree_events more all tables other ran.writes agree) mine needed here.well_formed is).said)
 
 -- a line that says nothing of the tables: BEGIN
 pub stable_begin : (tables : Database) → IsWellFormedDatabase tables → Stable [] [] [] nothing_ran tables
@@ -179,10 +179,10 @@ covered_both names locks tables (x ∷ a) b one two = (one.0, covered_both names
 
 -- the own next statement's writes are covered
 pub covered_statement : (names more : List (List ℕ)) (locks all : List Lock) (writes : List RowEvent) (tables : Database) (statement : Statement) → EventsCovered names locks tables writes → NamesWithin names more → Within locks all
-    → list_any (bytes_eq (table_of statement)) more ≡ true → Within (row_needs (after_events tables writes) statement) all → EventsCovered more all tables (writes ++ (says (after_events tables writes) statement).events)
+    → list_any (bytes_eq (table_of statement)) more ≡ true → Within (row_needs (after_events tables writes) statement) all → EventsCovered more all tables (writes ++ (statement_result (after_events tables writes) statement).events)
 covered_statement names more locks all writes tables statement covered named within mine needed =
-    covered_both more all tables writes (says (after_events tables writes) statement).events (covered_more names more locks all tables writes named within covered)
-    (covered_before more all tables writes (says (after_events tables writes) statement).events (says_covered more all (after_events tables writes) (job_of statement) mine needed))
+    covered_both more all tables writes (statement_result (after_events tables writes) statement).events (covered_more names more locks all tables writes named within covered)
+    (covered_before more all tables writes (statement_result (after_events tables writes) statement).events (says_covered more all (after_events tables writes) (operation_of statement) mine needed))
 
 -- what one session commits changes no row under another's locks
 tables_others : (own others : List Lock) (change : Change) (b : Bool) (found : Option TableRows) → Apart own others → (b ≡ true → WhereFound (ChangeCovered own change) found) → TablesAgree others found (change_if b change found)

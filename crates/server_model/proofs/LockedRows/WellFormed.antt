@@ -16,7 +16,7 @@ use Rattle.table_store.proofs.Ascending.{all-filter}
 use Rattle.server_model.specs.Rows.{reaches, rows_met, same_row, stands, without_row, change_rows, change_all}
 use Rattle.server_model.specs.declared.work.Work.{Work}
 use Rattle.server_model.specs.declared.work.Work.TheVariants.{Refuse, Insert, Copy, Replace, Delete, Update, Select}
-use Rattle.server_model.specs.Saying.{only, displaced, with_sets, clashes_besides, change_first, updates, updated, tells, result_or_refusal}
+use Rattle.server_model.specs.StatementResults.{only, displaced, with_sets, clashes_besides, change_first, updates, updated, tells, result_or_refusal}
 use Rattle.server_model.specs.LockedRows.Covering.{SetsFit, IsSound}
 use Rattle.base_values.specs.Laws.{StoresNullWhereNullable}
 use Rattle.base_values.specs.declared.gho_schema.schema.Column.{Column}
@@ -125,10 +125,10 @@ updates_well_formed schema key sets sound (old ∷ met) rows full are =
     (λ none. one_more schema change rows (updates schema sets met (change_rows (key_places schema) change rows)) (updates_well_formed schema key sets sound met (change_rows (key_places schema) change rows) full.1
     (well_formed_put schema key (with_sets sets old) (without_row old rows) (with_sets_row schema.columns sets old sound full.0) (none_besides schema (with_sets sets old) old rows none) (well_formed_gone schema old rows are))))
 
-told_well_formed : (schema : Schema) (rows : List Row) (result : Result (List Change) Answer) → IsTable schema rows → ResultWellFormed schema rows result → IsTable schema (change_all (key_places schema) (result_or_refusal result).changes rows)
+reported_well_formed : (schema : Schema) (rows : List Row) (result : Result (List Change) Answer) → IsTable schema rows → ResultWellFormed schema rows result → IsTable schema (change_all (key_places schema) (result_or_refusal result).changes rows)
 unfolding change_all
-told_well_formed schema rows (Ok all) are then = then
-told_well_formed schema rows (Err refusal) are then = are
+reported_well_formed schema rows (Ok all) are then = then
+reported_well_formed schema rows (Err refusal) are then = are
 
 inserted_well_formed : (schema : Schema) → HasClusteredKey schema → (row : Row) (rows : List Row) (refusal : Answer) (b : Bool) → list_any (clash schema.uniques row) rows ≡ b → IsRow schema.columns row → IsTable schema rows
     → IsTable schema (change_all (key_places schema) (cond b (only refusal) (record { answer = answers.Ok 1; changes = changes.Write row ∷ [] })).changes rows)
@@ -158,6 +158,6 @@ tells_well_formed schema key rows (Replace row) sound are = replaced_well_formed
 tells_well_formed schema key rows (Delete reach) sound are = removals_well_formed schema (rows_met schema reach rows) rows are
 tells_well_formed schema key rows (Update reach (Err at)) sound are = refused_well_formed schema at (rows_met schema reach rows) rows are
 tells_well_formed schema key rows (Update reach (Ok sets)) sound are =
-    told_well_formed schema rows (updates schema sets (rows_met schema reach rows) rows) are
+    reported_well_formed schema rows (updates schema sets (rows_met schema reach rows) rows) are
     (updates_well_formed schema key sets sound (rows_met schema reach rows) rows (all-filter (IsRow schema.columns) (reaches schema reach) rows are.rows_fit) are)
 tells_well_formed schema key rows (Select reach selection) sound are = are

@@ -5,17 +5,17 @@ use Rattle.base_values.specs.declared.value.Value.{Value}
 use Rattle.base_values.specs.declared.gho_schema.schema.Schema.{Schema}
 use Rattle.base_values.specs.GhoSchema.Tables.{IsRow, IsTable}
 use Rattle.base_values.specs.declared.gho_schema.schema.Column.{Column}
-use Rattle.base_values.specs.Storing.{stores}
+use Rattle.base_values.specs.StoredValues.{stores}
 use Rattle.base_values.specs.SchemaRules.Valid.{StoresDefault}
 use Rattle.table_store.specs.ClusteredKeys.{HasClusteredKey}
 use Rattle.table_store.specs.Databases.{TableRows}
 use Rattle.base_values.specs.declared.event.Change.{Change}
 use Rattle.base_values.specs.declared.event.Change.TheVariants.{Write, Update, Delete}
 use Rattle.server_locks.specs.declared.row_locks.lock.Lock.{Lock}
-use Rattle.server_locks.specs.RowLocks.Granting.{conflict}
+use Rattle.server_locks.specs.RowLocks.Grants.{conflict}
 use Rattle.server_model.specs.declared.work.Work.{Work}
 use Rattle.server_model.specs.declared.work.Work.TheVariants as works
-use Rattle.server_model.specs.Needing.{points}
+use Rattle.server_model.specs.Needs.{points}
 use Rattle.server_model.specs.LockedRows.Agreeing.{Among, Within}
 
 -- the rows that a change puts or removes

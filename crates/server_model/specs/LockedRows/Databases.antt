@@ -6,7 +6,7 @@ use Rattle.base_values.specs.declared.event.RowEvent.{RowEvent}
 use Rattle.base_values.specs.declared.event.Change.{Change}
 use Rattle.server_locks.specs.declared.row_locks.lock.Lock.{Lock}
 use Rattle.table_store.specs.Databases.{TableRows, Database, find_table}
-use Rattle.server_model.specs.Jobs.{Job}
+use Rattle.server_model.specs.Operations.{Operation}
 use Rattle.server_model.specs.LockedRows.Covering.{IsWellFormedTable, IsSound, RowsCovered, rows_of}
 
 abbrev pub WhereFound : (TableRows → Type 0) → Option TableRows → Type 0
@@ -30,5 +30,5 @@ abbrev pub EventsCovered : List (List ℕ) → List Lock → Database → List R
 EventsCovered names locks tables events = AllByRecursion (EventCovered names locks tables) events
 
 -- the task's work makes rows of its table
-abbrev pub TaskSound : Job → Database → Type 0
+abbrev pub TaskSound : Operation → Database → Type 0
 TaskSound task tables = WhereFound (λ table. IsSound table.schema.columns (task.work table.schema)) (find_table task.table tables)

@@ -13,27 +13,27 @@ use Rattle.table_store.specs.ClusteredKeys.{HasClusteredKey}
 use Rattle.table_store.specs.Databases.{Database}
 use Rattle.server_model.specs.declared.work.Work.{Work}
 use Rattle.server_model.specs.Rows.{change_all}
-use Rattle.server_model.specs.Checking.{work_of}
-use Rattle.server_model.specs.Saying.{tells}
-use Rattle.server_model.specs.Jobs.{Job, says, job_says, job_needs, after_events}
+use Rattle.server_model.specs.Checks.{work_of}
+use Rattle.server_model.specs.StatementResults.{tells}
+use Rattle.server_model.specs.Operations.{Operation, statement_result, operation_result, operation_needs, after_events}
 use Rattle.server_model.specs.LockedRows.Agreeing.{Agree, Within}
 use Rattle.base_values.specs.SchemaRules.Valid.{StoresDefault}
 use Rattle.server_model.specs.LockedRows.Covering.{Apart, IsSound}
 use Rattle.server_model.specs.LockedRows.Databases.{IsWellFormedDatabase, EventsCovered}
 
 -- the two databases let the job say and need the same
-pub record SaysAlike (job : Job) (a b : Database) : Type 0 where
-  pub said : job_says a job ≡ job_says b job
-  pub needed : job_needs a job ≡ job_needs b job
+pub record SaysAlike (operation : Operation) (a b : Database) : Type 0 where
+  pub said : operation_result a operation ≡ operation_result b operation
+  pub needed : operation_needs a operation ≡ operation_needs b operation
 
 -- *Locked rows decide*: a job says and needs the same on every database that agrees under its table's name and the locks
 -- that it needs.
 abbrev pub LockedRowsDecide : Type 0
-LockedRowsDecide = (names : List (List ℕ)) (locks : List Lock) (a b : Database) (job : Job) → Agree names locks a b → list_any (bytes_eq job.table) names ≡ true → Within (job_needs a job) locks → IsWellFormedDatabase a → IsWellFormedDatabase b → SaysAlike job a b
+LockedRowsDecide = (names : List (List ℕ)) (locks : List Lock) (a b : Database) (operation : Operation) → Agree names locks a b → list_any (bytes_eq operation.table) names ≡ true → Within (operation_needs a operation) locks → IsWellFormedDatabase a → IsWellFormedDatabase b → SaysAlike operation a b
 
 -- *Writes are covered*: each row that a job puts or removes is of its table, and lies under the locks that it needs.
 abbrev pub WritesAreCovered : Type 0
-WritesAreCovered = (names : List (List ℕ)) (locks : List Lock) (tables : Database) (job : Job) → list_any (bytes_eq job.table) names ≡ true → Within (job_needs tables job) locks → EventsCovered names locks tables (job_says tables job).events
+WritesAreCovered = (names : List (List ℕ)) (locks : List Lock) (tables : Database) (operation : Operation) → list_any (bytes_eq operation.table) names ≡ true → Within (operation_needs tables operation) locks → EventsCovered names locks tables (operation_result tables operation).events
 
 -- *A statement's work is sound*: its new rows are rows of the table, where the defaults fit their columns.
 abbrev pub WorkIsSound : Type 0
@@ -45,7 +45,7 @@ SoundWorkKeepsTables = (schema : Schema) → HasClusteredKey schema → (rows : 
 
 -- *Statements keep databases*: a well-formed database stays one.
 abbrev pub StatementsKeepDatabases : Type 0
-StatementsKeepDatabases = (tables : Database) (statement : Statement) → IsWellFormedDatabase tables → IsWellFormedDatabase (after_events tables (says tables statement).events)
+StatementsKeepDatabases = (tables : Database) (statement : Statement) → IsWellFormedDatabase tables → IsWellFormedDatabase (after_events tables (statement_result tables statement).events)
 
 -- *Others see the same*: what is covered by the one's locks changes nothing under the other's, where the locks stay apart.
 abbrev pub OthersSeeTheSame : Type 0

@@ -4,7 +4,7 @@ use Rattle.std.specs.Prelude.{◌≡◌, ℕ, List}
 use Rattle.server_locks.specs.declared.row_locks.lock.Lock.{Lock}
 use Rattle.table_store.specs.Databases.{Database}
 use Rattle.server_model.specs.declared.transaction.TxnLine.{TxnLine}
-use Rattle.server_model.specs.Jobs.{after_events}
+use Rattle.server_model.specs.Operations.{after_events}
 use Rattle.server_model.specs.Alone.{Ran, lines_run, nothing_ran}
 use Rattle.server_model.specs.LockedRows.Agreeing.{Agree}
 use Rattle.server_model.specs.LockedRows.Databases.{IsWellFormedDatabase}

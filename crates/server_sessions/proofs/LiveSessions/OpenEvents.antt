@@ -5,7 +5,7 @@ use Rattle.std.proofs.lemmas.List.{drop_all, drop_more, length-append}
 use Rattle.base_values.specs.declared.event.RowEvent.{RowEvent}
 use Rattle.server_model.specs.declared.need.Need.{Need}
 use Rattle.server_model.specs.declared.session.Session.{Session}
-use Rattle.server_model.specs.Serving.{at_rest, holding}
+use Rattle.server_model.specs.PlainServer.{at_rest, holding}
 use Rattle.server_model.specs.States.{new_session, session_of, with_session, writes_of}
 use Rattle.server_sessions.specs.LiveSessions.Rooms.{open_events}
 

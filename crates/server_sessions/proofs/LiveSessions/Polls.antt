@@ -3,7 +3,7 @@ use Rattle.std.proofs.Common.{◌≡◌, ℕ, ◌≤◌, ◌<◌, Bool, true, fa
 use Rattle.std.specs.Prelude.{◌==◌}
 use Rattle.server_model.specs.declared.session.Limits.{Limits}
 use Rattle.server_model.specs.declared.session.Session.{Session}
-use Rattle.server_model.specs.Serving.{counting, limit_if}
+use Rattle.server_model.specs.PlainServer.{counting, limit_if}
 use Rattle.server_model.specs.States.{is_of_tool, new_session, polls_of, session_of, with_session}
 use Rattle.server_sessions.specs.LiveSessions.Rooms.{PollsBelow}
 

@@ -4,7 +4,7 @@ use Rattle.base_values.specs.declared.event.RowEvent.{RowEvent}
 use Rattle.server_model.specs.declared.need.Need.{Need}
 use Rattle.server_model.specs.declared.session.Limits.{Limits}
 use Rattle.server_model.specs.declared.session.Session.{Session}
-use Rattle.server_model.specs.Serving.{at_rest, counting, holding, limit_if}
+use Rattle.server_model.specs.PlainServer.{at_rest, counting, holding, limit_if}
 use Rattle.server_model.specs.States.{is_of_tool, new_session, session_of, with_session, writes_of}
 use Rattle.server_sessions.specs.LiveSessions.Rooms.{open_events, IsReady}
 use Rattle.server_sessions.proofs.LiveSessions.OpenEvents.{same_room, more_room, rest_room, less_room, joined_room}

@@ -4,7 +4,7 @@ use Rattle.std.specs.List.{list_any}
 use Rattle.std.specs.Str.{bytes_eq}
 use Rattle.std.proofs.Math.Bool.{or_assoc, or-false}
 use Rattle.std.proofs.lemmas.Cmp.{nat_list_eq_equiv}
-use Rattle.server_locks.specs.MetadataLocks.Granting.{has_name}
+use Rattle.server_locks.specs.MetadataLocks.Grants.{has_name}
 use Rattle.table_store.specs.declared.renames.Pair.{Pair}
 use Rattle.server_model.specs.declared.session.HeldName.{HeldName}
 use Rattle.server_model.specs.States.{kept_names, locked_names, pair_names}
@@ -39,16 +39,16 @@ locked_one (one ∷ held) name =
     ∙ ap (λ rest. (one.exclusive && bytes_eq name one.name) || rest) (locked_one held name)
 
 -- a name that is held exclusively, told the other way round
-told_at : (same other e : Bool) → same ≡ other → (same && (e || false)) ≡ (e && other)
-told_at true other true is = is
-told_at true other false is = refl
-told_at false other true is = is
-told_at false other false is = refl
+reported_at : (same other e : Bool) → same ≡ other → (same && (e || false)) ≡ (e && other)
+reported_at true other true is = is
+reported_at true other false is = refl
+reported_at false other true is = is
+reported_at false other false is = refl
 
 pub locked_is : (held : List HeldName) (name : List ℕ) → list_any (λ (one : HeldName). bytes_eq one.name name && (one.exclusive || not true)) held ≡ has_locked held name
 locked_is [] name = refl
 locked_is (one ∷ held) name =
-    ap (λ b. b || list_any (λ (o : HeldName). bytes_eq o.name name && (o.exclusive || not true)) held) (told_at (bytes_eq one.name name) (bytes_eq name one.name) one.exclusive (nat_list_eq_equiv.symm one.name name))
+    ap (λ b. b || list_any (λ (o : HeldName). bytes_eq o.name name && (o.exclusive || not true)) held) (reported_at (bytes_eq one.name name) (bytes_eq name one.name) one.exclusive (nat_list_eq_equiv.symm one.name name))
     ∙ ap (λ rest. (one.exclusive && bytes_eq name one.name) || rest) (locked_is held name)
 
 -- the list has an item

@@ -4,7 +4,7 @@ use Rattle.std.proofs.Math.Bool.{and-false, and-or_distrib_left}
 use Rattle.std.proofs.lemmas.List.{drop_more, drop_all}
 use Rattle.std.specs.List.{list_any}
 use Rattle.std.specs.Str.{bytes_eq}
-use Rattle.server_locks.specs.MetadataLocks.Granting.{holds, holding_session, least_holder}
+use Rattle.server_locks.specs.MetadataLocks.Grants.{holds, holding_session, least_holder}
 use Rattle.server_locks.proofs.MetadataLocks.Holders.{least_holder-append, least_holder-none, holds-append}
 use Rattle.server_model.specs.declared.session.HeldName.{HeldName}
 use Rattle.server_model.specs.declared.session.Session.{Session}

@@ -2,7 +2,7 @@
 use Rattle.std.proofs.Common.{◌≡◌, ℕ, Bool, None, List, [], ◌∷◌, refl}
 use Rattle.std.proofs.lemmas.List.{drop_more, drop_all}
 use Rattle.server_locks.specs.declared.metadata_locks.request.Waiter.{Waiter}
-use Rattle.server_locks.specs.MetadataLocks.Granting.{HeldName, blocker_of_name, blocker_of_names}
+use Rattle.server_locks.specs.MetadataLocks.Grants.{HeldName, blocker_of_name, blocker_of_names}
 use Rattle.server_locks.specs.LeastSession.Least.{least}
 use Rattle.server_locks.proofs.LeastSession.Sessions.{least-least, least-none}
 

@@ -5,8 +5,8 @@ use Rattle.std.proofs.lemmas.List.{drop_more, drop_all}
 use Rattle.std.specs.List.{list_any}
 use Rattle.server_locks.specs.declared.row_locks.lock.Lock.{Lock}
 use Rattle.server_locks.specs.declared.row_locks.lock.HeldLock.{HeldLock}
-use Rattle.server_locks.specs.RowLocks.Granting.{conflict, refusal, blocker_of_lock}
-use Rattle.server_locks.specs.RowLocks.Holding.{held_by}
+use Rattle.server_locks.specs.RowLocks.Grants.{conflict, refusal, blocker_of_lock}
+use Rattle.server_locks.specs.RowLocks.LockTable.{held_by}
 use Rattle.server_sessions.proofs.SessionLocks.Leasts.{counted, not_counted, counted_once}
 use Rattle.server_locks.specs.LeastSession.Least.{least}
 use Rattle.server_locks.proofs.LeastSession.Sessions.{least-least, least-none}

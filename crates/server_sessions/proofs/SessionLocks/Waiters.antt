@@ -4,7 +4,7 @@ use Rattle.std.proofs.Math.Bool.{and-true}
 use Rattle.std.proofs.lemmas.List.{drop_more, drop_all}
 use Rattle.std.specs.Option.{option_map}
 use Rattle.server_locks.specs.declared.metadata_locks.request.Waiter.{Waiter}
-use Rattle.server_locks.specs.MetadataLocks.Granting.{has_name, waiting_session, least_waiter, Place, place_of, before, ahead_of}
+use Rattle.server_locks.specs.MetadataLocks.Grants.{has_name, waiting_session, least_waiter, QueuePlace, place_of, before, ahead_of}
 use Rattle.server_model.specs.declared.session.Waiting.{Waiting}
 use Rattle.server_model.specs.States.{is_exclusive, names_in, waits_for, waiters}
 use Rattle.server_sessions.specs.SessionLocks.Names.{is_waiter_of}
@@ -40,8 +40,8 @@ pub ruleset steps = (least-least, least-none, least_waiter-append, least_waiter-
 
 -- WHO CAME BEFORE
 
-ahead_if : (own : Bool) (first : Waiter) (place : Option Place) (waiting : List Waiter)
-    → before (cond own (Some (record { front = []; request = first; behind = waiting })) (option_map (λ (p : Place). record { front = first ∷ p.front; request = p.request; behind = p.behind }) place)) (first ∷ waiting)
+ahead_if : (own : Bool) (first : Waiter) (place : Option QueuePlace) (waiting : List Waiter)
+    → before (cond own (Some (record { front = []; request = first; following = waiting })) (option_map (λ (p : QueuePlace). record { front = first ∷ p.front; request = p.request; following = p.following }) place)) (first ∷ waiting)
     ≡ cond own [] (first ∷ before place waiting)
 ahead_if true first place waiting = refl
 ahead_if false first None waiting = refl

@@ -6,7 +6,7 @@ use Rattle.base_values.specs.declared.event.RowEvent.{RowEvent}
 use Rattle.server_model.specs.declared.session.Session.{Session}
 use Rattle.server_model.specs.declared.session.Limits.{Limits}
 use Rattle.server_model.specs.States.{State, session_of, with_session, writes_of}
-use Rattle.server_model.specs.Serving.{at_rest, limit_if}
+use Rattle.server_model.specs.PlainServer.{at_rest, limit_if}
 
 -- how many events the sessions wrote in their open transactions
 unfoldable pub open_events : List Session → ℕ

@@ -3,10 +3,10 @@
 ghost use Rattle.std.specs.Prelude.{◌≡◌, ◌<◌, ◌≤◌, ◌+◌, ◌++◌, [], ◌∷◌, true, is_some, length, count_by, drop, option_copied, IfOk, OnOk, OnErr};
 ghost use Rattle.std.specs.List.{list_any};
 ghost use Rattle.server_model.specs.States.{opened, connected, session_of, with_session, is_live, is_in_transaction, is_of_tool, is_waiting, holds_tables, waiting_of, unread, is_exclusive, names_in};
-ghost use Rattle.server_model.specs.Locking.{blocker};
-ghost use Rattle.server_model.specs.Showing.{events_read, waits_shown};
+ghost use Rattle.server_model.specs.Blockers.{blocker};
+ghost use Rattle.server_model.specs.Listings.{events_read, waits_shown};
 ghost use Rattle.server_model.specs.Effects.{is_outside};
-ghost use Rattle.server_model.specs.Serving.{counting, forgets, goes_on, limit_if, locking, loses, polled_over, is_over, unlocking, without_waiting};
+ghost use Rattle.server_model.specs.PlainServer.{counting, forgets, goes_on, limit_if, locking, loses, polled_over, is_over, unlocking, without_waiting};
 ghost use Rattle.server_sessions.specs.LiveSessions.Rooms.{logs};
 
 use crate::live_sessions::room::make_room;
@@ -112,7 +112,7 @@ impl Sessions {
     }
 
     /// The session is gone, with all that it holds, and with its request that waits.
-    #[tactic(auto, unfolding(server_model::specs::Serving::loses))]
+    #[tactic(auto, unfolding(server_model::specs::PlainServer::loses))]
     pub fn lose(&mut self, session: u32)
         ensures { self.new ≡ loses session self.old }
     {
@@ -307,7 +307,7 @@ impl Sessions {
     }
 
     /// Who waits for names exclusively, by rising number of the session.
-    #[tactic(auto, unfolding(server_model::specs::Showing::waits_shown))]
+    #[tactic(auto, unfolding(server_model::specs::Listings::waits_shown))]
     pub fn waits_shown(&self) -> Result<ShownWaiters, AllocError>
         ensures { IfOk result (λ shown. shown ≡ waits_shown self.now) }
     {

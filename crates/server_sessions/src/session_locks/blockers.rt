@@ -1,9 +1,9 @@
 //! Who blocks the locks that a request needs.
 
 ghost use Rattle.std.specs.Prelude.{◌≡◌, true, false};
-ghost use Rattle.server_locks.specs.MetadataLocks.Granting.{blocker_of_name, blocker_of_names};
+ghost use Rattle.server_locks.specs.MetadataLocks.Grants.{blocker_of_name, blocker_of_names};
 ghost use Rattle.server_model.specs.States.{is_exclusive, names_held, names_in, pair_names, waiters};
-ghost use Rattle.server_model.specs.Locking.{blocker};
+ghost use Rattle.server_model.specs.Blockers.{blocker};
 ghost use Rattle.server_sessions.specs.SessionLocks.Bare.{bare};
 
 use crate::session_locks::holders::{holds, least_holder};
@@ -17,7 +17,7 @@ use server_model::{Request, Session, Waiting};
 use table_store::Pair;
 
 /// The least session that refuses a shared lock on the name.
-#[tactic(auto, using(crate::proofs::SessionLocks::Names::holds_each), unfolding(server_locks::specs::MetadataLocks::Granting::blocker_of_name))]
+#[tactic(auto, using(crate::proofs::SessionLocks::Names::holds_each), unfolding(server_locks::specs::MetadataLocks::Grants::blocker_of_name))]
 fn blocker_of_shared(
     sessions: &[Session],
     waiting: &[Waiting],
@@ -35,7 +35,7 @@ fn blocker_of_shared(
 }
 
 /// The least session that refuses an exclusive lock on the name.
-#[tactic(auto, using(crate::proofs::SessionLocks::Names::holds_each), unfolding(server_locks::specs::MetadataLocks::Granting::blocker_of_name))]
+#[tactic(auto, using(crate::proofs::SessionLocks::Names::holds_each), unfolding(server_locks::specs::MetadataLocks::Grants::blocker_of_name))]
 fn blocker_of_exclusive(
     sessions: &[Session],
     waiting: &[Waiting],
@@ -72,7 +72,7 @@ fn blocker_of_name(
 }
 
 /// The least session that refuses one of the names.
-#[tactic(auto, using(crate::proofs::SessionLocks::Names::steps), unfolding(server_locks::specs::MetadataLocks::Granting::blocker_of_names))]
+#[tactic(auto, using(crate::proofs::SessionLocks::Names::steps), unfolding(server_locks::specs::MetadataLocks::Grants::blocker_of_names))]
 fn blocker_of_names(
     sessions: &[Session],
     waiting: &[Waiting],

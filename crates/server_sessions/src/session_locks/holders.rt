@@ -2,7 +2,7 @@
 
 ghost use Rattle.std.specs.Prelude.{◌≡◌, ◌==◌, ◌&&◌, map};
 ghost use Rattle.std.specs.List.{list_any};
-ghost use Rattle.server_locks.specs.MetadataLocks.Granting.{least_holder};
+ghost use Rattle.server_locks.specs.MetadataLocks.Grants.{least_holder};
 ghost use Rattle.server_model.specs.States.{name_held, names_held};
 ghost use Rattle.server_model.specs.HeldNames.{has_held};
 

@@ -3,8 +3,8 @@
 ghost use Rattle.std.specs.Prelude.{◌≡◌, ◌&&◌, ◌||◌, not, [], ◌∷◌, Some, IfOk};
 ghost use Rattle.std.specs.List.{list_any};
 ghost use Rattle.std.specs.Str.{bytes_eq};
-ghost use Rattle.server_locks.specs.MetadataLocks.Granting.{has_name};
-ghost use Rattle.server_model.specs.Jobs.{table_of};
+ghost use Rattle.server_locks.specs.MetadataLocks.Grants.{has_name};
+ghost use Rattle.server_model.specs.Operations.{table_of};
 ghost use Rattle.server_model.specs.States.{is_exclusive, names_in, pair_names, tables_named};
 ghost use Rattle.server_model.specs.Effects.{is_outside};
 ghost use Rattle.server_sessions.specs.SessionLocks.Names.{has_locked};

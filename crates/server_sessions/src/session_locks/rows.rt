@@ -1,8 +1,8 @@
 //! Who holds a row lock that conflicts with one.
 
 ghost use Rattle.std.specs.Prelude.{◌≡◌, map};
-ghost use Rattle.server_locks.specs.RowLocks.Granting.{blocker_of_lock, blocker_of_set};
-ghost use Rattle.server_locks.specs.RowLocks.Holding.{held_by};
+ghost use Rattle.server_locks.specs.RowLocks.Grants.{blocker_of_lock, blocker_of_set};
+ghost use Rattle.server_locks.specs.RowLocks.LockTable.{held_by};
 ghost use Rattle.server_model.specs.States.{locks_held};
 
 use server_locks::least_session::least;
@@ -36,7 +36,7 @@ fn blocker_of_lock(sessions: &[Session], number: u32, lock: &Lock) -> Option<u32
 }
 
 /// The least session that refuses one of the locks.
-#[tactic(auto, using(crate::proofs::SessionLocks::RowHolders::steps), unfolding(server_locks::specs::RowLocks::Granting::blocker_of_set))]
+#[tactic(auto, using(crate::proofs::SessionLocks::RowHolders::steps), unfolding(server_locks::specs::RowLocks::Grants::blocker_of_set))]
 pub fn blocker_of_set(sessions: &[Session], number: u32, set: &[Lock]) -> Option<u32>
     ensures { result ≡ blocker_of_set (locks_held sessions.now) number set.now }
 {

@@ -1,7 +1,7 @@
 //! Who waits for a name exclusively.
 
 ghost use Rattle.std.specs.Prelude.{◌≡◌, position};
-ghost use Rattle.server_locks.specs.MetadataLocks.Granting.{ahead_of, least_waiter};
+ghost use Rattle.server_locks.specs.MetadataLocks.Grants.{ahead_of, least_waiter};
 ghost use Rattle.server_model.specs.States.{waiters, waits_for};
 ghost use Rattle.server_sessions.specs.SessionLocks.Names.{is_waiter_of};
 

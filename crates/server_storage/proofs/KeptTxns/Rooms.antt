@@ -5,7 +5,7 @@ use Rattle.std.specs.Str.{bytes_eq}
 use Rattle.base_values.specs.declared.event.Change.{Change}
 use Rattle.base_values.specs.declared.event.RowEvent.{RowEvent}
 use Rattle.table_store.specs.Databases.{StoredTable, find_stored, spare_in, is_named, others}
-use Rattle.server_model.specs.Jobs.{events_of}
+use Rattle.server_model.specs.Operations.{events_of}
 use Rattle.server_model.proofs.LockedRows.Tests.{are_same}
 use Rattle.server_transaction.specs.Rooms.{puts_of, puts_in}
 use Rattle.server_transaction.specs.Stored.{TableChanges, events_in}

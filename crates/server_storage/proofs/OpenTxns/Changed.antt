@@ -91,8 +91,8 @@ puts_first name number txn first one txns true found rest =
 puts_first name number txn first one txns false found rest =
     let old = sum_by-cons (λ (o : OpenTxn). puts_in name o.txn.events) first txns in
     let new = sum_by-cons (λ (o : OpenTxn). puts_in name o.txn.events) first (with_txn number txn txns) in
-    let behind = rest found in
-    omega (arith, old, new, behind)
+    let following = rest found in
+    omega (arith, old, new, following)
 
 pub changed_puts : (name : List ℕ) (number : ℕ) (txn : StoredTxn) (one : OpenTxn) (txns : List OpenTxn) → txn_of number txns ≡ Some one → puts_open name (with_txn number txn txns) + puts_in name one.txn.events ≡ puts_open name txns + puts_in name txn.events
 unfolding with_txn

@@ -37,8 +37,8 @@ taken_first name number first one txns true is found fewer rest =
 taken_first name number first one txns false is found fewer rest =
     let all = sum_by-cons (λ (o : OpenTxn). puts_in name o.txn.events) first txns in
     let left = sum_by-cons (λ (o : OpenTxn). puts_in name o.txn.events) first (others number txns) in
-    let behind = rest found in
-    omega (arith, all, left, behind)
+    let following = rest found in
+    omega (arith, all, left, following)
 
 fewer_first : (name : List ℕ) (number : ℕ) (first : OpenTxn) (txns : List OpenTxn) (b : Bool) → puts_open name (others number txns) ≤ puts_open name txns → puts_open name (cond (not b) (first ∷ others number txns) (others number txns)) ≤ puts_open name (first ∷ txns)
 fewer_first name number first txns true rest = let all = sum_by-cons (λ (o : OpenTxn). puts_in name o.txn.events) first txns in omega (arith, all, rest)

@@ -17,7 +17,7 @@ pub found_there : (number : ℕ) (txns : List OpenTxn) (place : ℕ) (one : Open
 found_there number txns place one is within at = find_at (is_of number) txns ∙ ap (slice_get txns) (sym is) ∙ slice_get_read txns (length txns) place one refl within at
 
 pub none_there : (number : ℕ) (txns : List OpenTxn) (place : ℕ) → place ≡ position_or_len (is_of number) txns → length txns ≤ place → txn_of number txns ≡ None
-none_there number txns place is behind = find_at (is_of number) txns ∙ ap (slice_get txns) (sym is) ∙ slice_get_past txns place behind
+none_there number txns place is following = find_at (is_of number) txns ∙ ap (slice_get txns) (sym is) ∙ slice_get_past txns place following
 
 -- one that is found has the number
 number_first : (number : ℕ) (first one : OpenTxn) (txns : List OpenTxn) (b : Bool) → is_of number first ≡ b → cond b (Some first) (txn_of number txns) ≡ Some one → (txn_of number txns ≡ Some one → is_of number one ≡ true) → is_of number one ≡ true

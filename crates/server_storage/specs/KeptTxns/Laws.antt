@@ -4,11 +4,11 @@ use Rattle.std.specs.Option.{option_map}
 use Rattle.base_values.specs.declared.gho_schema.schema.Schema.{Schema}
 use Rattle.table_store.specs.Databases.{StoredTable, database, spare_in, spares, has_table, rename_tables, others as other_tables}
 use Rattle.table_store.specs.declared.renames.Pair.{Pair}
-use Rattle.server_model.specs.Jobs.{after_events}
+use Rattle.server_model.specs.Operations.{after_events}
 use Rattle.server_model.specs.States.{pair_names}
 use Rattle.server_model.specs.LockedRows.Covering.{IsWellFormedTable}
 use Rattle.server_model.specs.LockedRows.Databases.{IsWellFormedDatabase}
-use Rattle.server_transaction.specs.ServerData.Fitting.{EventsFit, NoneOf}
+use Rattle.server_transaction.specs.ServerData.FittingEvents.{EventsFit, NoneOf}
 use Rattle.server_transaction.specs.Premises.{HasSchema}
 use Rattle.server_transaction.specs.Rooms.{puts_in}
 use Rattle.server_transaction.specs.Stored.{StoredTxn, TableChanges, HasRoom, events_in}

@@ -6,11 +6,11 @@ use Rattle.base_values.specs.declared.gho_schema.schema.Schema.{Schema}
 use Rattle.base_values.specs.declared.event.RowEvent.{RowEvent}
 use Rattle.table_store.specs.Databases.{Database, has_table, without_table, rename_tables}
 use Rattle.table_store.specs.declared.renames.Pair.{Pair}
-use Rattle.server_model.specs.Jobs.{after_events}
+use Rattle.server_model.specs.Operations.{after_events}
 use Rattle.server_model.specs.States.{pair_names}
 use Rattle.server_model.specs.LockedRows.Covering.{IsWellFormedTable}
 use Rattle.server_model.specs.LockedRows.Databases.{IsWellFormedDatabase}
-use Rattle.server_transaction.specs.ServerData.Fitting.{EventsFit, NoneOf}
+use Rattle.server_transaction.specs.ServerData.FittingEvents.{EventsFit, NoneOf}
 use Rattle.server_transaction.specs.Premises.{HasSchema, IsOf}
 use Rattle.server_transaction.specs.Stored.{StoredTxn, schemas, schemas_with}
 

@@ -2,8 +2,8 @@
 
 ghost use Rattle.std.specs.Prelude.{◌≡◌, IfOk, IfSome};
 ghost use Rattle.table_store.specs.Databases.{database};
-ghost use Rattle.server_model.specs.Jobs.{after_events, copy_job, job_needs, job_says};
-ghost use Rattle.server_model.specs.Locking.{row_locks_of};
+ghost use Rattle.server_model.specs.Operations.{after_events, copy_operation, operation_needs, operation_result};
+ghost use Rattle.server_model.specs.Blockers.{row_locks_of};
 ghost use Rattle.server_transaction.specs.Premises.{HasSchema, events_ready};
 ghost use Rattle.server_storage.specs.OpenTxns.Open.{written_of};
 ghost use Rattle.server_storage.specs.KeptTxns.Kept.{IsKept};
@@ -14,14 +14,14 @@ use base_values::row_conversion::ColumnMap;
 use base_values::{Key, Name, Sequence};
 use server_locks::row_locks::LockSet;
 use server_model::Request;
-use server_transaction::row_copies::{copy_needs, say_copy};
+use server_transaction::row_copies::{copy_needs, execute_copy};
 use server_transaction::server_data::ReadyResult;
 use server_transaction::{Txn, Writes};
 use std::alloc::{AllocError, Global};
 use table_store::paged_tables::Tables;
 
 /// What is said where the session copies a converted row, and what it writes.
-pub fn say_copied(
+pub fn execute_copied(
     alloc: Global,
     tables: &Tables,
     txns: &[OpenTxn],
@@ -32,13 +32,13 @@ pub fn say_copied(
     key: &Key,
 ) -> Result<ReadyResult<Option<Writes>>, AllocError>
     requires { IsKept tables.now txns.now }
-    ensures says { IfOk result (λ told. told.result ≡ job_says (after_events (database tables.now) (written_of session txns.now)) (copy_job (after_events (database tables.now) (written_of session txns.now)) from.now into.now map.now key.now)) }
-    ensures events { IfOk result (λ told. events_ready told.writes ≡ told.result.events) }
-    ensures schema { IfOk result (λ told. IfSome told.writes (λ one. HasSchema (database tables.now) one.schema)) }
+    ensures statement_result { IfOk result (λ executed. executed.result ≡ operation_result (after_events (database tables.now) (written_of session txns.now)) (copy_operation (after_events (database tables.now) (written_of session txns.now)) from.now into.now map.now key.now)) }
+    ensures events { IfOk result (λ executed. events_ready executed.writes ≡ executed.result.events) }
+    ensures schema { IfOk result (λ executed. IfSome executed.writes (λ one. HasSchema (database tables.now) one.schema)) }
 {
     let unwritten = Txn::new(alloc);
     let txn = txn_seen(txns, session, &unwritten);
-    say_copy(alloc, tables, txn, from, into, map, key)
+    execute_copy(alloc, tables, txn, from, into, map, key)
 }
 
 /// The row locks that the session's copy of a row needs.
@@ -53,7 +53,7 @@ fn copy_locks(
     key: &Key,
 ) -> Result<LockSet, AllocError>
     requires { IsKept tables.now txns.now }
-    ensures { IfOk result (λ locks. locks ≡ job_needs (after_events (database tables.now) (written_of session txns.now)) (copy_job (after_events (database tables.now) (written_of session txns.now)) from.now into.now map.now key.now)) }
+    ensures { IfOk result (λ locks. locks ≡ operation_needs (after_events (database tables.now) (written_of session txns.now)) (copy_operation (after_events (database tables.now) (written_of session txns.now)) from.now into.now map.now key.now)) }
 {
     let unwritten = Txn::new(alloc);
     let txn = txn_seen(txns, session, &unwritten);

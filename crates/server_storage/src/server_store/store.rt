@@ -8,9 +8,9 @@ ghost use Rattle.server_storage.specs.OpenTxns.Open.{written_of};
 ghost use Rattle.server_storage.specs.Ready.{AreReady};
 
 use crate::open_txns::{OpenTxn, write_in};
-use crate::server_store::copies::{row_locks, say_copied};
+use crate::server_store::copies::{execute_copied, row_locks};
 use crate::{
-    commit_txn, create_table, drop_table, make_ready, rename_tables, roll_back_txn, say_seen,
+    commit_txn, create_table, drop_table, execute_seen, make_ready, rename_tables, roll_back_txn,
 };
 use base_script::Statement;
 use base_values::gho_schema::Schema;
@@ -97,19 +97,25 @@ impl Data for Store {
         )
     }
 
-    fn say(
+    fn execute(
         &mut self,
         session: u32,
         statement: &Statement,
     ) -> Result<ReadyResult<Option<Writes>>, AllocError> {
-        let told = say_seen(
+        let executed = execute_seen(
             self.alloc,
             &self.tables,
             self.txns.as_slice(),
             session,
             statement,
         )?;
-        make_ready(self.alloc, &mut self.tables, &mut self.txns, session, told)
+        make_ready(
+            self.alloc,
+            &mut self.tables,
+            &mut self.txns,
+            session,
+            executed,
+        )
     }
 
     fn copy_row(
@@ -120,7 +126,7 @@ impl Data for Store {
         map: &ColumnMap,
         key: &Key,
     ) -> Result<ReadyResult<Option<Writes>>, AllocError> {
-        let told = say_copied(
+        let executed = execute_copied(
             self.alloc,
             &self.tables,
             self.txns.as_slice(),
@@ -130,7 +136,13 @@ impl Data for Store {
             map,
             key,
         )?;
-        make_ready(self.alloc, &mut self.tables, &mut self.txns, session, told)
+        make_ready(
+            self.alloc,
+            &mut self.tables,
+            &mut self.txns,
+            session,
+            executed,
+        )
     }
 
     fn write(&mut self, session: u32, writes: Option<Writes>) {

@@ -14,9 +14,9 @@ use Rattle.server_model.specs.declared.work.StatementResult.{StatementResult}
 use Rattle.server_model.specs.declared.work.Work.{Work}
 use Rattle.server_model.specs.declared.work.Work.TheVariants as works
 use Rattle.server_model.specs.Answers.{refuses}
-use Rattle.server_model.specs.Needing.{needs}
-use Rattle.server_model.specs.Saying.{tells}
-use Rattle.server_model.specs.Jobs.{after_events, copy_from, copy_job, job_needs, job_says, needs_in, result_in, result_of}
+use Rattle.server_model.specs.Needs.{needs}
+use Rattle.server_model.specs.StatementResults.{tells}
+use Rattle.server_model.specs.Operations.{after_events, copy_from, copy_operation, operation_needs, operation_result, needs_in, result_in, result_of}
 use Rattle.server_model.specs.LockedRows.Covering.{IsWellFormedTable, IsSound}
 use Rattle.server_model.specs.LockedRows.Databases.{WhereFound}
 use Rattle.proof_journals.proofs.Tooling.{copies_sound}
@@ -73,32 +73,32 @@ seen_work tables events from map key into table written seen = ap (λ (found : O
 -- WHAT IS SAID AND NEEDED
 
 pub missing_copy : (tables : Database) (events : List RowEvent) (from into : List ℕ) (map : List MapColumn) (key : List Value) → None ≡ find_table into tables
-    → let result : StatementResult = record { answer = refuses ER_NO_SUCH_TABLE; events = [] } in result ≡ job_says (after_events tables events) (copy_job (after_events tables events) from into map key)
-unfolding job_says
-missing_copy tables events from into map key none = sym (ap (result_in (copy_job (after_events tables events) from into map key)) (sees_missing tables events into none))
+    → let result : StatementResult = record { answer = refuses ER_NO_SUCH_TABLE; events = [] } in result ≡ operation_result (after_events tables events) (copy_operation (after_events tables events) from into map key)
+unfolding operation_result
+missing_copy tables events from into map key none = sym (ap (result_in (copy_operation (after_events tables events) from into map key)) (sees_missing tables events into none))
 
-pub missing_copy_needs : (tables : Database) (events : List RowEvent) (from into : List ℕ) (map : List MapColumn) (key : List Value) → None ≡ find_table into tables → [] ≡ job_needs (after_events tables events) (copy_job (after_events tables events) from into map key)
-unfolding job_needs
-missing_copy_needs tables events from into map key none = sym (ap (needs_in (copy_job (after_events tables events) from into map key)) (sees_missing tables events into none))
+pub missing_copy_needs : (tables : Database) (events : List RowEvent) (from into : List ℕ) (map : List MapColumn) (key : List Value) → None ≡ find_table into tables → [] ≡ operation_needs (after_events tables events) (copy_operation (after_events tables events) from into map key)
+unfolding operation_needs
+missing_copy_needs tables events from into map key none = sym (ap (needs_in (copy_operation (after_events tables events) from into map key)) (sees_missing tables events into none))
 
 -- the copy's work on the table that it goes into
 pub record IsCopied (tables : Database) (events : List RowEvent) (from into : List ℕ) (map : List MapColumn) (key : List Value) (table : TableRows) (written : Written) (work : Work) : Type 0 where
   pub well_formed : IsWellFormedTable (through written table)
   pub sound : IsSound table.schema.columns work
-  pub said : result_of table.schema.name (tells table.schema (through written table).rows work) ≡ job_says (after_events tables events) (copy_job (after_events tables events) from into map key)
-  pub needed : needs table.schema (through written table).rows work ≡ job_needs (after_events tables events) (copy_job (after_events tables events) from into map key)
+  pub said : result_of table.schema.name (tells table.schema (through written table).rows work) ≡ operation_result (after_events tables events) (copy_operation (after_events tables events) from into map key)
+  pub needed : needs table.schema (through written table).rows work ≡ operation_needs (after_events tables events) (copy_operation (after_events tables events) from into map key)
   pub has : HasSchema tables table.schema
 
 said_there : (tables : Database) (from into name : List ℕ) (map : List MapColumn) (key : List Value) (table : TableRows) (work : Work) → find_table into tables ≡ Some table → name ≡ into → work ≡ copy_from (find_table from tables) map key table.schema
-    → result_of name (tells table.schema table.rows work) ≡ job_says tables (copy_job tables from into map key)
-unfolding job_says
+    → result_of name (tells table.schema table.rows work) ≡ operation_result tables (copy_operation tables from into map key)
+unfolding operation_result
 said_there tables from into name map key table work found own is =
-    ap (λ (n : List ℕ). result_of n (tells table.schema table.rows work)) own ∙ ap (λ (w : Work). result_of into (tells table.schema table.rows w)) is ∙ sym (ap (result_in (copy_job tables from into map key)) found)
+    ap (λ (n : List ℕ). result_of n (tells table.schema table.rows work)) own ∙ ap (λ (w : Work). result_of into (tells table.schema table.rows w)) is ∙ sym (ap (result_in (copy_operation tables from into map key)) found)
 
 needed_there : (tables : Database) (from into : List ℕ) (map : List MapColumn) (key : List Value) (table : TableRows) (work : Work) → find_table into tables ≡ Some table → work ≡ copy_from (find_table from tables) map key table.schema
-    → needs table.schema table.rows work ≡ job_needs tables (copy_job tables from into map key)
-unfolding job_needs
-needed_there tables from into map key table work found is = ap (needs table.schema table.rows) is ∙ sym (ap (needs_in (copy_job tables from into map key)) found)
+    → needs table.schema table.rows work ≡ operation_needs tables (copy_operation tables from into map key)
+unfolding operation_needs
+needed_there tables from into map key table work found is = ap (needs table.schema table.rows) is ∙ sym (ap (needs_in (copy_operation tables from into map key)) found)
 
 pub is_copied : (tables : Database) (txn : StoredTxn) (from into : List ℕ) (map : List MapColumn) (key : List Value) (table : TableRows) (written : Written) (schema : Schema) (work : Work) → IsOf tables txn → Some table ≡ find_table into tables → schema ≡ table.schema
     → work ≡ copy_from (find_table from (after_events tables txn.events)) map key schema → IsSeen tables txn.events into written table → IsCopied tables txn.events from into map key table written work

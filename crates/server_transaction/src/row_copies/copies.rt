@@ -3,9 +3,9 @@
 ghost use Rattle.std.specs.Prelude.{◌≡◌, IfOk, IfSome};
 ghost use Rattle.base_values.specs.GhoSchema.Rows.{key_places};
 ghost use Rattle.table_store.specs.Databases.{database};
-ghost use Rattle.server_model.specs.Jobs.{after_events, copy_job, job_needs, job_says, result_of};
-ghost use Rattle.server_model.specs.Needing.{needs};
-ghost use Rattle.server_model.specs.Saying.{tells};
+ghost use Rattle.server_model.specs.Operations.{after_events, copy_operation, operation_needs, operation_result, result_of};
+ghost use Rattle.server_model.specs.Needs.{needs};
+ghost use Rattle.server_model.specs.StatementResults.{tells};
 ghost use Rattle.server_model.specs.LockedRows.Covering.{IsWellFormedTable, IsSound};
 ghost use Rattle.server_transaction.specs.Premises.{HasSchema, IsOf, events_ready};
 ghost use Rattle.server_seen.specs.Written.{nothing, seen};
@@ -33,9 +33,9 @@ fn tell_of(
     requires schema { written.now.schema ≡ table.now.table.schema }
     requires well_formed { IsWellFormedTable (record { schema = table.now.table.schema; rows = seen (key_places table.now.table.schema) written.now.written table.now.table.rows }) }
     requires sound { IsSound table.now.table.schema.columns work.now }
-    ensures says { IfOk result (λ told. told.result ≡ result_of table.now.table.schema.name (tells table.now.table.schema (seen (key_places table.now.table.schema) written.now.written table.now.table.rows) work.now)) }
-    ensures events { IfOk result (λ told. events_ready told.writes ≡ told.result.events) }
-    ensures schema { IfOk result (λ told. IfSome told.writes (λ one. one.schema ≡ table.now.table.schema)) }
+    ensures statement_result { IfOk result (λ executed. executed.result ≡ result_of table.now.table.schema.name (tells table.now.table.schema (seen (key_places table.now.table.schema) written.now.written table.now.table.rows) work.now)) }
+    ensures events { IfOk result (λ executed. events_ready executed.writes ≡ executed.result.events) }
+    ensures schema { IfOk result (λ executed. IfSome executed.writes (λ one. one.schema ≡ table.now.table.schema)) }
 {
     tell(alloc, &SeenTable::new(table, written), work)
 }
@@ -48,9 +48,9 @@ fn tell_of_unwritten(
 ) -> Result<ReadyResult<Option<Writes>>, AllocError>
     requires well_formed { IsWellFormedTable (record { schema = table.now.table.schema; rows = seen (key_places table.now.table.schema) nothing table.now.table.rows }) }
     requires sound { IsSound table.now.table.schema.columns work.now }
-    ensures says { IfOk result (λ told. told.result ≡ result_of table.now.table.schema.name (tells table.now.table.schema (seen (key_places table.now.table.schema) nothing table.now.table.rows) work.now)) }
-    ensures events { IfOk result (λ told. events_ready told.writes ≡ told.result.events) }
-    ensures schema { IfOk result (λ told. IfSome told.writes (λ one. one.schema ≡ table.now.table.schema)) }
+    ensures statement_result { IfOk result (λ executed. executed.result ≡ result_of table.now.table.schema.name (tells table.now.table.schema (seen (key_places table.now.table.schema) nothing table.now.table.rows) work.now)) }
+    ensures events { IfOk result (λ executed. events_ready executed.writes ≡ executed.result.events) }
+    ensures schema { IfOk result (λ executed. IfSome executed.writes (λ one. one.schema ≡ table.now.table.schema)) }
 {
     let written = WrittenRows::new(alloc, table.schema())?;
     tell_of(alloc, table, &written, work)
@@ -79,7 +79,7 @@ fn needs_of_unwritten(alloc: Global, table: &Table, work: &Work) -> Result<LockS
 
 /// What is said where the session copies the row of this clustered key, converted, from the one table into the other, and what
 /// it writes, made ready.
-pub fn say_copy(
+pub fn execute_copy(
     alloc: Global,
     tables: &Tables,
     txn: &Txn,
@@ -89,9 +89,9 @@ pub fn say_copy(
     key: &Key,
 ) -> Result<ReadyResult<Option<Writes>>, AllocError>
     requires { IsOf (database tables.now) txn.now }
-    ensures says { IfOk result (λ told. told.result ≡ job_says (after_events (database tables.now) txn.now.events) (copy_job (after_events (database tables.now) txn.now.events) from.now into.now map.now key.now)) }
-    ensures events { IfOk result (λ told. events_ready told.writes ≡ told.result.events) }
-    ensures schema { IfOk result (λ told. IfSome told.writes (λ one. HasSchema (database tables.now) one.schema)) }
+    ensures statement_result { IfOk result (λ executed. executed.result ≡ operation_result (after_events (database tables.now) txn.now.events) (copy_operation (after_events (database tables.now) txn.now.events) from.now into.now map.now key.now)) }
+    ensures events { IfOk result (λ executed. events_ready executed.writes ≡ executed.result.events) }
+    ensures schema { IfOk result (λ executed. IfSome executed.writes (λ one. HasSchema (database tables.now) one.schema)) }
 {
     let Some(table) = tables.find(into) else {
         return Ok(missing(alloc));
@@ -115,7 +115,7 @@ pub fn copy_needs(
     key: &Key,
 ) -> Result<LockSet, AllocError>
     requires { IsOf (database tables.now) txn.now }
-    ensures { IfOk result (λ locks. locks ≡ job_needs (after_events (database tables.now) txn.now.events) (copy_job (after_events (database tables.now) txn.now.events) from.now into.now map.now key.now)) }
+    ensures { IfOk result (λ locks. locks ≡ operation_needs (after_events (database tables.now) txn.now.events) (copy_operation (after_events (database tables.now) txn.now.events) from.now into.now map.now key.now)) }
 {
     let Some(table) = tables.find(into) else {
         return Ok(Sequence::new(alloc));

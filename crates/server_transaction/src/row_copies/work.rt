@@ -3,13 +3,13 @@
 ghost use Rattle.std.specs.Prelude.{◌≡◌, Some, IfOk, option_copied, slice_get};
 ghost use Rattle.std.specs.Option.{option_map};
 ghost use Rattle.base_values.specs.Spans.{point};
-ghost use Rattle.base_values.specs.GhoSchema.Clustering.{clustered_place};
+ghost use Rattle.base_values.specs.GhoSchema.ClusteredKey.{clustered_place};
 ghost use Rattle.base_values.specs.GhoSchema.Rows.{key_places};
 ghost use Rattle.base_values.specs.RowConversion.ConvertedRows.{converted_row};
 ghost use Rattle.table_store.specs.Databases.{database, find_table, row_at_key};
 ghost use Rattle.server_model.specs.declared.work.Work.TheVariants as works;
-ghost use Rattle.server_model.specs.Checking.{new_row, or_refused};
-ghost use Rattle.server_model.specs.Jobs.{after_events, copy_from, copy_work};
+ghost use Rattle.server_model.specs.Checks.{new_row, or_refused};
+ghost use Rattle.server_model.specs.Operations.{after_events, copy_from, copy_work};
 ghost use Rattle.server_model.specs.Rows.{rows_met};
 ghost use Rattle.server_model.specs.LockedRows.Covering.{IsWellFormedTable};
 ghost use Rattle.server_transaction.specs.Premises.{IsOf};

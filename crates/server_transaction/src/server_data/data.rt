@@ -5,12 +5,12 @@ ghost use Rattle.base_values.specs.declared.event.RowEvent.{RowEvent as Event};
 ghost use Rattle.table_store.specs.Databases.{Database, database, has_table, without_table, rename_tables};
 ghost use Rattle.base_values.specs.Faults.{Refuses};
 ghost use Rattle.server_model.specs.declared.request.Request.TheVariants.{CopyRow, Create};
-ghost use Rattle.server_model.specs.Jobs.{after_events, says, job_says, copy_job};
-ghost use Rattle.server_model.specs.Locking.{row_locks_of};
+ghost use Rattle.server_model.specs.Operations.{after_events, statement_result, operation_result, copy_operation};
+ghost use Rattle.server_model.specs.Blockers.{row_locks_of};
 ghost use Rattle.server_model.specs.States.{pair_names};
 ghost use Rattle.server_model.specs.Conditions.{IsWellFormed};
 ghost use Rattle.server_model.specs.LockedRows.Databases.{IsWellFormedDatabase};
-ghost use Rattle.server_transaction.specs.ServerData.Fitting.{EventsFit, NoneOf};
+ghost use Rattle.server_transaction.specs.ServerData.FittingEvents.{EventsFit, NoneOf};
 
 use base_script::Statement;
 use base_values::gho_schema::Schema;
@@ -60,14 +60,14 @@ pub trait Data: Drop {
         ensures { IfOk result (λ locks. locks ≡ row_locks_of (after_events (committed self.now) (written self.now session)) request.now) };
 
     /// What the session's statement says. Room is made for its writes and for their commit.
-    fn say(
+    fn execute(
         &mut self,
         session: u32,
         statement: &Statement,
     ) -> Result<ReadyResult<Self::Writes>, AllocError>
-        ensures says { IfOk result (λ told. told.result ≡ says (after_events (committed self.old) (written self.old session)) statement.now) }
-        ensures events { IfOk result (λ told. events told.writes ≡ told.result.events) }
-        ensures ready { IfOk result (λ told. is_ready self.new session told.writes) }
+        ensures statement_result { IfOk result (λ executed. executed.result ≡ statement_result (after_events (committed self.old) (written self.old session)) statement.now) }
+        ensures events { IfOk result (λ executed. events executed.writes ≡ executed.result.events) }
+        ensures ready { IfOk result (λ executed. is_ready self.new session executed.writes) }
         ensures committed { committed self.new ≡ committed self.old }
         ensures written { (other : ℕ) → written self.new other ≡ written self.old other };
 
@@ -82,9 +82,9 @@ pub trait Data: Drop {
         key: &Key,
     ) -> Result<ReadyResult<Self::Writes>, AllocError>
         requires { IsWellFormed (committed self.old) (CopyRow from.now into.now map.now key.now) }
-        ensures says { IfOk result (λ told. told.result ≡ job_says (after_events (committed self.old) (written self.old session)) (copy_job (after_events (committed self.old) (written self.old session)) from.now into.now map.now key.now)) }
-        ensures events { IfOk result (λ told. events told.writes ≡ told.result.events) }
-        ensures ready { IfOk result (λ told. is_ready self.new session told.writes) }
+        ensures statement_result { IfOk result (λ executed. executed.result ≡ operation_result (after_events (committed self.old) (written self.old session)) (copy_operation (after_events (committed self.old) (written self.old session)) from.now into.now map.now key.now)) }
+        ensures events { IfOk result (λ executed. events executed.writes ≡ executed.result.events) }
+        ensures ready { IfOk result (λ executed. is_ready self.new session executed.writes) }
         ensures committed { committed self.new ≡ committed self.old }
         ensures written { (other : ℕ) → written self.new other ≡ written self.old other };
 

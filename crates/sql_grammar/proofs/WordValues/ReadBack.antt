@@ -6,12 +6,12 @@ use Rattle.std.specs.Option.{option_map}
 use Rattle.std.specs.Str.Parse.{digits_value}
 use Rattle.std.proofs.lemmas.Fmt.{decimal_is_IsNumeral_wide, length-decimal-le_wide}
 use Rattle.base_values.specs.declared.value.Value.TheVariants.{Num, Text, Blob}
-use Rattle.base_values.specs.Printing.{printed}
+use Rattle.base_values.specs.Literals.{printed}
 use Rattle.sql_words.specs.declared.word.WordClass.TheVariants as class
 use Rattle.sql_words.specs.Front.{front_at}
-use Rattle.sql_words.specs.Meaning.{text_value, bytes_value, number_value, AreDigits}
+use Rattle.sql_words.specs.Meanings.{text_value, bytes_value, number_value, AreDigits}
 use Rattle.sql_words.specs.Printed.{printed_text, printed_bytes}
-use Rattle.sql_words.specs.Reading.{words_after, words_of}
+use Rattle.sql_words.specs.Readings.{words_after, words_of}
 use Rattle.sql_words.proofs.Numbers.{own}
 use Rattle.sql_grammar.specs.WordValues.ReadBack.{ReadsBack, NullIsName}
 

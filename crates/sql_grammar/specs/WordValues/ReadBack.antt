@@ -4,11 +4,11 @@ use Rattle.std.specs.List.{AllByRecursion}
 use Rattle.std.specs.Option.{option_map}
 use Rattle.base_values.specs.declared.value.Value.{Value}
 use Rattle.base_values.specs.declared.value.Value.TheVariants.{Null, Num, Text, Blob}
-use Rattle.base_values.specs.Printing.{printed}
+use Rattle.base_values.specs.Literals.{printed}
 use Rattle.sql_words.specs.declared.word.WordClass.{WordClass}
 use Rattle.sql_words.specs.declared.word.WordClass.TheVariants as class
-use Rattle.sql_words.specs.Meaning.{text_value, bytes_value, number_value}
-use Rattle.sql_words.specs.Reading.{words_of}
+use Rattle.sql_words.specs.Meanings.{text_value, bytes_value, number_value}
+use Rattle.sql_words.specs.Readings.{words_of}
 
 -- What a word stands for as a literal, where it is a text, bytes or a number (MySQL 8.0 manual, "String Literals", "Hexadecimal Literals", "Numeric Literals").
 abbrev pub word_value : WordClass → List ℕ → Option Value

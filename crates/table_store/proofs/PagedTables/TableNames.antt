@@ -13,7 +13,7 @@ use Rattle.table_store.proofs.PagedTables.Paged.{has_named, renamed_at}
 -- ---- the name in both places
 
 pub record Renames (was now : NamedValues PagedTable) (n : ℕ) (name had had_key : List ℕ) : Type 0 where
-  pub told : IfSome (slice_get (stored was.values) n) (λ s. (had ≡ s.table.schema.name) × (stored now.values ≡ slice_set (stored was.values) n (name_stored name s)))
+  pub reported : IfSome (slice_get (stored was.values) n) (λ s. (had ≡ s.table.schema.name) × (stored now.values ≡ slice_set (stored was.values) n (name_stored name s)))
   pub same : had_key ≡ had
   pub named : now.names ≡ table_names now.values
 
@@ -25,7 +25,7 @@ renames was kept n old new key name had had_key named same key_at names values a
     let both : Some had_key ≡ Some old.table.schema.name = sym key_at ∙ ap (λ ns. slice_get ns n) named ∙ named_here in
     let one : had_key ≡ old.table.schema.name = same_Some had_key old.table.schema.name both in
     record {
-      told = subst (λ (ts : List PagedTable). IfSome (slice_get (stored ts) n) (λ s. (had ≡ s.table.schema.name) × (stored (set kept.values n new) ≡ slice_set (stored ts) n (name_stored name s)))) values (renamed_at kept.values n old new name had at table spare had_is);
+      reported = subst (λ (ts : List PagedTable). IfSome (slice_get (stored ts) n) (λ s. (had ≡ s.table.schema.name) × (stored (set kept.values n new) ≡ slice_set (stored ts) n (name_stored name s)))) values (renamed_at kept.values n old new name had at table spare had_is);
       same = one ∙ sym had_is;
       named = names ∙ ap (λ ns. set ns n key) named ∙ ap (λ (ts : List PagedTable). set (table_names ts) n key) (sym values) ∙ ap (set (table_names kept.values) n) (same ∙ sym (ap (λ (t : TableRows). t.schema.name) table)) ∙ sym (map-set (λ (t : PagedTable). t.table.schema.name) kept.values n new);
     }

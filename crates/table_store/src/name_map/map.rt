@@ -3,7 +3,7 @@
 ghost use Rattle.std.specs.Prelude.{◌≡◌, ◌<◌, ◌≤◌, ◌+◌, ◌++◌, [], ◌∷◌, false, length, remove, set, slice_get, Some, IfOk, OnOk, OnErr, IsOk};
 ghost use Rattle.std.specs.Borrow.{sem};
 ghost use Rattle.std.specs.String.{string_bytes};
-ghost use Rattle.table_store.specs.NameMap.Lending.{lends_value};
+ghost use Rattle.table_store.specs.NameMap.Loans.{lends_value};
 ghost use Rattle.table_store.specs.NameMap.NameMaps.{has_name, names_before};
 
 use indexmap::IndexMap;

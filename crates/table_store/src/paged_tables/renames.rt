@@ -70,7 +70,7 @@ pub fn rename_from(tables: &mut NameMap<Table>, pairs: &[Pair]) -> Result<(), Re
         return Ok(());
     };
     if has_name(&pair.new, tables) {
-        return Err(RenameFault::Refused(NotRenamed::Stands));
+        return Err(RenameFault::Refused(NotRenamed::Exists));
     }
     if !has_name(&pair.old, tables) {
         return Err(RenameFault::Refused(NotRenamed::Missing));

@@ -106,12 +106,12 @@ impl Tables {
     /// Adds a table after the others.
     pub fn add(&mut self, table: Table) -> Result<(), AddFault>
         ensures ok { OnOk result (self.new ≡ self.old ++ stored_of table ∷ []) }
-        ensures stands { result ≡ Err AddFault.Stands → has_table table.table.schema.name (database self.old) ≡ true }
-        ensures there { has_table table.table.schema.name (database self.old) ≡ true → result ≡ Err AddFault.Stands }
+        ensures stands { result ≡ Err AddFault.Exists → has_table table.table.schema.name (database self.old) ≡ true }
+        ensures there { has_table table.table.schema.name (database self.old) ≡ true → result ≡ Err AddFault.Exists }
         ensures err { OnErr result (self.new ≡ self.old) }
     {
         if self.stands(&table.schema().name) {
-            return Err(AddFault::Stands);
+            return Err(AddFault::Exists);
         }
         add_new(&mut self.tables, table)?;
         Ok(())

@@ -144,12 +144,12 @@ not_zero : (client : ℕ) → 0 < client → (client == 0) ≡ false
 not_zero client some = ne_eqb client 0 (λ e. omega (arith, e, some))
 
 none_after : (clients : List Reached) (client : ℕ) → length clients < client → client_in client clients ≡ None
-none_after clients client behind = rw (not_zero client (omega (arith, behind))) (slice_get_past clients (client - 1) (omega (arith, behind)))
+none_after clients client following = rw (not_zero client (omega (arith, following))) (slice_get_past clients (client - 1) (omega (arith, following)))
 
 -- there is none of the number 0, and none behind the last
 pub none_there : (clients : List Reached) (client : ℕ) → (client ≡ 0) ⊎ (length clients < client) → client_in client clients ≡ None
 none_there clients client (inl zero_is) = rw zero_is refl
-none_there clients client (inr behind) = none_after clients client behind
+none_there clients client (inr following) = none_after clients client following
 
 one_there : (clients : List Reached) (client : ℕ) (old : Reached) → 0 < client → client - 1 < length clients → old ≡ get_or clients (client - 1) old → client_in client clients ≡ Some old
 one_there clients client old some within at = rw (not_zero client some) (slice_get_read clients (length clients) (client - 1) old refl within at)

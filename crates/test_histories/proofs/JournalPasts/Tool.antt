@@ -15,7 +15,7 @@ use Rattle.tool_program.specs.JournalWords.Histories as histories
 abbrev alter_if : Bool → List HistoryItem
 alter_if b = cond b (histories.Alter ∷ []) []
 
-alter_alone : (plan : PlanData) (request : Option Request) (told : Option Answer) → alters plan request told ≡ alter_if (list_any is_alter (alters plan request told))
+alter_alone : (plan : PlanData) (request : Option Request) (reported : Option Answer) → alters plan request reported ≡ alter_if (list_any is_alter (alters plan request reported))
 alter_alone plan request None = refl
 alter_alone plan request (Some (answers.Ok count)) = by (renames_away plan.table request)
   where

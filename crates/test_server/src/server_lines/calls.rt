@@ -15,16 +15,16 @@ fn say_table<V: Serve>(
     alloc: Global,
     server: &V,
     name: &str,
-    told: &mut Text,
+    output: &mut Text,
 ) -> Result<(), CallFault> {
     let Some(table) = server.tables().find(&Name::new(alloc, name)?) else {
-        say(told, "missing")?;
+        say(output, "missing")?;
         return Ok(());
     };
-    say(told, "rows")?;
+    say(output, "rows")?;
     for row in table.rows() {
-        told.push_str(" ")?;
-        print_row(row.as_slice(), told)?;
+        output.push_str(" ")?;
+        print_row(row.as_slice(), output)?;
     }
     Ok(())
 }
@@ -34,12 +34,12 @@ fn say_unread<V: Serve>(
     alloc: Global,
     server: &V,
     input: &str,
-    told: &mut Text,
+    output: &mut Text,
 ) -> Result<(), CallFault> {
     let (position, tables) = input.split_once(' ').ok_or(CallFault::Unread)?;
     let tables = names_of(alloc, tables)?;
     let unread = server.unread(u64::from(unsigned_of(position)?), &tables);
-    say_number(told, "", i128::from(unread))?;
+    say_number(output, "", i128::from(unread))?;
     Ok(())
 }
 
@@ -49,10 +49,10 @@ fn say_answer_to<V: Serve>(
     server: &mut V,
     session: &str,
     text: &str,
-    told: &mut Text,
+    output: &mut Text,
 ) -> Result<(), CallFault> {
     let answer = ask(alloc, server, unsigned_of(session)?, text)?;
-    say_asked(told, answer.as_ref())
+    say_asked(output, answer.as_ref())
 }
 
 /// Takes one call.
@@ -60,22 +60,22 @@ fn take<V: Serve>(
     alloc: Global,
     server: &mut V,
     call: &str,
-    told: &mut Text,
+    output: &mut Text,
 ) -> Result<(), CallFault> {
     let (word, input) = call.split_once(' ').ok_or(CallFault::Unread)?;
     match word {
         "CREATE" => create(alloc, server, call),
-        "rows" => say_table(alloc, server, input, told),
-        "unread" => say_unread(alloc, server, input, told),
-        _ => say_answer_to(alloc, server, word, input, told),
+        "rows" => say_table(alloc, server, input, output),
+        "unread" => say_unread(alloc, server, input, output),
+        _ => say_answer_to(alloc, server, word, input, output),
     }
 }
 
 /// What the calls say, on this server.
 pub fn answers<V: Serve>(alloc: Global, server: &mut V, input: &str) -> Result<Text, CallFault> {
-    let mut told = Text::new(alloc);
+    let mut output = Text::new(alloc);
     for call in input.split("; ") {
-        take(alloc, server, call, &mut told)?;
+        take(alloc, server, call, &mut output)?;
     }
-    Ok(told)
+    Ok(output)
 }

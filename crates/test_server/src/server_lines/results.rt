@@ -5,70 +5,70 @@ use server_model::Answer;
 use std::alloc::AllocError;
 use test_lines::{CallFault, say};
 
-fn say_rows(told: &mut Text, rows: &[Row]) -> Result<(), AllocError> {
-    say(told, "rows")?;
+fn say_rows(output: &mut Text, rows: &[Row]) -> Result<(), AllocError> {
+    say(output, "rows")?;
     for row in rows {
-        told.push_str(" ")?;
-        print_row(row.as_slice(), told)?;
+        output.push_str(" ")?;
+        print_row(row.as_slice(), output)?;
     }
     Ok(())
 }
 
 /// Says a word and a number.
-pub fn say_number(told: &mut Text, word: &str, number: i128) -> Result<(), AllocError> {
-    say(told, word)?;
-    told.push_number(number)
+pub fn say_number(output: &mut Text, word: &str, number: i128) -> Result<(), AllocError> {
+    say(output, word)?;
+    output.push_number(number)
 }
 
-fn push_change(told: &mut Text, change: &Change) -> Result<(), AllocError> {
+fn push_change(output: &mut Text, change: &Change) -> Result<(), AllocError> {
     match change {
         Change::Write(row) => {
-            told.push_str(", write ")?;
-            print_row(row.as_slice(), told)
+            output.push_str(", write ")?;
+            print_row(row.as_slice(), output)
         }
         Change::Update(before, after) => {
-            told.push_str(", update ")?;
-            print_row(before.as_slice(), told)?;
-            print_row(after.as_slice(), told)
+            output.push_str(", update ")?;
+            print_row(before.as_slice(), output)?;
+            print_row(after.as_slice(), output)
         }
         Change::Delete(row) => {
-            told.push_str(", delete ")?;
-            print_row(row.as_slice(), told)
+            output.push_str(", delete ")?;
+            print_row(row.as_slice(), output)
         }
     }
 }
 
-fn push_event(told: &mut Text, event: &RowEvent) -> Result<(), AllocError> {
-    push_change(told, &event.change)?;
-    told.push_str(" of ")?;
-    told.push_str(event.table.as_str())
+fn push_event(output: &mut Text, event: &RowEvent) -> Result<(), AllocError> {
+    push_change(output, &event.change)?;
+    output.push_str(" of ")?;
+    output.push_str(event.table.as_str())
 }
 
 /// Says where the next events are read, and the events.
-fn say_events(told: &mut Text, events: &[RowEvent], next: u64) -> Result<(), AllocError> {
-    say_number(told, "to ", i128::from(next))?;
+fn say_events(output: &mut Text, events: &[RowEvent], next: u64) -> Result<(), AllocError> {
+    say_number(output, "to ", i128::from(next))?;
     for event in events {
-        push_event(told, event)?;
+        push_event(output, event)?;
     }
     Ok(())
 }
 
-fn say_answer(told: &mut Text, answer: &Answer) -> Result<(), AllocError> {
+fn say_answer(output: &mut Text, answer: &Answer) -> Result<(), AllocError> {
     match answer {
-        Answer::Ok(count) => say_number(told, "ok ", i128::from(*count)),
-        Answer::Rows(rows) => say_rows(told, rows.as_slice()),
-        Answer::Refused { number, .. } => say_number(told, "error ", i128::from(*number)),
-        Answer::Waits { by } => say_number(told, "waits for ", i128::from(*by)),
-        Answer::Events { events, next } => say_events(told, events.as_slice(), *next),
-        _ => say(told, "another answer"),
+        Answer::Ok(count) => say_number(output, "ok ", i128::from(*count)),
+        Answer::Rows(rows) => say_rows(output, rows.as_slice()),
+        Answer::Refused { number, .. } => say_number(output, "error ", i128::from(*number)),
+        Answer::Waits { by } => say_number(output, "waits for ", i128::from(*by)),
+        Answer::Events { events, next } => say_events(output, events.as_slice(), *next),
+        _ => say(output, "another answer"),
     }
 }
 
 /// Says an answer, or that there is none now.
-pub fn say_asked(told: &mut Text, answer: Option<&Answer>) -> Result<(), CallFault> {
+pub fn say_asked(output: &mut Text, answer: Option<&Answer>) -> Result<(), CallFault> {
     match answer {
-        Some(answer) => say_answer(told, answer)?,
-        None => say(told, "not now")?,
+        Some(answer) => say_answer(output, answer)?,
+        None => say(output, "not now")?,
     }
     Ok(())
 }

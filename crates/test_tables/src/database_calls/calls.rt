@@ -25,7 +25,7 @@ struct BothDatabases {
 fn is_added(added: Result<(), AddFault>) -> Result<bool, AllocError> {
     match added {
         Ok(()) => Ok(true),
-        Err(AddFault::Stands) => Ok(false),
+        Err(AddFault::Exists) => Ok(false),
         Err(AddFault::Memory) => Err(AllocError),
     }
 }
@@ -34,7 +34,7 @@ fn add(
     alloc: Global,
     both: &mut BothDatabases,
     name: &str,
-    told: &mut Text,
+    output: &mut Text,
 ) -> Result<(), CallFault> {
     let text = format!(in alloc; "CREATE TABLE `{name}` (id INT PRIMARY KEY, a INT)")?;
     // (The text is a schema's, so that only memory can be wanting.)
@@ -42,9 +42,9 @@ fn add(
     let listed = is_added(both.listed.add(ListedTable::new(alloc, schema.copy()?)))?;
     let paged = is_added(both.paged.add(Table::new(alloc, schema)))?;
     if !paged {
-        say(told, "stands")?;
+        say(output, "stands")?;
     }
-    say_difference(told, paged == listed)?;
+    say_difference(output, paged == listed)?;
     Ok(())
 }
 
@@ -99,31 +99,31 @@ fn put(
     both: &mut BothDatabases,
     name: &Name,
     row: Row,
-    told: &mut Text,
+    output: &mut Text,
 ) -> Result<(), AllocError> {
     let listed = put_listed(alloc, &mut both.listed, name, row.copy()?)?;
     let paged = put_paged(alloc, &mut both.paged, name, row)?;
     match paged {
         PutAnswer::Done => {}
-        PutAnswer::There => say(told, "there")?,
-        PutAnswer::Missing => say(told, "missing")?,
+        PutAnswer::There => say(output, "there")?,
+        PutAnswer::Missing => say(output, "missing")?,
     }
-    say_difference(told, paged == listed)
+    say_difference(output, paged == listed)
 }
 
 fn remove(
     both: &mut BothDatabases,
     name: &Name,
     key: &Row,
-    told: &mut Text,
+    output: &mut Text,
 ) -> Result<(), AllocError> {
     if both.paged.find(name).is_none() || both.listed.find(name).is_none() {
-        say(told, "missing")?;
-        return say_difference(told, both.paged.stands(name) == both.listed.stands(name));
+        say(output, "missing")?;
+        return say_difference(output, both.paged.stands(name) == both.listed.stands(name));
     }
     let row = both.paged.remove_in(name, key);
     let other = both.listed.remove_in(name, key);
-    say_found(told, row.as_ref(), other.as_ref())
+    say_found(output, row.as_ref(), other.as_ref())
 }
 
 /// Puts the row of a text.
@@ -132,10 +132,10 @@ fn put_read(
     both: &mut BothDatabases,
     name: &Name,
     row: &str,
-    told: &mut Text,
+    output: &mut Text,
 ) -> Result<(), CallFault> {
     let row = row_of(alloc, row)?;
-    put(alloc, both, name, row, told)?;
+    put(alloc, both, name, row, output)?;
     Ok(())
 }
 
@@ -145,29 +145,29 @@ fn remove_read(
     both: &mut BothDatabases,
     name: &Name,
     key: &str,
-    told: &mut Text,
+    output: &mut Text,
 ) -> Result<(), CallFault> {
     let key = row_of(alloc, key)?;
-    remove(both, name, &key, told)?;
+    remove(both, name, &key, output)?;
     Ok(())
 }
 
 /// Says the tables' names and numbers of rows.
-fn say_names(both: &BothDatabases, told: &mut Text) -> Result<(), CallFault> {
-    say(told, if both.paged.is_empty() { "nothing" } else { "" })?;
+fn say_names(both: &BothDatabases, output: &mut Text) -> Result<(), CallFault> {
+    say(output, if both.paged.is_empty() { "nothing" } else { "" })?;
     for n in 0..both.paged.len() {
         let table = both.paged.at(n);
-        told.push_str(if n == 0 { "" } else { ", " })?;
-        told.push_str(table.schema().name.as_str())?;
-        told.push_str(" ")?;
-        told.push_number(table.len() as i128)?;
+        output.push_str(if n == 0 { "" } else { ", " })?;
+        output.push_str(table.schema().name.as_str())?;
+        output.push_str(" ")?;
+        output.push_number(table.len() as i128)?;
         if n < both.listed.len() {
             let other = both.listed.at(n);
             let same = other.schema().name == table.schema().name && other.len() == table.len();
-            say_difference(told, same)?;
+            say_difference(output, same)?;
         }
     }
-    say_difference(told, both.paged.len() == both.listed.len())?;
+    say_difference(output, both.paged.len() == both.listed.len())?;
     Ok(())
 }
 
@@ -193,15 +193,15 @@ fn refusal_of(renamed: Result<(), RenameFault>) -> Result<Option<NotRenamed>, Al
     }
 }
 
-fn rename(both: &mut BothDatabases, pairs: &Pairs, told: &mut Text) -> Result<(), AllocError> {
+fn rename(both: &mut BothDatabases, pairs: &Pairs, output: &mut Text) -> Result<(), AllocError> {
     let paged = refusal_of(both.paged.rename(pairs))?;
     let listed = refusal_of(both.listed.rename(pairs))?;
     match paged {
         None => {}
-        Some(NotRenamed::Stands) => say(told, "stands")?,
-        Some(NotRenamed::Missing) => say(told, "missing")?,
+        Some(NotRenamed::Exists) => say(output, "stands")?,
+        Some(NotRenamed::Missing) => say(output, "missing")?,
     }
-    say_difference(told, paged == listed)
+    say_difference(output, paged == listed)
 }
 
 /// Renames the pairs of a text.
@@ -209,10 +209,10 @@ fn rename_read(
     alloc: Global,
     both: &mut BothDatabases,
     input: &str,
-    told: &mut Text,
+    output: &mut Text,
 ) -> Result<(), CallFault> {
     let pairs = pairs_of(alloc, input)?;
-    rename(both, &pairs, told)?;
+    rename(both, &pairs, output)?;
     Ok(())
 }
 
@@ -229,18 +229,18 @@ fn make_anew(alloc: Global, both: &mut BothDatabases) -> Result<(), CallFault> {
     Ok(())
 }
 
-fn say_taken(both: &mut BothDatabases, name: &Name, told: &mut Text) -> Result<(), CallFault> {
+fn say_taken(both: &mut BothDatabases, name: &Name, output: &mut Text) -> Result<(), CallFault> {
     let paged = both.paged.take(name).is_some();
     let listed = both.listed.take(name).is_some();
-    say(told, if paged { "taken" } else { "missing" })?;
-    say_difference(told, paged == listed)?;
+    say(output, if paged { "taken" } else { "missing" })?;
+    say_difference(output, paged == listed)?;
     Ok(())
 }
 
-fn say_stands(both: &BothDatabases, name: &Name, told: &mut Text) -> Result<(), CallFault> {
+fn say_exists(both: &BothDatabases, name: &Name, output: &mut Text) -> Result<(), CallFault> {
     let paged = both.paged.stands(name);
-    say(told, if paged { "yes" } else { "no" })?;
-    say_difference(told, paged == both.listed.stands(name))?;
+    say(output, if paged { "yes" } else { "no" })?;
+    say_difference(output, paged == both.listed.stands(name))?;
     Ok(())
 }
 
@@ -251,14 +251,14 @@ fn take_on(
     call: &str,
     name: &Name,
     rest: &str,
-    told: &mut Text,
+    output: &mut Text,
 ) -> Result<(), CallFault> {
     match call {
-        "add" => add(alloc, both, name.as_str(), told),
-        "put" => put_read(alloc, both, name, rest, told),
-        "remove" => remove_read(alloc, both, name, rest, told),
-        "take" => say_taken(both, name, told),
-        "stands" => say_stands(both, name, told),
+        "add" => add(alloc, both, name.as_str(), output),
+        "put" => put_read(alloc, both, name, rest, output),
+        "remove" => remove_read(alloc, both, name, rest, output),
+        "take" => say_taken(both, name, output),
+        "stands" => say_exists(both, name, output),
         _ => Err(CallFault::Unread),
     }
 }
@@ -269,36 +269,36 @@ fn take_named(
     both: &mut BothDatabases,
     call: &str,
     input: &str,
-    told: &mut Text,
+    output: &mut Text,
 ) -> Result<(), CallFault> {
     let (name, rest) = input.split_once(' ').unwrap_or((input, ""));
     let name = Name::new(alloc, name)?;
-    take_on(alloc, both, call, &name, rest, told)
+    take_on(alloc, both, call, &name, rest, output)
 }
 
 fn take(
     alloc: Global,
     both: &mut BothDatabases,
     call: &str,
-    told: &mut Text,
+    output: &mut Text,
 ) -> Result<(), CallFault> {
     let (word, input) = call.split_once(' ').unwrap_or((call, ""));
     match word {
-        "names" => say_names(both, told),
+        "names" => say_names(both, output),
         "copy" => make_copies(alloc, both),
         "anew" => make_anew(alloc, both),
-        "rename" => rename_read(alloc, both, input, told),
-        _ => take_named(alloc, both, word, input, told),
+        "rename" => rename_read(alloc, both, input, output),
+        _ => take_named(alloc, both, word, input, output),
     }
 }
 
 /// What the calls say, one after another.
 fn take_each(alloc: Global, both: &mut BothDatabases, calls: &str) -> Result<Text, CallFault> {
-    let mut told = Text::new(alloc);
+    let mut output = Text::new(alloc);
     for call in calls.split("; ") {
-        take(alloc, both, call, &mut told)?;
+        take(alloc, both, call, &mut output)?;
     }
-    Ok(told)
+    Ok(output)
 }
 
 /// What the calls say.

@@ -36,42 +36,42 @@ fn is_same(reread: &Reencoded, bytes: &[u8]) -> bool {
     reread.taken == bytes.len() && reread.cost == bytes.len() as u64 && encoded == bytes
 }
 
-fn push_change(told: &mut Text, change: &Change) -> Result<(), AllocError> {
+fn push_change(output: &mut Text, change: &Change) -> Result<(), AllocError> {
     match change {
         Change::Write(row) => {
-            told.push_str("write ")?;
-            print_row(row.as_slice(), told)
+            output.push_str("write ")?;
+            print_row(row.as_slice(), output)
         }
         Change::Update(before, after) => {
-            told.push_str("update ")?;
-            print_row(before.as_slice(), told)?;
-            print_row(after.as_slice(), told)
+            output.push_str("update ")?;
+            print_row(before.as_slice(), output)?;
+            print_row(after.as_slice(), output)
         }
         Change::Delete(row) => {
-            told.push_str("delete ")?;
-            print_row(row.as_slice(), told)
+            output.push_str("delete ")?;
+            print_row(row.as_slice(), output)
         }
     }
 }
 
-fn told_event(alloc: Global, event: &RowEvent) -> Result<Text, CallFault> {
-    let mut told = Text::new(alloc);
-    push_change(&mut told, &event.change)?;
-    told.push_str(" of ")?;
-    told.push_str(event.table.as_str())?;
-    Ok(told)
+fn reported_event(alloc: Global, event: &RowEvent) -> Result<Text, CallFault> {
+    let mut output = Text::new(alloc);
+    push_change(&mut output, &event.change)?;
+    output.push_str(" of ")?;
+    output.push_str(event.table.as_str())?;
+    Ok(output)
 }
 
 /// The event that was read of bytes, if they are its encoding.
-fn told_reread(alloc: Global, reread: &Reencoded, bytes: &[u8]) -> Result<Text, CallFault> {
+fn reported_reread(alloc: Global, reread: &Reencoded, bytes: &[u8]) -> Result<Text, CallFault> {
     if is_same(reread, bytes) {
-        told_event(alloc, &reread.event)
+        reported_event(alloc, &reread.event)
     } else {
         text_of(alloc, "is encoded otherwise")
     }
 }
 
-fn told_fault(alloc: Global, fault: DecodeFault) -> Result<Text, CallFault> {
+fn reported_fault(alloc: Global, fault: DecodeFault) -> Result<Text, CallFault> {
     match fault {
         DecodeFault::Cut => text_of(alloc, "cut"),
         DecodeFault::BadTag => text_of(alloc, "bad tag"),
@@ -85,7 +85,7 @@ fn told_fault(alloc: Global, fault: DecodeFault) -> Result<Text, CallFault> {
 pub fn decoded(alloc: Global, input: &str) -> Result<Text, CallFault> {
     let bytes = bytes_of(alloc, input)?;
     match reencode(alloc, bytes.as_slice()) {
-        Ok(reread) => told_reread(alloc, &reread, bytes.as_slice()),
-        Err(fault) => told_fault(alloc, fault),
+        Ok(reread) => reported_reread(alloc, &reread, bytes.as_slice()),
+        Err(fault) => reported_fault(alloc, fault),
     }
 }

@@ -22,21 +22,21 @@ fn key_at(alloc: Global, places: &str, row: &str) -> Result<Key, CallFault> {
 }
 
 /// What is printed of rows, one after another.
-fn told_rows(alloc: Global, rows: &[Row]) -> Result<Text, CallFault> {
-    let mut told = Text::new(alloc);
+fn reported_rows(alloc: Global, rows: &[Row]) -> Result<Text, CallFault> {
+    let mut output = Text::new(alloc);
     for row in rows {
-        print_row(row.as_slice(), &mut told)?;
+        print_row(row.as_slice(), &mut output)?;
     }
-    Ok(told)
+    Ok(output)
 }
 
 /// A row's values at places, as `1, 0: 5, 2`.
-fn told_key(alloc: Global, input: &str) -> Result<Text, CallFault> {
+fn reported_key(alloc: Global, input: &str) -> Result<Text, CallFault> {
     let (places, row) = input.split_once(": ").ok_or(CallFault::Unread)?;
     let key = key_at(alloc, places, row)?;
-    let mut told = Text::new(alloc);
-    print_row(key.as_slice(), &mut told)?;
-    Ok(told)
+    let mut output = Text::new(alloc);
+    print_row(key.as_slice(), &mut output)?;
+    Ok(output)
 }
 
 /// Puts rows among others until one has the key of another; whether none has.
@@ -56,7 +56,7 @@ fn put_rows(alloc: Global, input: &str) -> Result<Text, CallFault> {
     let (places, rows) = input.split_once(": ").ok_or(CallFault::Unread)?;
     let mut keyed = KeyedRows::new(alloc, places_of(alloc, places)?);
     if put_each(alloc, &mut keyed, rows)? {
-        told_rows(alloc, keyed.into_rows(alloc)?.as_slice())
+        reported_rows(alloc, keyed.into_rows(alloc)?.as_slice())
     } else {
         text_of(alloc, "repeated")
     }
@@ -65,7 +65,7 @@ fn put_rows(alloc: Global, input: &str) -> Result<Text, CallFault> {
 /// The answer of a call about keys.
 pub fn answer(alloc: Global, call: &str, input: &str) -> Result<Text, CallFault> {
     match call {
-        "of" => told_key(alloc, input),
+        "of" => reported_key(alloc, input),
         "order" => put_rows(alloc, input),
         _ => Err(CallFault::Unread),
     }

@@ -29,14 +29,18 @@ fn schema_of(alloc: Global, text: &str) -> Result<Schema, CallFault> {
 }
 
 /// Says the rows that both have.
-fn say_rows(told: &mut Text, paged: SpanRows<'_>, listed: ListedRows<'_>) -> Result<(), CallFault> {
-    say(told, "")?;
+fn say_rows(
+    output: &mut Text,
+    paged: SpanRows<'_>,
+    listed: ListedRows<'_>,
+) -> Result<(), CallFault> {
+    say(output, "")?;
     let mut others = listed;
     for row in paged {
-        print_row(row.as_slice(), told)?;
-        say_difference(told, are_same(Some(row), others.next()))?;
+        print_row(row.as_slice(), output)?;
+        say_difference(output, are_same(Some(row), others.next()))?;
     }
-    say_difference(told, others.next().is_none())?;
+    say_difference(output, others.next().is_none())?;
     Ok(())
 }
 
@@ -62,14 +66,19 @@ fn put_paged(alloc: Global, table: &mut Table, row: Row) -> Result<bool, AllocEr
     Ok(true)
 }
 
-fn put(alloc: Global, both: &mut BothTables, row: Row, told: &mut Text) -> Result<(), AllocError> {
+fn put(
+    alloc: Global,
+    both: &mut BothTables,
+    row: Row,
+    output: &mut Text,
+) -> Result<(), AllocError> {
     let copy = row.copy()?;
     let is_put = put_paged(alloc, &mut both.paged, row)?;
     let is_listed = put_listed(alloc, &mut both.listed, copy)?;
     if !is_put {
-        say(told, "there")?;
+        say(output, "there")?;
     }
-    say_difference(told, is_put == is_listed)
+    say_difference(output, is_put == is_listed)
 }
 
 /// Puts the row of a text.
@@ -77,10 +86,10 @@ fn put_read(
     alloc: Global,
     both: &mut BothTables,
     input: &str,
-    told: &mut Text,
+    output: &mut Text,
 ) -> Result<(), CallFault> {
     let row = row_of(alloc, input)?;
-    put(alloc, both, row, told)?;
+    put(alloc, both, row, output)?;
     Ok(())
 }
 
@@ -89,27 +98,32 @@ fn put_rising(
     alloc: Global,
     both: &mut BothTables,
     input: &str,
-    told: &mut Text,
+    output: &mut Text,
 ) -> Result<(), CallFault> {
     let (first, end) = input.split_once(' ').ok_or(CallFault::Unread)?;
     for n in unsigned_of(first)?..unsigned_of(end)? {
         let mut row = Sequence::new(alloc);
         row.push(Value::Num(i128::from(n)))?;
         row.push(Value::Num(i128::from(n)))?;
-        put(alloc, both, row, told)?;
+        put(alloc, both, row, output)?;
     }
     Ok(())
 }
 
 /// Says the row of a key.
-fn get(alloc: Global, both: &BothTables, input: &str, told: &mut Text) -> Result<(), CallFault> {
+fn get(alloc: Global, both: &BothTables, input: &str, output: &mut Text) -> Result<(), CallFault> {
     let key = row_of(alloc, input)?;
-    say_found(told, both.paged.get(&key), both.listed.get(&key))?;
+    say_found(output, both.paged.get(&key), both.listed.get(&key))?;
     Ok(())
 }
 
 /// What clashes with a row, as `3, 5`, besides the row of a key, as `3, 5 besides 2`.
-fn clash(alloc: Global, both: &BothTables, input: &str, told: &mut Text) -> Result<(), CallFault> {
+fn clash(
+    alloc: Global,
+    both: &BothTables,
+    input: &str,
+    output: &mut Text,
+) -> Result<(), CallFault> {
     let (row, besides) = match input.split_once(" besides ") {
         Some((row, key)) => (row, Some(row_of(alloc, key)?)),
         None => (input, None),
@@ -117,7 +131,7 @@ fn clash(alloc: Global, both: &BothTables, input: &str, told: &mut Text) -> Resu
     let row = row_of(alloc, row)?;
     let paged = both.paged.clash(&row, besides.as_ref());
     let listed = both.listed.clash(&row, besides.as_ref());
-    say_found(told, paged, listed)?;
+    say_found(output, paged, listed)?;
     Ok(())
 }
 
@@ -126,47 +140,52 @@ fn remove(
     alloc: Global,
     both: &mut BothTables,
     input: &str,
-    told: &mut Text,
+    output: &mut Text,
 ) -> Result<(), CallFault> {
     let key = row_of(alloc, input)?;
     let row = both.paged.remove(&key);
     let other = both.listed.remove(&key);
-    say_found(told, row.as_ref(), other.as_ref())?;
+    say_found(output, row.as_ref(), other.as_ref())?;
     Ok(())
 }
 
 /// Says how many rows each page has.
-fn say_pages(table: &Table, told: &mut Text) -> Result<(), CallFault> {
-    say(told, "")?;
+fn say_pages(table: &Table, output: &mut Text) -> Result<(), CallFault> {
+    say(output, "")?;
     for n in 0..table.pages() {
-        told.push_str(if n == 0 { "" } else { " " })?;
+        output.push_str(if n == 0 { "" } else { " " })?;
         let (rows, _) = table.page(n).size_hint();
-        told.push_number(rows as i128)?;
+        output.push_number(rows as i128)?;
     }
     Ok(())
 }
 
 /// Says the row with values of a unique key.
-fn by_key(alloc: Global, table: &Table, input: &str, told: &mut Text) -> Result<(), CallFault> {
+fn by_key(alloc: Global, table: &Table, input: &str, output: &mut Text) -> Result<(), CallFault> {
     let (number, sought) = input.split_once(' ').ok_or(CallFault::Unread)?;
     let n = place_of(number)?;
     if n >= table.schema().uniques.len() {
         return Err(CallFault::Unread);
     }
-    say_row(told, table.get_by(n, &row_of(alloc, sought)?))?;
+    say_row(output, table.get_by(n, &row_of(alloc, sought)?))?;
     Ok(())
 }
 
 /// Says the rows whose values of a unique key lie in a span.
-fn in_span_by(alloc: Global, table: &Table, input: &str, told: &mut Text) -> Result<(), CallFault> {
+fn in_span_by(
+    alloc: Global,
+    table: &Table,
+    input: &str,
+    output: &mut Text,
+) -> Result<(), CallFault> {
     let (number, sought) = input.split_once(' ').ok_or(CallFault::Unread)?;
     let n = place_of(number)?;
     if n >= table.schema().uniques.len() {
         return Err(CallFault::Unread);
     }
-    say(told, "")?;
+    say(output, "")?;
     for row in table.in_span_by(n, &span_of(alloc, sought)?) {
-        print_row(row.as_slice(), told)?;
+        print_row(row.as_slice(), output)?;
     }
     Ok(())
 }
@@ -176,17 +195,21 @@ fn in_span(
     alloc: Global,
     both: &BothTables,
     input: &str,
-    told: &mut Text,
+    output: &mut Text,
 ) -> Result<(), CallFault> {
     let span = span_of(alloc, input)?;
-    say_rows(told, both.paged.in_span(&span), both.listed.in_span(&span))
+    say_rows(
+        output,
+        both.paged.in_span(&span),
+        both.listed.in_span(&span),
+    )
 }
 
 /// Says how many rows both have.
-fn say_len(both: &BothTables, told: &mut Text) -> Result<(), CallFault> {
-    say(told, if both.paged.is_empty() { "empty " } else { "" })?;
-    told.push_number(both.paged.len() as i128)?;
-    say_difference(told, both.paged.len() == both.listed.len())?;
+fn say_len(both: &BothTables, output: &mut Text) -> Result<(), CallFault> {
+    say(output, if both.paged.is_empty() { "empty " } else { "" })?;
+    output.push_number(both.paged.len() as i128)?;
+    say_difference(output, both.paged.len() == both.listed.len())?;
     Ok(())
 }
 
@@ -197,11 +220,11 @@ fn make_copies(alloc: Global, both: &mut BothTables) -> Result<(), CallFault> {
 }
 
 /// What both tables answer about all their rows.
-fn ask_of_all(both: &BothTables, call: &str, told: &mut Text) -> Result<(), CallFault> {
+fn ask_of_all(both: &BothTables, call: &str, output: &mut Text) -> Result<(), CallFault> {
     match call {
-        "rows" => say_rows(told, both.paged.rows(), both.listed.rows()),
-        "pages" => say_pages(&both.paged, told),
-        "len" => say_len(both, told),
+        "rows" => say_rows(output, both.paged.rows(), both.listed.rows()),
+        "pages" => say_pages(&both.paged, output),
+        "len" => say_len(both, output),
         _ => Err(CallFault::Unread),
     }
 }
@@ -212,15 +235,15 @@ fn ask(
     both: &BothTables,
     call: &str,
     input: &str,
-    told: &mut Text,
+    output: &mut Text,
 ) -> Result<(), CallFault> {
     match call {
-        "get" => get(alloc, both, input, told),
-        "by" => by_key(alloc, &both.paged, input, told),
-        "clash" => clash(alloc, both, input, told),
-        "in" => in_span(alloc, both, input, told),
-        "in-by" => in_span_by(alloc, &both.paged, input, told),
-        _ => ask_of_all(both, call, told),
+        "get" => get(alloc, both, input, output),
+        "by" => by_key(alloc, &both.paged, input, output),
+        "clash" => clash(alloc, both, input, output),
+        "in" => in_span(alloc, both, input, output),
+        "in-by" => in_span_by(alloc, &both.paged, input, output),
+        _ => ask_of_all(both, call, output),
     }
 }
 
@@ -228,15 +251,15 @@ fn take(
     alloc: Global,
     both: &mut BothTables,
     call: &str,
-    told: &mut Text,
+    output: &mut Text,
 ) -> Result<(), CallFault> {
     let (word, input) = call.split_once(' ').unwrap_or((call, ""));
     match word {
-        "put" => put_read(alloc, both, input, told),
-        "rising" => put_rising(alloc, both, input, told),
-        "remove" => remove(alloc, both, input, told),
+        "put" => put_read(alloc, both, input, output),
+        "rising" => put_rising(alloc, both, input, output),
+        "remove" => remove(alloc, both, input, output),
         "copy" => make_copies(alloc, both),
-        _ => ask(alloc, both, word, input, told),
+        _ => ask(alloc, both, word, input, output),
     }
 }
 
@@ -251,11 +274,11 @@ fn both_tables(alloc: Global, text: &str) -> Result<BothTables, CallFault> {
 
 /// What the calls say, one after another.
 fn take_each(alloc: Global, both: &mut BothTables, calls: &str) -> Result<Text, CallFault> {
-    let mut told = Text::new(alloc);
+    let mut output = Text::new(alloc);
     for call in calls.split("; ") {
-        take(alloc, both, call, &mut told)?;
+        take(alloc, both, call, &mut output)?;
     }
-    Ok(told)
+    Ok(output)
 }
 
 /// What the calls say.

@@ -49,19 +49,24 @@ fn hold(held: &mut HeldLocks, set: LockSet) -> Result<(), CallFault> {
     Ok(())
 }
 
-fn test(alloc: Global, held: &HeldLocks, words: &str, told: &mut Text) -> Result<(), CallFault> {
+fn test(alloc: Global, held: &HeldLocks, words: &str, output: &mut Text) -> Result<(), CallFault> {
     let lock = lock_in(alloc, words)?;
     let conflicts = held.any_conflicts(&lock);
-    say(told, if conflicts { "yes" } else { "no" })?;
+    say(output, if conflicts { "yes" } else { "no" })?;
     Ok(())
 }
 
-fn take(alloc: Global, held: &mut HeldLocks, call: &str, told: &mut Text) -> Result<(), CallFault> {
+fn take(
+    alloc: Global,
+    held: &mut HeldLocks,
+    call: &str,
+    output: &mut Text,
+) -> Result<(), CallFault> {
     let (word, rest) = call.split_once(' ').ok_or(CallFault::Unread)?;
     match word {
         "hold" => hold(held, set_in(alloc, rest)?),
         "each" => hold(held, each_in(alloc, rest)?),
-        "test" => test(alloc, held, rest, told),
+        "test" => test(alloc, held, rest, output),
         _ => Err(CallFault::Unread),
     }
 }
@@ -70,10 +75,10 @@ fn take_each(
     alloc: Global,
     held: &mut HeldLocks,
     calls: &str,
-    told: &mut Text,
+    output: &mut Text,
 ) -> Result<(), CallFault> {
     for call in calls.split("; ") {
-        take(alloc, held, call, told)?;
+        take(alloc, held, call, output)?;
     }
     Ok(())
 }
@@ -81,7 +86,7 @@ fn take_each(
 /// What the calls answer.
 pub fn answers(alloc: Global, input: &str) -> Result<Text, CallFault> {
     let mut held = HeldLocks::new(alloc);
-    let mut told = Text::new(alloc);
-    take_each(alloc, &mut held, input, &mut told)?;
-    Ok(told)
+    let mut output = Text::new(alloc);
+    take_each(alloc, &mut held, input, &mut output)?;
+    Ok(output)
 }

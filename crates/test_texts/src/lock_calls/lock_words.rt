@@ -28,9 +28,9 @@ pub fn lock_in(alloc: Global, words: &str) -> Result<Lock, CallFault> {
 fn set_of(alloc: Global, words: &[&str]) -> Result<LockSet, CallFault> {
     let mut set = Sequence::new(alloc);
     let mut rest = words;
-    while let [strength, key, span, behind @ ..] = rest {
+    while let [strength, key, span, following @ ..] = rest {
         set.push(lock_of(alloc, strength, key, span)?)?;
-        rest = behind;
+        rest = following;
     }
     Ok(set)
 }

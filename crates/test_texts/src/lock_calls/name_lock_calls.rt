@@ -163,10 +163,10 @@ fn called(locks: &mut MetaLocks, call: &str, session: u32) -> Result<LockAnswer,
     }
 }
 
-fn say_answer(alloc: Global, told: &mut Text, answer: LockAnswer) -> Result<(), AllocError> {
+fn say_answer(alloc: Global, output: &mut Text, answer: LockAnswer) -> Result<(), AllocError> {
     match answer {
-        LockAnswer::Granted => say(told, "granted"),
-        LockAnswer::Waits { by } => say(told, format!(in alloc; "{by} refuses")?.as_str()),
+        LockAnswer::Granted => say(output, "granted"),
+        LockAnswer::Waits { by } => say(output, format!(in alloc; "{by} refuses")?.as_str()),
     }
 }
 
@@ -174,18 +174,18 @@ fn say_holder(
     alloc: Global,
     locks: &MetaLocks,
     name: &str,
-    told: &mut Text,
+    output: &mut Text,
 ) -> Result<(), AllocError> {
     let name = Name::new(alloc, name)?;
     match locks.held_by(&name) {
-        Some(session) => say(told, format!(in alloc; "{session} holds")?.as_str()),
-        None => say(told, "nobody"),
+        Some(session) => say(output, format!(in alloc; "{session} holds")?.as_str()),
+        None => say(output, "nobody"),
     }
 }
 
-fn say_waiting(locks: &MetaLocks, session: &str, told: &mut Text) -> Result<(), CallFault> {
+fn say_waiting(locks: &MetaLocks, session: &str, output: &mut Text) -> Result<(), CallFault> {
     let waits = locks.waiting(unsigned_of(session)?);
-    say(told, if waits { "yes" } else { "no" })?;
+    say(output, if waits { "yes" } else { "no" })?;
     Ok(())
 }
 
@@ -206,13 +206,13 @@ fn take(
     alloc: Global,
     locks: &mut MetaLocks,
     call: &str,
-    told: &mut Text,
+    output: &mut Text,
 ) -> Result<(), CallFault> {
     let (word, input) = call.split_once(' ').ok_or(CallFault::Unread)?;
     match word {
-        "holder" => say_holder(alloc, locks, input, told)?,
-        "waiting" => say_waiting(locks, input, told)?,
-        _ => say_answer(alloc, told, answer_of(alloc, locks, word, input)?)?,
+        "holder" => say_holder(alloc, locks, input, output)?,
+        "waiting" => say_waiting(locks, input, output)?,
+        _ => say_answer(alloc, output, answer_of(alloc, locks, word, input)?)?,
     }
     Ok(())
 }
@@ -221,10 +221,10 @@ fn take_each(
     alloc: Global,
     locks: &mut MetaLocks,
     calls: &str,
-    told: &mut Text,
+    output: &mut Text,
 ) -> Result<(), CallFault> {
     for call in calls.split("; ") {
-        take(alloc, locks, call, told)?;
+        take(alloc, locks, call, output)?;
     }
     Ok(())
 }
@@ -232,7 +232,7 @@ fn take_each(
 /// What the calls answer.
 pub fn answers(alloc: Global, input: &str) -> Result<Text, CallFault> {
     let mut locks = MetaLocks::new(alloc);
-    let mut told = Text::new(alloc);
-    take_each(alloc, &mut locks, input, &mut told)?;
-    Ok(told)
+    let mut output = Text::new(alloc);
+    take_each(alloc, &mut locks, input, &mut output)?;
+    Ok(output)
 }

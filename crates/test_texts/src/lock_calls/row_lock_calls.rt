@@ -34,10 +34,10 @@ fn answer_of(
     }
 }
 
-fn say_answer(alloc: Global, told: &mut Text, answer: LockAnswer) -> Result<(), AllocError> {
+fn say_answer(alloc: Global, output: &mut Text, answer: LockAnswer) -> Result<(), AllocError> {
     match answer {
-        LockAnswer::Granted => say(told, "granted"),
-        LockAnswer::Waits { by } => say(told, format!(in alloc; "{by} refuses")?.as_str()),
+        LockAnswer::Granted => say(output, "granted"),
+        LockAnswer::Waits { by } => say(output, format!(in alloc; "{by} refuses")?.as_str()),
     }
 }
 
@@ -53,11 +53,16 @@ fn asked(
     answer_of(locks, call, session, &set)
 }
 
-fn take(alloc: Global, locks: &mut RowLocks, call: &str, told: &mut Text) -> Result<(), CallFault> {
+fn take(
+    alloc: Global,
+    locks: &mut RowLocks,
+    call: &str,
+    output: &mut Text,
+) -> Result<(), CallFault> {
     let (call, rest) = call.split_once(' ').ok_or(CallFault::Unread)?;
     let (session, words) = rest.split_once(' ').unwrap_or((rest, ""));
     let answer = asked(alloc, locks, call, unsigned_of(session)?, words)?;
-    say_answer(alloc, told, answer)?;
+    say_answer(alloc, output, answer)?;
     Ok(())
 }
 
@@ -65,10 +70,10 @@ fn take_each(
     alloc: Global,
     locks: &mut RowLocks,
     calls: &str,
-    told: &mut Text,
+    output: &mut Text,
 ) -> Result<(), CallFault> {
     for call in calls.split("; ") {
-        take(alloc, locks, call, told)?;
+        take(alloc, locks, call, output)?;
     }
     Ok(())
 }
@@ -76,7 +81,7 @@ fn take_each(
 /// What the calls answer.
 pub fn answers(alloc: Global, input: &str) -> Result<Text, CallFault> {
     let mut locks = RowLocks::new(alloc);
-    let mut told = Text::new(alloc);
-    take_each(alloc, &mut locks, input, &mut told)?;
-    Ok(told)
+    let mut output = Text::new(alloc);
+    take_each(alloc, &mut locks, input, &mut output)?;
+    Ok(output)
 }

@@ -1,6 +1,6 @@
 //! What an altered table's columns store of a row.
 
-use crate::text_calls::values::told_row;
+use crate::text_calls::values::reported_row;
 use base_values::row_conversion::{
     ColumnMap, ConversionFault, MapColumn, Origin, UnfitAt, converted_row,
 };
@@ -33,18 +33,18 @@ fn map_of(alloc: Global, text: &str) -> Result<ColumnMap, CallFault> {
 }
 
 /// The first column that refuses, and the number.
-fn told_unfit(alloc: Global, unfit: UnfitAt) -> Result<Text, CallFault> {
-    let mut told = Text::new(alloc);
-    told.push_number(unfit.column as i128)?;
-    told.push_str(" refuses ")?;
-    told.push_number(i128::from(unfit.unfit.number()))?;
-    Ok(told)
+fn reported_unfit(alloc: Global, unfit: UnfitAt) -> Result<Text, CallFault> {
+    let mut output = Text::new(alloc);
+    output.push_number(unfit.column as i128)?;
+    output.push_str(" refuses ")?;
+    output.push_number(i128::from(unfit.unfit.number()))?;
+    Ok(output)
 }
 
-fn told_converted_row(alloc: Global, map: &ColumnMap, row: &Row) -> Result<Text, CallFault> {
+fn reported_converted_row(alloc: Global, map: &ColumnMap, row: &Row) -> Result<Text, CallFault> {
     match converted_row(alloc, map.as_slice(), row.as_slice()) {
-        Ok(converted_row) => told_row(alloc, &converted_row),
-        Err(ConversionFault::Refused(unfit)) => told_unfit(alloc, unfit),
+        Ok(converted_row) => reported_row(alloc, &converted_row),
+        Err(ConversionFault::Refused(unfit)) => reported_unfit(alloc, unfit),
         Err(ConversionFault::Memory) => Err(CallFault::Memory),
     }
 }
@@ -54,5 +54,5 @@ pub fn converted_row_of(alloc: Global, input: &str) -> Result<Text, CallFault> {
     let (map, row) = input.split_once(": ").ok_or(CallFault::Unread)?;
     let map = map_of(alloc, map)?;
     let row = row_of(alloc, row)?;
-    told_converted_row(alloc, &map, &row)
+    reported_converted_row(alloc, &map, &row)
 }

@@ -25,23 +25,23 @@ fn items_of(alloc: Global, items: &str) -> Result<Text, AllocError> {
     Ok(text)
 }
 
-fn told_schema(alloc: Global, schema: &Schema) -> Result<Text, CallFault> {
-    let mut told = Text::new(alloc);
-    print_schema(schema, &mut told)?;
-    Ok(told)
+fn reported_schema(alloc: Global, schema: &Schema) -> Result<Text, CallFault> {
+    let mut output = Text::new(alloc);
+    print_schema(schema, &mut output)?;
+    Ok(output)
 }
 
-fn told_number(alloc: Global, number: u16) -> Result<Text, CallFault> {
-    let mut told = Text::new(alloc);
-    told.push_number(i128::from(number))?;
-    Ok(told)
+fn reported_number(alloc: Global, number: u16) -> Result<Text, CallFault> {
+    let mut output = Text::new(alloc);
+    output.push_number(i128::from(number))?;
+    Ok(output)
 }
 
 /// The schema's text, or the refusal's number.
-fn told(alloc: Global, text: &str) -> Result<Text, CallFault> {
+fn output(alloc: Global, text: &str) -> Result<Text, CallFault> {
     match schema_of(alloc, text)? {
-        Ok(schema) => told_schema(alloc, &schema),
-        Err(number) => told_number(alloc, number),
+        Ok(schema) => reported_schema(alloc, &schema),
+        Err(number) => reported_number(alloc, number),
     }
 }
 
@@ -50,15 +50,15 @@ fn taken(alloc: Global, items: &str) -> Result<Text, CallFault> {
     let text = items_of(alloc, items)?;
     match schema_of(alloc, text.as_str())? {
         Ok(_) => text_of(alloc, "taken"),
-        Err(number) => told_number(alloc, number),
+        Err(number) => reported_number(alloc, number),
     }
 }
 
 /// The answer of a call about schemas.
 pub fn answer(alloc: Global, call: &str, input: &str) -> Result<Text, CallFault> {
     match call {
-        "text" => told(alloc, input),
-        "items" => told(alloc, items_of(alloc, input)?.as_str()),
+        "text" => output(alloc, input),
+        "items" => output(alloc, items_of(alloc, input)?.as_str()),
         "takes" => taken(alloc, input),
         _ => Err(CallFault::Unread),
     }

@@ -5,30 +5,30 @@ use std::alloc::Global;
 use std::cmp::Ordering;
 use test_lines::{CallFault, kind_of, row_of, text_of, value_of, yes_or_no};
 
-fn told_value(alloc: Global, value: &Value) -> Result<Text, CallFault> {
-    let mut told = Text::new(alloc);
-    print_value(value, &mut told)?;
-    Ok(told)
+fn reported_value(alloc: Global, value: &Value) -> Result<Text, CallFault> {
+    let mut output = Text::new(alloc);
+    print_value(value, &mut output)?;
+    Ok(output)
 }
 
 /// What is printed of a row.
-pub fn told_row(alloc: Global, row: &Row) -> Result<Text, CallFault> {
-    let mut told = Text::new(alloc);
-    print_row(row.as_slice(), &mut told)?;
-    Ok(told)
+pub fn reported_row(alloc: Global, row: &Row) -> Result<Text, CallFault> {
+    let mut output = Text::new(alloc);
+    print_row(row.as_slice(), &mut output)?;
+    Ok(output)
 }
 
-fn told_refusal(alloc: Global, number: u16) -> Result<Text, CallFault> {
-    let mut told = text_of(alloc, "refused ")?;
-    told.push_number(i128::from(number))?;
-    Ok(told)
+fn reported_refusal(alloc: Global, number: u16) -> Result<Text, CallFault> {
+    let mut output = text_of(alloc, "refused ")?;
+    output.push_number(i128::from(number))?;
+    Ok(output)
 }
 
 /// The literal of what is stored or wanted, or the refusal's number.
-fn told_stored(alloc: Global, answer: Result<Value, StoreFault>) -> Result<Text, CallFault> {
+fn reported_stored(alloc: Global, answer: Result<Value, StoreFault>) -> Result<Text, CallFault> {
     match answer {
-        Ok(value) => told_value(alloc, &value),
-        Err(StoreFault::Refused(reason)) => told_refusal(alloc, reason.number()),
+        Ok(value) => reported_value(alloc, &value),
+        Err(StoreFault::Refused(reason)) => reported_refusal(alloc, reason.number()),
         Err(StoreFault::Memory) => Err(CallFault::Memory),
     }
 }
@@ -38,7 +38,7 @@ fn stored(alloc: Global, input: &str, nullable: bool) -> Result<Text, CallFault>
     let (kind, value) = input.split_once(": ").ok_or(CallFault::Unread)?;
     let kind = kind_of(kind)?;
     let value = value_of(alloc, value)?;
-    told_stored(alloc, store(alloc, &value, kind, nullable))
+    reported_stored(alloc, store(alloc, &value, kind, nullable))
 }
 
 /// What is wanted in a column of a kind.
@@ -46,7 +46,7 @@ fn sought(alloc: Global, input: &str) -> Result<Text, CallFault> {
     let (kind, value) = input.split_once(": ").ok_or(CallFault::Unread)?;
     let kind = kind_of(kind)?;
     let value = value_of(alloc, value)?;
-    told_stored(alloc, seek(alloc, &value, kind))
+    reported_stored(alloc, seek(alloc, &value, kind))
 }
 
 /// The word for how a key compares with another.
@@ -87,12 +87,12 @@ fn rising(alloc: Global, input: &str) -> Result<Text, CallFault> {
 
 fn printed(alloc: Global, input: &str) -> Result<Text, CallFault> {
     let value = value_of(alloc, input)?;
-    told_value(alloc, &value)
+    reported_value(alloc, &value)
 }
 
 fn printed_row(alloc: Global, input: &str) -> Result<Text, CallFault> {
     let row = row_of(alloc, input)?;
-    told_row(alloc, &row)
+    reported_row(alloc, &row)
 }
 
 /// The answer of a call about values.

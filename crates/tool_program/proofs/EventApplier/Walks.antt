@@ -11,7 +11,7 @@ use Rattle.base_values.specs.declared.row_conversion.map.MapColumn.{MapColumn}
 use Rattle.tool_program.specs.declared.event_applier.applier.Applier.{Applier}
 use Rattle.base_values.specs.declared.event.Change.TheVariants.{Update}
 use Rattle.tool_program.specs.EventApplier.Appliers.{Doing, Putting, Removing, Changing, changes_key, given_values, doings, planned}
-use Rattle.tool_program.specs.EventApplier.Planning.{event_doings}
+use Rattle.tool_program.specs.EventApplier.BatchPlans.{event_doings}
 
 conditional : {X A : Type 0} (f : X → List A) (test : Bool) (x : X) (rest : List X) → flat_map f (cond test (x ∷ rest) rest) ≡ (if test then f x else []) ++ flat_map f rest
 conditional f true x rest = refl

@@ -20,8 +20,8 @@ unfolding answer_at
 answer_more journal more turn answer e = by (slice_get journal (turn - 1)) refl e
   where
     by : (o : Option Entry) → slice_get journal (turn - 1) ≡ o → answer_of o ≡ Some answer → answer_of (slice_get (journal ++ more) (turn - 1)) ≡ Some answer
-    by (Some entry) is told = ap answer_of (slice_more journal more (turn - 1) entry is) ∙ told
-    by None is told = absurd cc
+    by (Some entry) is reported = ap answer_of (slice_more journal more (turn - 1) entry is) ∙ reported
+    by None is reported = absurd cc
 
 -- the last turn's answer
 pub answer_here : (journal : List Entry) (entry : Entry) → answer_at (journal ++ entry ∷ []) (length journal + 1) ≡ Some entry.answer

@@ -12,7 +12,7 @@ use Rattle.base_values.specs.declared.row_conversion.map.MapColumn.{MapColumn}
 use Rattle.base_script.specs.declared.actor.Actor.TheVariants.{Insp, Copy, Apply, Lock, Ren}
 use Rattle.base_script.specs.declared.statement.Statement.{Statement}
 use Rattle.server_model.specs.declared.request.Request.TheVariants as requests
-use Rattle.server_model.specs.Jobs.{table_of}
+use Rattle.server_model.specs.Operations.{table_of}
 use Rattle.plan_data.specs.PlanData.{PlanData, new_schema}
 use Rattle.base_values.specs.ToolNames.{ghost_name, log_name, old_name}
 use Rattle.tool_changelog.specs.ToolTables.{log_schema, sentry_schema}
@@ -124,7 +124,7 @@ reads_free : (plan : PlanData) (now : Moment) (stands off : Bool) → (stands �
 reads_free plan now true off holds = refl
 reads_free plan now false off holds = rw (holds refl) refl
 
-pub reads : (plan : PlanData) (now : Moment) (table : List ℕ) (position limit : ℕ) → table ≡ plan.table → (attempt_stands now.tool.course ≡ false → is_throttled plan now.server now.tool.operator ≡ false)
+pub reads : (plan : PlanData) (now : Moment) (table : List ℕ) (position limit : ℕ) → table ≡ plan.table → (attempt_stands now.tool.tool_phase ≡ false → is_throttled plan now.server now.tool.operator ≡ false)
     → AsksWell plan now Apply (requests.ReadLog position limit (table ∷ log_name table ∷ []))
 reads plan now table position limit same holds =
     subst (λ (t : List ℕ). AsksWell plan now Apply (requests.ReadLog position limit (t ∷ log_name t ∷ []))) (sym same)
@@ -133,7 +133,7 @@ reads plan now table position limit same holds =
       names = all_two (is_known plan.table) plan.table (log_name plan.table) (known_own plan.table) (known_log plan.table);
       excludes = refl;
       guards = refl;
-      held = reads_free plan now (attempt_stands now.tool.course) (is_throttled plan now.server now.tool.operator) holds;
+      held = reads_free plan now (attempt_stands now.tool.tool_phase) (is_throttled plan now.server now.tool.operator) holds;
       copies = refl;
     })
 
@@ -150,7 +150,7 @@ applies plan now statement into =
 
 -- THE LOCKER AND THE RENAMER
 
-pub guards : (plan : PlanData) (now : Moment) (table : List ℕ) → table ≡ plan.table → is_near plan now now.tool.course ≡ true → is_throttled plan now.server now.tool.operator ≡ false → AsksWell plan now Lock (requests.Create (sentry_schema table))
+pub guards : (plan : PlanData) (now : Moment) (table : List ℕ) → table ≡ plan.table → is_near plan now now.tool.tool_phase ≡ true → is_throttled plan now.server now.tool.operator ≡ false → AsksWell plan now Lock (requests.Create (sentry_schema table))
 unfolding sentry_schema
 guards plan now table same near off =
     subst (λ (t : List ℕ). AsksWell plan now Lock (requests.Create (sentry_schema t))) (sym same)
@@ -163,13 +163,13 @@ guards plan now table same near off =
       copies = refl;
     })
 
-pub locks : (plan : PlanData) (now : Moment) (table : List ℕ) → table ≡ plan.table → attempt_goes_on now.tool.course ≡ true → AsksWell plan now Lock (requests.LockTables (table ∷ old_name table ∷ []))
+pub locks : (plan : PlanData) (now : Moment) (table : List ℕ) → table ≡ plan.table → attempt_goes_on now.tool.tool_phase ≡ true → AsksWell plan now Lock (requests.LockTables (table ∷ old_name table ∷ []))
 locks plan now table same going =
     subst (λ (t : List ℕ). AsksWell plan now Lock (requests.LockTables (t ∷ old_name t ∷ []))) (sym same)
     (record {
       writes = refl;
       names = all_two (is_known plan.table) plan.table (old_name plan.table) (known_own plan.table) (known_old plan.table);
-      excludes = goes (list_any (bytes_eq plan.table) (plan.table ∷ old_name plan.table ∷ [])) (attempt_goes_on now.tool.course) going;
+      excludes = goes (list_any (bytes_eq plan.table) (plan.table ∷ old_name plan.table ∷ [])) (attempt_goes_on now.tool.tool_phase) going;
       guards = refl;
       held = refl;
       copies = refl;
@@ -190,13 +190,13 @@ unguards plan now table same =
 pub unlocks : (plan : PlanData) (now : Moment) → AsksWell plan now Lock requests.Unlock
 unlocks plan now = record { writes = refl; names = refl; excludes = refl; guards = refl; held = refl; copies = refl }
 
-pub exchanges : (plan : PlanData) (now : Moment) (table : List ℕ) → table ≡ plan.table → attempt_goes_on now.tool.course ≡ true → AsksWell plan now Ren (exchange table)
+pub exchanges : (plan : PlanData) (now : Moment) (table : List ℕ) → table ≡ plan.table → attempt_goes_on now.tool.tool_phase ≡ true → AsksWell plan now Ren (exchange table)
 exchanges plan now table same going =
     subst (λ (t : List ℕ). AsksWell plan now Ren (exchange t)) (sym same)
     (record {
       writes = refl;
       names = all_four (is_known plan.table) plan.table (old_name plan.table) (ghost_name plan.table) (known_own plan.table) (known_old plan.table) (known_ghost plan.table);
-      excludes = goes (list_any (bytes_eq plan.table) (plan.table ∷ old_name plan.table ∷ ghost_name plan.table ∷ plan.table ∷ [])) (attempt_goes_on now.tool.course) going;
+      excludes = goes (list_any (bytes_eq plan.table) (plan.table ∷ old_name plan.table ∷ ghost_name plan.table ∷ plan.table ∷ [])) (attempt_goes_on now.tool.tool_phase) going;
       guards = refl;
       held = refl;
       copies = refl;

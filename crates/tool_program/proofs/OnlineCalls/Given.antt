@@ -16,7 +16,7 @@ use Rattle.server_model.specs.declared.entry.Asked.TheVariants.{Call, Poll}
 use Rattle.server_model.specs.Entries.{request_in}
 use Rattle.plan_data.specs.PlanData.{PlanData}
 use Rattle.tool_program.specs.JournalWords.Sessions.{live_session}
-use Rattle.tool_program.specs.JournalWords.Keeping.{words_of}
+use Rattle.tool_program.specs.JournalWords.KeptPlans.{words_of}
 use Rattle.base_values.specs.ToolNames.{ghost_name}
 use Rattle.tool_program.specs.declared.chunk_copier.copier.Copier.{Copier}
 use Rattle.tool_program.specs.declared.chunk_copier.copier.CopyRange.{CopyRange}
@@ -42,10 +42,10 @@ use Rattle.tool_program.specs.CutoverCore.Attempts as cutovers
 use Rattle.tool_program.specs.CutoverCore.CutOvers.{stands, is_done, is_resting}
 use Rattle.tool_program.specs.Setups as setups
 use Rattle.tool_program.specs.Operators.{is_throttled, is_postponed}
-use Rattle.tool_program.specs.Tools.{Work, Course, SettingUp, Migrating, Moment, is_reverting, moment}
+use Rattle.tool_program.specs.Tools.{Work, ToolPhase, SettingUp, Migrating, Moment, is_reverting, moment}
 use Rattle.tool_program.specs.Programs.{in_transaction, waits, rolls_back, copy_call, unread_in, is_held, may_read, apply_call, may_begin, lock_call, tool_call, calls, commands, tool_asks, given, IsGiven, IsFollowed, Follows}
 use Rattle.tool_program.specs.OnlineCalls.{AsksWell, GivenCallsAreOnline, IsAskedWell, FollowedCallsAreOnline}
-use Rattle.tool_program.proofs.OnlineCalls.Machines.{IsNamed, CourseIsNamed, named}
+use Rattle.tool_program.proofs.OnlineCalls.Machines.{IsNamed, ToolPhaseIsNamed, named}
 use Rattle.tool_program.proofs.OnlineCalls.Asking as well
 
 -- what is asked is a call of the machine's
@@ -93,9 +93,9 @@ module _ (plan : PlanData) (now : Moment) (journal : List Entry) where
   copier_at : (copier : Copier) (range : CopyRange) (step : CopyStep) (request : Request) → copier.table ≡ plan.table → (copiers.is_choosing step ≡ true → is_throttled plan now.server now.tool.operator ≡ false)
       → copiers.call_at journal copier range step ≡ Some request → AsksWell plan now Copy request
   copier_at copier range copying.Choosing request same off is =
-      one_call (AsksWell plan now Copy) (requests.ChunkEnd copier.table (copiers.low_end journal range copier.behind) range.top copier.size) request is
-      (well.chooses plan now copier.table (copiers.low_end journal range copier.behind) range.top copier.size same (off refl))
-  copier_at copier range (copying.Spanning told size) request same off is =
+      one_call (AsksWell plan now Copy) (requests.ChunkEnd copier.table (copiers.low_end journal range copier.following) range.top copier.size) request is
+      (well.chooses plan now copier.table (copiers.low_end journal range copier.following) range.top copier.size same (off refl))
+  copier_at copier range (copying.Spanning reported size) request same off is =
       one_call (AsksWell plan now Copy) _ request is (well.spans plan now copier.table _ size same)
   copier_at copier range (copying.Copying chunk copied) request same off is = row_copied copier (copiers.key_at journal (copying.Copying chunk copied)) request same is
   copier_at copier range (copying.Committing chunk) request same off is = one_call (AsksWell plan now Copy) requests.Commit request is (well.copier_commits plan now)
@@ -114,17 +114,17 @@ module _ (plan : PlanData) (now : Moment) (journal : List Entry) where
 
   -- THE APPLIER
 
-  says : (applier : Applier) (doing : Option Doing) → applier.new_schema.name ≡ ghost_name plan.table → AsksWell plan now Apply (appliers.says applier doing)
-  says applier None into = well.applier_commits plan now
-  says applier (Some (Putting row)) into = well.applies plan now (appliers.statement_of applier (Putting row)) into
-  says applier (Some (Removing row)) into = well.applies plan now (appliers.statement_of applier (Removing row)) into
-  says applier (Some (Changing before after)) into = well.applies plan now (appliers.statement_of applier (Changing before after)) into
+  statement_result : (applier : Applier) (doing : Option Doing) → applier.new_schema.name ≡ ghost_name plan.table → AsksWell plan now Apply (appliers.statement_result applier doing)
+  statement_result applier None into = well.applier_commits plan now
+  statement_result applier (Some (Putting row)) into = well.applies plan now (appliers.statement_of applier (Putting row)) into
+  statement_result applier (Some (Removing row)) into = well.applies plan now (appliers.statement_of applier (Removing row)) into
+  statement_result applier (Some (Changing before after)) into = well.applies plan now (appliers.statement_of applier (Changing before after)) into
 
   applier_at : (applier : Applier) (step : ApplyStep) → applier.table ≡ plan.table → applier.new_schema.name ≡ ghost_name plan.table
-      → (appliers.is_reading step ≡ true → Rattle.tool_program.specs.Online.attempt_stands now.tool.course ≡ false → is_throttled plan now.server now.tool.operator ≡ false) → AsksWell plan now Apply (appliers.call_at journal applier step)
+      → (appliers.is_reading step ≡ true → Rattle.tool_program.specs.Online.attempt_stands now.tool.tool_phase ≡ false → is_throttled plan now.server now.tool.operator ≡ false) → AsksWell plan now Apply (appliers.call_at journal applier step)
   applier_at applier applying.Reading same into off = well.reads plan now applier.table applier.position applier.batch same (off refl)
   applier_at applier (applying.Beginning batch) same into off = well.applier_begins plan now
-  applier_at applier (applying.Applying batch done part) same into off = says applier (appliers.doing_at journal applier (applying.Applying batch done part)) into
+  applier_at applier (applying.Applying batch done part) same into off = statement_result applier (appliers.doing_at journal applier (applying.Applying batch done part)) into
   applier_at applier (applying.Committing batch) same into off = well.applier_commits plan now
 
   -- a batch that is read outside an attempt isn't held back
@@ -132,28 +132,28 @@ module _ (plan : PlanData) (now : Moment) (journal : List Entry) where
   read_free true asked throttled may out = absurd cc
   read_free false asked throttled may out = may
 
-  applier_free : (work : Work) → now.tool.course ≡ Migrating work → (appliers.starts work.applier && not (may_read plan now.server now.tool work)) ≡ false → appliers.starts work.applier ≡ true
-      → Rattle.tool_program.specs.Online.attempt_stands now.tool.course ≡ false → is_throttled plan now.server now.tool.operator ≡ false
-  applier_free work course free starts out =
+  applier_free : (work : Work) → now.tool.tool_phase ≡ Migrating work → (appliers.starts work.applier && not (may_read plan now.server now.tool work)) ≡ false → appliers.starts work.applier ≡ true
+      → Rattle.tool_program.specs.Online.attempt_stands now.tool.tool_phase ≡ false → is_throttled plan now.server now.tool.operator ≡ false
+  applier_free work tool_phase free starts out =
       let may : may_read plan now.server now.tool work ≡ true = not-false (may_read plan now.server now.tool work) (held_back (appliers.starts work.applier) (not (may_read plan now.server now.tool work)) free starts) in
       let unheld : is_held plan now.server now.tool work ≡ false = batch_free (nat_lt 0 (unread_in now.server work)) (is_held plan now.server now.tool work) may in
-      let outside : stands work.cutover.phase ≡ false = ap Rattle.tool_program.specs.Online.attempt_stands (sym course) ∙ out in
+      let outside : stands work.cutover.phase ≡ false = ap Rattle.tool_program.specs.Online.attempt_stands (sym tool_phase) ∙ out in
       read_free (stands work.cutover.phase) work.cutover.is_asked (is_throttled plan now.server now.tool.operator) unheld outside
 
-  applier_asks : (work : Work) (request : Request) → now.tool.course ≡ Migrating work → IsNamed plan work → apply_call plan now.server journal now.tool work ≡ Some request → AsksWell plan now Apply request
+  applier_asks : (work : Work) (request : Request) → now.tool.tool_phase ≡ Migrating work → IsNamed plan work → apply_call plan now.server journal now.tool work ≡ Some request → AsksWell plan now Apply request
   unfolding appliers.next
-  applier_asks work request course names is =
+  applier_asks work request tool_phase names is =
       let going = unheld (is_done work.cutover.phase) (if appliers.starts work.applier && not (may_read plan now.server now.tool work) then None else Some (appliers.next journal work.applier)) request is in
       let free = unheld (appliers.starts work.applier && not (may_read plan now.server now.tool work)) (Some (appliers.next journal work.applier)) request going.1 in
       one_call (AsksWell plan now Apply) (appliers.next journal work.applier) request free.1
-      (applier_at work.applier work.applier.step names.applier names.into (λ starts out. applier_free work course free.0 starts out))
+      (applier_at work.applier work.applier.step names.applier names.into (λ starts out. applier_free work tool_phase free.0 starts out))
 
   -- THE LOCKER
 
-  stage_goes : (work : Work) (stage : Stage) → now.tool.course ≡ Migrating work → work.cutover.phase ≡ Attempting stage → Rattle.tool_program.specs.Online.attempt_goes_on now.tool.course ≡ true
-  stage_goes work stage course phase = ap Rattle.tool_program.specs.Online.attempt_goes_on course ∙ ap Rattle.tool_program.specs.CutoverCore.CutOvers.may_succeed phase
+  stage_goes : (work : Work) (stage : Stage) → now.tool.tool_phase ≡ Migrating work → work.cutover.phase ≡ Attempting stage → Rattle.tool_program.specs.Online.attempt_goes_on now.tool.tool_phase ≡ true
+  stage_goes work stage tool_phase phase = ap Rattle.tool_program.specs.Online.attempt_goes_on tool_phase ∙ ap Rattle.tool_program.specs.CutoverCore.CutOvers.may_succeed phase
 
-  locker_at : (table : List ℕ) (stage : Stage) (request : Request) → table ≡ plan.table → Rattle.tool_program.specs.Online.attempt_goes_on now.tool.course ≡ true → cutovers.locker_at table stage ≡ Some request → AsksWell plan now Lock request
+  locker_at : (table : List ℕ) (stage : Stage) (request : Request) → table ≡ plan.table → Rattle.tool_program.specs.Online.attempt_goes_on now.tool.tool_phase ≡ true → cutovers.locker_at table stage ≡ Some request → AsksWell plan now Lock request
   locker_at table Locking request same going is = one_call (AsksWell plan now Lock) _ request is (well.locks plan now table same going)
   locker_at table Dropping request same going is = one_call (AsksWell plan now Lock) _ request is (well.unguards plan now table same)
   locker_at table Unlocking request same going is = one_call (AsksWell plan now Lock) requests.Unlock request is (well.unlocks plan now)
@@ -164,36 +164,36 @@ module _ (plan : PlanData) (now : Moment) (journal : List Entry) where
   unlocked hold request is = absurd cc
 
   -- an attempt begins where the tool may begin one
-  begun : (work : Work) (request : Request) → now.tool.course ≡ Migrating work → IsNamed plan work → may_begin plan now.server now.tool work ≡ true → (if work.cutover.is_stopped then None else Some (requests.Create (Rattle.tool_changelog.specs.ToolTables.sentry_schema work.cutover.table))) ≡ Some request
+  begun : (work : Work) (request : Request) → now.tool.tool_phase ≡ Migrating work → IsNamed plan work → may_begin plan now.server now.tool work ≡ true → (if work.cutover.is_stopped then None else Some (requests.Create (Rattle.tool_changelog.specs.ToolTables.sentry_schema work.cutover.table))) ≡ Some request
       → AsksWell plan now Lock request
-  begun work request course names may is =
+  begun work request tool_phase names may is =
       let near = attempt_free work.copier.is_copied (nat_le (unread_in now.server work) plan.options.max_backlog) (is_throttled plan now.server now.tool.operator) (is_postponed plan now.tool.operator) may in
       one_call (AsksWell plan now Lock) _ request (unheld work.cutover.is_stopped _ request is).1
-      (well.guards plan now work.cutover.table names.cutover (ap (Rattle.tool_program.specs.Online.is_near plan now) course ∙ near.0) near.1)
+      (well.guards plan now work.cutover.table names.cutover (ap (Rattle.tool_program.specs.Online.is_near plan now) tool_phase ∙ near.0) near.1)
 
-  locker_in : (work : Work) (phase : Phase) (request : Request) → now.tool.course ≡ Migrating work → work.cutover.phase ≡ phase → IsNamed plan work → (is_resting phase && not (may_begin plan now.server now.tool work)) ≡ false
+  locker_in : (work : Work) (phase : Phase) (request : Request) → now.tool.tool_phase ≡ Migrating work → work.cutover.phase ≡ phase → IsNamed plan work → (is_resting phase && not (may_begin plan now.server now.tool work)) ≡ false
       → cutovers.locker_call work.cutover phase ≡ Some request → AsksWell plan now Lock request
-  locker_in work Resting request course at names free is = begun work request course names (not-false (may_begin plan now.server now.tool work) free) is
-  locker_in work (Attempting stage) request course at names free is = locker_at work.cutover.table stage request names.cutover (stage_goes work stage course at) is
-  locker_in work (Ending clearing) request course at names free is = unlocked work.cutover.hold request is
-  locker_in work phase request course at names free is = absurd cc
+  locker_in work Resting request tool_phase at names free is = begun work request tool_phase names (not-false (may_begin plan now.server now.tool work) free) is
+  locker_in work (Attempting stage) request tool_phase at names free is = locker_at work.cutover.table stage request names.cutover (stage_goes work stage tool_phase at) is
+  locker_in work (Ending clearing) request tool_phase at names free is = unlocked work.cutover.hold request is
+  locker_in work phase request tool_phase at names free is = absurd cc
 
-  locker_asks : (work : Work) (request : Request) → now.tool.course ≡ Migrating work → IsNamed plan work → lock_call plan now.server now.tool work ≡ Some request → AsksWell plan now Lock request
+  locker_asks : (work : Work) (request : Request) → now.tool.tool_phase ≡ Migrating work → IsNamed plan work → lock_call plan now.server now.tool work ≡ Some request → AsksWell plan now Lock request
   unfolding cutovers.next
-  locker_asks work request course names is =
+  locker_asks work request tool_phase names is =
       let free = unheld (is_resting work.cutover.phase && not (may_begin plan now.server now.tool work)) (cutovers.next Locker work.cutover) request is in
-      locker_in work work.cutover.phase request course refl names free.0 free.1
+      locker_in work work.cutover.phase request tool_phase refl names free.0 free.1
 
   -- THE RENAMER
 
-  renamer_in : (work : Work) (phase : Phase) (request : Request) → now.tool.course ≡ Migrating work → work.cutover.phase ≡ phase → IsNamed plan work → cutovers.renamer_call work.cutover phase ≡ Some request → AsksWell plan now Ren request
-  renamer_in work (Attempting Drained) request course at names is =
-      one_call (AsksWell plan now Ren) (cutovers.exchange work.cutover.table) request is (well.exchanges plan now work.cutover.table names.cutover (stage_goes work Drained course at))
-  renamer_in work phase request course at names is = absurd cc
+  renamer_in : (work : Work) (phase : Phase) (request : Request) → now.tool.tool_phase ≡ Migrating work → work.cutover.phase ≡ phase → IsNamed plan work → cutovers.renamer_call work.cutover phase ≡ Some request → AsksWell plan now Ren request
+  renamer_in work (Attempting Drained) request tool_phase at names is =
+      one_call (AsksWell plan now Ren) (cutovers.exchange work.cutover.table) request is (well.exchanges plan now work.cutover.table names.cutover (stage_goes work Drained tool_phase at))
+  renamer_in work phase request tool_phase at names is = absurd cc
 
-  renamer_asks : (work : Work) (request : Request) → now.tool.course ≡ Migrating work → IsNamed plan work → cutovers.next Renamer work.cutover ≡ Some request → AsksWell plan now Ren request
+  renamer_asks : (work : Work) (request : Request) → now.tool.tool_phase ≡ Migrating work → IsNamed plan work → cutovers.next Renamer work.cutover ≡ Some request → AsksWell plan now Ren request
   unfolding cutovers.next
-  renamer_asks work request course names is = renamer_in work work.cutover.phase request course refl names is
+  renamer_asks work request tool_phase names is = renamer_in work work.cutover.phase request tool_phase refl names is
 
   -- THE INSPECTOR
 
@@ -237,7 +237,7 @@ module _ (plan : PlanData) (now : Moment) (journal : List Entry) where
   reverting_or A true back call request is one other = one is
   reverting_or A false back call request is one other = other is
 
-  tool_asks_well : (course : Course) (actor : Actor) (request : Request) → now.tool.course ≡ course → CourseIsNamed plan course → tool_call plan now.server journal now.tool course actor ≡ Some request → AsksWell plan now actor request
+  tool_asks_well : (tool_phase : ToolPhase) (actor : Actor) (request : Request) → now.tool.tool_phase ≡ tool_phase → ToolPhaseIsNamed plan tool_phase → tool_call plan now.server journal now.tool tool_phase actor ≡ Some request → AsksWell plan now actor request
   tool_asks_well (SettingUp setup tries) Insp request at names is = setup_in setup request (unheld (is_reverting now.tool.reason) (setups.setup_call plan setup) request is).1
   tool_asks_well (Migrating work) Insp request at names is = inspector_asks work request names is
   tool_asks_well (Migrating work) Copy request at names is =
@@ -248,7 +248,7 @@ module _ (plan : PlanData) (now : Moment) (journal : List Entry) where
       (λ back. rolled (AsksWell plan now Apply) (in_transaction now.server (live_session journal Apply)) request back (well.applier_rolls_back plan now)) (λ call. applier_asks work request at names call)
   tool_asks_well (Migrating work) Lock request at names is = locker_asks work request at names is
   tool_asks_well (Migrating work) Ren request at names is = renamer_asks work request at names is
-  tool_asks_well course actor request at names is = absurd cc
+  tool_asks_well tool_phase actor request at names is = absurd cc
 
 no_command : (word : Option OperatorWord) (request : Request) → commands word ≡ Some (Call request) → ⊥
 no_command None request is = absurd cc
@@ -257,7 +257,7 @@ no_command (Some word) request is = absurd cc
 asked_well : (plan : PlanData) (journal : List Entry) (actor : Actor) (request : Request) → tool_asks plan journal (moment plan journal) actor ≡ Some (Call request) → AsksWell plan (moment plan journal) actor request
 asked_well plan journal actor request is =
     let now = moment plan journal in
-    tool_asks_well plan now journal now.tool.course actor request refl (named plan journal) (called (waits now.server (live_session journal actor)) (tool_call plan now.server journal now.tool now.tool.course actor) request is)
+    tool_asks_well plan now journal now.tool.tool_phase actor request refl (named plan journal) (called (waits now.server (live_session journal actor)) (tool_call plan now.server journal now.tool now.tool.tool_phase actor) request is)
 
 -- *Given calls are online*
 pub given_calls : GivenCallsAreOnline

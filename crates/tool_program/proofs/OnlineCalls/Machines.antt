@@ -19,7 +19,7 @@ use Rattle.tool_program.specs.declared.cutover_core.cutover.CutOver.{CutOver}
 use Rattle.tool_program.specs.declared.cutover_core.cutover.Role.{Role}
 use Rattle.tool_program.specs.declared.cutover_core.cutover.Role.TheVariants.{Inspector, Locker, Renamer}
 use Rattle.tool_program.specs.CutoverCore.CutOvers as cutovers
-use Rattle.tool_program.specs.Tools.{Work, Course, SettingUp, Migrating, moment}
+use Rattle.tool_program.specs.Tools.{Work, ToolPhase, SettingUp, Migrating, moment}
 use Rattle.tool_program.proofs.OnlineCalls.Keeping.{Keeps, always}
 
 pub record IsNamed (plan : PlanData) (work : Work) : Type 0 where
@@ -28,13 +28,13 @@ pub record IsNamed (plan : PlanData) (work : Work) : Type 0 where
   pub into : work.applier.new_schema.name ≡ ghost_name plan.table
   pub cutover : work.cutover.table ≡ plan.table
 
-abbrev pub CourseIsNamed : PlanData → Course → Type 0
-CourseIsNamed plan (SettingUp setup tries) = Unit {0}
-CourseIsNamed plan (Migrating work) = IsNamed plan work
+abbrev pub ToolPhaseIsNamed : PlanData → ToolPhase → Type 0
+ToolPhaseIsNamed plan (SettingUp setup tries) = Unit {0}
+ToolPhaseIsNamed plan (Migrating work) = IsNamed plan work
 
 copier_after : (turn : ℕ) (copier : Copier) (step : CopyStep) (answer : Answer) → (copiers.after_answer turn copier step answer).table ≡ copier.table
 copier_after turn copier copying.Choosing (answers.End end) = refl
-copier_after turn copier (copying.Spanning told size) (answers.Keys keys end) = refl
+copier_after turn copier (copying.Spanning reported size) (answers.Keys keys end) = refl
 copier_after turn copier (copying.Copying chunk copied) (answers.Ok count) = refl
 copier_after turn copier (copying.Committing chunk) (answers.Ok count) = refl
 copier_after turn copier step answer = refl
@@ -84,11 +84,11 @@ reverted_table : (cutover : CutOver) → (cutovers.reverted cutover).table ≡ c
 unfolding cutovers.reverted
 reverted_table cutover = refl
 
-stops : (plan : PlanData) (course : Course) → CourseIsNamed plan course → CourseIsNamed plan (Rattle.tool_program.specs.Tools.stopped course)
+stops : (plan : PlanData) (tool_phase : ToolPhase) → ToolPhaseIsNamed plan tool_phase → ToolPhaseIsNamed plan (Rattle.tool_program.specs.Tools.stopped tool_phase)
 stops plan (SettingUp setup tries) at = tt
 stops plan (Migrating work) at = record { copier = at.copier; applier = at.applier; into = at.into; cutover = reverted_table work.cutover ∙ at.cutover }
 
-named_keeps : (plan : PlanData) → Keeps plan (CourseIsNamed plan)
+named_keeps : (plan : PlanData) → Keeps plan (ToolPhaseIsNamed plan)
 named_keeps plan = record {
   stops = stops plan;
   sets = λ setup tries. tt;
@@ -102,5 +102,5 @@ named_keeps plan = record {
 }
 
 -- behind every journal the machines' tables are the plan's
-pub named : (plan : PlanData) (journal : List Rattle.server_model.specs.declared.entry.Entry.Entry) → CourseIsNamed plan (moment plan journal).tool.course
-named plan journal = always plan (CourseIsNamed plan) (named_keeps plan) journal
+pub named : (plan : PlanData) (journal : List Rattle.server_model.specs.declared.entry.Entry.Entry) → ToolPhaseIsNamed plan (moment plan journal).tool.tool_phase
+named plan journal = always plan (ToolPhaseIsNamed plan) (named_keeps plan) journal

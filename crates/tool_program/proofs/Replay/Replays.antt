@@ -7,7 +7,7 @@ use Rattle.server_model.specs.Entries.{is_cut}
 use Rattle.plan_data.specs.PlanData.{PlanData}
 use Rattle.tool_program.specs.JournalWords.Journals.{IsAnswered, state_at}
 use Rattle.tool_program.specs.JournalWords.Sessions.{live_session, IsNumbered, NumbersSessions}
-use Rattle.tool_program.specs.JournalWords.Keeping.{IsPlanned, KeepsPlan}
+use Rattle.tool_program.specs.JournalWords.KeptPlans.{IsPlanned, KeepsPlan}
 use Rattle.tool_program.specs.Programs.{IsFollowed, Follows}
 use Rattle.tool_program.specs.Orders.{next_actor, IsNext, ReplayOrder, IsReplay}
 use Rattle.tool_program.specs.Replay.{ReplaysAgree, OneReplay}

@@ -12,7 +12,7 @@ use Rattle.server_model.specs.States.{State}
 use Rattle.plan_data.specs.PlanData.{PlanData}
 use Rattle.tool_program.specs.JournalWords.Journals.{inner_answer, heard, missed, IsAnswered, state_at}
 use Rattle.tool_program.specs.JournalWords.Sessions.{live_session, sessions_named, IsInSession, IsNumbered}
-use Rattle.tool_program.specs.JournalWords.Keeping.{cut_due, side_due, IsStruck, IsPlanned}
+use Rattle.tool_program.specs.JournalWords.KeptPlans.{cut_due, side_due, IsStruck, IsPlanned}
 use Rattle.tool_program.specs.Programs.{given, IsGiven, IsFollowed}
 use Rattle.tool_program.specs.Orders.{next_actor, IsNext}
 

@@ -22,10 +22,10 @@ among word rest zero i within = absurd (omega arith)
 among word rest (suc units) zero within = refl
 among word rest (suc units) (suc i) within = among word rest units i (omega arith)
 
-behind : (word : OperatorWord) (rest : List OperatorWord) (units i : ℕ) → units ≤ i → slice_get (repeat units (word ∷ []) ++ rest) i ≡ slice_get rest (i - units)
-behind word rest zero i past = let same : i ≡ i - 0 = omega arith in ap (slice_get rest) same
-behind word rest (suc units) zero past = absurd (omega arith)
-behind word rest (suc units) (suc i) past = let same : i - units ≡ suc i - suc units = omega arith in behind word rest units i (omega arith) ∙ ap (slice_get rest) same
+following : (word : OperatorWord) (rest : List OperatorWord) (units i : ℕ) → units ≤ i → slice_get (repeat units (word ∷ []) ++ rest) i ≡ slice_get rest (i - units)
+following word rest zero i past = let same : i ≡ i - 0 = omega arith in ap (slice_get rest) same
+following word rest (suc units) zero past = absurd (omega arith)
+following word rest (suc units) (suc i) past = let same : i - units ≡ suc i - suc units = omega arith in following word rest units i (omega arith) ∙ ap (slice_get rest) same
 
 -- the command at a place
 abbrev pub command_at : List Command → ℕ → Command → Command
@@ -45,4 +45,4 @@ found commands i left taken none within kept here =
 pub passed : (commands : List Command) (i left taken : ℕ) (none : Command) → i < length commands → slice_get (words_in (drop i commands)) left ≡ slice_get (words_in commands) taken → (command_at commands i none).units ≤ left
     → slice_get (words_in (drop (i + 1) commands)) (left - (command_at commands i none).units) ≡ slice_get (words_in commands) taken
 passed commands i left taken none within kept past =
-    sym (behind (command_at commands i none).word (words_in (drop (i + 1) commands)) (command_at commands i none).units left past) ∙ ap (λ all. slice_get all left) (sym (rest_is commands i none within)) ∙ kept
+    sym (following (command_at commands i none).word (words_in (drop (i + 1) commands)) (command_at commands i none).units left past) ∙ ap (λ all. slice_get all left) (sym (rest_is commands i none within)) ∙ kept

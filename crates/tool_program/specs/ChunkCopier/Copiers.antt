@@ -7,7 +7,7 @@ use Rattle.std.specs.Ordering.{is_eq}
 use Rattle.base_values.specs.declared.value.Value.{Value}
 use Rattle.base_values.specs.declared.span.Bound.{Bound}
 use Rattle.base_values.specs.declared.span.Bound.TheVariants.{Open, Closed}
-use Rattle.base_values.specs.Comparing.{compare_keys}
+use Rattle.base_values.specs.KeyOrder.{compare_keys}
 use Rattle.base_values.specs.declared.row_conversion.map.MapColumn.{MapColumn}
 use Rattle.server_model.specs.declared.request.Request.{Request}
 use Rattle.server_model.specs.declared.request.Request.TheVariants as requests
@@ -23,7 +23,7 @@ use Rattle.tool_program.specs.declared.chunk_copier.copier.Copier.{Copier}
 use Rattle.server_model.specs.declared.outcome.Progress.{Progress}
 use Rattle.server_model.specs.declared.outcome.Progress.TheVariants.{Going, TaskDone, TaskFailed, Unfit}
 use Rattle.base_values.specs.ToolNames.{ghost_name}
-use Rattle.server_model.specs.Reading.{keys_in, end_in}
+use Rattle.server_model.specs.EarlierAnswers.{keys_in, end_in}
 
 abbrev pub is_empty_range : Option CopyRange → Bool
 is_empty_range None = true
@@ -32,7 +32,7 @@ is_empty_range (Some range) = false
 -- a copier at its start
 abbrev pub new_copier : List ℕ → List MapColumn → Option CopyRange → ℕ → Copier
 new_copier table map range size =
-    record { table = table; map = map; range = range; size = size; number = 1; behind = None; is_copied = is_empty_range range; step = Choosing }
+    record { table = table; map = map; range = range; size = size; number = 1; following = None; is_copied = is_empty_range range; step = Choosing }
 
 -- next it asks where a chunk ends
 abbrev pub is_choosing : CopyStep → Bool
@@ -45,7 +45,7 @@ starts copier = is_choosing copier.step
 -- the chunk begins after the end of the one before, or where the copy begins
 abbrev pub low_end : List Entry → CopyRange → Option ℕ → Bound
 low_end journal range None = range.low
-low_end journal range (Some told) = Open (end_in (answer_at journal told))
+low_end journal range (Some reported) = Open (end_in (answer_at journal reported))
 
 -- the copy of the row of this key
 abbrev pub copies : Copier → Option (List Value) → Option Request
@@ -54,13 +54,13 @@ copies copier (Some key) = Some (requests.CopyRow copier.table (ghost_name copie
 
 -- the key of the row that is copied next
 abbrev pub key_at : List Entry → CopyStep → Option (List Value)
-key_at journal (Copying chunk copied) = slice_get (keys_in (answer_at journal chunk.told)) copied
+key_at journal (Copying chunk copied) = slice_get (keys_in (answer_at journal chunk.reported)) copied
 key_at journal step = None
 
 abbrev pub call_at : List Entry → Copier → CopyRange → CopyStep → Option Request
-call_at journal copier range Choosing = Some (requests.ChunkEnd copier.table (low_end journal range copier.behind) range.top copier.size)
-call_at journal copier range (Spanning told size) =
-    Some (requests.BeginSpan copier.table (record { low = low_end journal range copier.behind; high = Closed (end_in (answer_at journal told)) }) size)
+call_at journal copier range Choosing = Some (requests.ChunkEnd copier.table (low_end journal range copier.following) range.top copier.size)
+call_at journal copier range (Spanning reported size) =
+    Some (requests.BeginSpan copier.table (record { low = low_end journal range copier.following; high = Closed (end_in (answer_at journal reported)) }) size)
 call_at journal copier range (Copying chunk copied) = copies copier (key_at journal (Copying chunk copied))
 call_at journal copier range (Committing chunk) = Some requests.Commit
 
@@ -86,13 +86,13 @@ is_top (Some range) key = is_eq (compare_keys key range.top)
 
 -- after the chunk's commit: after its end, unless that is the greatest key
 abbrev pub committed : Copier → Chunk → Copier
-committed copier chunk = record copier { number = copier.number + 1; behind = Some chunk.told; is_copied = chunk.is_last; step = Choosing }
+committed copier chunk = record copier { number = copier.number + 1; following = Some chunk.reported; is_copied = chunk.is_last; step = Choosing }
 
 -- after an answer other than a loss and a time-out
 abbrev pub after_answer : ℕ → Copier → CopyStep → Answer → Copier
 after_answer turn copier Choosing (answers.End end) = record copier { step = Spanning turn copier.size }
-after_answer turn copier (Spanning told size) (answers.Keys keys end) =
-    record copier { step = begun (record { told = turn; keys = length keys; is_last = is_top copier.range end }) }
+after_answer turn copier (Spanning reported size) (answers.Keys keys end) =
+    record copier { step = begun (record { reported = turn; keys = length keys; is_last = is_top copier.range end }) }
 after_answer turn copier (Copying chunk copied) (answers.Ok count) = record copier { step = after_copies chunk (copied + 1) }
 after_answer turn copier (Committing chunk) (answers.Ok count) = committed copier chunk
 after_answer turn copier step answer = copier

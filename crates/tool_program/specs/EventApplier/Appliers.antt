@@ -8,7 +8,7 @@ use Rattle.std.specs.Str.{bytes_eq}
 use Rattle.std.specs.Ordering.{is_eq}
 use Rattle.base_values.specs.declared.value.Value.{Value}
 use Rattle.base_values.specs.declared.value.Value.TheVariants.{Null}
-use Rattle.base_values.specs.Comparing.{compare_keys}
+use Rattle.base_values.specs.KeyOrder.{compare_keys}
 use Rattle.base_values.specs.declared.gho_schema.schema.Schema.{Schema}
 use Rattle.base_values.specs.declared.gho_schema.schema.Column.{Column}
 use Rattle.base_values.specs.GhoSchema.Rows.{key_of, key_places}
@@ -39,7 +39,7 @@ use Rattle.server_model.specs.declared.outcome.Progress.TheVariants.{Going, Task
 use Rattle.base_values.specs.ToolNames.{log_name}
 use Rattle.base_values.specs.declared.mysql_errors.TheConstants.{ER_DUP_ENTRY}
 use Rattle.tool_changelog.specs.Hints.{last_hint}
-use Rattle.server_model.specs.Reading.{events_in}
+use Rattle.server_model.specs.EarlierAnswers.{events_in}
 
 -- what one statement does to the new table with rows of the old one
 pub data Doing : Type 0 where
@@ -128,14 +128,14 @@ statement_of applier (Removing row) = statements.Delete applier.new_schema.name 
 statement_of applier (Changing before after) =
     statements.Update applier.new_schema.name (sets applier.new_schema.columns (given_values applier.map after)) (by_key applier.new_schema applier.map before)
 
-abbrev pub says : Applier → Option Doing → Request
-says applier None = requests.Commit
-says applier (Some doing) = requests.Do (statement_of applier doing)
+abbrev pub statement_result : Applier → Option Doing → Request
+statement_result applier None = requests.Commit
+statement_result applier (Some doing) = requests.Do (statement_of applier doing)
 
 abbrev pub call_at : List Entry → Applier → ApplyStep → Request
 call_at journal applier Reading = requests.ReadLog applier.position applier.batch (applier.table ∷ log_name applier.table ∷ [])
 call_at journal applier (Beginning batch) = requests.Begin
-call_at journal applier (Applying batch done part) = says applier (doing_at journal applier (Applying batch done part))
+call_at journal applier (Applying batch done part) = statement_result applier (doing_at journal applier (Applying batch done part))
 call_at journal applier (Committing batch) = requests.Commit
 
 -- *Next*: the applier's next call.
@@ -144,8 +144,8 @@ next journal applier = call_at journal applier applier.step
 
 -- the batch whose events were read in this turn
 abbrev pub batch_of : ℕ → Applier → List RowEvent → ℕ → Batch
-batch_of turn applier events behind =
-    record { read = turn; next = behind; hint = last_hint applier.table applier.hint events; statements = length (planned applier events) }
+batch_of turn applier events following =
+    record { read = turn; next = following; hint = last_hint applier.table applier.hint events; statements = length (planned applier events) }
 
 -- the position moves to the batch's end
 abbrev pub moved : Applier → Batch → Applier
@@ -170,7 +170,7 @@ after_refusal batch done part number = if number == ER_DUP_ENTRY then Applying b
 
 -- after an answer other than a loss and a time-out
 abbrev pub after_answer : ℕ → Applier → ApplyStep → Answer → Applier
-after_answer turn applier Reading (answers.Events events behind) = read_batch applier (batch_of turn applier events behind)
+after_answer turn applier Reading (answers.Events events following) = read_batch applier (batch_of turn applier events following)
 after_answer turn applier (Beginning batch) (answers.Ok count) = record applier { step = Applying batch 0 Whole }
 after_answer turn applier (Applying batch done part) (answers.Ok count) = record applier { step = after_part batch done part }
 after_answer turn applier (Applying batch done part) (answers.Refused number column) = record applier { step = after_refusal batch done part number }
@@ -189,7 +189,7 @@ nothing_planned statements = if statements == 0 then TaskDone else Going
 abbrev pub progress_at : Applier → ApplyStep → Answer → Progress
 progress_at applier step answers.Lost = TaskFailed
 progress_at applier step (answers.TimedOut waited) = TaskFailed
-progress_at applier Reading (answers.Events events behind) = nothing_planned (length (planned applier events))
+progress_at applier Reading (answers.Events events following) = nothing_planned (length (planned applier events))
 progress_at applier (Applying batch done part) (answers.Refused number (Some place)) = Unfit place number
 progress_at applier (Committing batch) (answers.Ok count) = TaskDone
 progress_at applier step answer = Going

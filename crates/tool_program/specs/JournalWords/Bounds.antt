@@ -4,7 +4,7 @@ use Rattle.std.specs.Prelude.{ℕ, ◌+◌, ◌*◌, length, map, sum, unwrap_or
 use Rattle.std.specs.Option.{option_map}
 use Rattle.table_store.specs.Databases.{find_table}
 use Rattle.plan_data.specs.PlanData.{PlanData}
-use Rattle.tool_program.specs.JournalWords.Keeping.{words_of}
+use Rattle.tool_program.specs.JournalWords.KeptPlans.{words_of}
 
 -- what the bound is made of
 pub record Measures : Type 0 where

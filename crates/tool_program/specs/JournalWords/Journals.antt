@@ -12,7 +12,7 @@ use Rattle.server_model.specs.declared.entry.Asked.TheVariants.{Command, Cut}
 use Rattle.server_model.specs.declared.entry.Entry.{Entry}
 use Rattle.server_model.specs.Entries.{same_actor, is_client, is_command, is_cut}
 use Rattle.server_model.specs.States.{State, opened, is_live, connected}
-use Rattle.server_model.specs.Serving.{serves, leaves, given_at}
+use Rattle.server_model.specs.PlainServer.{serves, leaves, given_at}
 use Rattle.plan_data.specs.PlanData.{PlanData}
 
 -- the server at the start of the plan's runs

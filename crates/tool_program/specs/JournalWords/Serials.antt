@@ -7,7 +7,7 @@ use Rattle.std.specs.Option.{option_map}
 use Rattle.table_store.specs.Databases.{TableRows, Database, find_table, with_change}
 use Rattle.server_model.specs.declared.entry.Entry.{Entry}
 use Rattle.plan_data.specs.PlanData.{PlanData}
-use Rattle.tool_program.specs.JournalWords.Altering.{plan_altered_table}
+use Rattle.tool_program.specs.JournalWords.AlteredTables.{plan_altered_table}
 use Rattle.base_values.specs.ToolNames.{is_tool_name}
 use Rattle.tool_program.specs.JournalWords.Journals.{state_at}
 use Rattle.tool_program.specs.JournalWords.Clients.{client_at}

@@ -40,6 +40,6 @@ took_of (Goes setup) range = setup_of setup
 took_of (Over position) range = steps.Ready position range
 
 -- the range that an answer tells
-abbrev pub range_told : Answer → Option KeyRange
-range_told (answers.Ends range) = range
-range_told answer = None
+abbrev pub range_reported : Answer → Option KeyRange
+range_reported (answers.Ends range) = range
+range_reported answer = None

@@ -2,7 +2,7 @@
 
 ghost use Rattle.std.specs.Prelude.{◌≡◌, ◌+◌, ◌<◌, ◌≤◌};
 ghost use Rattle.tool_program.specs.ChunkCopier.Copiers.{new_copier, begun, after_copies, is_top, committed, took, progress, resized};
-ghost use Rattle.tool_program.specs.ChunkCopier.Walking.{StepFits};
+ghost use Rattle.tool_program.specs.ChunkCopier.CopierFacts.{StepFits};
 
 use crate::chunk_copier::copier::{Chunk, Copier, CopyRange, CopyStep};
 use base_values::row_conversion::ColumnMap;
@@ -53,7 +53,7 @@ impl Copier {
             range,
             size,
             number: 1,
-            behind: None,
+            following: None,
             is_copied,
             step: CopyStep::Choosing,
         }
@@ -73,13 +73,13 @@ impl Copier {
             (_, Answer::Lost | Answer::TimedOut { .. }) => self.step = CopyStep::Choosing,
             (CopyStep::Choosing, Answer::End(_)) => {
                 self.step = CopyStep::Spanning {
-                    told: turn,
+                    reported: turn,
                     size: self.size,
                 };
             }
             (CopyStep::Spanning { .. }, Answer::Keys { keys, end }) => {
                 self.step = begun(Chunk {
-                    told: turn,
+                    reported: turn,
                     keys: keys.len(),
                     is_last: is_top(&self.range, end),
                 });
@@ -98,7 +98,7 @@ impl Copier {
         ensures { self.new ≡ committed self.old chunk }
     {
         self.number += 1;
-        self.behind = Some(chunk.told);
+        self.following = Some(chunk.reported);
         self.is_copied = chunk.is_last;
         self.step = CopyStep::Choosing;
     }

@@ -4,7 +4,7 @@ ghost use Rattle.std.specs.Prelude.{◌≡◌, option_map, is_some, IfOk};
 ghost use Rattle.tool_program.specs.ChunkCopier.Copiers.{low_end, key_at, copies, call_at, next, starts, unfit_key};
 
 use crate::chunk_copier::copier::{Copier, CopyRange, CopyStep};
-use crate::chunk_copier::reader::{end_told, keys_told};
+use crate::chunk_copier::reader::{end_reported, keys_reported};
 use base_values::tool_names::ghost_name;
 use base_values::{Bound, Duplicate, Key, Sequence, Span};
 use server_model::{Entry, Request};
@@ -24,11 +24,11 @@ impl Copier {
         journal: &[Entry],
         range: &CopyRange,
     ) -> Result<Bound, AllocError>
-        ensures { IfOk result (λ low. low ≡ low_end journal.now range.now self.now.behind) }
+        ensures { IfOk result (λ low. low ≡ low_end journal.now range.now self.now.following) }
     {
-        match self.behind {
+        match self.following {
             None => range.low.copy(),
-            Some(told) => Ok(Bound::Open(end_told(alloc, journal, told)?)),
+            Some(reported) => Ok(Bound::Open(end_reported(alloc, journal, reported)?)),
         }
     }
 
@@ -37,7 +37,9 @@ impl Copier {
         ensures { option_map (λ key. key.now) result ≡ key_at journal.now self.now.step }
     {
         match self.step {
-            CopyStep::Copying { chunk, copied } => keys_told(journal, chunk.told).get(copied),
+            CopyStep::Copying { chunk, copied } => keys_reported(journal, chunk.reported).get(
+                copied,
+            ),
             _ => None,
         }
     }
@@ -73,11 +75,11 @@ impl Copier {
                 top: range.top.copy()?,
                 size: self.size,
             })),
-            CopyStep::Spanning { told, size } => Ok(Some(Request::BeginSpan {
+            CopyStep::Spanning { reported, size } => Ok(Some(Request::BeginSpan {
                 table: self.table.copy()?,
                 span: Span {
                     low: self.low_end(alloc, journal, range)?,
-                    high: Bound::Closed(end_told(alloc, journal, told)?),
+                    high: Bound::Closed(end_reported(alloc, journal, reported)?),
                 },
                 size,
             })),

@@ -7,7 +7,7 @@ use base_values::{Bound, Key, Name};
 #[derive(Clone, Copy)]
 pub struct Chunk {
     /// The turn in which the copier got its keys and its end.
-    pub told: u64,
+    pub reported: u64,
     /// How many keys it has.
     pub keys: usize,
     /// Whether it ends at the greatest key of the range.
@@ -22,7 +22,7 @@ pub enum CopyStep {
     /// It begins the chunk and asks for its keys.
     Spanning {
         /// The turn in which it got the chunk's end.
-        told: u64,
+        reported: u64,
         /// How many rows the chunk has at most.
         size: u32,
     },
@@ -60,7 +60,7 @@ pub struct Copier {
     /// The number of the chunk, from 1.
     pub number: u64,
     /// The turn in which the end of the last committed chunk was read.
-    pub behind: Option<u64>,
+    pub following: Option<u64>,
     /// Whether the range is copied.
     pub is_copied: bool,
     /// Which call comes next.

@@ -2,7 +2,7 @@
 
 ghost use Rattle.std.specs.Prelude.{◌≡◌, [], IfOk};
 ghost use Rattle.server_model.specs.Entries.{answer_at};
-ghost use Rattle.server_model.specs.Reading.{keys_in, end_in};
+ghost use Rattle.server_model.specs.EarlierAnswers.{keys_in, end_in};
 
 use base_values::{Duplicate, Key, Sequence};
 use server_model::turn_answers::answer_at;
@@ -10,7 +10,7 @@ use server_model::{Answer, Entry};
 use std::alloc::{AllocError, Global};
 
 /// The keys of a chunk.
-pub(crate) fn keys_told(journal: &[Entry], turn: u64) -> &[Key]
+pub(crate) fn keys_reported(journal: &[Entry], turn: u64) -> &[Key]
     ensures { result.now ≡ keys_in (answer_at journal.now turn) }
 {
     match answer_at(journal, turn) {
@@ -20,7 +20,7 @@ pub(crate) fn keys_told(journal: &[Entry], turn: u64) -> &[Key]
 }
 
 /// Where a chunk ends.
-pub(crate) fn end_told(alloc: Global, journal: &[Entry], turn: u64) -> Result<Key, AllocError>
+pub(crate) fn end_reported(alloc: Global, journal: &[Entry], turn: u64) -> Result<Key, AllocError>
     ensures { IfOk result (λ end. end ≡ end_in (answer_at journal.now turn)) }
 {
     match answer_at(journal, turn) {

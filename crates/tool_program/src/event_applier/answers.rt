@@ -2,7 +2,7 @@
 
 ghost use Rattle.std.specs.Prelude.{◌≡◌, ◌+◌, ◌<◌};
 ghost use Rattle.tool_program.specs.EventApplier.Appliers.{new_applier, batch_of, moved, read_batch, after_statements, after_part, after_refusal, took, nothing_planned, progress};
-ghost use Rattle.tool_program.specs.EventApplier.Planning.{StepFits};
+ghost use Rattle.tool_program.specs.EventApplier.BatchPlans.{StepFits};
 
 use crate::event_applier::applier::{Applier, ApplyStep, Batch, Part};
 use base_values::gho_schema::Schema;

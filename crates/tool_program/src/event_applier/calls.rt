@@ -3,10 +3,10 @@
 ghost use Rattle.std.specs.Prelude.{◌≡◌, [], ◌∷◌, IfOk};
 ghost use Rattle.server_model.specs.declared.request.Request.TheVariants as requests;
 ghost use Rattle.base_values.specs.ToolNames.{log_name};
-ghost use Rattle.tool_program.specs.EventApplier.Appliers.{starts, says, call_at, next, unfit_key};
+ghost use Rattle.tool_program.specs.EventApplier.Appliers.{starts, statement_result, call_at, next, unfit_key};
 
 use crate::event_applier::applier::{Applier, ApplyStep};
-use crate::event_applier::planning::row_done;
+use crate::event_applier::batch_plan::row_done;
 use base_values::gho_schema::key_of;
 use base_values::tool_names::log_name;
 use base_values::{Duplicate, Key, Sequence};

@@ -3,10 +3,10 @@
 ghost use Rattle.std.specs.Prelude.{◌≡◌, IfOk};
 ghost use Rattle.base_values.specs.RowConversion.ConvertedRows.{source};
 ghost use Rattle.tool_program.specs.EventApplier.Appliers.{value_at, given_values, sets, name_at, by_key, statement_of};
-ghost use Rattle.tool_program.specs.EventApplier.Planning.{meant};
+ghost use Rattle.tool_program.specs.EventApplier.BatchPlans.{meant};
 
 use crate::event_applier::applier::Applier;
-use crate::event_applier::planning::Planned;
+use crate::event_applier::batch_plan::Planned;
 use base_script::{Condition, Set, Sets, Statement};
 use base_values::gho_schema::{Column, Schema};
 use base_values::row_conversion::{MapColumn, source};

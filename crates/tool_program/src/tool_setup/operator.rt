@@ -1,7 +1,7 @@
 //! The operator: what its commands have done so far, and when the tool holds back.
 
 ghost use Rattle.std.specs.Prelude.{◌≡◌, ◌+◌, ◌<◌, slice_get};
-ghost use Rattle.tool_program.specs.JournalWords.Keeping.{words_of};
+ghost use Rattle.tool_program.specs.JournalWords.KeptPlans.{words_of};
 ghost use Rattle.tool_program.specs.Operators.{new_operator, is_left, commanded, is_postponed};
 ghost use Rattle.tool_program.specs.ToolSetup.Meanings.{operator_of, words_in, is_throttled_under};
 
@@ -50,7 +50,7 @@ impl Operator {
     }
 
     /// The next command.
-    #[tactic(auto, unfolding(crate::specs::JournalWords::Keeping::words_of))]
+    #[tactic(auto, unfolding(crate::specs::JournalWords::KeptPlans::words_of))]
     pub fn next(&self, plan: &Plan) -> Option<OperatorWord>
         ensures { result ≡ slice_get (words_of plan.now) self.now.taken }
     {

@@ -2,7 +2,7 @@
 
 ghost use Rattle.std.specs.Prelude.{◌≡◌, Some, IfOk};
 ghost use Rattle.tool_program.specs.Setups.{listed, clearing, setup_call, setup_after};
-ghost use Rattle.tool_program.specs.ToolSetup.Meanings.{setup_of, took_of, range_told};
+ghost use Rattle.tool_program.specs.ToolSetup.Meanings.{setup_of, took_of, range_reported};
 
 use crate::cutover_core::{Leftovers, is_bad, lists_log, lists_new_table, lists_old_table};
 use crate::tool_setup::alters::new_table;
@@ -77,7 +77,7 @@ impl Setup {
     /// What an answer makes of it; a lost call and a time-out begin it again. It takes no memory: the range that the last
     /// answer tells stays in the answer.
     pub fn took(self, table: &Name, answer: &Answer) -> SetupTook
-        ensures { took_of result (range_told answer.now) ≡ setup_after table.now (setup_of self) answer.now }
+        ensures { took_of result (range_reported answer.now) ≡ setup_after table.now (setup_of self) answer.now }
     {
         if is_bad(answer) {
             return SetupTook::Goes(Setup::Listing);

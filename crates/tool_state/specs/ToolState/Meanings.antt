@@ -32,16 +32,16 @@ abbrev pub reason_in : Option Reason → List ℕ → Option program.Reason
 reason_in None turns = None
 reason_in (Some reason) turns = Some (reason_of reason turns)
 
-abbrev pub course_in : Option Setup → List ℕ → program.Work → program.Course
-course_in None tries work = program.Migrating work
-course_in (Some setup) tries work = program.SettingUp (setup_of setup) tries
+abbrev pub tool_phase_in : Option Setup → List ℕ → program.Work → program.ToolPhase
+tool_phase_in None tries work = program.Migrating work
+tool_phase_in (Some setup) tries work = program.SettingUp (setup_of setup) tries
 
-abbrev pub course_of : Tool → program.Course
-course_of tool = course_in tool.setup tool.setup_tries.turns (work_of tool.work)
+abbrev pub tool_phase_of : Tool → program.ToolPhase
+tool_phase_of tool = tool_phase_in tool.setup tool.setup_tries.turns (work_of tool.work)
 
 abbrev pub tool_of : Tool → program.Tool
 tool_of tool =
-    record { turns = tool.turns; operator = operator_of tool.operator; course = course_of tool; reason = reason_in tool.reason tool.spent.turns }
+    record { turns = tool.turns; operator = operator_of tool.operator; tool_phase = tool_phase_of tool; reason = reason_in tool.reason tool.spent.turns }
 
 -- the turns in which the task at hand failed
 abbrev pub tries_of : Task → Tool → List ℕ

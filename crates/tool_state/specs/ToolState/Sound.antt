@@ -2,8 +2,8 @@
 -- start until the setup is over. (This project's rule.)
 use Rattle.std.specs.Prelude.{◌≡◌, ℕ, ◌+◌, ◌<◌, ◌≤◌, length, Option, Some, None}
 use Rattle.plan_data.specs.PlanData.{PlanData}
-use Rattle.tool_program.specs.ChunkCopier.Walking as copiers
-use Rattle.tool_program.specs.EventApplier.Planning as appliers
+use Rattle.tool_program.specs.ChunkCopier.CopierFacts as copiers
+use Rattle.tool_program.specs.EventApplier.BatchPlans as appliers
 use Rattle.tool_program.specs.Tools as program
 use Rattle.tool_program.specs.declared.tool_setup.setup.Setup.{Setup}
 use Rattle.tool_state.specs.ToolState.TryTurns.{TryTurns}

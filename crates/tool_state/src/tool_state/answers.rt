@@ -4,8 +4,8 @@ ghost use Rattle.std.specs.Prelude.{◌≡◌, ◌+◌, ◌<◌, ℕ, Some};
 ghost use Rattle.base_script.specs.declared.actor.Actor.TheVariants.{Apply};
 ghost use Rattle.server_model.specs.States.{State, has_work};
 ghost use Rattle.tool_program.specs.Tools.{setup_took, actor_took, command_took, took};
-ghost use Rattle.tool_program.specs.ToolSetup.Meanings.{setup_of, range_told};
-ghost use Rattle.tool_state.specs.ToolState.Meanings.{course_of, tool_of};
+ghost use Rattle.tool_program.specs.ToolSetup.Meanings.{setup_of, range_reported};
+ghost use Rattle.tool_state.specs.ToolState.Meanings.{tool_phase_of, tool_of};
 ghost use Rattle.tool_state.specs.ToolState.Sound.{IsSound, IsSoundAt, IsRoomy, HasRoom};
 
 use crate::tool_state::reason::Reason;
@@ -20,7 +20,7 @@ impl Tool {
     /// The inspector's answer in the setup, with a copy of the range that it has.
     fn setup_took(&mut self, plan: &Plan, setup: Setup, answer: &Answer, range: Option<KeyRange>)
         requires stands { self.old.setup ≡ Some setup }
-        requires told { range ≡ range_told answer.now }
+        requires reported { range ≡ range_reported answer.now }
         requires sound { IsSoundAt plan.now self.old.turns self.old }
         requires room { HasRoom self.old }
         ensures took { tool_of self.new ≡ setup_took plan.now (setup_of setup) self.old.setup_tries.turns answer.now (tool_of self.old) }
@@ -41,11 +41,11 @@ impl Tool {
 
     /// A session of the tool was answered; the copier and the applier take nothing more in a revert.
     fn actor_took(&mut self, plan: &Plan, actor: Actor, answer: &Answer, range: Option<KeyRange>)
-        requires told { range ≡ range_told answer.now }
+        requires reported { range ≡ range_reported answer.now }
         requires sound { IsSoundAt plan.now self.old.turns self.old }
         requires turns { self.old.turns < u64.MAX }
         requires room { HasRoom self.old }
-        ensures took { tool_of self.new ≡ actor_took plan.now actor answer.now (course_of self.old) (tool_of self.old) }
+        ensures took { tool_of self.new ≡ actor_took plan.now actor answer.now (tool_phase_of self.old) (tool_of self.old) }
         ensures room { actor ≡ Apply → IsRoomy self.new.spent.room self.new.work.attempt_tries }
         ensures sound { IsSoundAt plan.now (self.old.turns + 1) self.new }
         ensures turns { self.new.turns ≡ self.old.turns }
@@ -82,7 +82,7 @@ impl Tool {
     /// session, where it was lost between calls, had a transaction, a table lock or a wait.
     #[tactic(auto, unfolding(tool_program::specs::Tools::took))]
     pub fn took(&mut self, plan: &Plan, entry: &Entry, range: Option<KeyRange>, had_work: bool)
-        requires told { range ≡ range_told entry.now.answer }
+        requires reported { range ≡ range_reported entry.now.answer }
         requires sound { IsSound plan.now self.old }
         requires turns { self.old.turns + 1 < u64.MAX }
         requires room { HasRoom self.old }

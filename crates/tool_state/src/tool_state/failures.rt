@@ -3,7 +3,7 @@
 ghost use Rattle.std.specs.Prelude.{◌≡◌, ◌≤◌, ℕ, length, if◌then◌else◌};
 ghost use Rattle.plan_data.specs.PlanData.{PlanData};
 ghost use Rattle.tool_program.specs.Tools.{is_renamed, reverts, spends, is_reverting};
-ghost use Rattle.tool_state.specs.ToolState.Meanings.{reason_of, course_of, tool_of, tries_of};
+ghost use Rattle.tool_state.specs.ToolState.Meanings.{reason_of, tool_phase_of, tool_of, tries_of};
 ghost use Rattle.tool_state.specs.ToolState.Sound.{IsSoundAt};
 
 use crate::tool_state::reason::Reason;
@@ -15,7 +15,7 @@ use server_model::Task;
 impl Tool {
     /// Whether the RENAME was done, as the tool knows.
     pub fn is_renamed(&self) -> bool
-        ensures { result ≡ is_renamed (course_of self.now) }
+        ensures { result ≡ is_renamed (tool_phase_of self.now) }
     {
         self.setup.is_none() && self.work.cutover.phase.is_done()
     }

@@ -2,7 +2,7 @@
 
 ghost use Rattle.std.specs.Prelude.{◌≡◌, ◌+◌, ◌<◌, ◌≤◌, ℕ, None};
 ghost use Rattle.tool_program.specs.Tools.{copy_took, apply_took, is_failure, attempt_after, cutover_took, drains};
-ghost use Rattle.tool_state.specs.ToolState.Meanings.{work_of, course_of, tool_of};
+ghost use Rattle.tool_state.specs.ToolState.Meanings.{work_of, tool_phase_of, tool_of};
 ghost use Rattle.tool_state.specs.ToolState.Sound.{IsSoundAt, IsRoomy};
 
 use crate::tool_state::reason::Reason;
@@ -111,7 +111,7 @@ impl Tool {
     #[tactic(auto, unfolding(tool_program::specs::CutoverCore::CutOvers::applier_turn))]
     pub(crate) fn drain(&mut self, plan: &Plan)
         requires room { IsRoomy self.old.spent.room self.old.work.attempt_tries }
-        ensures took { tool_of self.new ≡ drains plan.now (course_of self.old) (tool_of self.old) }
+        ensures took { tool_of self.new ≡ drains plan.now (tool_phase_of self.old) (tool_of self.old) }
         ensures sound { (most : ℕ) → IsSoundAt plan.now most self.old → IsSoundAt plan.now most self.new }
         ensures turns { self.new.turns ≡ self.old.turns }
     {

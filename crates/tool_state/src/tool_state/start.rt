@@ -99,7 +99,7 @@ impl Tool {
     /// The work begins: the applier after `position` events, the copier with a range.
     pub(crate) fn begin(&mut self, position: u64, range: Option<KeyRange>)
         ensures turns { self.new.turns ≡ self.old.turns }
-        ensures begun { (plan : PlanData) → IsFresh plan self.old.setup self.old.work → self.old.setup ≢ None → tool_of self.new ≡ record (tool_of self.old) { course = Migrating (new_work plan self.old.operator.size position range) } }
+        ensures begun { (plan : PlanData) → IsFresh plan self.old.setup self.old.work → self.old.setup ≢ None → tool_of self.new ≡ record (tool_of self.old) { tool_phase = Migrating (new_work plan self.old.operator.size position range) } }
         ensures sound { (plan : PlanData) (most : ℕ) → IsSoundAt plan most self.old → IsSoundAt plan most self.new }
     {
         self.setup = None;

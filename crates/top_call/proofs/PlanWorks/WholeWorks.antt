@@ -39,9 +39,9 @@ module _ (plan begun : PlanData) (run : RunView) (journal : List Entry) (begun_i
       (whole sound begun run.journal turns workers (subst WasRead (sym begun_is) was) kept numbered order passes stops (subst (λ (p : PlanData). length run.journal ≤ p.options.turn_limit) plan_is bound))
 
   -- how it ended, where there is a verdict
-  pub told_end : (ending : Ending) (told : Option Verdict) (server : State) → IfSome told (λ verdict. verdict ≡ verdict_of run.plan run.journal) → IfSome told (λ verdict. ending ≡ Over) → (ending ≡ Over → is_over begun run.journal ≡ true) → (ending ≡ Over → run.server ≡ state_at begun run.journal) → server ≡ run.server → IfSome told (λ verdict. IsEnd plan journal verdict server)
-  told_end ending None server verdict_is ended over at_end server_is = tt
-  told_end ending (Some verdict) server verdict_is ended over at_end server_is =
+  pub reported_end : (ending : Ending) (chosen : Option Verdict) (server : State) → IfSome chosen (λ verdict. verdict ≡ verdict_of run.plan run.journal) → IfSome chosen (λ verdict. ending ≡ Over) → (ending ≡ Over → is_over begun run.journal ≡ true) → (ending ≡ Over → run.server ≡ state_at begun run.journal) → server ≡ run.server → IfSome chosen (λ verdict. IsEnd plan journal verdict server)
+  reported_end ending None server verdict_is ended over at_end server_is = tt
+  reported_end ending (Some verdict) server verdict_is ended over at_end server_is =
       of_run (λ (p : PlanData) (all : List Entry). IsEnd p all verdict server) (record {
         over = over ended;
         verdict_is = subst (λ (p : PlanData). verdict ≡ verdict_of p run.journal) plan_is verdict_is;

@@ -39,7 +39,7 @@ some_ready : (ready : Actor → Bool) (all : List Actor) → first_ready ready a
 unfolding first_ready
 some_ready ready [] none = refl
 some_ready ready (actor ∷ others) none = by (ready actor) none (some_ready ready others) where
-  by : (b : Bool) → cond b (Some (record { actor = actor; behind = others })) (first_ready ready others) ≡ None → (first_ready ready others ≡ None → list_any ready others ≡ false) → (b || list_any ready others) ≡ false
+  by : (b : Bool) → cond b (Some (record { actor = actor; following = others })) (first_ready ready others) ≡ None → (first_ready ready others ≡ None → list_any ready others ≡ false) → (b || list_any ready others) ≡ false
   by true none rest = absurd cc
   by false none rest = rest none
 
@@ -91,14 +91,14 @@ end_of goes plan run journal answer verdict server plan_is journal_is was replay
     }))
 
 -- the same of each verdict that there is
-pub told_end : AcceptedRunsGoOn → (plan : PlanData) (run : RunView) (journal : List Entry) (answer : Replayed) (told : Option Verdict) (server : State) → run.plan ≡ plan → journal ≡ run.journal → WasRead plan → IsReplay run.plan run.journal → KeepsSessions run.journal → IfSome told (λ verdict. answer ≢ replayed.NoMemory) → (answer ≡ replayed.Over → is_over run.plan run.journal ≡ true) → (answer ≡ replayed.Stalled → IsStalled run.plan run.journal)
-    → IfSome told (λ verdict. verdict ≡ verdict_of run.plan run.journal) → server ≡ run.server → (answer ≢ replayed.NoMemory → run.server ≡ state_at run.plan run.journal) → IfSome told (λ verdict. IsEnd plan journal verdict server)
-told_end goes plan run journal answer None server plan_is journal_is was replay sessions memory over stalled verdict_is server_is at_end = tt
-told_end goes plan run journal answer (Some verdict) server plan_is journal_is was replay sessions memory over stalled verdict_is server_is at_end =
+pub reported_end : AcceptedRunsGoOn → (plan : PlanData) (run : RunView) (journal : List Entry) (answer : Replayed) (chosen : Option Verdict) (server : State) → run.plan ≡ plan → journal ≡ run.journal → WasRead plan → IsReplay run.plan run.journal → KeepsSessions run.journal → IfSome chosen (λ verdict. answer ≢ replayed.NoMemory) → (answer ≡ replayed.Over → is_over run.plan run.journal ≡ true) → (answer ≡ replayed.Stalled → IsStalled run.plan run.journal)
+    → IfSome chosen (λ verdict. verdict ≡ verdict_of run.plan run.journal) → server ≡ run.server → (answer ≢ replayed.NoMemory → run.server ≡ state_at run.plan run.journal) → IfSome chosen (λ verdict. IsEnd plan journal verdict server)
+reported_end goes plan run journal answer None server plan_is journal_is was replay sessions memory over stalled verdict_is server_is at_end = tt
+reported_end goes plan run journal answer (Some verdict) server plan_is journal_is was replay sessions memory over stalled verdict_is server_is at_end =
     end_of goes plan run journal answer verdict server plan_is journal_is was replay sessions memory over stalled verdict_is server_is at_end
 
 -- what is so of the verdict and the server is so of an end with both
-pub with_end : {E : Type 0} (result : Option E) (verdict_in : E → Verdict) (state_in : E → State) (told : Option Verdict) (server : State) (P : Verdict → State → Type 0) → IfSome result (λ end. (told ≡ Some (verdict_in end)) × (state_in end ≡ server)) → IfSome told (λ verdict. P verdict server) → IfSome result (λ end. P (verdict_in end) (state_in end))
-with_end None verdict_in state_in told server P ends is = tt
-with_end (Some end) verdict_in state_in told server P ends is =
+pub with_end : {E : Type 0} (result : Option E) (verdict_in : E → Verdict) (state_in : E → State) (chosen : Option Verdict) (server : State) (P : Verdict → State → Type 0) → IfSome result (λ end. (chosen ≡ Some (verdict_in end)) × (state_in end ≡ server)) → IfSome chosen (λ verdict. P verdict server) → IfSome result (λ end. P (verdict_in end) (state_in end))
+with_end None verdict_in state_in chosen server P ends is = tt
+with_end (Some end) verdict_in state_in chosen server P ends is =
     subst (λ (state : State). P (verdict_in end) state) (sym ends.1) (subst (λ (one : Option Verdict). IfSome one (λ verdict. P verdict server)) ends.0 is)

@@ -22,7 +22,7 @@ use Rattle.run_turns.specs.Runs.{Stops}
 -- makes of the migrated one as it is.
 abbrev pub FindsAltered : PlanData → List Entry → Type 0
 FindsAltered plan journal =
-    (before : List Entry) (entry : Entry) (behind : List Entry) (table : TableRows) (new : Altered) → journal ≡ before ++ entry ∷ behind → IsRename plan before entry → find_table plan.table plan.tables ≡ Some table → altered_by plan table.schema ≡ Some new
+    (before : List Entry) (entry : Entry) (following : List Entry) (table : TableRows) (new : Altered) → journal ≡ before ++ entry ∷ following → IsRename plan before entry → find_table plan.table plan.tables ≡ Some table → altered_by plan table.schema ≡ Some new
     → IsAltered (migration_of table.schema new) (state_at plan before).tables
 
 -- *Sound run*. Each answer is the plain server's; clients take the lines of their scripts in order, and sessions are lost where

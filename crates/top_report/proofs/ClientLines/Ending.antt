@@ -111,8 +111,8 @@ client_text plan before entry number (Some script) is = ended_is number (client_
 abbrev no_text : List ℕ
 no_text = []
 
-done_text : (name : List ℕ) (plan : PlanData) (request : Option Request) (told : Option Answer) → name ≡ plan.table → flat_map item_text (alters plan request told) ≡ cond (renames_away name request) (cond (is_done told) alter_text []) []
-done_text name plan request told named = go told
+done_text : (name : List ℕ) (plan : PlanData) (request : Option Request) (chosen : Option Answer) → name ≡ plan.table → flat_map item_text (alters plan request chosen) ≡ cond (renames_away name request) (cond (is_done chosen) alter_text []) []
+done_text name plan request chosen named = go chosen
   where
     away : (b : Bool) → renames_away plan.table request ≡ b → (count : ℕ) → flat_map item_text (alters plan request (Some (answers.Ok count))) ≡ cond (renames_away name request) alter_text []
     away true is count = rw (named, is) (append-nil alter_text)
@@ -122,7 +122,7 @@ done_text name plan request told named = go told
     none true = refl
     none false = refl
 
-    go : (told : Option Answer) → flat_map item_text (alters plan request told) ≡ cond (renames_away name request) (cond (is_done told) alter_text []) []
+    go : (chosen : Option Answer) → flat_map item_text (alters plan request chosen) ≡ cond (renames_away name request) (cond (is_done chosen) alter_text []) []
     go None = none (renames_away name request)
     go (Some (answers.Ok count)) = away (renames_away plan.table request) refl count
     go (Some (answers.Rows rows)) = none (renames_away name request)

@@ -169,7 +169,7 @@ renaming_after name entry renaming = with_renaming entry.actor (renames_after na
 
 abbrev pub is_done : Option Answer → Bool
 is_done (Some (answers.Ok count)) = true
-is_done told = false
+is_done chosen = false
 
 -- what a turn of the tool's adds
 abbrev pub tool_added : List ℕ → Bool → Entry → List ℕ

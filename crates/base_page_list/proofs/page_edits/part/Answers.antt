@@ -4,8 +4,8 @@ use Rattle.base_page_list.proofs.page_edits.part.Goals as goal
 
 pub returns-in-Ok-clause-items : goal.returns-in-Ok-clause-items
 returns-in-Ok-clause-items c =
-    part_made c.args.n c.args.pages.now.items c.insert.new.self.items c.index_mut-page.result.now c.split-behind.new.self c.split-behind.result c.requires.within c.index_mut-page.ensures.value (omega arith) c.split-behind.ensures.rest
-    c.split-behind.ensures.taken c.in-Ok.ensures.items
+    part_made c.args.n c.args.pages.now.items c.insert.new.self.items c.index_mut-page.result.now c.split-following.new.self c.split-following.result c.requires.within c.index_mut-page.ensures.value (omega arith) c.split-following.ensures.rest
+    c.split-following.ensures.taken c.in-Ok.ensures.items
 
 pub returns-else-len-gt64-clause-items : goal.returns-else-len-gt64-clause-items
 returns-else-len-gt64-clause-items c =

@@ -1,7 +1,7 @@
 use Rattle.std.proofs.Common.{◌≡◌, ◌++◌, take}
 use Rattle.std.specs.Prelude.{codes}
 use Rattle.std.specs.List.{flat_map}
-use Rattle.base_values.specs.Printing.{hexadecimal}
+use Rattle.base_values.specs.Literals.{hexadecimal}
 use Rattle.base_values.proofs.printer.quoted_bytes.Given as goal
 
 -- the bytes so far are written

@@ -1,7 +1,7 @@
 use Rattle.std.proofs.Common.{◌++◌, ap, ◌∙◌}
 use Rattle.std.specs.List.{flat_map}
 use Rattle.std.specs.Prelude.{encode_utf8}
-use Rattle.base_values.specs.Printing.{escaped}
+use Rattle.base_values.specs.Literals.{escaped}
 use Rattle.base_values.proofs.Escapes.{flat_map-one_more}
 use Rattle.base_values.proofs.printer.quoted_text.Goals as goal
 

@@ -1,5 +1,5 @@
 use Rattle.std.proofs.Common.{◌≡◌, ◌+◌, drop, length}
-use Rattle.extra_event_codec.specs.Encoding.{values_bytes}
+use Rattle.extra_event_codec.specs.Encodings.{values_bytes}
 use Rattle.extra_event_codec.proofs.encoding.cost_of_row.Given as goal
 
 -- the cost so far, with that of the rest, is that of all

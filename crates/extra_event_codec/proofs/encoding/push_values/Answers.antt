@@ -1,5 +1,5 @@
 use Rattle.std.proofs.Common.{◌+◌, ◌<◌, ◌++◌, drop, length, ap, ◌∙◌, arith}
-use Rattle.extra_event_codec.specs.Encoding.{values_bytes}
+use Rattle.extra_event_codec.specs.Encodings.{values_bytes}
 use Rattle.extra_event_codec.proofs.Encodings.{one_more, shorter}
 use Rattle.extra_event_codec.proofs.encoding.push_values.Goals as goal
 

@@ -1,5 +1,5 @@
 use Rattle.std.proofs.Common.{◌≡◌, ◌^◌, ◌<◌, ◌++◌, drop, length}
-use Rattle.extra_event_codec.specs.Encoding.{values_bytes}
+use Rattle.extra_event_codec.specs.Encodings.{values_bytes}
 use Rattle.extra_event_codec.proofs.encoding.push_values.Given as goal
 
 -- what was added so far, with the rest, is all; and the rest is no longer than all

@@ -1,5 +1,5 @@
 use Rattle.std.proofs.Common.{subst, arith}
-use Rattle.extra_event_codec.specs.Reading.{Fails}
+use Rattle.extra_event_codec.specs.Decodings.{Fails}
 use Rattle.extra_event_codec.proofs.ReadValues.{values_fail}
 use Rattle.extra_event_codec.proofs.reader.values_at.Goals as goal
 

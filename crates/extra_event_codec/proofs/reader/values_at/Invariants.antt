@@ -1,5 +1,5 @@
 use Rattle.std.proofs.Common.{◌≡◌, [], Some}
-use Rattle.extra_event_codec.specs.Reading.{values_at}
+use Rattle.extra_event_codec.specs.Decodings.{values_at}
 use Rattle.extra_event_codec.proofs.reader.values_at.Given as goal
 
 -- what is left to read, behind the values so far, is what all bytes encode

@@ -1,4 +1,4 @@
-use Rattle.proof_migration.proofs.Course.Chunks.Onlines.{journals_online}
+use Rattle.proof_migration.proofs.ToolPhase.Chunks.Onlines.{journals_online}
 use Rattle.law_journals.proofs.chunks.journals_are_online.Goals as goal
 
 pub returns : goal.returns

@@ -1,4 +1,4 @@
-use Rattle.proof_migration.proofs.Course.Marked.{marked_runs}
+use Rattle.proof_migration.proofs.ToolPhase.Marked.{marked_runs}
 use Rattle.law_journals.proofs.marked.marked_journals_are_runs.Goals as goal
 
 pub returns : goal.returns

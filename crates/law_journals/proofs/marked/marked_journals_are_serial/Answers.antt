@@ -1,4 +1,4 @@
-use Rattle.proof_migration.proofs.Course.Marked.{marked_serial}
+use Rattle.proof_migration.proofs.ToolPhase.Marked.{marked_serial}
 use Rattle.law_journals.proofs.marked.marked_journals_are_serial.Goals as goal
 
 pub returns : goal.returns

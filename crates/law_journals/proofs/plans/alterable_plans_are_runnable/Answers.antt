@@ -1,4 +1,4 @@
-use Rattle.proof_migration.proofs.Course.Runnable.Plans.{alterables_run}
+use Rattle.proof_migration.proofs.ToolPhase.Runnable.Plans.{alterables_run}
 use Rattle.law_journals.proofs.plans.alterable_plans_are_runnable.Goals as goal
 
 pub returns : goal.returns

@@ -1,5 +1,5 @@
-use Rattle.proof_migration.proofs.Course.Ready.Orders.{goes_on}
-use Rattle.proof_migration.proofs.Course.Ready.Actors.{someone_ready}
+use Rattle.proof_migration.proofs.ToolPhase.Ready.Orders.{goes_on}
+use Rattle.proof_migration.proofs.ToolPhase.Ready.Actors.{someone_ready}
 use Rattle.law_journals.proofs.progress.someone_is_ready.Goals as goal
 
 pub returns : goal.returns

@@ -10,5 +10,5 @@ returns c =
     record {
       found = runs_find c.marked_journals_are_runs.ensures c.renames_find_the_altered.ensures once runnable c.read_plans_are_serial.ensures.alterable c.read_plans_are_worded.ensures.worded serial;
       old =
-          runs_keep_old (record { alone = c.exclusive_is_alone.ensures; done = c.definitions_are_done.ensures; told = c.waits_are_told.ensures.told; turned = c.journals_are_turned.ensures }) once runnable serial;
+          runs_keep_old (record { alone = c.exclusive_is_alone.ensures; done = c.definitions_are_done.ensures; reported = c.waits_are_reported.ensures.reported; turned = c.journals_are_turned.ensures }) once runnable serial;
     }

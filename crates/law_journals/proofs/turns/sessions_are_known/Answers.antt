@@ -3,7 +3,7 @@ use Rattle.proof_journals.proofs.Run.Tallies.{load_turns, busy_turns, busy_count
 use Rattle.proof_journals.proofs.Run.Turns.{entry_turned}
 use Rattle.proof_journals.proofs.Run.Waits.{all_waits, lost_at_once}
 use Rattle.proof_journals.proofs.Run.Numbering.{serves_numbered, leaves_numbered}
-use Rattle.server_model.specs.Serving.{Served}
+use Rattle.server_model.specs.PlainServer.{Served}
 use Rattle.tool_program.specs.JournalWords.Journals.{after_entry}
 use Rattle.std.proofs.Common.{ap}
 use Rattle.law_journals.proofs.turns.sessions_are_known.Goals as goal

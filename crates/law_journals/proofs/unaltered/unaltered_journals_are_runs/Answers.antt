@@ -1,4 +1,4 @@
-use Rattle.proof_migration.proofs.Course.Unaltered.Runs.{unaltered_runs}
+use Rattle.proof_migration.proofs.ToolPhase.Unaltered.Runs.{unaltered_runs}
 use Rattle.law_journals.proofs.unaltered.unaltered_journals_are_runs.Goals as goal
 
 pub returns : goal.returns

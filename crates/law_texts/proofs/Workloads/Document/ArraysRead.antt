@@ -40,12 +40,12 @@ module _ {X : Type 0} (depth : ℕ) (spell spelled said : X → List ℕ) where
   items_read [] rest found fuel all room =
       items_end (val depth) fuel found (10 ∷ 93 ∷ rest) room (rw (feed_close rest) refl) ∙ rw (feed_close rest, item_join-none found) refl
   items_read (x ∷ xs) rest found fuel all room =
-      let behind : List ℕ = 10 ∷ (flat_map spell xs ++ (93 ∷ rest)) in
-      let text : List ℕ = 34 ∷ (spelled x ++ (44 ∷ behind)) in
-      let at_start : skip_blank (10 ∷ text) ≡ text = feed_quote (spelled x ++ (44 ∷ behind)) in
-      let value : val depth (skip_blank (10 ∷ text)) ≡ Some (string (said x), 44 ∷ behind) = ap (val depth) at_start ∙ all.0.read behind in
+      let following : List ℕ = 10 ∷ (flat_map spell xs ++ (93 ∷ rest)) in
+      let text : List ℕ = 34 ∷ (spelled x ++ (44 ∷ following)) in
+      let at_start : skip_blank (10 ∷ text) ≡ text = feed_quote (spelled x ++ (44 ∷ following)) in
+      let value : val depth (skip_blank (10 ∷ text)) ≡ Some (string (said x), 44 ∷ following) = ap (val depth) at_start ∙ all.0.read following in
       ap (λ (bytes : List ℕ). items (val depth) fuel found (10 ∷ bytes)) (regrouped x xs (93 ∷ rest) all.0)
-      ∙ items_more (val depth) fuel found (10 ∷ text) (string (said x)) (44 ∷ behind) behind (omega (arith, room)) (rw at_start refl) value (comma_then behind)
+      ∙ items_more (val depth) fuel found (10 ∷ text) (string (said x)) (44 ∷ following) following (omega (arith, room)) (rw at_start refl) value (comma_then following)
       ∙ items_read xs rest (push_item found (string (said x))) (fuel - 1) all.1 (omega (arith, room))
       ∙ ap (λ (made : Items). Some (made, rest)) (item_join-push found (string (said x)) (text_items (map said xs)))
 

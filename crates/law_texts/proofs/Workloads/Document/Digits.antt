@@ -31,8 +31,8 @@ all_pass test each (digit ∷ digits) all =
 pub number_passes : (test : ℕ → Bool) → IsPassedByDigits test → (n : ℕ) → n < 2 ^ 64 → list_all test (decimal n) ≡ true
 number_passes test each n wide = all_pass test each (decimal n) (are_digits n wide)
 
-pub both_pass : (test : ℕ → Bool) (front behind : List ℕ) → list_all test front ≡ true → list_all test behind ≡ true → list_all test (front ++ behind) ≡ true
-both_pass test front behind first second = list_all-append test front behind ∙ and_from _ _ first second
+pub both_pass : (test : ℕ → Bool) (front following : List ℕ) → list_all test front ≡ true → list_all test following ≡ true → list_all test (front ++ following) ≡ true
+both_pass test front following first second = list_all-append test front following ∙ and_from _ _ first second
 
 pub pieces_pass : {X : Type 0} (test : ℕ → Bool) (piece : X → List ℕ) (xs : List X) → AllByRecursion (λ x. list_all test (piece x) ≡ true) xs → list_all test (flat_map piece xs) ≡ true
 pieces_pass test piece [] all = refl

@@ -112,9 +112,9 @@ create_read fuel clients rest =
 
 -- ---- lines with an array
 
-pair_said : (text behind rest : List ℕ) (key : List ℕ) (said : Data) → (first text == 91) ≡ false → key_equals text ≡ Some (([], key), behind) → val 80 behind ≡ Some (said, 10 ∷ rest) → expression text ≡ Some ((([], key), key_value said), 10 ∷ rest)
+pair_said : (text following rest : List ℕ) (key : List ℕ) (said : Data) → (first text == 91) ≡ false → key_equals text ≡ Some (([], key), following) → val 80 following ≡ Some (said, 10 ∷ rest) → expression text ≡ Some ((([], key), key_value said), 10 ∷ rest)
 unfolding expression
-pair_said text behind rest key said other at_value read = rw (other, keyval_ok (val 80) text behind (10 ∷ rest) ([], key) said at_value read) refl
+pair_said text following rest key said other at_value read = rw (other, keyval_ok (val 80) text following (10 ∷ rest) ([], key) said at_value read) refl
 
 clients_key : (text : List ℕ) → key_equals (codes "clients = " ++ (91 ∷ text)) ≡ Some (([], codes "clients"), 91 ∷ text)
 unfolding toml_on_literals

@@ -23,8 +23,8 @@ row_is key value = simp append_assoc refl
 row_value_read : (depth key value : ℕ) (rest : List ℕ) → key < 2 ^ 64 → value < 2 ^ 64 → val depth (34 ∷ ((values_text 117 key value ++ 34 ∷ []) ++ (44 ∷ rest))) ≡ Some (string (row_sql key value), 44 ∷ rest)
 row_value_read depth key value rest wide also =
     let text = values_text 117 key value in
-    let behind : List ℕ = decimal key ++ (44 ∷ 32 ∷ 39 ∷ 117 ∷ (decimal key ++ (39 ∷ 44 ∷ 32 ∷ (decimal value ++ 41 ∷ [])))) in
-    ap (λ (bytes : List ℕ). val depth (34 ∷ bytes)) (append_assoc text (34 ∷ []) (44 ∷ rest)) ∙ one_value depth 40 behind (44 ∷ rest) refl (inner_row key value wide also)
+    let following : List ℕ = decimal key ++ (44 ∷ 32 ∷ 39 ∷ 117 ∷ (decimal key ++ (39 ∷ 44 ∷ 32 ∷ (decimal value ++ 41 ∷ [])))) in
+    ap (λ (bytes : List ℕ). val depth (34 ∷ bytes)) (append_assoc text (34 ∷ []) (44 ∷ rest)) ∙ one_value depth 40 following (44 ∷ rest) refl (inner_row key value wide also)
     ∙ ap (λ (bytes : List ℕ). Some (string bytes, 44 ∷ rest)) (sym (text_is key value))
 
 abbrev pub row_spelled : ℕ → ℕ → List ℕ

@@ -1,7 +1,7 @@
 use Rattle.std.proofs.Common.{◌∙◌, not, rules, tests}
 use Rattle.std.proofs.lemmas.Iterator.Consumers.{YieldsList-at, YieldsList-from_filter, map_from_collect}
 use Rattle.std.proofs.lemmas.Iterator.Splits.{YieldsList-from_slice_split}
-use Rattle.plan_orders.specs.Spacing.{is_space, is_empty}
+use Rattle.plan_orders.specs.Words.{is_space, is_empty}
 use Rattle.plan_orders.proofs.spacing.spaced_words.Goals as goal
 
 pub returns : goal.returns

@@ -2,8 +2,8 @@
 use Rattle.std.proofs.Common.{◌≡◌, ℕ, ◌+◌, ◌-◌, ◌<◌, ◌≤◌, Bool, true, false, Option, Some, None, refl, sym, ap, ◌∙◌, subst, arith, ◌⊎◌, inl, inr}
 use Rattle.proof_journals.specs.Ghost.Relation.Timelines.{Timeline, RowBefore, IsTimeline, Untouched, ConvertedRowFrom, AreAlike}
 use Rattle.proof_journals.specs.Ghost.Relation.Views.{ViewFollows, except, ChunkFollows, Progress, Views, GhostFollows, HoldsChanged}
-use Rattle.proof_journals.specs.Ghost.Relation.Applying.{AppliedAt}
-use Rattle.proof_journals.specs.Ghost.Relation.Applying.AppliedAt.{kept}
+use Rattle.proof_journals.specs.Ghost.Relation.AppliedEvents.{AppliedAt}
+use Rattle.proof_journals.specs.Ghost.Relation.AppliedEvents.AppliedAt.{kept}
 use Rattle.proof_journals.proofs.Ghost.Relation.Tests.{true_false, both_hold, one_holds, none_taken}
 use Rattle.proof_journals.proofs.Ghost.Relation.Events.{was_touched, back, later, quiet_more, applied}
 use Rattle.proof_journals.proofs.Ghost.Relation.OneView.{converted_row_wider, starts, grows, lowers, of_fewer, takes_out}

@@ -2,8 +2,8 @@
 use Rattle.std.proofs.Common.{◌≡◌, ℕ, zero, suc, ◌+◌, ◌-◌, ◌<◌, ◌≤◌, Bool, true, false, Option, Some, sym, ◌∙◌, subst, arith}
 use Rattle.proof_journals.specs.Ghost.Relation.Timelines.{Timeline, RowBefore, IsTimeline, Untouched, ConvertedRowFrom}
 use Rattle.proof_journals.specs.Ghost.Relation.Views.{ViewFollows, except}
-use Rattle.proof_journals.specs.Ghost.Relation.Applying.{AppliedAt}
-use Rattle.proof_journals.specs.Ghost.Relation.Applying.AppliedAt.{kept, displaced, written, removed, missed}
+use Rattle.proof_journals.specs.Ghost.Relation.AppliedEvents.{AppliedAt}
+use Rattle.proof_journals.specs.Ghost.Relation.AppliedEvents.AppliedAt.{kept, displaced, written, removed, missed}
 use Rattle.proof_journals.proofs.Ghost.Relation.Tests.{none_some, both_hold}
 
 -- the row of a key before many events that don't touch it

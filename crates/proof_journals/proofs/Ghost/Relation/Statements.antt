@@ -1,8 +1,8 @@
 -- The applier's statements apply events.
 use Rattle.std.proofs.Common.{◌≡◌, ℕ, ◌+◌, Bool, true, false, Option, Some, None, refl, ◌∙◌, subst, ◌⊎◌, inl, inr}
 use Rattle.proof_journals.specs.Ghost.Relation.Timelines.{Timeline}
-use Rattle.proof_journals.specs.Ghost.Relation.Applying.{EventOfKeys, Displaced, Replaced, Deleted, Updated, AppliedAt}
-use Rattle.proof_journals.specs.Ghost.Relation.Applying.AppliedAt.{kept, displaced, written, removed, missed}
+use Rattle.proof_journals.specs.Ghost.Relation.AppliedEvents.{EventOfKeys, Displaced, Replaced, Deleted, Updated, AppliedAt}
+use Rattle.proof_journals.specs.Ghost.Relation.AppliedEvents.AppliedAt.{kept, displaced, written, removed, missed}
 use Rattle.proof_journals.specs.Ghost.Relation.Laws.{Decides}
 
 none_of : {M : Type 0} (clash : M → M → Bool) (made : M) (before after : Option M) → before ≡ None → (after ≡ before) ⊎ Displaced clash made before after → after ≡ None

@@ -4,7 +4,7 @@ use Rattle.std.specs.Ordering.{ordering_reverse}
 use Rattle.std.specs.Option.{option_and_then}
 use Rattle.std.specs.Result.{result_ok}
 use Rattle.std.specs.List.{AllByRecursion}
-use Rattle.base_values.specs.Comparing.{compare_keys}
+use Rattle.base_values.specs.KeyOrder.{compare_keys}
 use Rattle.base_values.proofs.Orders.{tied_keys}
 use Rattle.base_values.specs.GhoSchema.Rows.{key_of}
 use Rattle.base_values.specs.GhoSchema.Tables.{Ascends}

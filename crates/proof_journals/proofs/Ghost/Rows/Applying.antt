@@ -13,7 +13,7 @@ use Rattle.table_store.specs.RowLists.{is_at}
 use Rattle.proof_journals.proofs.Ghost.Relation.AllViews.{event_applied, event_passes, half_applied}
 use Rattle.proof_journals.proofs.Ghost.Relation.Statements.{deletes, replaces, updates}
 use Rattle.proof_journals.proofs.Ghost.Relation.Tests.{true_false}
-use Rattle.proof_journals.specs.Ghost.Relation.Applying.{AppliedAt, Deleted, EventOfKeys, Replaced, Updated}
+use Rattle.proof_journals.specs.Ghost.Relation.AppliedEvents.{AppliedAt, Deleted, EventOfKeys, Replaced, Updated}
 use Rattle.proof_journals.specs.Ghost.Relation.Timelines.{IsTimeline}
 use Rattle.proof_journals.specs.Ghost.Relation.Views.{GhostFollows, HoldsChanged, Progress}
 use Rattle.proof_journals.proofs.Ghost.Rows.Events.{is_event, left_at, old_left}

@@ -6,7 +6,7 @@ use Rattle.std.specs.Cmp.Derive.{both_true}
 use Rattle.base_values.specs.declared.span.Bound.{Bound}
 use Rattle.base_values.specs.declared.span.Bound.TheVariants.{Open, Closed}
 use Rattle.base_values.specs.declared.span.Span.{Span}
-use Rattle.base_values.specs.Comparing.{compare_keys}
+use Rattle.base_values.specs.KeyOrder.{compare_keys}
 use Rattle.base_values.specs.Spans.{above, below, has}
 use Rattle.base_values.specs.GhoSchema.Rows.{key_of, key_places}
 use Rattle.base_values.specs.declared.event.RowEvent.{RowEvent}
@@ -93,36 +93,36 @@ chunk_begins m rows log half progress ghost keys low high top are_keys are =
         (among_rows (record { low = low; high = Closed high }) (key_places m.schema) key row (rows_at m.name (key_places m.schema) rows log progress.end) (in_chunk low high top key was (not-true (has (record { low = Open high; high = Closed top }) key) new.0)) there)) new.1)
 
 -- *The chunk is committed*: the copier took each of its keys.
-pub chunk_is_done : (m : Migration) (rows : List Row) (log : List RowEvent) (half : Row → Bool) (progress : Progress Row) (ghost : GhostRows) (left behind : Option Span) (keys : List Row) → progress.copier_holds ≡ is_among keys
-    → NamesHeld (key_places m.new) progress.copier_holds ghost.chunk → NamesHeld (key_places m.new) progress.applier_holds ghost.batch → GhostFollows (timeline_of m rows log) (is_done_in left behind keys) half progress (views_of (key_places m.new) ghost)
-    → GhostFollows (timeline_of m rows log) (is_done behind) half (record progress { copier_holds = λ _. false }) (views_of (key_places m.new) (record ghost { committed = rows_after_all (key_places m.new) ghost.chunk ghost.committed; chunk = [] }))
+pub chunk_is_done : (m : Migration) (rows : List Row) (log : List RowEvent) (half : Row → Bool) (progress : Progress Row) (ghost : GhostRows) (left following : Option Span) (keys : List Row) → progress.copier_holds ≡ is_among keys
+    → NamesHeld (key_places m.new) progress.copier_holds ghost.chunk → NamesHeld (key_places m.new) progress.applier_holds ghost.batch → GhostFollows (timeline_of m rows log) (is_done_in left following keys) half progress (views_of (key_places m.new) ghost)
+    → GhostFollows (timeline_of m rows log) (is_done following) half (record progress { copier_holds = λ _. false }) (views_of (key_places m.new) (record ghost { committed = rows_after_all (key_places m.new) ghost.chunk ghost.committed; chunk = [] }))
 unfolding rows_after_all
-chunk_is_done m rows log half progress ghost left behind keys held copier applier are =
+chunk_is_done m rows log half progress ghost left following keys held copier applier are =
     let new : List ℕ = key_places m.new in
-    chunk_is_committed (timeline_of m rows log) (is_done_in left behind keys) half (is_done behind) progress (views_of new ghost) (λ key. find (is_at new key) (rows_after_all new ghost.batch (rows_after_all new ghost.chunk ghost.committed)))
+    chunk_is_committed (timeline_of m rows log) (is_done_in left following keys) half (is_done following) progress (views_of new ghost) (λ key. find (is_at new key) (rows_after_all new ghost.batch (rows_after_all new ghost.chunk ghost.committed)))
     (λ key is. beside_here new progress.applier_holds key ghost.chunk ghost.batch ghost.committed applier (are.apart key is))
     (λ key is. beside_elsewhere new progress.copier_holds key ghost.chunk ghost.batch ghost.committed copier is)
-    (λ key free done. in_second (is_done left key) (is_done behind key) (is_among keys key) done (sym (ap (λ (h : Row → Bool). h key) held) ∙ free)) are
+    (λ key free done. in_second (is_done left key) (is_done following key) (is_among keys key) done (sym (ap (λ (h : Row → Bool). h key) held) ∙ free)) are
 
 -- *The chunk is to be repeated* though it was committed.
-pub chunk_repeats : (m : Migration) (rows : List Row) (log : List RowEvent) (left behind : Option Span) (keys : List Row) (half : Row → Bool) (progress : Progress Row) (ghost : GhostRows) → NamesHeld (key_places m.new) progress.copier_holds ghost.chunk
-    → NamesHeld (key_places m.new) progress.applier_holds ghost.batch → GhostFollows (timeline_of m rows log) (is_done_in left behind keys) half progress (views_of (key_places m.new) ghost)
+pub chunk_repeats : (m : Migration) (rows : List Row) (log : List RowEvent) (left following : Option Span) (keys : List Row) (half : Row → Bool) (progress : Progress Row) (ghost : GhostRows) → NamesHeld (key_places m.new) progress.copier_holds ghost.chunk
+    → NamesHeld (key_places m.new) progress.applier_holds ghost.batch → GhostFollows (timeline_of m rows log) (is_done_in left following keys) half progress (views_of (key_places m.new) ghost)
     → GhostFollows (timeline_of m rows log) (is_done left) half (record progress { copier_holds = λ _. false }) (views_of (key_places m.new) (record ghost { committed = rows_after_all (key_places m.new) ghost.chunk ghost.committed; chunk = [] }))
 unfolding rows_after_all
-chunk_repeats m rows log left behind keys half progress ghost copier applier are =
+chunk_repeats m rows log left following keys half progress ghost copier applier are =
     let new : List ℕ = key_places m.new in
-    chunk_is_committed (timeline_of m rows log) (is_done_in left behind keys) half (is_done left) progress (views_of new ghost) (λ key. find (is_at new key) (rows_after_all new ghost.batch (rows_after_all new ghost.chunk ghost.committed)))
+    chunk_is_committed (timeline_of m rows log) (is_done_in left following keys) half (is_done left) progress (views_of new ghost) (λ key. find (is_at new key) (rows_after_all new ghost.batch (rows_after_all new ghost.chunk ghost.committed)))
     (λ key is. beside_here new progress.applier_holds key ghost.chunk ghost.batch ghost.committed applier (are.apart key is))
     (λ key is. beside_elsewhere new progress.copier_holds key ghost.chunk ghost.batch ghost.committed copier is)
-    (λ key free done. or_left (is_done left key) (is_done behind key && not (is_among keys key)) done) are
+    (λ key free done. or_left (is_done left key) (is_done following key && not (is_among keys key)) done) are
 
 -- *A chunk is rolled back*.
-pub chunk_is_undone : (m : Migration) (rows : List Row) (log : List RowEvent) (left behind : Option Span) (keys : List Row) (half : Row → Bool) (progress : Progress Row) (ghost : GhostRows) → GhostFollows (timeline_of m rows log) (is_done_in left behind keys) half progress (views_of (key_places m.new) ghost)
+pub chunk_is_undone : (m : Migration) (rows : List Row) (log : List RowEvent) (left following : Option Span) (keys : List Row) (half : Row → Bool) (progress : Progress Row) (ghost : GhostRows) → GhostFollows (timeline_of m rows log) (is_done_in left following keys) half progress (views_of (key_places m.new) ghost)
     → GhostFollows (timeline_of m rows log) (is_done left) half (record progress { copier_holds = λ _. false }) (views_of (key_places m.new) (record ghost { chunk = [] }))
 unfolding rows_after_all
-chunk_is_undone m rows log left behind keys half progress ghost are =
+chunk_is_undone m rows log left following keys half progress ghost are =
     chunk_rolls_back (timeline_of m rows log) (is_done left) half progress (views_of (key_places m.new) ghost)
-    (more_done (timeline_of m rows log) (is_done_in left behind keys) (is_done left) half progress (views_of (key_places m.new) ghost) (λ key row done there. or_left (is_done left key) (is_done behind key && not (is_among keys key)) done) are)
+    (more_done (timeline_of m rows log) (is_done_in left following keys) (is_done left) half progress (views_of (key_places m.new) ghost) (λ key row done there. or_left (is_done left key) (is_done following key && not (is_among keys key)) done) are)
 
 -- *The batch is committed.*
 pub batch_is_done : (m : Migration) (rows : List Row) (log : List RowEvent) (done : Row → Bool) (progress : Progress Row) (ghost : GhostRows) → NamesHeld (key_places m.new) progress.copier_holds ghost.chunk → NamesHeld (key_places m.new) progress.applier_holds ghost.batch

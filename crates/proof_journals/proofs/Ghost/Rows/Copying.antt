@@ -4,7 +4,7 @@ use Rattle.std.specs.List.{AllByRecursion}
 use Rattle.std.specs.Ordering.{is_eq}
 use Rattle.std.specs.Result.{result_ok}
 use Rattle.std.proofs.lemmas.Bool.{and_parts, or_parts}
-use Rattle.base_values.specs.Comparing.{compare_keys}
+use Rattle.base_values.specs.KeyOrder.{compare_keys}
 use Rattle.base_values.proofs.Orders.{tied_keys}
 use Rattle.base_values.specs.declared.gho_schema.schema.Schema.{Schema}
 use Rattle.base_values.specs.GhoSchema.Rows.{key_of, key_places}
@@ -23,7 +23,7 @@ use Rattle.proof_journals.specs.Ghost.Relation.Timelines.{IsTimeline}
 use Rattle.proof_journals.specs.Ghost.Relation.Views.{GhostFollows, Progress}
 use Rattle.proof_journals.proofs.Ghost.Rows.Altering.{finds_itself}
 use Rattle.proof_journals.proofs.Ghost.Rows.Finding.{clash_turned, found_at, found_in, put_elsewhere}
-use Rattle.proof_journals.proofs.Ghost.Rows.Replacing.{after_both, behind}
+use Rattle.proof_journals.proofs.Ghost.Rows.Replacing.{after_both, following}
 use Rattle.proof_journals.proofs.Ghost.Rows.StayingKeys.{put_is_found}
 use Rattle.proof_journals.specs.Ghost.Rows.Moments.{Row, put_in, rows_after_all, rows_at}
 use Rattle.proof_journals.specs.Ghost.Rows.Timelines.{Migration, timeline_of}
@@ -37,7 +37,7 @@ found_by_test test places row was rows false before is others = rw (found_in tes
 
 pub found_by_own : (test : Row → Bool) (places : List ℕ) (was : Row) (rows : List Row) → Ascends places rows → find test rows ≡ Some was → find (is_at places (key_of places was)) rows ≡ Some was
 found_by_own test places was [] ascends is = absurd cc
-found_by_own test places was (row ∷ rows) ascends is = found_by_test test places row was rows (test row) (behind places row rows ascends.0) is (found_by_own test places was rows ascends.1)
+found_by_own test places was (row ∷ rows) ascends is = found_by_test test places row was rows (test row) (following places row rows ascends.0) is (found_by_own test places was rows ascends.1)
 
 -- a row that clashes is found by its own key
 pub found_clash : (schema : Schema) (made was : Row) (rows : List Row) → Ascends (key_places schema) rows → clashing (record { schema = schema; rows = rows }) made None ≡ Some was → (find (is_at (key_places schema) (key_of (key_places schema) was)) rows ≡ Some was) × (clash schema.uniques made was ≡ true)

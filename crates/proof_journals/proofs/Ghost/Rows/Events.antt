@@ -13,7 +13,7 @@ use Rattle.table_store.specs.RowLists.{is_at, without_key}
 use Rattle.table_store.proofs.RowLaws.{gone}
 use Rattle.table_store.proofs.TableLaws.{put_keeps, remove_keeps}
 use Rattle.server_model.proofs.LockedRows.WellFormed.{nulls}
-use Rattle.proof_journals.specs.Ghost.Relation.Applying.{EventOfKeys}
+use Rattle.proof_journals.specs.Ghost.Relation.AppliedEvents.{EventOfKeys}
 use Rattle.proof_journals.proofs.Ghost.Rows.Finding.{put_elsewhere, removed_elsewhere}
 use Rattle.proof_journals.proofs.Ghost.Rows.Replacing.{not_its_key}
 use Rattle.proof_journals.proofs.Ghost.Rows.StayingKeys.{put_is_found}

@@ -19,7 +19,7 @@ use Rattle.proof_journals.specs.Ghost.Relation.Timelines.{AreAlike, IsTimeline}
 use Rattle.proof_journals.specs.Ghost.Relation.Views.{GhostFollows, Progress, ViewFollows}
 use Rattle.proof_journals.proofs.Ghost.Rows.Altering.{Imaged, finds_itself, found_none, imaged-converted_rows, is_altered}
 use Rattle.proof_journals.proofs.Ghost.Rows.Growing.{same_timeline}
-use Rattle.proof_journals.proofs.Ghost.Rows.Replacing.{behind}
+use Rattle.proof_journals.proofs.Ghost.Rows.Replacing.{following}
 use Rattle.proof_journals.proofs.Ghost.Rows.TimelineLaws.{made_ok}
 use Rattle.proof_journals.specs.Ghost.Rows.Moments.{LogFits, Row, rows_after_all, rows_at, rows_then}
 use Rattle.proof_journals.specs.Ghost.Rows.Timelines.{Migration, timeline_of}
@@ -73,7 +73,7 @@ all_found_here places row rows (other ∷ others) apart found = (rw apart.0 foun
 
 pub all_found : (places : List ℕ) (rows : List Row) → Ascends places rows → AllByRecursion (λ row. find (is_at places (key_of places row)) rows ≡ Some row) rows
 all_found places [] ascends = tt
-all_found places (row ∷ rows) ascends = (finds_itself places row rows, all_found_here places row rows rows (behind places row rows ascends.0) (all_found places rows ascends.1))
+all_found places (row ∷ rows) ascends = (finds_itself places row rows, all_found_here places row rows rows (following places row rows ascends.0) (all_found places rows ascends.1))
 
 -- the images of rows that have them
 pub record HasConvertedRows (map : List MapColumn) (places new : List ℕ) (rows : List Row) : Type 0 where

@@ -2,7 +2,7 @@
 use Rattle.std.proofs.Common.{◌≡◌, ℕ, Bool, true, false, not, List, [], ◌∷◌, ◌++◌, map, find, filter, cond, Option, Some, None, Less, Greater, refl, sym, ap, ◌∙◌, subst, ◌⊎◌, inl, inr}
 use Rattle.std.specs.Ordering.{ordering_reverse}
 use Rattle.std.specs.List.{AllByRecursion}
-use Rattle.base_values.specs.Comparing.{compare_keys}
+use Rattle.base_values.specs.KeyOrder.{compare_keys}
 use Rattle.base_values.specs.declared.gho_schema.schema.Schema.{Schema}
 use Rattle.base_values.specs.declared.gho_schema.schema.Index.{Index}
 use Rattle.base_values.specs.GhoSchema.Rows.{key_of, key_places}
@@ -17,13 +17,13 @@ use Rattle.table_store.proofs.Orders.{turned}
 use Rattle.table_store.proofs.RowLaws.{key_is, gone}
 use Rattle.table_store.proofs.TableLaws.{put_keeps, remove_keeps}
 use Rattle.server_model.proofs.LockedRows.WellFormed.{nulls}
-use Rattle.proof_journals.specs.Ghost.Relation.Applying.{Deleted, Displaced, Replaced, Updated}
+use Rattle.proof_journals.specs.Ghost.Relation.AppliedEvents.{Deleted, Displaced, Replaced, Updated}
 use Rattle.proof_journals.proofs.Ghost.Rows.Finding.{clash_turned, found_at, put_elsewhere, removed_elsewhere}
 use Rattle.proof_journals.proofs.Ghost.Rows.StayingKeys.{put_is_found}
 use Rattle.proof_journals.proofs.Ghost.Rows.TimelineLaws.{none_clashing}
 use Rattle.proof_journals.specs.Ghost.Rows.Changes.{deleting, replacing, updating}
 use Rattle.proof_journals.specs.Ghost.Rows.Moments.{Row, put_in, rows_after, rows_after_all}
-use Rattle.server_model.specs.Saying.{displaced}
+use Rattle.server_model.specs.StatementResults.{displaced}
 use Rattle.server_model.proofs.LockedRows.OneRow.{own_key}
 
 -- ---- the rows that pass a test are taken out one by one
@@ -39,16 +39,16 @@ after_both places (change ∷ a) b rows = after_both places a b (rows_after plac
 -- a row in front stays, where all that are taken out are behind it
 out_after : (places : List ℕ) (row : Row) (taken rows : List Row) → AllByRecursion (λ other. is_at places (key_of places other) row ≡ false) taken → Out places taken (row ∷ rows) ≡ row ∷ Out places taken rows
 unfolding rows_after_all
-out_after places row [] rows behind = refl
-out_after places row (other ∷ taken) rows behind =
-    let first : without_key places (key_of places other) (row ∷ rows) ≡ row ∷ without_key places (key_of places other) rows = rw behind.0 refl in
-    ap (Out places taken) first ∙ out_after places row taken (without_key places (key_of places other) rows) behind.1
+out_after places row [] rows following = refl
+out_after places row (other ∷ taken) rows following =
+    let first : without_key places (key_of places other) (row ∷ rows) ≡ row ∷ without_key places (key_of places other) rows = rw following.0 refl in
+    ap (Out places taken) first ∙ out_after places row taken (without_key places (key_of places other) rows) following.1
 
-pub behind : (places : List ℕ) (row : Row) (rows : List Row) → AllByRecursion (λ other. compare_keys (key_of places row) (key_of places other) ≡ Less) rows → AllByRecursion (λ other. is_at places (key_of places other) row ≡ false) rows
-behind places row [] less = tt
-behind places row (other ∷ rows) less =
+pub following : (places : List ℕ) (row : Row) (rows : List Row) → AllByRecursion (λ other. compare_keys (key_of places row) (key_of places other) ≡ Less) rows → AllByRecursion (λ other. is_at places (key_of places other) row ≡ false) rows
+following places row [] less = tt
+following places row (other ∷ rows) less =
     let back : compare_keys (key_of places other) (key_of places row) ≡ Greater = turned (key_of places other) (key_of places row) ∙ ap ordering_reverse less.0 in
-    (rw back refl, behind places row rows less.1)
+    (rw back refl, following places row rows less.1)
 
 -- Rows that pass a test are taken out one by one: the others are left.
 out_here : (test : Row → Bool) (places : List ℕ) (row : Row) (rows : List Row) (b : Bool) → test row ≡ b → AllByRecursion (λ other. compare_keys (key_of places row) (key_of places other) ≡ Less) rows → Out places (filter test rows) rows ≡ filter (λ r. not (test r)) rows
@@ -59,7 +59,7 @@ out_here test places row rows true passes less others =
     let first : without_key places (key_of places row) (row ∷ rows) ≡ rows = rw (own_key places row) left in
     ap (Out places (filter test rows)) first ∙ others
 out_here test places row rows false passes less others =
-    out_after places row (filter test rows) rows (all-filter (λ other. is_at places (key_of places other) row ≡ false) test rows (behind places row rows less)) ∙ ap (λ (rs : List Row). row ∷ rs) others
+    out_after places row (filter test rows) rows (all-filter (λ other. is_at places (key_of places other) row ≡ false) test rows (following places row rows less)) ∙ ap (λ (rs : List Row). row ∷ rs) others
 
 pub taken_out : (test : Row → Bool) (places : List ℕ) (rows : List Row) → Ascends places rows → Out places (filter test rows) rows ≡ filter (λ r. not (test r)) rows
 unfolding rows_after_all

@@ -92,10 +92,10 @@ batch_goes_back m rows log done half progress ghost is now =
     record { log_fits = now.log_fits; end = now.end; are = batch_is_undone m rows log done half progress ghost is now.are; table = now.table; batch = fits_none m.new ghost.committed; chunk = now.chunk; batch_covered = tt; chunk_covered = now.chunk_covered; disjoint = tt }
 
 -- *The chunk is rolled back.*
-pub chunk_goes_back : (m : Migration) (rows : List Row) (log : List RowEvent) (left behind : Option Span) (keys : List Row) (half : Row → Bool) (progress : Progress Row) (ghost : GhostRows) → IsUnderWay m rows log (is_done_in left behind keys) half progress ghost
+pub chunk_goes_back : (m : Migration) (rows : List Row) (log : List RowEvent) (left following : Option Span) (keys : List Row) (half : Row → Bool) (progress : Progress Row) (ghost : GhostRows) → IsUnderWay m rows log (is_done_in left following keys) half progress ghost
     → IsUnderWay m rows log (is_done left) half (record progress { copier_holds = λ _. false }) (record ghost { chunk = [] })
-chunk_goes_back m rows log left behind keys half progress ghost now =
-    record { log_fits = now.log_fits; end = now.end; are = chunk_is_undone m rows log left behind keys half progress ghost now.are; table = now.table; batch = now.batch; chunk = fits_none m.new ghost.committed; batch_covered = now.batch_covered; chunk_covered = tt; disjoint = disjoint_none m.new ghost.batch }
+chunk_goes_back m rows log left following keys half progress ghost now =
+    record { log_fits = now.log_fits; end = now.end; are = chunk_is_undone m rows log left following keys half progress ghost now.are; table = now.table; batch = now.batch; chunk = fits_none m.new ghost.committed; batch_covered = now.batch_covered; chunk_covered = tt; disjoint = disjoint_none m.new ghost.batch }
 
 -- *A batch is to be done again*, though its COMMIT was done.
 pub places_go_back : (m : Migration) (rows : List Row) (log : List RowEvent) (done half : Row → Bool) (progress : Progress Row) (ghost : GhostRows) (position reached : ℕ) → IsTimeline (timeline_of m rows log) progress.end → position ≤ progress.position → reached ≤ progress.reached → position ≤ reached

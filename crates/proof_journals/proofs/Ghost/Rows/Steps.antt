@@ -11,7 +11,7 @@ use Rattle.base_values.specs.declared.event.Change.{Change}
 use Rattle.base_values.specs.declared.event.Change.TheVariants.{Write, Update, Delete}
 use Rattle.base_values.specs.declared.event.RowEvent.{RowEvent}
 use Rattle.table_store.specs.RowLists.{is_at}
-use Rattle.proof_journals.specs.Ghost.Relation.Applying.{AppliedAt, EventOfKeys}
+use Rattle.proof_journals.specs.Ghost.Relation.AppliedEvents.{AppliedAt, EventOfKeys}
 use Rattle.proof_journals.specs.Ghost.Relation.Timelines.{IsTimeline}
 use Rattle.proof_journals.specs.Ghost.Relation.Views.{GhostFollows, Progress}
 use Rattle.proof_journals.proofs.Ghost.Rows.Applying.{delete_applies, due_event, replace_applies, update_applies}
@@ -29,7 +29,7 @@ use Rattle.proof_journals.specs.Ghost.Rows.Moments.{Fits, FitsAll, LogFits, Row,
 use Rattle.proof_journals.specs.Ghost.Rows.Timelines.{IsDue, IsPlanned, Migration, changes_key, kept, timeline_of, touched_by}
 use Rattle.proof_journals.specs.Ghost.Rows.UnderWay.{IsUnderWay}
 use Rattle.proof_journals.specs.Ghost.Rows.Views.{GhostRows, chunk_view, ghost_row, is_done, is_done_in, view_of, views_of}
-use Rattle.proof_journals.specs.Ghost.Relation.Applying.AppliedAt.{kept as left_alone, missed}
+use Rattle.proof_journals.specs.Ghost.Relation.AppliedEvents.AppliedAt.{kept as left_alone, missed}
 
 pub timeline : TimelinesAreValid
 timeline m rows log planned fits = is_timeline m rows log planned.old_key planned.keeps planned.table fits
@@ -110,15 +110,15 @@ row_is_met m rows log done half progress ghost keys row made planned stands imag
 -- ---- the chunk ends
 
 pub chunk_commits_on : ChunksCommit
-chunk_commits_on m rows log left behind keys half progress ghost planned held now =
-    chunk_ends m rows log (is_done_in left behind keys) (is_done behind) half progress ghost planned.new_key (chunk_is_done m rows log half progress ghost left behind keys held now.chunk_covered now.batch_covered now.are) now
+chunk_commits_on m rows log left following keys half progress ghost planned held now =
+    chunk_ends m rows log (is_done_in left following keys) (is_done following) half progress ghost planned.new_key (chunk_is_done m rows log half progress ghost left following keys held now.chunk_covered now.batch_covered now.are) now
 
 pub chunk_is_to_repeat : ChunksRepeat
-chunk_is_to_repeat m rows log left behind keys half progress ghost planned now =
-    chunk_ends m rows log (is_done_in left behind keys) (is_done left) half progress ghost planned.new_key (chunk_repeats m rows log left behind keys half progress ghost now.chunk_covered now.batch_covered now.are) now
+chunk_is_to_repeat m rows log left following keys half progress ghost planned now =
+    chunk_ends m rows log (is_done_in left following keys) (is_done left) half progress ghost planned.new_key (chunk_repeats m rows log left following keys half progress ghost now.chunk_covered now.batch_covered now.are) now
 
 pub chunk_rolls_back_on : ChunksRollBack
-chunk_rolls_back_on m rows log left behind keys half progress ghost now = chunk_goes_back m rows log left behind keys half progress ghost now
+chunk_rolls_back_on m rows log left following keys half progress ghost now = chunk_goes_back m rows log left following keys half progress ghost now
 
 -- ---- events are applied
 

@@ -15,9 +15,9 @@ use Rattle.table_store.proofs.Ascending.{all-filter, ascends-filter}
 use Rattle.std.specs.Ordering.{is_eq}
 use Rattle.std.proofs.lemmas.Cmp.{tied_itself}
 use Rattle.std.proofs.lemmas.Bool.{or_right}
-use Rattle.base_values.specs.Comparing.{compare_keys}
+use Rattle.base_values.specs.KeyOrder.{compare_keys}
 use Rattle.base_values.proofs.Orders.{keys_total}
-use Rattle.proof_journals.specs.Ghost.Relation.Applying.{AppliedAt}
+use Rattle.proof_journals.specs.Ghost.Relation.AppliedEvents.{AppliedAt}
 use Rattle.proof_journals.specs.Ghost.Relation.Timelines.{IsTimeline}
 use Rattle.proof_journals.specs.Ghost.Relation.Views.{Progress}
 use Rattle.proof_journals.proofs.Ghost.Rows.Applying.{batch_applies}
@@ -25,14 +25,14 @@ use Rattle.proof_journals.proofs.Ghost.Rows.Beside.{all_table}
 use Rattle.proof_journals.proofs.Ghost.Rows.Copying.{row_copied}
 use Rattle.proof_journals.proofs.Ghost.Rows.Finding.{removed_elsewhere}
 use Rattle.proof_journals.proofs.Ghost.Rows.Finishing.{all_found}
-use Rattle.proof_journals.proofs.Ghost.Rows.Replacing.{Out, behind, none_passes, taken_out}
+use Rattle.proof_journals.proofs.Ghost.Rows.Replacing.{Out, following, none_passes, taken_out}
 use Rattle.proof_journals.specs.Ghost.Rows.Changes.{NamesHeld, new_key, old_key, replacing}
 use Rattle.proof_journals.specs.Ghost.Rows.Disjoint.{AllDisjoint, Disjoint}
 use Rattle.proof_journals.specs.Ghost.Rows.Moments.{Fits, FitsAll, NoneClashes, Row, rows_after, rows_after_all, rows_at}
 use Rattle.proof_journals.specs.Ghost.Rows.Timelines.{IsDue, Migration, timeline_of}
 use Rattle.proof_journals.specs.Ghost.Rows.UnderWay.{IsUnderWay}
 use Rattle.proof_journals.specs.Ghost.Rows.Views.{GhostRows, ghost_row, is_among, view_of}
-use Rattle.server_model.specs.Saying.{displaced}
+use Rattle.server_model.specs.StatementResults.{displaced}
 use Rattle.server_locks.proofs.LeastSession.Kept.{both}
 
 -- changes and then more
@@ -128,7 +128,7 @@ pub taken_fit : (schema : Schema) (taken rows : List Row) → Ascends (key_place
 unfolding FitsAll
 taken_fit schema [] rows ascends there = tt
 taken_fit schema (row ∷ taken) rows ascends there =
-    (there.0, taken_fit schema taken (without_key (key_places schema) (key_of (key_places schema) row) rows) ascends.1 (still_there (key_places schema) row taken rows (behind (key_places schema) row taken ascends.0) there.1))
+    (there.0, taken_fit schema taken (without_key (key_places schema) (key_of (key_places schema) row) rows) ascends.1 (still_there (key_places schema) row taken rows (following (key_places schema) row taken ascends.0) there.1))
 
 pub replacing_fits : (schema : Schema) (row : Row) (rows : List Row) → IsTable schema rows → IsRow schema.columns row → FitsAll schema rows (replacing schema row rows)
 replacing_fits schema row rows is fits =

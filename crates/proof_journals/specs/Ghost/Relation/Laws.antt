@@ -4,7 +4,7 @@ use Rattle.std.specs.Prelude.{◌≡◌, ℕ, ◌+◌, ◌<◌, ◌≤◌, Bool,
 use Rattle.std.specs.Option.{option_and_then}
 use Rattle.proof_journals.specs.Ghost.Relation.Timelines.{Timeline, IsTimeline, AreAlike}
 use Rattle.proof_journals.specs.Ghost.Relation.Views.{Progress, Views, GhostFollows, HoldsChanged, ViewFollows}
-use Rattle.proof_journals.specs.Ghost.Relation.Applying.{EventOfKeys, Replaced, Deleted, Updated, AppliedAt}
+use Rattle.proof_journals.specs.Ghost.Relation.AppliedEvents.{EventOfKeys, Replaced, Deleted, Updated, AppliedAt}
 
 -- *The start*: nobody holds a key, all see an empty ghost, and there is no row of a key that is done.
 abbrev pub MigrationsStart : (K R M : Type 0) → Type 0

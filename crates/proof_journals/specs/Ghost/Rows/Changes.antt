@@ -8,7 +8,7 @@ use Rattle.base_values.specs.GhoSchema.Rows.{key_of}
 use Rattle.base_values.specs.GhoSchema.Tables.{clash}
 use Rattle.base_values.specs.declared.event.Change.{Change}
 use Rattle.base_values.specs.declared.event.Change.TheVariants.{Write, Update, Delete}
-use Rattle.server_model.specs.Saying.{displaced}
+use Rattle.server_model.specs.StatementResults.{displaced}
 use Rattle.proof_journals.specs.Ghost.Rows.Moments.{Row}
 
 -- REPLACE: the rows that clash are removed, and the row is written

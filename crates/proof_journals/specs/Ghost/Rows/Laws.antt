@@ -75,20 +75,20 @@ copier_free progress = record progress { copier_holds = λ _. false }
 -- *The chunk is committed*, once each of its keys was taken.
 abbrev pub ChunksCommit : Type 0
 ChunksCommit =
-    (m : Migration) (rows : List Row) (log : List RowEvent) (left behind : Option Span) (keys : List Row) (half : Row → Bool) (progress : Progress Row) (ghost : GhostRows) → IsPlanned m rows → progress.copier_holds ≡ is_among keys
-    → IsUnderWay m rows log (is_done_in left behind keys) half progress ghost → IsUnderWay m rows log (is_done behind) half (copier_free progress) (chunk_committed m ghost)
+    (m : Migration) (rows : List Row) (log : List RowEvent) (left following : Option Span) (keys : List Row) (half : Row → Bool) (progress : Progress Row) (ghost : GhostRows) → IsPlanned m rows → progress.copier_holds ≡ is_among keys
+    → IsUnderWay m rows log (is_done_in left following keys) half progress ghost → IsUnderWay m rows log (is_done following) half (copier_free progress) (chunk_committed m ghost)
 
 -- *The chunk is rolled back*, or lost with its session.
 abbrev pub ChunksRollBack : Type 0
 ChunksRollBack =
-    (m : Migration) (rows : List Row) (log : List RowEvent) (left behind : Option Span) (keys : List Row) (half : Row → Bool) (progress : Progress Row) (ghost : GhostRows) → IsUnderWay m rows log (is_done_in left behind keys) half progress ghost
+    (m : Migration) (rows : List Row) (log : List RowEvent) (left following : Option Span) (keys : List Row) (half : Row → Bool) (progress : Progress Row) (ghost : GhostRows) → IsUnderWay m rows log (is_done_in left following keys) half progress ghost
     → IsUnderWay m rows log (is_done left) half (copier_free progress) (record ghost { chunk = [] })
 
 -- *The chunk is to be repeated* though it was committed, since the COMMIT's answer was lost.
 abbrev pub ChunksRepeat : Type 0
 ChunksRepeat =
-    (m : Migration) (rows : List Row) (log : List RowEvent) (left behind : Option Span) (keys : List Row) (half : Row → Bool) (progress : Progress Row) (ghost : GhostRows) → IsPlanned m rows
-    → IsUnderWay m rows log (is_done_in left behind keys) half progress ghost → IsUnderWay m rows log (is_done left) half (copier_free progress) (chunk_committed m ghost)
+    (m : Migration) (rows : List Row) (log : List RowEvent) (left following : Option Span) (keys : List Row) (half : Row → Bool) (progress : Progress Row) (ghost : GhostRows) → IsPlanned m rows
+    → IsUnderWay m rows log (is_done_in left following keys) half progress ghost → IsUnderWay m rows log (is_done left) half (copier_free progress) (chunk_committed m ghost)
 
 -- *The range is copied* when nothing is left above its greatest key.
 abbrev pub RangesEnd : Type 0

@@ -3,7 +3,7 @@ use Rattle.std.specs.Prelude.{ℕ, Bool, false, not, ◌&&◌, ◌||◌, List, f
 use Rattle.std.specs.List.{list_any}
 use Rattle.std.specs.Ordering.{is_eq}
 use Rattle.base_values.specs.declared.span.Span.{Span}
-use Rattle.base_values.specs.Comparing.{compare_keys}
+use Rattle.base_values.specs.KeyOrder.{compare_keys}
 use Rattle.base_values.specs.Spans.{has}
 use Rattle.base_values.specs.GhoSchema.Rows.{key_places}
 use Rattle.base_values.specs.declared.event.Change.{Change}
@@ -58,4 +58,4 @@ is_done left key = not (is_left left key)
 -- *Done in an open chunk*, which leaves this span after it and has these keys: also each key of the chunk's span at which no
 -- row stood when it began
 abbrev pub is_done_in : Option Span → Option Span → List Row → Row → Bool
-is_done_in left behind keys key = is_done left key || (is_done behind key && not (is_among keys key))
+is_done_in left following keys key = is_done left key || (is_done following key && not (is_among keys key))

@@ -11,7 +11,7 @@ use Rattle.server_model.specs.declared.entry.Asked.TheVariants.{Call, Poll, Comm
 use Rattle.server_model.specs.declared.entry.Entry.{Entry}
 use Rattle.server_model.specs.declared.request.Request.{Request}
 use Rattle.server_model.specs.declared.request.Request.TheVariants as requests
-use Rattle.server_model.specs.Serving.{serves}
+use Rattle.server_model.specs.PlainServer.{serves}
 use Rattle.plan_data.specs.PlanData.{PlanData}
 use Rattle.base_values.specs.ToolNames.{old_name}
 use Rattle.tool_changelog.specs.ToolTables.{sentry_schema}
@@ -22,19 +22,19 @@ use Rattle.tool_program.specs.declared.cutover_core.cutover.Phase.{Phase}
 use Rattle.tool_program.specs.declared.cutover_core.cutover.Phase.TheVariants.{Resting}
 use Rattle.tool_program.specs.Programs.{given, IsGiven}
 use Rattle.tool_program.specs.Tools.{Work, Migrating, is_reverting, moment}
-use Rattle.tool_program.proofs.OnlineCalls.Machines.{CourseIsNamed, named}
-use Rattle.proof_journals.specs.Machine.Machines.{CourseStands, WorkStands, PhaseHolds, held}
+use Rattle.tool_program.proofs.OnlineCalls.Machines.{ToolPhaseIsNamed, named}
+use Rattle.proof_journals.specs.Machine.Machines.{ToolPhaseStands, WorkStands, PhaseHolds, held}
 use Rattle.proof_journals.specs.Machine.Standings.{Standing, standing_of, IsAbout}
-use Rattle.proof_journals.specs.Machine.Tabling.{schema_of}
+use Rattle.proof_journals.specs.Machine.MigrationTables.{schema_of}
 use Rattle.proof_journals.proofs.Machine.CuttingOver.{LockerAsks}
 use Rattle.proof_journals.proofs.Machine.Journals.{IsRun, asking, lock_about}
 use Rattle.proof_journals.proofs.Machine.Seated.{IsKnown, IsServed, own_given, own_missed}
 use Rattle.proof_migration.proofs.Attempt.Leaving.{CreateLeaves, Left, create_left}
 use Rattle.proof_migration.proofs.Attempt.LockerAnswers.{heard_leaves}
 use Rattle.proof_migration.proofs.Attempt.Stages.{StandsAt, TablesAt}
-use Rattle.proof_migration.proofs.Attempt.Standing.{CourseAt, IsStanding, about_own}
+use Rattle.proof_migration.proofs.Attempt.Standing.{ToolPhaseAt, IsStanding, about_own}
 
-module _ (plan : PlanData) (journal : List Entry) (entry : Entry) (is : IsStanding plan journal) (run : IsRun plan journal entry) (work : Work) (eq : (moment plan journal).tool.course ≡ Migrating work) (resting : work.cutover.phase ≡ Resting) (same : entry.actor ≡ Lock) where
+module _ (plan : PlanData) (journal : List Entry) (entry : Entry) (is : IsStanding plan journal) (run : IsRun plan journal entry) (work : Work) (eq : (moment plan journal).tool.tool_phase ≡ Migrating work) (resting : work.cutover.phase ≡ Resting) (same : entry.actor ≡ Lock) where
   abbrev has : Actor → Standing
   has = standing_of plan journal
 
@@ -51,13 +51,13 @@ module _ (plan : PlanData) (journal : List Entry) (entry : Entry) (is : IsStandi
   known = is.tabled.all.tool.known
 
   stands : WorkStands journal (is_reverting (moment plan journal).tool.reason) has work
-  stands = subst (CourseStands journal has (is_reverting (moment plan journal).tool.reason)) eq is.tabled.all.tool.stands
+  stands = subst (ToolPhaseStands journal has (is_reverting (moment plan journal).tool.reason)) eq is.tabled.all.tool.stands
 
   at : StandsAt plan before (has Insp).waits work.cutover.phase work.cutover.hold work.cutover.renamer_waits work.cutover.is_asked
-  at = subst (CourseAt plan before (has Insp).waits) eq is.course
+  at = subst (ToolPhaseAt plan before (has Insp).waits) eq is.tool_phase
 
   own_table : work.cutover.table ≡ plan.table
-  own_table = (subst (CourseIsNamed plan) eq (named plan journal)).cutover
+  own_table = (subst (ToolPhaseIsNamed plan) eq (named plan journal)).cutover
 
   holds_none : work.cutover.hold ≡ Nothing
   holds_none = subst (λ (p : Phase). PhaseHolds p work.cutover.hold) resting stands.phase

@@ -12,9 +12,9 @@ use Rattle.tool_program.specs.declared.cutover_core.cutover.Phase.TheVariants.{R
 use Rattle.tool_program.specs.CutoverCore.CutOvers.{is_resting}
 use Rattle.tool_program.specs.Failures.{IsFailedTry, Stands}
 use Rattle.tool_program.specs.Programs.{Follows}
-use Rattle.tool_program.specs.Tools.{Course, SettingUp, Migrating, Moment, moment}
-use Rattle.proof_journals.specs.Machine.Forming.{IsFitting}
-use Rattle.proof_journals.specs.Machine.Tabling.{TableStands}
+use Rattle.tool_program.specs.Tools.{ToolPhase, SettingUp, Migrating, Moment, moment}
+use Rattle.proof_journals.specs.Machine.FormedPlans.{IsFitting}
+use Rattle.proof_journals.specs.Machine.MigrationTables.{TableExists}
 use Rattle.proof_journals.proofs.Machine.Journals.{IsRun, all_runs}
 use Rattle.proof_migration.specs.Attempt.Verdicts.{IsRefusedSentry, IsFailedAttempt, IsSpentOn, rests}
 use Rattle.proof_migration.proofs.Attempt.Verdicts.Standing.{all_attempts}
@@ -41,11 +41,11 @@ at_rest (Ending clearing) is = absurd (false≢true is)
 at_rest (Finishing clearing) is = absurd (false≢true is)
 at_rest Finished is = absurd (false≢true is)
 
-module _ (plan : PlanData) (journal : List Entry) (fit : IsFitting plan) (stands : TableStands plan) (runs : Along (IsRun plan) [] journal) where
+module _ (plan : PlanData) (journal : List Entry) (fit : IsFitting plan) (stands : TableExists plan) (runs : Along (IsRun plan) [] journal) where
   -- no sentry is refused
   none_refused : (turn : ℕ) → IsRefusedSentry plan journal turn → ⊥
-  none_refused turn is = by (moment plan (take (turn - 1) journal)).tool.course refl (subst (λ (m : Moment). rests m.tool.course ≡ true) is.is.moment is.resting) where
-    by : (course : Course) → (moment plan (take (turn - 1) journal)).tool.course ≡ course → rests course ≡ true → ⊥
+  none_refused turn is = by (moment plan (take (turn - 1) journal)).tool.tool_phase refl (subst (λ (m : Moment). rests m.tool.tool_phase ≡ true) is.is.moment is.resting) where
+    by : (tool_phase : ToolPhase) → (moment plan (take (turn - 1) journal)).tool.tool_phase ≡ tool_phase → rests tool_phase ≡ true → ⊥
     by (SettingUp setup tries) eq resting = false≢true resting
     by (Migrating work) eq resting =
         sentry_unrefused plan (take (turn - 1) journal) is.entry (standing_along plan (take (turn - 1) journal) fit stands (along_take (IsRun plan) [] journal (turn - 1) runs)) (along_at (IsRun plan) [] journal (turn - 1) is.entry runs is.is.stands)

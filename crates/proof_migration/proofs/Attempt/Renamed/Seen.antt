@@ -38,29 +38,29 @@ use Rattle.tool_program.specs.CutoverCore.CutOvers as cutovers
 use Rattle.tool_program.specs.CutoverCore.CutOvers.{inspector_phase, finishing, finishing_after, left_at_end, sentry_alone, seen, renamer_phase, failed, applier_turn, reverted}
 use Rattle.tool_program.specs.Programs.{tool_call, given, Follows}
 use Rattle.tool_program.specs.Setups.{Setup}
-use Rattle.tool_program.specs.Tools.{Work, Course, SettingUp, Migrating, Tool, Moment, stopped, is_reverting, moment}
-use Rattle.tool_program.proofs.OnlineCalls.Machines.{CourseIsNamed, named}
+use Rattle.tool_program.specs.Tools.{Work, ToolPhase, SettingUp, Migrating, Tool, Moment, stopped, is_reverting, moment}
+use Rattle.tool_program.proofs.OnlineCalls.Machines.{ToolPhaseIsNamed, named}
 use Rattle.proof_journals.specs.Plans.{IsSerialPlan}
 use Rattle.proof_journals.proofs.Actors.{same_actor_itself}
 use Rattle.run_actors.proofs.AlterTurns.{of_client}
-use Rattle.proof_journals.specs.Machine.Machines.{CourseStands, WorkStands}
+use Rattle.proof_journals.specs.Machine.Machines.{ToolPhaseStands, WorkStands}
 use Rattle.proof_journals.specs.Machine.Runnable.{IsRunnable}
 use Rattle.proof_journals.specs.Machine.Standings.{Standing, standing_of, IsAbout, is_called, is_polled}
-use Rattle.proof_journals.specs.Machine.Tabling.{schema_of}
+use Rattle.proof_journals.specs.Machine.MigrationTables.{schema_of}
 use Rattle.proof_journals.proofs.Machine.CuttingOver.{LockerAsks}
 use Rattle.proof_journals.proofs.Machine.Journals.{IsRun, all_runs, Asking, calls_so, polls_so, asking, lock_about, ren_about}
 use Rattle.proof_journals.proofs.Machine.Marks.{ghost_not_old, history_more}
 use Rattle.proof_journals.proofs.Machine.Seated.{own_missed}
 use Rattle.proof_journals.proofs.Machine.Tabling.{quiet_stay, may_define}
-use Rattle.proof_migration.proofs.Course.CourseTurns.{Kept, UnfitKeeps, CopyKeeps, ApplyKeeps, AnswerKeeps, ResizeKeeps, turn_kept, gives_asked}
-use Rattle.proof_migration.proofs.Course.Unaltered.Away.{IsKnownAsked, about_asked, asked_begins, asked_more, tool_adds}
+use Rattle.proof_migration.proofs.ToolPhase.ToolPhaseTurns.{Kept, UnfitKeeps, CopyKeeps, ApplyKeeps, AnswerKeeps, ResizeKeeps, turn_kept, gives_asked}
+use Rattle.proof_migration.proofs.ToolPhase.Unaltered.Away.{IsKnownAsked, about_asked, asked_begins, asked_more, tool_adds}
 use Rattle.proof_migration.proofs.Attempt.InspectorAnswers.{listed_is}
-use Rattle.proof_migration.proofs.Attempt.Leaving.{AllStay, exchange_left, exchange_told}
+use Rattle.proof_migration.proofs.Attempt.Leaving.{AllStay, exchange_left, exchange_reported}
 use Rattle.proof_migration.proofs.Attempt.LockerAnswers.{LockerLeaves}
 use Rattle.proof_migration.proofs.Attempt.RenamerAnswers.{AsksAt, either}
 use Rattle.proof_migration.proofs.Attempt.Stages.{InspectorAt, StandsAt, RenamerAt}
-use Rattle.proof_migration.proofs.Attempt.Standing.{CourseAt, IsStanding, standing_more, standing_along, about_own, quiet_stays, listed, inspector_calls, asks_at, renamer_unlocked, locker_leaves, no_asking, rest}
-use Rattle.proof_migration.specs.Attempt.Renamed.{IsRenamedAt, CourseRenamed, RenamesAreSeen}
+use Rattle.proof_migration.proofs.Attempt.Standing.{ToolPhaseAt, IsStanding, standing_more, standing_along, about_own, quiet_stays, listed, inspector_calls, asks_at, renamer_unlocked, locker_leaves, no_asking, rest}
+use Rattle.proof_migration.specs.Attempt.Renamed.{IsRenamedAt, ToolPhaseRenamed, RenamesAreSeen}
 
 -- WHAT THE ANSWERS LEAVE OF THE PHASE
 
@@ -152,14 +152,14 @@ module _ (plan : PlanData) (tables : Database) where
 pub record IsSeen (plan : PlanData) (journal : List Entry) : Type 0 where
   pub standing : IsStanding plan journal
   pub asked : IsKnownAsked plan journal
-  pub seen : list_any is_alter (history plan journal) ≡ true → CourseRenamed plan (state_at plan journal).tables (moment plan journal).tool.course
+  pub seen : list_any is_alter (history plan journal) ≡ true → ToolPhaseRenamed plan (state_at plan journal).tables (moment plan journal).tool.tool_phase
 
 -- what the turn is told to have done, where it is the ALTER's
 record IsAlters (plan : PlanData) (journal : List Entry) (entry : Entry) : Type 0 where
   actor : entry.actor ≡ Ren
   is_about : histories.about journal entry ≡ Some (exchange plan.table)
   count : ℕ
-  told : answer_in entry.asked entry.side entry.answer entry.missed ≡ Some (answers.Ok count)
+  reported : answer_in entry.asked entry.side entry.answer entry.missed ≡ Some (answers.Ok count)
 
 module _ (plan : PlanData) (serial : IsSerialPlan plan) (runs : IsRunnable plan) (journal : List Entry) (entry : Entry) (is : IsSeen plan journal) (run : IsRun plan journal entry) where
   alters_so : list_any is_alter (entry_adds plan journal entry) ≡ true → IsAlters plan journal entry
@@ -175,12 +175,12 @@ module _ (plan : PlanData) (serial : IsSerialPlan plan) (runs : IsRunnable plan)
       by_actor Lock is_so = refl
       by_actor Ren is_so = refl
 
-    by : (request : Option Request) (told : Option Answer) → histories.about journal entry ≡ request → answer_in entry.asked entry.side entry.answer entry.missed ≡ told → list_any is_alter (alters plan request told) ≡ true → IsAlters plan journal entry
-    by (Some (requests.Rename pairs)) (Some (answers.Ok count)) is_so told alter =
+    by : (request : Option Request) (reported : Option Answer) → histories.about journal entry ≡ request → answer_in entry.asked entry.side entry.answer entry.missed ≡ reported → list_any is_alter (alters plan request reported) ≡ true → IsAlters plan journal entry
+    by (Some (requests.Rename pairs)) (Some (answers.Ok count)) is_so reported alter =
         let asks = about_asked plan serial journal entry runs.fitting is.asked run tool (requests.Rename pairs) is_so in
-        record { actor = asks.0; is_about = is_so ∙ ap Some asks.1; count = count; told = told }
-    by request (Some (answers.Ok count)) is_so told alter = absurd cc
-    by request told is_so says alter = absurd cc
+        record { actor = asks.0; is_about = is_so ∙ ap Some asks.1; count = count; reported = reported }
+    by request (Some (answers.Ok count)) is_so reported alter = absurd cc
+    by request reported is_so statement_result alter = absurd cc
 
   abbrev now : Moment
   now = moment plan journal
@@ -201,20 +201,20 @@ module _ (plan : PlanData) (serial : IsSerialPlan plan) (runs : IsRunnable plan)
   after = (state_at plan more).tables
 
   abbrev New : Kept
-  New = λ b course. CourseRenamed plan after course
+  New = λ b tool_phase. ToolPhaseRenamed plan after tool_phase
 
   standing : IsStanding plan journal
   standing = is.standing
 
   -- the RENAME was done before, or in this turn
   abbrev Was : Type 0
-  Was = CourseRenamed plan before now.tool.course ⊎ IsAlters plan journal entry
+  Was = ToolPhaseRenamed plan before now.tool.tool_phase ⊎ IsAlters plan journal entry
 
-  old_at : Was → (actor : Actor) → entry.actor ≡ actor → same_actor actor Ren ≡ false → (course : Course) → now.tool.course ≡ course → CourseRenamed plan before course
-  old_at (inl old) actor same differ course eq = subst (CourseRenamed plan before) eq old
-  old_at (inr alter) actor same differ course eq = absurd (true≢false (sym (same_actor_itself Ren) ∙ ap (λ (a : Actor). same_actor a Ren) (sym alter.actor ∙ same) ∙ differ))
+  old_at : Was → (actor : Actor) → entry.actor ≡ actor → same_actor actor Ren ≡ false → (tool_phase : ToolPhase) → now.tool.tool_phase ≡ tool_phase → ToolPhaseRenamed plan before tool_phase
+  old_at (inl old) actor same differ tool_phase eq = subst (ToolPhaseRenamed plan before) eq old
+  old_at (inr alter) actor same differ tool_phase eq = absurd (true≢false (sym (same_actor_itself Ren) ∙ ap (λ (a : Actor). same_actor a Ren) (sym alter.actor ∙ same) ∙ differ))
 
-  ghost_stays : schema_of (ghost_name plan.table) after ≡ schema_of (ghost_name plan.table) before → (course : Course) → CourseRenamed plan before course → CourseRenamed plan after course
+  ghost_stays : schema_of (ghost_name plan.table) after ≡ schema_of (ghost_name plan.table) before → (tool_phase : ToolPhase) → ToolPhaseRenamed plan before tool_phase → ToolPhaseRenamed plan after tool_phase
   ghost_stays stay (SettingUp setup tries) old = absurd old
   ghost_stays stay (Migrating work) old = by work.cutover.phase old where
     by : (phase : Phase) → IsRenamedAt plan before phase → IsRenamedAt plan after phase
@@ -225,7 +225,7 @@ module _ (plan : PlanData) (serial : IsSerialPlan plan) (runs : IsRunnable plan)
     by (Attempting stage) none = absurd none
     by (Ending (Drops left)) none = absurd none
 
-  back : (b : Bool) (course : Course) → New b course → New true (stopped course)
+  back : (b : Bool) (tool_phase : ToolPhase) → New b tool_phase → New true (stopped tool_phase)
   unfolding reverted
   back b (SettingUp setup tries) at = at
   back b (Migrating work) at = ended_at plan after work.cutover.phase at
@@ -243,21 +243,21 @@ module _ (plan : PlanData) (serial : IsSerialPlan plan) (runs : IsRunnable plan)
   apply_at : (answer : Answer) (work : Work) → New false (Migrating work) → ApplyKeeps New answer tool work
   apply_at answer work at = record { reverting = λ reverting. at; unfit = λ going place number unfit. unfit_at work at; took = λ going fits tries. at }
 
-  own_table : (work : Work) → now.tool.course ≡ Migrating work → work.cutover.table ≡ plan.table
-  own_table work eq = (subst (CourseIsNamed plan) eq (named plan journal)).cutover
+  own_table : (work : Work) → now.tool.tool_phase ≡ Migrating work → work.cutover.table ≡ plan.table
+  own_table work eq = (subst (ToolPhaseIsNamed plan) eq (named plan journal)).cutover
 
-  setup_off : (setup : Setup) (tries : List ℕ) → now.tool.course ≡ SettingUp setup tries → Was → ((actor : Actor) → entry.actor ≡ actor → same_actor actor Ren ≡ false → ⊥)
+  setup_off : (setup : Setup) (tries : List ℕ) → now.tool.tool_phase ≡ SettingUp setup tries → Was → ((actor : Actor) → entry.actor ≡ actor → same_actor actor Ren ≡ false → ⊥)
   setup_off setup tries eq was actor same differ = old_at was actor same differ (SettingUp setup tries) eq
 
-  work_stands : (work : Work) → now.tool.course ≡ Migrating work → WorkStands journal (is_reverting now.tool.reason) has work
-  work_stands work eq = subst (CourseStands journal has (is_reverting now.tool.reason)) eq standing.tabled.all.tool.stands
+  work_stands : (work : Work) → now.tool.tool_phase ≡ Migrating work → WorkStands journal (is_reverting now.tool.reason) has work
+  work_stands work eq = subst (ToolPhaseStands journal has (is_reverting now.tool.reason)) eq standing.tabled.all.tool.stands
 
-  at_work : (work : Work) → now.tool.course ≡ Migrating work → StandsAt plan before (has Insp).waits work.cutover.phase work.cutover.hold work.cutover.renamer_waits work.cutover.is_asked
-  at_work work eq = subst (CourseAt plan before (has Insp).waits) eq standing.course
+  at_work : (work : Work) → now.tool.tool_phase ≡ Migrating work → StandsAt plan before (has Insp).waits work.cutover.phase work.cutover.hold work.cutover.renamer_waits work.cutover.is_asked
+  at_work work eq = subst (ToolPhaseAt plan before (has Insp).waits) eq standing.tool_phase
 
   -- THE INSPECTOR
 
-  module _ (work : Work) (eq : now.tool.course ≡ Migrating work) (request : Request) (about : IsAbout request (has entry.actor) entry.asked) (asks : InspectorAt plan work.cutover.phase request) where
+  module _ (work : Work) (eq : now.tool.tool_phase ≡ Migrating work) (request : Request) (about : IsAbout request (has entry.actor) entry.asked) (asks : InspectorAt plan work.cutover.phase request) where
     stayed : (phase : Phase) → work.cutover.phase ≡ phase → IsRenamedAt plan before phase → IsRenamedAt plan after phase
     stayed (Ending Looking) at none = quiet_stays plan journal entry standing run request about (subst (λ (p : Phase). InspectorAt plan p request) at asks) (ghost_name plan.table) ∙ none
     stayed (Finishing clearing) at none = tt
@@ -275,10 +275,10 @@ module _ (plan : PlanData) (serial : IsSerialPlan plan) (runs : IsRunnable plan)
     unfolding cutovers.took
     inspector_heard old tries = inspector_at plan after work.cutover work.cutover.phase entry.answer (misses old) (stayed work.cutover.phase refl old)
 
-  inspector_turn : (work : Work) → now.tool.course ≡ Migrating work → entry.actor ≡ Insp → Asking plan journal Insp entry.asked → IsRenamedAt plan before work.cutover.phase → (tries : List ℕ)
+  inspector_turn : (work : Work) → now.tool.tool_phase ≡ Migrating work → entry.actor ≡ Insp → Asking plan journal Insp entry.asked → IsRenamedAt plan before work.cutover.phase → (tries : List ℕ)
       → New (is_reverting now.tool.reason) (Migrating (record work { cutover = cutovers.took Inspector work.cutover entry.answer; attempt_tries = tries }))
   inspector_turn work eq same (calls_so request asks idle call) old tries =
-      inspector_heard work eq request (about_own plan journal entry standing run Insp request same (is_called asks idle)) (inspector_calls plan journal entry standing run work eq request (ap (λ (c : Course). tool_call plan now.server journal now.tool c Insp) (sym eq) ∙ call)) old tries
+      inspector_heard work eq request (about_own plan journal entry standing run Insp request same (is_called asks idle)) (inspector_calls plan journal entry standing run work eq request (ap (λ (c : ToolPhase). tool_call plan now.server journal now.tool c Insp) (sym eq) ∙ call)) old tries
   inspector_turn work eq same (polls_so request asks some) old tries = inspector_heard work eq request (about_own plan journal entry standing run Insp request same (is_polled asks some)) ((at_work work eq).inspector request some) old tries
 
   -- THE LOCKER
@@ -288,11 +288,11 @@ module _ (plan : PlanData) (serial : IsSerialPlan plan) (runs : IsRunnable plan)
   leaves_ghost (requests.Drop name) leaves = leaves.0 (ghost_name plan.table) (ghost_not_old plan.table)
   leaves_ghost request leaves = leaves (ghost_name plan.table)
 
-  locker_turn : (work : Work) → now.tool.course ≡ Migrating work → entry.actor ≡ Lock → Asking plan journal Lock entry.asked → CourseRenamed plan before (Migrating work) → (tries : List ℕ)
+  locker_turn : (work : Work) → now.tool.tool_phase ≡ Migrating work → entry.actor ≡ Lock → Asking plan journal Lock entry.asked → ToolPhaseRenamed plan before (Migrating work) → (tries : List ℕ)
       → New (is_reverting now.tool.reason) (Migrating (record work { cutover = cutovers.took Locker work.cutover entry.answer; attempt_tries = tries }))
   unfolding cutovers.took
   locker_turn work eq same asks old tries =
-      lock_about plan journal entry standing.tabled.all.tool run work eq (work_stands work eq) asks (CourseRenamed plan after (Migrating (record work { cutover = cutovers.took Locker work.cutover entry.answer; attempt_tries = tries })))
+      lock_about plan journal entry standing.tabled.all.tool run work eq (work_stands work eq) asks (ToolPhaseRenamed plan after (Migrating (record work { cutover = cutovers.took Locker work.cutover entry.answer; attempt_tries = tries })))
       (λ request about kind.
       let asks_own : LockerAsks plan.table work.cutover.hold work.cutover.phase request = subst (λ (t : List ℕ). LockerAsks t work.cutover.hold work.cutover.phase request) (own_table work eq) kind in
       locker_at plan after work.cutover.phase entry.answer
@@ -300,10 +300,10 @@ module _ (plan : PlanData) (serial : IsSerialPlan plan) (runs : IsRunnable plan)
 
   -- THE RENAMER
 
-  about_exchange : (work : Work) → now.tool.course ≡ Migrating work → entry.actor ≡ Ren → (request : Request) → IsAbout request (has Ren) entry.asked → request ≡ exchange work.cutover.table → IsAbout (exchange plan.table) (has entry.actor) entry.asked
+  about_exchange : (work : Work) → now.tool.tool_phase ≡ Migrating work → entry.actor ≡ Ren → (request : Request) → IsAbout request (has Ren) entry.asked → request ≡ exchange work.cutover.table → IsAbout (exchange plan.table) (has entry.actor) entry.asked
   about_exchange work eq same request about kind = about_own plan journal entry standing run Ren (exchange plan.table) same (subst (λ (r : Request). IsAbout r (has Ren) entry.asked) (kind ∙ ap exchange (own_table work eq)) about)
 
-  unlocked : (work : Work) → now.tool.course ≡ Migrating work → entry.actor ≡ Ren → (has entry.actor).locked ≡ []
+  unlocked : (work : Work) → now.tool.tool_phase ≡ Migrating work → entry.actor ≡ Ren → (has entry.actor).locked ≡ []
   unlocked work eq same = ap (λ (a : Actor). (has a).locked) same ∙ renamer_unlocked plan journal entry standing run work eq
 
   -- the RENAME is done: the phase is one that looks, or the tool knows it
@@ -321,16 +321,16 @@ module _ (plan : PlanData) (serial : IsSerialPlan plan) (runs : IsRunnable plan)
     by Resting asks renames = absurd (off Resting asks (λ same. cc) renames)
     by (Ending (Drops left)) asks renames = absurd (off (Ending (Drops left)) asks (λ same. cc) renames)
 
-  renamer_turn : Was → (work : Work) → now.tool.course ≡ Migrating work → entry.actor ≡ Ren → Asking plan journal Ren entry.asked → (tries : List ℕ) → New (is_reverting now.tool.reason) (Migrating (record work { cutover = cutovers.took Renamer work.cutover entry.answer; attempt_tries = tries }))
+  renamer_turn : Was → (work : Work) → now.tool.tool_phase ≡ Migrating work → entry.actor ≡ Ren → Asking plan journal Ren entry.asked → (tries : List ℕ) → New (is_reverting now.tool.reason) (Migrating (record work { cutover = cutovers.took Renamer work.cutover entry.answer; attempt_tries = tries }))
   unfolding cutovers.took
   renamer_turn was work eq same asks tries =
-      ren_about plan journal entry standing.tabled.all.tool run work eq (work_stands work eq) asks (CourseRenamed plan after (Migrating (record work { cutover = cutovers.took Renamer work.cutover entry.answer; attempt_tries = tries })))
+      ren_about plan journal entry standing.tabled.all.tool run work eq (work_stands work eq) asks (ToolPhaseRenamed plan after (Migrating (record work { cutover = cutovers.took Renamer work.cutover entry.answer; attempt_tries = tries })))
       (λ request about kind. by was (about_exchange work eq same request about kind)) where
         at : StandsAt plan before (has Insp).waits work.cutover.phase work.cutover.hold work.cutover.renamer_waits work.cutover.is_asked
         at = at_work work eq
 
-        stayed : (course : Course) → CourseRenamed plan before course → AllStay before after ⊎ (schema_of (ghost_name plan.table) after ≡ None) → CourseRenamed plan after course
-        stayed course old (inl stay) = ghost_stays (stay (ghost_name plan.table)) course old
+        stayed : (tool_phase : ToolPhase) → ToolPhaseRenamed plan before tool_phase → AllStay before after ⊎ (schema_of (ghost_name plan.table) after ≡ None) → ToolPhaseRenamed plan after tool_phase
+        stayed tool_phase old (inl stay) = ghost_stays (stay (ghost_name plan.table)) tool_phase old
         stayed (SettingUp setup some) old (inr none) = absurd old
         stayed (Migrating one) old (inr none) = renamed one.cutover.phase old where
           renamed : (phase : Phase) → IsRenamedAt plan before phase → IsRenamedAt plan after phase
@@ -342,45 +342,45 @@ module _ (plan : PlanData) (serial : IsSerialPlan plan) (runs : IsRunnable plan)
           renamed (Ending (Drops left)) old = absurd old
 
         -- the answer is Ok, or it was missed
-        told_answer : (answer : Answer) → entry.answer ≡ answer → (alter : IsAlters plan journal entry) → ((count : ℕ) × (answer ≡ answers.Ok count)) ⊎ (answer ≡ answers.Lost)
-        told_answer answer is_so alter = by_side entry.side refl entry.asked alter.told where
+        reported_answer : (answer : Answer) → entry.answer ≡ answer → (alter : IsAlters plan journal entry) → ((count : ℕ) × (answer ≡ answers.Ok count)) ⊎ (answer ≡ answers.Lost)
+        reported_answer answer is_so alter = by_side entry.side refl entry.asked alter.reported where
           same_one : (one : Answer) (count : ℕ) → Some one ≡ Some (answers.Ok count) → one ≡ answers.Ok count
           same_one one count both = cc
 
           by_side : (side : Option Side) → entry.side ≡ side → (asked : Asked) → answer_in asked side entry.answer entry.missed ≡ Some (answers.Ok alter.count) → ((count : ℕ) × (answer ≡ answers.Ok count)) ⊎ (answer ≡ answers.Lost)
-          by_side (Some side) at_side asked told = inr (sym is_so ∙ own_missed plan journal entry standing.tabled.all.tool.known (record { answered = run.answered; seated = record { session = run.followed.session } }) side at_side)
-          by_side None at_side Cut told = absurd cc
-          by_side None at_side (Call called) told = inl (alter.count, sym is_so ∙ same_one entry.answer alter.count told)
-          by_side None at_side Poll told = inl (alter.count, sym is_so ∙ same_one entry.answer alter.count told)
-          by_side None at_side (Command word) told = inl (alter.count, sym is_so ∙ same_one entry.answer alter.count told)
+          by_side (Some side) at_side asked reported = inr (sym is_so ∙ own_missed plan journal entry standing.tabled.all.tool.known (record { answered = run.answered; seated = record { session = run.followed.session } }) side at_side)
+          by_side None at_side Cut reported = absurd cc
+          by_side None at_side (Call called) reported = inl (alter.count, sym is_so ∙ same_one entry.answer alter.count reported)
+          by_side None at_side Poll reported = inl (alter.count, sym is_so ∙ same_one entry.answer alter.count reported)
+          by_side None at_side (Command word) reported = inl (alter.count, sym is_so ∙ same_one entry.answer alter.count reported)
 
         answered : (answer : Answer) → ((count : ℕ) × (answer ≡ answers.Ok count)) ⊎ (answer ≡ answers.Lost) → schema_of (ghost_name plan.table) after ≡ None → IsRenamedAt plan after (renamer_phase work.cutover.phase answer)
-        answered (answers.Ok count) told none = tt
-        answered answers.Lost told none = renamed_now work (asks_at plan journal entry standing run work eq asks) at.renamer none
-        answered (answers.Waits one) (inl told) none = absurd (let no : answers.Waits one ≡ answers.Ok told.0 = told.1 in cc)
-        answered (answers.Waits one) (inr told) none = absurd cc
-        answered (answers.TimedOut waited) (inl told) none = absurd (let no : answers.TimedOut waited ≡ answers.Ok told.0 = told.1 in cc)
-        answered (answers.TimedOut waited) (inr told) none = absurd cc
-        answered answer (inl told) none = absurd (let no : answer ≡ answers.Ok told.0 = told.1 in cc)
-        answered answer (inr told) none = absurd cc
+        answered (answers.Ok count) reported none = tt
+        answered answers.Lost reported none = renamed_now work (asks_at plan journal entry standing run work eq asks) at.renamer none
+        answered (answers.Waits one) (inl reported) none = absurd (let no : answers.Waits one ≡ answers.Ok reported.0 = reported.1 in cc)
+        answered (answers.Waits one) (inr reported) none = absurd cc
+        answered (answers.TimedOut waited) (inl reported) none = absurd (let no : answers.TimedOut waited ≡ answers.Ok reported.0 = reported.1 in cc)
+        answered (answers.TimedOut waited) (inr reported) none = absurd cc
+        answered answer (inl reported) none = absurd (let no : answer ≡ answers.Ok reported.0 = reported.1 in cc)
+        answered answer (inr reported) none = absurd cc
 
         by : Was → IsAbout (exchange plan.table) (has entry.actor) entry.asked → IsRenamedAt plan after (renamer_phase work.cutover.phase entry.answer)
         by (inl old) about =
             renamer_at plan after work.cutover.phase entry.answer
-            (stayed (Migrating work) (subst (CourseRenamed plan before) eq old)
+            (stayed (Migrating work) (subst (ToolPhaseRenamed plan before) eq old)
             (either plan before after (has Insp).waits work.cutover.hold work.cutover.renamer_waits work.cutover.is_asked entry.answer
             (exchange_left plan journal entry standing.tabled.all.tool.known (record { answered = run.answered; seated = record { session = run.followed.session } }) plan.table about (unlocked work eq same))))
         by (inr alter) about =
-            answered entry.answer (told_answer entry.answer refl alter)
-            (exchange_told plan journal entry standing.tabled.all.tool.known (record { answered = run.answered; seated = record { session = run.followed.session } }) plan.table about (unlocked work eq same) alter.count alter.told)
+            answered entry.answer (reported_answer entry.answer refl alter)
+            (exchange_reported plan journal entry standing.tabled.all.tool.known (record { answered = run.answered; seated = record { session = run.followed.session } }) plan.table about (unlocked work eq same) alter.count alter.reported)
 
   -- EVERY ACTOR
 
-  quiet_at : (actor : Actor) → entry.actor ≡ actor → may_define actor ≡ false → given plan journal actor ≡ Some entry.asked → (entry.asked ≡ Cut → ⊥) → ((word : OperatorWord) → entry.asked ≡ Command word → ⊥) → same_actor actor Ren ≡ false → Was → (course : Course) → now.tool.course ≡ course → CourseRenamed plan after course
-  quiet_at actor same none gives called commanded differ was course eq =
-      ghost_stays (quiet_stay plan journal entry standing.tabled.all standing.tabled.quiet run actor same none gives called commanded (ghost_name plan.table)) course (old_at was actor same differ course eq)
+  quiet_at : (actor : Actor) → entry.actor ≡ actor → may_define actor ≡ false → given plan journal actor ≡ Some entry.asked → (entry.asked ≡ Cut → ⊥) → ((word : OperatorWord) → entry.asked ≡ Command word → ⊥) → same_actor actor Ren ≡ false → Was → (tool_phase : ToolPhase) → now.tool.tool_phase ≡ tool_phase → ToolPhaseRenamed plan after tool_phase
+  quiet_at actor same none gives called commanded differ was tool_phase eq =
+      ghost_stays (quiet_stay plan journal entry standing.tabled.all standing.tabled.quiet run actor same none gives called commanded (ghost_name plan.table)) tool_phase (old_at was actor same differ tool_phase eq)
 
-  heard_at : Was → (actor : Actor) → entry.actor ≡ actor → given plan journal actor ≡ Some entry.asked → (entry.asked ≡ Cut → ⊥) → ((word : OperatorWord) → entry.asked ≡ Command word → ⊥) → (course : Course) → now.tool.course ≡ course → AnswerKeeps plan New entry.answer tool actor course
+  heard_at : Was → (actor : Actor) → entry.actor ≡ actor → given plan journal actor ≡ Some entry.asked → (entry.asked ≡ Cut → ⊥) → ((word : OperatorWord) → entry.asked ≡ Command word → ⊥) → (tool_phase : ToolPhase) → now.tool.tool_phase ≡ tool_phase → AnswerKeeps plan New entry.answer tool actor tool_phase
   unfolding given
   heard_at was Insp same gives called commanded (SettingUp setup tries) eq = absurd (setup_off setup tries eq was Insp same refl)
   heard_at was Insp same gives called commanded (Migrating work) eq = inspector_turn work eq same (asking plan journal Insp entry.asked standing.tabled.all.tool.server gives) (old_at was Insp same refl (Migrating work) eq)
@@ -391,25 +391,25 @@ module _ (plan : PlanData) (serial : IsSerialPlan plan) (runs : IsRunnable plan)
   heard_at was Lock same gives called commanded (SettingUp setup tries) eq = absurd (setup_off setup tries eq was Lock same refl)
   heard_at was Lock same gives called commanded (Migrating work) eq = locker_turn work eq same (asking plan journal Lock entry.asked standing.tabled.all.tool.server gives) (old_at was Lock same refl (Migrating work) eq)
   heard_at was Ren same gives called commanded (SettingUp setup tries) eq =
-      absurd (no_asking plan journal entry standing run Ren (subst (CourseStands journal has (is_reverting now.tool.reason)) eq standing.tabled.all.tool.stands).renamer
-      (λ request call. none-some request (ap (λ (c : Course). tool_call plan now.server journal now.tool c Ren) (sym eq) ∙ call)) (asking plan journal Ren entry.asked standing.tabled.all.tool.server gives))
+      absurd (no_asking plan journal entry standing run Ren (subst (ToolPhaseStands journal has (is_reverting now.tool.reason)) eq standing.tabled.all.tool.stands).renamer
+      (λ request call. none-some request (ap (λ (c : ToolPhase). tool_call plan now.server journal now.tool c Ren) (sym eq) ∙ call)) (asking plan journal Ren entry.asked standing.tabled.all.tool.server gives))
   heard_at was Ren same gives called commanded (Migrating work) eq = renamer_turn was work eq same (asking plan journal Ren entry.asked standing.tabled.all.tool.server gives)
-  heard_at was Op same gives called commanded course eq = by course eq where
-    by : (course : Course) → now.tool.course ≡ course → AnswerKeeps plan New entry.answer tool Op course
+  heard_at was Op same gives called commanded tool_phase eq = by tool_phase eq where
+    by : (tool_phase : ToolPhase) → now.tool.tool_phase ≡ tool_phase → AnswerKeeps plan New entry.answer tool Op tool_phase
     by (SettingUp setup tries) eq = absurd (setup_off setup tries eq was Op same refl)
     by (Migrating work) eq = quiet_at Op same refl gives called commanded refl was (Migrating work) eq
-  heard_at was (Client c) same gives called commanded course eq = by course eq where
-    by : (course : Course) → now.tool.course ≡ course → AnswerKeeps plan New entry.answer tool (Client c) course
+  heard_at was (Client c) same gives called commanded tool_phase eq = by tool_phase eq where
+    by : (tool_phase : ToolPhase) → now.tool.tool_phase ≡ tool_phase → AnswerKeeps plan New entry.answer tool (Client c) tool_phase
     by (SettingUp setup tries) eq = absurd (setup_off setup tries eq was (Client c) same refl)
     by (Migrating work) eq = quiet_at (Client c) same refl gives called commanded refl was (Migrating work) eq
 
   -- a turn that asks the server for nothing leaves the tables
-  old_still : may_lose entry.asked ≡ false → CourseRenamed plan before now.tool.course → (course : Course) → now.tool.course ≡ course → CourseRenamed plan after course
-  old_still nothing old course eq = ghost_stays (rest plan journal entry standing run nothing (ghost_name plan.table)) course (subst (CourseRenamed plan before) eq old)
+  old_still : may_lose entry.asked ≡ false → ToolPhaseRenamed plan before now.tool.tool_phase → (tool_phase : ToolPhase) → now.tool.tool_phase ≡ tool_phase → ToolPhaseRenamed plan after tool_phase
+  old_still nothing old tool_phase eq = ghost_stays (rest plan journal entry standing run nothing (ghost_name plan.table)) tool_phase (subst (ToolPhaseRenamed plan before) eq old)
 
-  lost_at : entry.asked ≡ Cut → CourseRenamed plan before now.tool.course → (actor : Actor) (course : Course) → now.tool.course ≡ course → AnswerKeeps plan New answers.Lost tool actor course
+  lost_at : entry.asked ≡ Cut → ToolPhaseRenamed plan before now.tool.tool_phase → (actor : Actor) (tool_phase : ToolPhase) → now.tool.tool_phase ≡ tool_phase → AnswerKeeps plan New answers.Lost tool actor tool_phase
   unfolding cutovers.took
-  lost_at cut old actor (SettingUp setup tries) eq = absurd (subst (CourseRenamed plan before) eq old)
+  lost_at cut old actor (SettingUp setup tries) eq = absurd (subst (ToolPhaseRenamed plan before) eq old)
   lost_at cut old Insp (Migrating work) eq = λ tries. inspector_at plan after work.cutover work.cutover.phase answers.Lost (λ listing looking lists. absurd cc) (old_still (ap may_lose cut) old (Migrating work) eq)
   lost_at cut old Lock (Migrating work) eq = λ tries. locker_at plan after work.cutover.phase answers.Lost (old_still (ap may_lose cut) old (Migrating work) eq)
   lost_at cut old Ren (Migrating work) eq = λ tries. renamer_at plan after work.cutover.phase answers.Lost (old_still (ap may_lose cut) old (Migrating work) eq)
@@ -419,35 +419,35 @@ module _ (plan : PlanData) (serial : IsSerialPlan plan) (runs : IsRunnable plan)
   lost_at cut old (Client c) (Migrating work) eq = old_still (ap may_lose cut) old (Migrating work) eq
 
   -- the ALTER's turn is a call or a poll
-  not_cut : Was → entry.asked ≡ Cut → CourseRenamed plan before now.tool.course
+  not_cut : Was → entry.asked ≡ Cut → ToolPhaseRenamed plan before now.tool.tool_phase
   not_cut (inl old) cut = old
-  not_cut (inr alter) cut = absurd (no (sym (ap (λ (a : Asked). answer_in a entry.side entry.answer entry.missed) cut) ∙ alter.told)) where
+  not_cut (inr alter) cut = absurd (no (sym (ap (λ (a : Asked). answer_in a entry.side entry.answer entry.missed) cut) ∙ alter.reported)) where
     no : None ≡ Some (answers.Ok alter.count) → ⊥
     no both = cc
 
-  not_commanded : Was → (word : OperatorWord) → entry.asked ≡ Command word → CourseRenamed plan before now.tool.course
+  not_commanded : Was → (word : OperatorWord) → entry.asked ≡ Command word → ToolPhaseRenamed plan before now.tool.tool_phase
   not_commanded (inl old) word asks = old
   not_commanded (inr alter) word asks = absurd (no (sym (ap (λ (a : Asked). histories.asked_about a (histories.request_waiting journal entry.actor)) asks) ∙ alter.is_about)) where
     no : None ≡ Some (exchange plan.table) → ⊥
     no both = cc
 
-  resize_at : Was → (size : ℕ) → entry.asked ≡ Command (ChunkSize size) → (course : Course) → now.tool.course ≡ course → ResizeKeeps New tool size course
-  resize_at was size asks (SettingUp setup tries) eq = absurd (subst (CourseRenamed plan before) eq (not_commanded was (ChunkSize size) asks))
+  resize_at : Was → (size : ℕ) → entry.asked ≡ Command (ChunkSize size) → (tool_phase : ToolPhase) → now.tool.tool_phase ≡ tool_phase → ResizeKeeps New tool size tool_phase
+  resize_at was size asks (SettingUp setup tries) eq = absurd (subst (ToolPhaseRenamed plan before) eq (not_commanded was (ChunkSize size) asks))
   resize_at was size asks (Migrating work) eq = old_still (ap may_lose asks) (not_commanded was (ChunkSize size) asks) (Migrating work) eq
 
-  course_more : Was → CourseRenamed plan after (moment plan more).tool.course
-  course_more was =
+  tool_phase_more : Was → ToolPhaseRenamed plan after (moment plan more).tool.tool_phase
+  tool_phase_more was =
       turn_kept plan New back journal entry drain
       (record {
-        commanded = λ word asks unsized. old_still (ap may_lose asks) (not_commanded was word asks) now.tool.course refl;
-        resized = λ size asks. resize_at was size asks now.tool.course refl;
-        idle = λ asks none. old_still (ap may_lose asks) (not_cut was asks) now.tool.course refl;
-        lost = λ asks worked. lost_at asks (not_cut was asks) entry.actor now.tool.course refl;
-        heard = λ called commanded. heard_at was entry.actor refl (gives_asked plan journal entry entry.asked run.followed.given refl called) called commanded now.tool.course refl;
+        commanded = λ word asks unsized. old_still (ap may_lose asks) (not_commanded was word asks) now.tool.tool_phase refl;
+        resized = λ size asks. resize_at was size asks now.tool.tool_phase refl;
+        idle = λ asks none. old_still (ap may_lose asks) (not_cut was asks) now.tool.tool_phase refl;
+        lost = λ asks worked. lost_at asks (not_cut was asks) entry.actor now.tool.tool_phase refl;
+        heard = λ called commanded. heard_at was entry.actor refl (gives_asked plan journal entry entry.asked run.followed.given refl called) called commanded now.tool.tool_phase refl;
       })
 
   pub seen_more : IsSeen plan more
-  seen_more = record { standing = standing_more plan journal entry standing run; asked = asked_more plan journal entry run is.asked; seen = λ marked. course_more (was (list_any is_alter (history plan journal)) refl (sym (history_more plan journal entry) ∙ marked)) } where
+  seen_more = record { standing = standing_more plan journal entry standing run; asked = asked_more plan journal entry run is.asked; seen = λ marked. tool_phase_more (was (list_any is_alter (history plan journal)) refl (sym (history_more plan journal entry) ∙ marked)) } where
     was : (b : Bool) → list_any is_alter (history plan journal) ≡ b → (b || list_any is_alter (entry_adds plan journal entry)) ≡ true → Was
     was true marked some = inl (is.seen marked)
     was false unmarked some = inr (alters_so some)

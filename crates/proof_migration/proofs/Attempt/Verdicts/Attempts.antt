@@ -113,15 +113,15 @@ pub record IsLastDrain (cutover : CutOver) (hint : ℕ) : Type 0 where
   pub turns : ℕ
   pub phase : cutover.phase ≡ Attempting (Draining turns)
   pub last : cutover.drain_limit ≤ turns + 1
-  pub behind : (hint == cutover.attempts) ≡ false
+  pub following : (hint == cutover.attempts) ≡ false
 
 pub drain_fails : (cutover : CutOver) (hint : ℕ) → is_failure cutover.phase (drained cutover hint cutover.phase) ≡ true → IsLastDrain cutover hint
 drain_fails cutover hint fails = by cutover.phase refl fails where
   draining : (turns : ℕ) → cutover.phase ≡ Attempting (Draining turns) → (a : Bool) → (hint == cutover.attempts) ≡ a → (b : Bool) → nat_le cutover.drain_limit (turns + 1) ≡ b
       → is_failure (Attempting (Draining turns)) (cond a (Attempting Drained) (cond b (Ending Looking) (Attempting (Draining (turns + 1))))) ≡ true → IsLastDrain cutover hint
   draining turns at true passed b last fails = absurd (false≢true fails)
-  draining turns at false behind true last fails = record { turns = turns; phase = at; last = leb-true cutover.drain_limit (turns + 1) last; behind = behind }
-  draining turns at false behind false more fails = absurd (false≢true fails)
+  draining turns at false following true last fails = record { turns = turns; phase = at; last = leb-true cutover.drain_limit (turns + 1) last; following = following }
+  draining turns at false following false more fails = absurd (false≢true fails)
 
   by : (phase : Phase) → cutover.phase ≡ phase → is_failure phase (drained cutover hint phase) ≡ true → IsLastDrain cutover hint
   by (Attempting (Draining turns)) at fails = draining turns at (hint == cutover.attempts) refl (nat_le cutover.drain_limit (turns + 1)) refl fails

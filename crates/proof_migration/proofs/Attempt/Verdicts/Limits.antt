@@ -10,7 +10,7 @@ use Rattle.server_model.specs.declared.session.Waiting.{Waiting}
 use Rattle.server_model.specs.Effects.{Effect, effect}
 use Rattle.server_model.specs.Effects.Effect.{Rests, Grows, Writes, Forgets, Moves, Locks, Unlocks}
 use Rattle.server_model.specs.Entries.{is_command}
-use Rattle.server_model.specs.Serving.{does, done, without_waiting, called_unless, calls, is_over, polled_over, polled_unless, polled_of, polls, loses, serves, leaves}
+use Rattle.server_model.specs.PlainServer.{does, done, without_waiting, called_unless, calls, is_over, polled_over, polled_unless, polled_of, polls, loses, serves, leaves}
 use Rattle.server_model.specs.States.{State, waiting_of, connected, is_live}
 use Rattle.plan_data.specs.PlanData.{PlanData}
 use Rattle.tool_program.specs.JournalWords.Journals.{opening, opens_if, opens, after_entry, state_after, state_at}

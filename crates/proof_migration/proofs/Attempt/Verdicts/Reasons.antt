@@ -19,7 +19,7 @@ use Rattle.server_model.specs.declared.outcome.Task.TheVariants as tasks
 use Rattle.server_model.specs.declared.request.Request.{Request}
 use Rattle.server_model.specs.declared.request.Request.TheVariants as requests
 use Rattle.server_model.specs.Entries.{is_client}
-use Rattle.server_model.specs.Serving.{serves}
+use Rattle.server_model.specs.PlainServer.{serves}
 use Rattle.server_model.specs.States.{State, has_work}
 use Rattle.plan_data.specs.PlanData.{PlanData}
 use Rattle.tool_program.specs.JournalWords.Journals.{state_at, opens, may_lose}
@@ -46,10 +46,10 @@ use Rattle.tool_program.specs.Failures.{turns_in as drain_turns, is_actor_of, is
 use Rattle.tool_program.specs.Programs.{given, may_begin, tool_call}
 use Rattle.tool_program.specs.Operators.{commanded}
 use Rattle.tool_program.specs.Setups.{Setup, Listing, Clearing, MakingLog, MakingGhost, Marking, Reaching, Ready, setup_after}
-use Rattle.tool_program.specs.Tools.{Work, Course, SettingUp, Migrating, Reason, CopyUnfit, ApplyUnfit, Spent, Panicked, Tool, Moment, first_reason, stopped, is_renamed, reverts, spends, is_reverting, working, copy_after, copy_took, apply_after, apply_took, attempt_after, is_failure, cutover_took, drains, course_of, setup_took, actor_took, turn_counts, resizes, panics, command_took, asked_took, took, moment}
+use Rattle.tool_program.specs.Tools.{Work, ToolPhase, SettingUp, Migrating, Reason, CopyUnfit, ApplyUnfit, Spent, Panicked, Tool, Moment, first_reason, stopped, is_renamed, reverts, spends, is_reverting, working, copy_after, copy_took, apply_after, apply_took, attempt_after, is_failure, cutover_took, drains, tool_phase_of, setup_took, actor_took, turn_counts, resizes, panics, command_took, asked_took, took, moment}
 use Rattle.proof_journals.specs.Run.Laws.{Living}
-use Rattle.proof_migration.proofs.Course.CourseTurns.{gives_asked}
-use Rattle.proof_journals.specs.Machine.Machines.{CourseStands, WorkStands, PhaseHolds, held}
+use Rattle.proof_migration.proofs.ToolPhase.ToolPhaseTurns.{gives_asked}
+use Rattle.proof_journals.specs.Machine.Machines.{ToolPhaseStands, WorkStands, PhaseHolds, held}
 use Rattle.proof_journals.specs.Machine.Standings.{Standing, free, standing_of, answers_to, IsAbout, is_called}
 use Rattle.proof_journals.proofs.Machine.Asking.{unless_called}
 use Rattle.proof_journals.proofs.Machine.Journals.{IsRun, IsTogether, Asking, calls_so, polls_so, asking}
@@ -84,13 +84,13 @@ pub record WorkHolds (plan : PlanData) (journal : List Entry) (work : Work) : Ty
   pub left : TurnsLeft plan.options.drain_limit work.cutover.phase
 
 -- so do the tries of the task that stands
-abbrev pub CourseHolds : PlanData → List Entry → Course → Type 0
-CourseHolds plan journal (SettingUp setup tries) = TaskTries plan journal tasks.Setup tries
-CourseHolds plan journal (Migrating work) = WorkHolds plan journal work
+abbrev pub ToolPhaseHolds : PlanData → List Entry → ToolPhase → Type 0
+ToolPhaseHolds plan journal (SettingUp setup tries) = TaskTries plan journal tasks.Setup tries
+ToolPhaseHolds plan journal (Migrating work) = WorkHolds plan journal work
 
 pub record ToolHolds (plan : PlanData) (journal : List Entry) (tool : Tool) : Type 0 where
   pub reason : ReasonHolds plan journal tool.reason
-  pub course : CourseHolds plan journal tool.course
+  pub tool_phase : ToolPhaseHolds plan journal tool.tool_phase
   pub turns : tool.turns ≡ length journal
 
 -- WHAT A TASK'S ANSWER MEANS
@@ -104,8 +104,8 @@ chunk_stays turn copier answer going = by copier.step answer going where
   by : (step : CopyStep) (answer : Answer) → (copiers.progress_at step answer ≡ TaskDone → ⊥) → (copiers.after_answer turn copier step answer).number ≡ copier.number
   by copying.Choosing (answers.End end) going = refl
   by copying.Choosing answer going = refl
-  by (copying.Spanning told size) (answers.Keys keys end) going = refl
-  by (copying.Spanning told size) answer going = refl
+  by (copying.Spanning reported size) (answers.Keys keys end) going = refl
+  by (copying.Spanning reported size) answer going = refl
   by (copying.Copying chunk done) (answers.Ok count) going = refl
   by (copying.Copying chunk done) answer going = refl
   by (copying.Committing chunk) (answers.Ok count) going = absurd (going refl)
@@ -119,7 +119,7 @@ chunk_fails copier answer is = by copier.step answer is where
   by step answers.Lost is = refl
   by step (answers.TimedOut waited) is = refl
   by copying.Choosing answer is = absurd cc
-  by (copying.Spanning told size) answer is = absurd cc
+  by (copying.Spanning reported size) answer is = absurd cc
   by (copying.Copying chunk done) (answers.Refused number (Some place)) is = absurd cc
   by (copying.Copying chunk done) answer is = absurd cc
   by (copying.Committing chunk) (answers.Ok count) is = absurd cc
@@ -131,13 +131,13 @@ unfolding appliers.took appliers.progress
 batch_stays turn applier answers.Lost going = refl
 batch_stays turn applier (answers.TimedOut waited) going = refl
 batch_stays turn applier answer going = by applier.step answer going where
-  read : (events : List RowEvent) (behind : ℕ) → (b : Bool) → (length (appliers.planned applier events) == 0) ≡ b → (appliers.nothing_planned (length (appliers.planned applier events)) ≡ TaskDone → ⊥)
-      → (cond b (appliers.moved applier (appliers.batch_of turn applier events behind)) (record applier { step = applying.Beginning (appliers.batch_of turn applier events behind) })).position ≡ applier.position
-  read events behind true none going = absurd (going (ap (λ (b : Bool). cond b TaskDone Going) none))
-  read events behind false some going = refl
+  read : (events : List RowEvent) (following : ℕ) → (b : Bool) → (length (appliers.planned applier events) == 0) ≡ b → (appliers.nothing_planned (length (appliers.planned applier events)) ≡ TaskDone → ⊥)
+      → (cond b (appliers.moved applier (appliers.batch_of turn applier events following)) (record applier { step = applying.Beginning (appliers.batch_of turn applier events following) })).position ≡ applier.position
+  read events following true none going = absurd (going (ap (λ (b : Bool). cond b TaskDone Going) none))
+  read events following false some going = refl
 
   by : (step : ApplyStep) (answer : Answer) → (appliers.progress_at applier step answer ≡ TaskDone → ⊥) → (appliers.after_answer turn applier step answer).position ≡ applier.position
-  by applying.Reading (answers.Events events behind) going = read events behind (length (appliers.planned applier events) == 0) refl going
+  by applying.Reading (answers.Events events following) going = read events following (length (appliers.planned applier events) == 0) refl going
   by applying.Reading answer going = refl
   by (applying.Beginning batch) (answers.Ok count) going = refl
   by (applying.Beginning batch) answer going = refl
@@ -159,7 +159,7 @@ batch_fails applier answer is = by applier.step answer is where
   by : (step : ApplyStep) (answer : Answer) → appliers.progress_at applier step answer ≡ TaskFailed → is_bad answer ≡ true
   by step answers.Lost is = refl
   by step (answers.TimedOut waited) is = refl
-  by applying.Reading (answers.Events events behind) is = absurd (none (length (appliers.planned applier events)) is)
+  by applying.Reading (answers.Events events following) is = absurd (none (length (appliers.planned applier events)) is)
   by applying.Reading answer is = absurd cc
   by (applying.Beginning batch) answer is = absurd cc
   by (applying.Applying batch done part) (answers.Refused number (Some place)) is = absurd cc
@@ -173,16 +173,16 @@ first_holds : (plan : PlanData) (journal : List Entry) (old : Option Reason) (re
 first_holds plan journal None reason was is = is
 first_holds plan journal (Some first) reason was is = was
 
-stopped_holds : (plan : PlanData) (journal : List Entry) (course : Course) → CourseHolds plan journal course → CourseHolds plan journal (stopped course)
+stopped_holds : (plan : PlanData) (journal : List Entry) (tool_phase : ToolPhase) → ToolPhaseHolds plan journal tool_phase → ToolPhaseHolds plan journal (stopped tool_phase)
 unfolding cutovers.reverted
 stopped_holds plan journal (SettingUp setup tries) holds = holds
 stopped_holds plan journal (Migrating work) holds = record { chunk = holds.chunk; batch = holds.batch; attempts = holds.attempts; limit = holds.limit; left = ended_left plan.options.drain_limit work.cutover.phase }
 
 reverts_hold : (plan : PlanData) (journal : List Entry) (reason : Reason) (tool : Tool) → ReasonHolds plan journal (Some reason) → ToolHolds plan journal tool → ToolHolds plan journal (reverts reason tool)
-reverts_hold plan journal reason tool is holds = by (is_renamed tool.course) where
-  by : (b : Bool) → ToolHolds plan journal (cond b tool (record tool { reason = first_reason tool.reason reason; course = stopped tool.course }))
+reverts_hold plan journal reason tool is holds = by (is_renamed tool.tool_phase) where
+  by : (b : Bool) → ToolHolds plan journal (cond b tool (record tool { reason = first_reason tool.reason reason; tool_phase = stopped tool.tool_phase }))
   by true = holds
-  by false = record { reason = first_holds plan journal tool.reason reason holds.reason is; course = stopped_holds plan journal tool.course holds.course; turns = holds.turns }
+  by false = record { reason = first_holds plan journal tool.reason reason holds.reason is; tool_phase = stopped_holds plan journal tool.tool_phase holds.tool_phase; turns = holds.turns }
 
 spends_hold : (plan : PlanData) (journal : List Entry) (task : Task) (tries : List ℕ) (tool : Tool) → (length tries ≡ plan.options.default_retries → SpentHolds plan journal task tries) → ToolHolds plan journal tool → ToolHolds plan journal (spends plan task tries tool)
 spends_hold plan journal task tries tool stand holds = by (length tries == plan.options.default_retries) refl where
@@ -198,9 +198,9 @@ attempt_holds : (plan : PlanData) (journal : List Entry) (fails : Bool) (work : 
 attempt_holds plan journal true work cutover tool was holds limit left tried =
     spends_hold plan journal tasks.CutOver (work.attempt_tries ++ tool.turns ∷ []) (working (record work { cutover = cutover; attempt_tries = work.attempt_tries ++ tool.turns ∷ [] }) tool)
     (λ all. record { others = λ other. absurd (other refl); attempts = λ same some. attempts_spent_so plan journal (work.attempt_tries ++ tool.turns ∷ []) all (tried refl some) })
-    (record { reason = was.reason; course = record { chunk = holds.chunk; batch = holds.batch; attempts = tried refl; limit = limit; left = left }; turns = was.turns })
+    (record { reason = was.reason; tool_phase = record { chunk = holds.chunk; batch = holds.batch; attempts = tried refl; limit = limit; left = left }; turns = was.turns })
 attempt_holds plan journal false work cutover tool was holds limit left tried =
-    record { reason = was.reason; course = record { chunk = holds.chunk; batch = holds.batch; attempts = holds.attempts; limit = limit; left = left }; turns = was.turns }
+    record { reason = was.reason; tool_phase = record { chunk = holds.chunk; batch = holds.batch; attempts = holds.attempts; limit = limit; left = left }; turns = was.turns }
 
 reason_more : (plan : PlanData) (journal : List Entry) (entry : Entry) (reason : Option Reason) → ReasonHolds plan journal reason → ReasonHolds plan (journal ++ entry ∷ []) reason
 reason_more plan journal entry None is = tt
@@ -209,9 +209,9 @@ reason_more plan journal entry (Some (Spent task turns)) is = record { others = 
 reason_more plan journal entry (Some (CopyUnfit turn place number)) is = tt
 reason_more plan journal entry (Some (ApplyUnfit turn place number)) is = tt
 
-course_more : (plan : PlanData) (journal : List Entry) (entry : Entry) (course : Course) → CourseHolds plan journal course → CourseHolds plan (journal ++ entry ∷ []) course
-course_more plan journal entry (SettingUp setup tries) is = tries_more plan journal entry tasks.Setup tries is
-course_more plan journal entry (Migrating work) is = record {
+tool_phase_more : (plan : PlanData) (journal : List Entry) (entry : Entry) (tool_phase : ToolPhase) → ToolPhaseHolds plan journal tool_phase → ToolPhaseHolds plan (journal ++ entry ∷ []) tool_phase
+tool_phase_more plan journal entry (SettingUp setup tries) is = tries_more plan journal entry tasks.Setup tries is
+tool_phase_more plan journal entry (Migrating work) is = record {
   chunk = tries_more plan journal entry (tasks.Chunk work.copier.number) work.chunk_tries is.chunk;
   batch = tries_more plan journal entry (tasks.Batch work.applier.position) work.batch_tries is.batch;
   attempts = λ some. attempts_more plan journal entry work.attempt_tries (is.attempts some);
@@ -274,104 +274,104 @@ module _ (plan : PlanData) (journal : List Entry) (entry : Entry) (together : Is
   bad_so kind answer heard bad = absurd (false≢true bad)
 
   -- a failed try of the task that stands
-  failed : (task : Task) → is_client entry.actor ≡ false → is_actor_of task entry.actor ≡ true → is_at task now.tool.course ≡ true → (answer : Answer) → Heard now.server entry answer → is_bad answer ≡ true → IsFailedTry plan more task tool.turns
+  failed : (task : Task) → is_client entry.actor ≡ false → is_actor_of task entry.actor ≡ true → is_at task now.tool.tool_phase ≡ true → (answer : Answer) → Heard now.server entry answer → is_bad answer ≡ true → IsFailedTry plan more task tool.turns
   failed task kind actor stands answer heard bad = record { entry = entry; before = now; is = is_turn plan journal entry tool.turns turn_is; at = stands; why = inl (actor, bad_so kind answer heard bad) }
 
   unchanged : New tool
-  unchanged = record { reason = reason_more plan journal entry now.tool.reason was.reason; course = course_more plan journal entry now.tool.course was.course; turns = turn_is ∙ sym (length-append journal (entry ∷ [])) }
+  unchanged = record { reason = reason_more plan journal entry now.tool.reason was.reason; tool_phase = tool_phase_more plan journal entry now.tool.tool_phase was.tool_phase; turns = turn_is ∙ sym (length-append journal (entry ∷ [])) }
 
-  work_was : (work : Work) → now.tool.course ≡ Migrating work → WorkHolds plan journal work
-  work_was work same = subst (CourseHolds plan journal) same was.course
+  work_was : (work : Work) → now.tool.tool_phase ≡ Migrating work → WorkHolds plan journal work
+  work_was work same = subst (ToolPhaseHolds plan journal) same was.tool_phase
 
-  work_now : (work : Work) → now.tool.course ≡ Migrating work → WorkHolds plan more work
-  work_now work same = subst (CourseHolds plan more) same unchanged.course
+  work_now : (work : Work) → now.tool.tool_phase ≡ Migrating work → WorkHolds plan more work
+  work_now work same = subst (ToolPhaseHolds plan more) same unchanged.tool_phase
 
   -- THE SETUP
 
-  setup_holds : (answer : Answer) (setup : Setup) (tries : List ℕ) → now.tool.course ≡ SettingUp setup tries → entry.actor ≡ Insp → Heard now.server entry answer → New (setup_took plan setup tries answer tool)
+  setup_holds : (answer : Answer) (setup : Setup) (tries : List ℕ) → now.tool.tool_phase ≡ SettingUp setup tries → entry.actor ≡ Insp → Heard now.server entry answer → New (setup_took plan setup tries answer tool)
   setup_holds answer setup tries same who heard = by (is_bad answer) refl where
     again : is_bad answer ≡ true → TaskTries plan more tasks.Setup (tries ++ tool.turns ∷ [])
     again bad =
-        tries_last plan journal entry tasks.Setup tries tool.turns turn_is (subst (CourseHolds plan journal) same was.course)
+        tries_last plan journal entry tasks.Setup tries tool.turns turn_is (subst (ToolPhaseHolds plan journal) same was.tool_phase)
         (failed tasks.Setup (ap is_client who) (ap (is_actor_of tasks.Setup) who) (ap (is_at tasks.Setup) same) answer heard bad)
 
-    goes : (setup : Setup) → CourseHolds plan more (course_of plan tool.operator.size setup tries)
+    goes : (setup : Setup) → ToolPhaseHolds plan more (tool_phase_of plan tool.operator.size setup tries)
     goes (Ready position range) =
         record { chunk = no_tries (IsFailedTry plan more (tasks.Chunk 1)) (length more); batch = no_tries (IsFailedTry plan more (tasks.Batch position)) (length more); attempts = λ some. no_tries (IsFailedAttempt plan more) (length more); limit = refl; left = tt }
-    goes Listing = subst (CourseHolds plan more) same unchanged.course
-    goes (Clearing left) = subst (CourseHolds plan more) same unchanged.course
-    goes MakingLog = subst (CourseHolds plan more) same unchanged.course
-    goes MakingGhost = subst (CourseHolds plan more) same unchanged.course
-    goes Marking = subst (CourseHolds plan more) same unchanged.course
-    goes (Reaching position) = subst (CourseHolds plan more) same unchanged.course
+    goes Listing = subst (ToolPhaseHolds plan more) same unchanged.tool_phase
+    goes (Clearing left) = subst (ToolPhaseHolds plan more) same unchanged.tool_phase
+    goes MakingLog = subst (ToolPhaseHolds plan more) same unchanged.tool_phase
+    goes MakingGhost = subst (ToolPhaseHolds plan more) same unchanged.tool_phase
+    goes Marking = subst (ToolPhaseHolds plan more) same unchanged.tool_phase
+    goes (Reaching position) = subst (ToolPhaseHolds plan more) same unchanged.tool_phase
 
     by : (b : Bool) → is_bad answer ≡ b
-        → New (cond b (spends plan tasks.Setup (tries ++ tool.turns ∷ []) (record tool { course = SettingUp Listing (tries ++ tool.turns ∷ []) })) (record tool { course = course_of plan tool.operator.size (setup_after plan.table setup answer) tries }))
+        → New (cond b (spends plan tasks.Setup (tries ++ tool.turns ∷ []) (record tool { tool_phase = SettingUp Listing (tries ++ tool.turns ∷ []) })) (record tool { tool_phase = tool_phase_of plan tool.operator.size (setup_after plan.table setup answer) tries }))
     by true bad =
-        spends_hold plan more tasks.Setup (tries ++ tool.turns ∷ []) (record tool { course = SettingUp Listing (tries ++ tool.turns ∷ []) }) (spent_task plan more tasks.Setup (tries ++ tool.turns ∷ []) (λ same. cc) (again bad)) (record { reason = unchanged.reason; course = again bad; turns = unchanged.turns })
-    by false good = record { reason = unchanged.reason; course = goes (setup_after plan.table setup answer); turns = unchanged.turns }
+        spends_hold plan more tasks.Setup (tries ++ tool.turns ∷ []) (record tool { tool_phase = SettingUp Listing (tries ++ tool.turns ∷ []) }) (spent_task plan more tasks.Setup (tries ++ tool.turns ∷ []) (λ same. cc) (again bad)) (record { reason = unchanged.reason; tool_phase = again bad; turns = unchanged.turns })
+    by false good = record { reason = unchanged.reason; tool_phase = goes (setup_after plan.table setup answer); turns = unchanged.turns }
 
   -- THE COPIER
 
-  copy_holds : (answer : Answer) (work : Work) → now.tool.course ≡ Migrating work → entry.actor ≡ Copy → Heard now.server entry answer → New (copy_took plan answer work tool)
+  copy_holds : (answer : Answer) (work : Work) → now.tool.tool_phase ≡ Migrating work → entry.actor ≡ Copy → Heard now.server entry answer → New (copy_took plan answer work tool)
   copy_holds answer work same who heard = by (copiers.progress work.copier answer) refl where
     copier : Copier
     copier = copiers.took tool.turns work.copier answer
 
     number : (progress : Progress) → copiers.progress work.copier answer ≡ progress → (progress ≡ TaskDone → ⊥) → copier.number ≡ work.copier.number
-    number progress told going = chunk_stays tool.turns work.copier answer (λ done. going (sym told ∙ done))
+    number progress reported going = chunk_stays tool.turns work.copier answer (λ done. going (sym reported ∙ done))
 
     fails : copiers.progress work.copier answer ≡ TaskFailed → copier.number ≡ work.copier.number → TaskTries plan more (tasks.Chunk copier.number) (work.chunk_tries ++ tool.turns ∷ [])
-    fails told stays =
+    fails reported stays =
         tries_last plan journal entry (tasks.Chunk copier.number) work.chunk_tries tool.turns turn_is
         (subst (λ (n : ℕ). TaskTries plan journal (tasks.Chunk n) work.chunk_tries) (sym stays) (work_was work same).chunk)
         (failed (tasks.Chunk copier.number) (ap is_client who) (ap (is_actor_of (tasks.Chunk copier.number)) who)
-        (ap (is_at (tasks.Chunk copier.number)) same ∙ ap (λ (n : ℕ). n == copier.number) (sym stays) ∙ same_number copier.number) answer heard (chunk_fails work.copier answer told))
+        (ap (is_at (tasks.Chunk copier.number)) same ∙ ap (λ (n : ℕ). n == copier.number) (sym stays) ∙ same_number copier.number) answer heard (chunk_fails work.copier answer reported))
 
     by : (progress : Progress) → copiers.progress work.copier answer ≡ progress → New (copy_after plan work progress copier tool)
-    by Going told =
+    by Going reported =
         record {
           reason = unchanged.reason;
-          course = record { chunk = subst (λ (n : ℕ). TaskTries plan more (tasks.Chunk n) work.chunk_tries) (sym (number Going told (λ same. cc))) (work_now work same).chunk; batch = (work_now work same).batch; attempts = (work_now work same).attempts; limit = (work_now work same).limit; left = (work_now work same).left };
+          tool_phase = record { chunk = subst (λ (n : ℕ). TaskTries plan more (tasks.Chunk n) work.chunk_tries) (sym (number Going reported (λ same. cc))) (work_now work same).chunk; batch = (work_now work same).batch; attempts = (work_now work same).attempts; limit = (work_now work same).limit; left = (work_now work same).left };
           turns = unchanged.turns;
         }
-    by TaskDone told = record { reason = unchanged.reason; course = record { chunk = no_tries (IsFailedTry plan more (tasks.Chunk copier.number)) (length more); batch = (work_now work same).batch; attempts = (work_now work same).attempts; limit = (work_now work same).limit; left = (work_now work same).left }; turns = unchanged.turns }
-    by TaskFailed told =
-        let tries : TaskTries plan more (tasks.Chunk copier.number) (work.chunk_tries ++ tool.turns ∷ []) = fails told (number TaskFailed told (λ same. cc)) in
+    by TaskDone reported = record { reason = unchanged.reason; tool_phase = record { chunk = no_tries (IsFailedTry plan more (tasks.Chunk copier.number)) (length more); batch = (work_now work same).batch; attempts = (work_now work same).attempts; limit = (work_now work same).limit; left = (work_now work same).left }; turns = unchanged.turns }
+    by TaskFailed reported =
+        let tries : TaskTries plan more (tasks.Chunk copier.number) (work.chunk_tries ++ tool.turns ∷ []) = fails reported (number TaskFailed reported (λ same. cc)) in
         spends_hold plan more (tasks.Chunk copier.number) (work.chunk_tries ++ tool.turns ∷ []) (working (record work { copier = copier; chunk_tries = work.chunk_tries ++ tool.turns ∷ [] }) tool) (spent_task plan more (tasks.Chunk copier.number) (work.chunk_tries ++ tool.turns ∷ []) (λ same. cc) tries)
-        (record { reason = unchanged.reason; course = record { chunk = tries; batch = (work_now work same).batch; attempts = (work_now work same).attempts; limit = (work_now work same).limit; left = (work_now work same).left }; turns = unchanged.turns })
-    by (Unfit place unfit) told = reverts_hold plan more (CopyUnfit tool.turns place unfit) tool tt unchanged
+        (record { reason = unchanged.reason; tool_phase = record { chunk = tries; batch = (work_now work same).batch; attempts = (work_now work same).attempts; limit = (work_now work same).limit; left = (work_now work same).left }; turns = unchanged.turns })
+    by (Unfit place unfit) reported = reverts_hold plan more (CopyUnfit tool.turns place unfit) tool tt unchanged
 
   -- THE APPLIER
 
-  apply_holds : (answer : Answer) (work : Work) → now.tool.course ≡ Migrating work → entry.actor ≡ Apply → Heard now.server entry answer → New (apply_took plan answer work tool)
+  apply_holds : (answer : Answer) (work : Work) → now.tool.tool_phase ≡ Migrating work → entry.actor ≡ Apply → Heard now.server entry answer → New (apply_took plan answer work tool)
   apply_holds answer work same who heard = by (appliers.progress work.applier answer) refl where
     applier : Applier
     applier = appliers.took tool.turns work.applier answer
 
     position : (progress : Progress) → appliers.progress work.applier answer ≡ progress → (progress ≡ TaskDone → ⊥) → applier.position ≡ work.applier.position
-    position progress told going = batch_stays tool.turns work.applier answer (λ done. going (sym told ∙ done))
+    position progress reported going = batch_stays tool.turns work.applier answer (λ done. going (sym reported ∙ done))
 
     fails : appliers.progress work.applier answer ≡ TaskFailed → applier.position ≡ work.applier.position → TaskTries plan more (tasks.Batch applier.position) (work.batch_tries ++ tool.turns ∷ [])
-    fails told stays =
+    fails reported stays =
         tries_last plan journal entry (tasks.Batch applier.position) work.batch_tries tool.turns turn_is
         (subst (λ (n : ℕ). TaskTries plan journal (tasks.Batch n) work.batch_tries) (sym stays) (work_was work same).batch)
         (failed (tasks.Batch applier.position) (ap is_client who) (ap (is_actor_of (tasks.Batch applier.position)) who)
-        (ap (is_at (tasks.Batch applier.position)) same ∙ ap (λ (n : ℕ). n == applier.position) (sym stays) ∙ same_number applier.position) answer heard (batch_fails work.applier answer told))
+        (ap (is_at (tasks.Batch applier.position)) same ∙ ap (λ (n : ℕ). n == applier.position) (sym stays) ∙ same_number applier.position) answer heard (batch_fails work.applier answer reported))
 
     by : (progress : Progress) → appliers.progress work.applier answer ≡ progress → New (apply_after plan work progress applier tool)
-    by Going told =
+    by Going reported =
         record {
           reason = unchanged.reason;
-          course = record { chunk = (work_now work same).chunk; batch = subst (λ (n : ℕ). TaskTries plan more (tasks.Batch n) work.batch_tries) (sym (position Going told (λ same. cc))) (work_now work same).batch; attempts = (work_now work same).attempts; limit = (work_now work same).limit; left = (work_now work same).left };
+          tool_phase = record { chunk = (work_now work same).chunk; batch = subst (λ (n : ℕ). TaskTries plan more (tasks.Batch n) work.batch_tries) (sym (position Going reported (λ same. cc))) (work_now work same).batch; attempts = (work_now work same).attempts; limit = (work_now work same).limit; left = (work_now work same).left };
           turns = unchanged.turns;
         }
-    by TaskDone told = record { reason = unchanged.reason; course = record { chunk = (work_now work same).chunk; batch = no_tries (IsFailedTry plan more (tasks.Batch applier.position)) (length more); attempts = (work_now work same).attempts; limit = (work_now work same).limit; left = (work_now work same).left }; turns = unchanged.turns }
-    by TaskFailed told =
-        let tries : TaskTries plan more (tasks.Batch applier.position) (work.batch_tries ++ tool.turns ∷ []) = fails told (position TaskFailed told (λ same. cc)) in
+    by TaskDone reported = record { reason = unchanged.reason; tool_phase = record { chunk = (work_now work same).chunk; batch = no_tries (IsFailedTry plan more (tasks.Batch applier.position)) (length more); attempts = (work_now work same).attempts; limit = (work_now work same).limit; left = (work_now work same).left }; turns = unchanged.turns }
+    by TaskFailed reported =
+        let tries : TaskTries plan more (tasks.Batch applier.position) (work.batch_tries ++ tool.turns ∷ []) = fails reported (position TaskFailed reported (λ same. cc)) in
         spends_hold plan more (tasks.Batch applier.position) (work.batch_tries ++ tool.turns ∷ []) (working (record work { applier = applier; batch_tries = work.batch_tries ++ tool.turns ∷ [] }) tool) (spent_task plan more (tasks.Batch applier.position) (work.batch_tries ++ tool.turns ∷ []) (λ same. cc) tries)
-        (record { reason = unchanged.reason; course = record { chunk = (work_now work same).chunk; batch = tries; attempts = (work_now work same).attempts; limit = (work_now work same).limit; left = (work_now work same).left }; turns = unchanged.turns })
-    by (Unfit place unfit) told = reverts_hold plan more (ApplyUnfit tool.turns place unfit) tool tt unchanged
+        (record { reason = unchanged.reason; tool_phase = record { chunk = (work_now work same).chunk; batch = tries; attempts = (work_now work same).attempts; limit = (work_now work same).limit; left = (work_now work same).left }; turns = unchanged.turns })
+    by (Unfit place unfit) reported = reverts_hold plan more (ApplyUnfit tool.turns place unfit) tool tt unchanged
 
   -- EVERY ACTOR
 
@@ -383,11 +383,11 @@ module _ (plan : PlanData) (journal : List Entry) (entry : Entry) (together : Is
       sym (own_given plan journal entry together.known served (run.answered.sides (ap may_lose cut))) ∙ ap (λ (a : Asked). (serves (opens entry (state_at plan journal)) entry.session a).answer) cut
 
   -- at rest the locker asks for the sentry alone
-  sentry_asked : (work : Work) → now.tool.course ≡ Migrating work → work.cutover.phase ≡ Resting → entry.actor ≡ Lock → (entry.asked ≡ Cut → ⊥) → IsAbout (requests.Create (sentry_schema work.cutover.table)) (standing_of plan journal entry.actor) entry.asked
+  sentry_asked : (work : Work) → now.tool.tool_phase ≡ Migrating work → work.cutover.phase ≡ Resting → entry.actor ≡ Lock → (entry.asked ≡ Cut → ⊥) → IsAbout (requests.Create (sentry_schema work.cutover.table)) (standing_of plan journal entry.actor) entry.asked
   unfolding given attempts.next
   sentry_asked work same resting who uncut = by (asking plan journal Lock entry.asked together.server (subst (λ (a : Actor). given plan journal a ≡ Some entry.asked) who (gives_asked plan journal entry entry.asked run.followed.given refl uncut))) where
     stands : WorkStands journal (is_reverting now.tool.reason) (standing_of plan journal) work
-    stands = subst (CourseStands journal (standing_of plan journal) (is_reverting now.tool.reason)) same together.stands
+    stands = subst (ToolPhaseStands journal (standing_of plan journal) (is_reverting now.tool.reason)) same together.stands
 
     free_locker : standing_of plan journal Lock ≡ free
     free_locker = stands.locker ∙ ap (held work.cutover.table) (subst (λ (p : Phase). PhaseHolds p work.cutover.hold) resting stands.phase)
@@ -403,9 +403,9 @@ module _ (plan : PlanData) (journal : List Entry) (entry : Entry) (together : Is
     by (calls_so request asks idle call) = is_called (asks ∙ ap Call (create work.cutover.is_stopped request (sym (ap (attempts.locker_call work.cutover) resting) ∙ next_is))) (ap (λ (a : Actor). (standing_of plan journal a).waits) who ∙ idle) where
       next_is : attempts.locker_call work.cutover work.cutover.phase ≡ Some request
       next_is =
-          unless_called (is_resting work.cutover.phase && not (may_begin plan now.server now.tool work)) (attempts.next Locker work.cutover) request (ap (λ (c : Course). tool_call plan now.server journal now.tool c Lock) (sym same) ∙ call)
+          unless_called (is_resting work.cutover.phase && not (may_begin plan now.server now.tool work)) (attempts.next Locker work.cutover) request (ap (λ (c : ToolPhase). tool_call plan now.server journal now.tool c Lock) (sym same) ∙ call)
 
-  sentry_answers : (work : Work) → now.tool.course ≡ Migrating work → work.cutover.phase ≡ Resting → entry.actor ≡ Lock → (answer : Answer) → Heard now.server entry answer → answers_to (requests.Create (sentry_schema work.cutover.table)) answer ≡ true
+  sentry_answers : (work : Work) → now.tool.tool_phase ≡ Migrating work → work.cutover.phase ≡ Resting → entry.actor ≡ Lock → (answer : Answer) → Heard now.server entry answer → answers_to (requests.Create (sentry_schema work.cutover.table)) answer ≡ true
   sentry_answers work same resting who answer heard = by entry.asked refl where
     called : (entry.asked ≡ Cut → ⊥) → answers_to (requests.Create (sentry_schema work.cutover.table)) answer ≡ true
     called uncut =
@@ -433,9 +433,9 @@ module _ (plan : PlanData) (journal : List Entry) (entry : Entry) (together : Is
     of : is_actor_of tasks.CutOver entry.actor ≡ true
     locks : role ≡ Locker → entry.actor ≡ Lock
 
-  attempt_failed : (answer : Answer) (role : Role) (work : Work) → now.tool.course ≡ Migrating work → IsOf role → Heard now.server entry answer → is_failure work.cutover.phase (cutovers.took role work.cutover answer).phase ≡ true → IsFailedAttempt plan more tool.turns
+  attempt_failed : (answer : Answer) (role : Role) (work : Work) → now.tool.tool_phase ≡ Migrating work → IsOf role → Heard now.server entry answer → is_failure work.cutover.phase (cutovers.took role work.cutover answer).phase ≡ true → IsFailedAttempt plan more tool.turns
   attempt_failed answer role work same who heard fails = by (took_fails role work.cutover answer fails) where
-    stood : is_at tasks.CutOver now.tool.course ≡ true
+    stood : is_at tasks.CutOver now.tool.tool_phase ≡ true
     stood = ap (is_at tasks.CutOver) same ∙ failing_at work.cutover.phase (cutovers.took role work.cutover answer).phase fails
 
     refused : entry.actor ≡ Lock → work.cutover.phase ≡ Resting → (is_bad answer ≡ true) ⊎ IsRefusal answer → IsFailedAttempt plan more tool.turns
@@ -462,7 +462,7 @@ module _ (plan : PlanData) (journal : List Entry) (entry : Entry) (together : Is
   took_limit Locker cutover answer = refl
   took_limit Renamer cutover answer = refl
 
-  cut_holds : (answer : Answer) (role : Role) (work : Work) → now.tool.course ≡ Migrating work → IsOf role → Heard now.server entry answer → New (cutover_took plan role answer work tool)
+  cut_holds : (answer : Answer) (role : Role) (work : Work) → now.tool.tool_phase ≡ Migrating work → IsOf role → Heard now.server entry answer → New (cutover_took plan role answer work tool)
   cut_holds answer role work same who heard =
       attempt_holds plan more (is_failure work.cutover.phase (cutovers.took role work.cutover answer).phase) work (cutovers.took role work.cutover answer) tool unchanged (work_now work same) (took_limit role work.cutover answer ∙ (work_now work same).limit)
       (took_left plan.options.drain_limit role work.cutover answer (work_now work same).left)
@@ -473,7 +473,7 @@ module _ (plan : PlanData) (journal : List Entry) (entry : Entry) (together : Is
   unless_reverting other holds true = unchanged
   unless_reverting other holds false = holds
 
-  actor_holds : (answer : Answer) (actor : Actor) (course : Course) → now.tool.course ≡ course → entry.actor ≡ actor → Heard now.server entry answer → New (actor_took plan actor answer course tool)
+  actor_holds : (answer : Answer) (actor : Actor) (tool_phase : ToolPhase) → now.tool.tool_phase ≡ tool_phase → entry.actor ≡ actor → Heard now.server entry answer → New (actor_took plan actor answer tool_phase tool)
   actor_holds answer Insp (SettingUp setup tries) same who heard = unless_reverting (setup_took plan setup tries answer tool) (setup_holds answer setup tries same who heard) (is_reverting now.tool.reason)
   actor_holds answer Insp (Migrating work) same who heard = cut_holds answer Inspector work same (record { kind = ap is_client who; of = ap (is_actor_of tasks.CutOver) who; locks = λ role. absurd cc }) heard
   actor_holds answer Copy (Migrating work) same who heard = unless_reverting (copy_took plan answer work tool) (copy_holds answer work same who heard) (is_reverting now.tool.reason)
@@ -497,15 +497,15 @@ module _ (plan : PlanData) (journal : List Entry) (entry : Entry) (together : Is
   -- the course goes on with the attempt that stood before the turn
   record IsSameDrain (work : Work) : Type 0 where
     old : Work
-    same : now.tool.course ≡ Migrating old
+    same : now.tool.tool_phase ≡ Migrating old
     phase : old.cutover.phase ≡ work.cutover.phase
     tries : old.attempt_tries ≡ work.attempt_tries
 
-  abbrev FromBefore : Course → Type 0
+  abbrev FromBefore : ToolPhase → Type 0
   FromBefore (SettingUp setup tries) = Unit {0}
   FromBefore (Migrating work) = (turns : ℕ) → work.cutover.phase ≡ Attempting (Draining turns) → IsSameDrain work
 
-  stopped_from : (course : Course) → FromBefore (stopped course)
+  stopped_from : (tool_phase : ToolPhase) → FromBefore (stopped tool_phase)
   unfolding cutovers.reverted
   stopped_from (SettingUp setup tries) = tt
   stopped_from (Migrating work) = λ turns at. absurd (by work.cutover.phase turns at) where
@@ -518,69 +518,69 @@ module _ (plan : PlanData) (journal : List Entry) (entry : Entry) (together : Is
     by (Finishing clearing) turns at = cc
     by Finished turns at = cc
 
-  reverts_from : (reason : Reason) (other : Tool) → FromBefore other.course → FromBefore (reverts reason other).course
-  reverts_from reason other from = by (is_renamed other.course) where
-    by : (b : Bool) → FromBefore (cond b other (record other { reason = first_reason other.reason reason; course = stopped other.course })).course
+  reverts_from : (reason : Reason) (other : Tool) → FromBefore other.tool_phase → FromBefore (reverts reason other).tool_phase
+  reverts_from reason other from = by (is_renamed other.tool_phase) where
+    by : (b : Bool) → FromBefore (cond b other (record other { reason = first_reason other.reason reason; tool_phase = stopped other.tool_phase })).tool_phase
     by true = from
-    by false = stopped_from other.course
+    by false = stopped_from other.tool_phase
 
-  spends_from : (task : Task) (tries : List ℕ) (other : Tool) → FromBefore other.course → FromBefore (spends plan task tries other).course
+  spends_from : (task : Task) (tries : List ℕ) (other : Tool) → FromBefore other.tool_phase → FromBefore (spends plan task tries other).tool_phase
   spends_from task tries other from = by (length tries == plan.options.default_retries) where
-    by : (b : Bool) → FromBefore (cond b (reverts (Spent task tries) other) other).course
+    by : (b : Bool) → FromBefore (cond b (reverts (Spent task tries) other) other).tool_phase
     by true = reverts_from (Spent task tries) other from
     by false = from
 
-  apply_from : (answer : Answer) (course : Course) → now.tool.course ≡ course → FromBefore (actor_took plan Apply answer course tool).course
+  apply_from : (answer : Answer) (tool_phase : ToolPhase) → now.tool.tool_phase ≡ tool_phase → FromBefore (actor_took plan Apply answer tool_phase tool).tool_phase
   apply_from answer (SettingUp setup tries) same = subst FromBefore (sym same) tt
   apply_from answer (Migrating work) same = by (is_reverting now.tool.reason) where
     applier : Applier
     applier = appliers.took tool.turns work.applier answer
 
-    here : FromBefore tool.course
+    here : FromBefore tool.tool_phase
     here = subst FromBefore (sym same) (λ turns at. record { old = work; same = same; phase = refl; tries = refl })
 
-    told : (progress : Progress) → FromBefore (apply_after plan work progress applier tool).course
-    told Going = λ turns at. record { old = work; same = same; phase = refl; tries = refl }
-    told TaskDone = λ turns at. record { old = work; same = same; phase = refl; tries = refl }
-    told TaskFailed =
+    reported : (progress : Progress) → FromBefore (apply_after plan work progress applier tool).tool_phase
+    reported Going = λ turns at. record { old = work; same = same; phase = refl; tries = refl }
+    reported TaskDone = λ turns at. record { old = work; same = same; phase = refl; tries = refl }
+    reported TaskFailed =
         spends_from (tasks.Batch applier.position) (work.batch_tries ++ tool.turns ∷ []) (working (record work { applier = applier; batch_tries = work.batch_tries ++ tool.turns ∷ [] }) tool)
         (λ turns at. record { old = work; same = same; phase = refl; tries = refl })
-    told (Unfit place number) = reverts_from (ApplyUnfit tool.turns place number) tool here
+    reported (Unfit place number) = reverts_from (ApplyUnfit tool.turns place number) tool here
 
-    by : (b : Bool) → FromBefore (cond b tool (apply_took plan answer work tool)).course
+    by : (b : Bool) → FromBefore (cond b tool (apply_took plan answer work tool)).tool_phase
     by true = here
-    by false = told (appliers.progress work.applier answer)
+    by false = reported (appliers.progress work.applier answer)
 
-  passed_spends : (task : Task) (tries : List ℕ) (other : Tool) → has_passed (spends plan task tries other).course ≡ has_passed other.course
+  passed_spends : (task : Task) (tries : List ℕ) (other : Tool) → has_passed (spends plan task tries other).tool_phase ≡ has_passed other.tool_phase
   passed_spends task tries other = by (length tries == plan.options.default_retries) where
-    stops : (course : Course) → has_passed (stopped course) ≡ has_passed course
+    stops : (tool_phase : ToolPhase) → has_passed (stopped tool_phase) ≡ has_passed tool_phase
     stops (SettingUp setup tries) = refl
     stops (Migrating work) = stopped_attempts work where
       stopped_attempts : (work : Work) → (work.applier.hint == (cutovers.reverted work.cutover).attempts) ≡ (work.applier.hint == work.cutover.attempts)
       stopped_attempts work = ap (λ (n : ℕ). work.applier.hint == n) (reverted_attempts work.cutover)
 
-    reverting : (b : Bool) → has_passed (cond b other (record other { reason = first_reason other.reason (Spent task tries); course = stopped other.course })).course ≡ has_passed other.course
+    reverting : (b : Bool) → has_passed (cond b other (record other { reason = first_reason other.reason (Spent task tries); tool_phase = stopped other.tool_phase })).tool_phase ≡ has_passed other.tool_phase
     reverting true = refl
-    reverting false = stops other.course
+    reverting false = stops other.tool_phase
 
-    by : (b : Bool) → has_passed (cond b (reverts (Spent task tries) other) other).course ≡ has_passed other.course
-    by true = reverting (is_renamed other.course)
+    by : (b : Bool) → has_passed (cond b (reverts (Spent task tries) other) other).tool_phase ≡ has_passed other.tool_phase
+    by true = reverting (is_renamed other.tool_phase)
     by false = refl
 
   whole : take tool.turns more ≡ more
   whole = ap (λ (n : ℕ). take n more) (turn_is ∙ sym (length-append journal (entry ∷ []))) ∙ take-length more
 
-  drain_failed : entry.actor ≡ Apply → entry.asked ≢ Cut → (other : Tool) (work : Work) → other.course ≡ Migrating work → (moment plan more).tool ≡ drains plan other.course other → IsSameDrain work → WorkHolds plan more work → 0 < plan.options.drain_limit
+  drain_failed : entry.actor ≡ Apply → entry.asked ≢ Cut → (other : Tool) (work : Work) → other.tool_phase ≡ Migrating work → (moment plan more).tool ≡ drains plan other.tool_phase other → IsSameDrain work → WorkHolds plan more work → 0 < plan.options.drain_limit
       → is_failure work.cutover.phase (cutovers.applier_turn work.applier.hint work.cutover).phase ≡ true → IsLastDrain work.cutover work.applier.hint → IsFailedAttempt plan more tool.turns
   drain_failed who uncut other work at final from holds some fails drain =
-      inl (record { entry = entry; before = now; is = is_turn plan journal entry tool.turns turn_is; at = stood; why = inr (refl, record { actor = who; called = uncut; turns = drain.turns; drained = drained; last = last; behind = behind }) }) where
+      inl (record { entry = entry; before = now; is = is_turn plan journal entry tool.turns turn_is; at = stood; why = inr (refl, record { actor = who; called = uncut; turns = drain.turns; drained = drained; last = last; following = following }) }) where
         phase : from.old.cutover.phase ≡ Attempting (Draining drain.turns)
         phase = from.phase ∙ drain.phase
 
-        stood : is_at tasks.CutOver now.tool.course ≡ true
+        stood : is_at tasks.CutOver now.tool.tool_phase ≡ true
         stood = ap (is_at tasks.CutOver) from.same ∙ ap (λ (p : Phase). cutovers.may_succeed p || is_resting p) phase
 
-        drained : drained_for now.tool.course ≡ Some drain.turns
+        drained : drained_for now.tool.tool_phase ≡ Some drain.turns
         drained = ap drained_for from.same ∙ ap drain_turns phase
 
         last : drain.turns + 1 ≡ plan.options.drain_limit
@@ -591,15 +591,15 @@ module _ (plan : PlanData) (journal : List Entry) (entry : Entry) (together : Is
             omega (arith, below, above, limit)
 
         drained_now : (moment plan more).tool ≡ attempt_after plan true work (cutovers.applier_turn work.applier.hint work.cutover) other
-        drained_now = final ∙ ap (λ (c : Course). drains plan c other) at ∙ ap (λ (b : Bool). attempt_after plan b work (cutovers.applier_turn work.applier.hint work.cutover) other) fails
+        drained_now = final ∙ ap (λ (c : ToolPhase). drains plan c other) at ∙ ap (λ (b : Bool). attempt_after plan b work (cutovers.applier_turn work.applier.hint work.cutover) other) fails
 
-        behind : has_passed (moment plan (take tool.turns more)).tool.course ≡ false
-        behind =
-            ap (λ (turns : List Entry). has_passed (moment plan turns).tool.course) whole ∙ ap (λ (t : Tool). has_passed t.course) drained_now
+        following : has_passed (moment plan (take tool.turns more)).tool.tool_phase ≡ false
+        following =
+            ap (λ (turns : List Entry). has_passed (moment plan turns).tool.tool_phase) whole ∙ ap (λ (t : Tool). has_passed t.tool_phase) drained_now
             ∙ passed_spends tasks.CutOver (work.attempt_tries ++ other.turns ∷ []) (working (record work { cutover = cutovers.applier_turn work.applier.hint work.cutover; attempt_tries = work.attempt_tries ++ other.turns ∷ [] }) other)
-            ∙ ap (λ (n : ℕ). work.applier.hint == n) (turned_attempts work.applier.hint work.cutover) ∙ drain.behind
+            ∙ ap (λ (n : ℕ). work.applier.hint == n) (turned_attempts work.applier.hint work.cutover) ∙ drain.following
 
-  drain_holds : entry.actor ≡ Apply → entry.asked ≢ Cut → (other : Tool) → New other → FromBefore other.course → (moment plan more).tool ≡ drains plan other.course other → (course : Course) → other.course ≡ course → New (drains plan course other)
+  drain_holds : entry.actor ≡ Apply → entry.asked ≢ Cut → (other : Tool) → New other → FromBefore other.tool_phase → (moment plan more).tool ≡ drains plan other.tool_phase other → (tool_phase : ToolPhase) → other.tool_phase ≡ tool_phase → New (drains plan tool_phase other)
   drain_holds who uncut other holds from final (SettingUp setup tries) at = holds
   drain_holds who uncut other holds from final (Migrating work) at =
       attempt_holds plan more (is_failure work.cutover.phase turned.phase) work turned other holds works (turned_limit work.applier.hint work.cutover ∙ works.limit) left tried where
@@ -607,7 +607,7 @@ module _ (plan : PlanData) (journal : List Entry) (entry : Entry) (together : Is
         turned = cutovers.applier_turn work.applier.hint work.cutover
 
         works : WorkHolds plan more work
-        works = subst (CourseHolds plan more) at holds.course
+        works = subst (ToolPhaseHolds plan more) at holds.tool_phase
 
         left : TurnsLeft plan.options.drain_limit turned.phase
         left = turned_left work.applier.hint work.cutover works.limit works.left
@@ -621,31 +621,31 @@ module _ (plan : PlanData) (journal : List Entry) (entry : Entry) (together : Is
             (subst (λ (n : ℕ). AttemptTries plan more (same.old.attempt_tries ++ n ∷ [])) (sym turns)
             (attempts_last plan journal entry same.old.attempt_tries tool.turns turn_is ((work_was same.old same.same).attempts some) (drain_failed who uncut other work at final same works some fails drain)))
 
-  counts_hold : (actor : Actor) → entry.actor ≡ actor → entry.asked ≢ Cut → (moment plan more).tool ≡ turn_counts plan actor (actor_took plan actor entry.answer now.tool.course tool) → New (turn_counts plan actor (actor_took plan actor entry.answer now.tool.course tool))
+  counts_hold : (actor : Actor) → entry.actor ≡ actor → entry.asked ≢ Cut → (moment plan more).tool ≡ turn_counts plan actor (actor_took plan actor entry.answer now.tool.tool_phase tool) → New (turn_counts plan actor (actor_took plan actor entry.answer now.tool.tool_phase tool))
   counts_hold Apply who uncut final =
-      drain_holds who uncut (actor_took plan Apply entry.answer now.tool.course tool) (actor_holds entry.answer Apply now.tool.course refl who (heard_so uncut)) (apply_from entry.answer now.tool.course refl) final
-      (actor_took plan Apply entry.answer now.tool.course tool).course refl
-  counts_hold actor who uncut final = actor_holds entry.answer actor now.tool.course refl who (heard_so uncut)
+      drain_holds who uncut (actor_took plan Apply entry.answer now.tool.tool_phase tool) (actor_holds entry.answer Apply now.tool.tool_phase refl who (heard_so uncut)) (apply_from entry.answer now.tool.tool_phase refl) final
+      (actor_took plan Apply entry.answer now.tool.tool_phase tool).tool_phase refl
+  counts_hold actor who uncut final = actor_holds entry.answer actor now.tool.tool_phase refl who (heard_so uncut)
 
-  heard_holds : entry.asked ≢ Cut → (moment plan more).tool ≡ turn_counts plan entry.actor (actor_took plan entry.actor entry.answer tool.course tool) → New (turn_counts plan entry.actor (actor_took plan entry.actor entry.answer tool.course tool))
+  heard_holds : entry.asked ≢ Cut → (moment plan more).tool ≡ turn_counts plan entry.actor (actor_took plan entry.actor entry.answer tool.tool_phase tool) → New (turn_counts plan entry.actor (actor_took plan entry.actor entry.answer tool.tool_phase tool))
   heard_holds uncut final = counts_hold entry.actor refl uncut final
 
   -- A COMMAND
 
-  resized_holds : (word : OperatorWord) (course : Course) → CourseHolds plan more course → CourseHolds plan more (resizes word course)
+  resized_holds : (word : OperatorWord) (tool_phase : ToolPhase) → ToolPhaseHolds plan more tool_phase → ToolPhaseHolds plan more (resizes word tool_phase)
   resized_holds (ChunkSize size) (Migrating work) holds = record { chunk = holds.chunk; batch = holds.batch; attempts = holds.attempts; limit = holds.limit; left = holds.left }
   resized_holds (ChunkSize size) (SettingUp setup tries) holds = holds
-  resized_holds Throttle course holds = holds
-  resized_holds NoThrottle course holds = holds
-  resized_holds Unpostpone course holds = holds
-  resized_holds Panic course holds = holds
-  resized_holds Wait course holds = holds
+  resized_holds Throttle tool_phase holds = holds
+  resized_holds NoThrottle tool_phase holds = holds
+  resized_holds Unpostpone tool_phase holds = holds
+  resized_holds Panic tool_phase holds = holds
+  resized_holds Wait tool_phase holds = holds
 
   abbrev taken : OperatorWord → Tool
-  taken word = record tool { operator = commanded word tool.operator; course = resizes word tool.course }
+  taken word = record tool { operator = commanded word tool.operator; tool_phase = resizes word tool.tool_phase }
 
   command_holds : (word : OperatorWord) → entry.asked ≡ Command word → New (command_took word tool)
-  command_holds word asks = by word asks (record { reason = unchanged.reason; course = resized_holds word now.tool.course unchanged.course; turns = unchanged.turns }) where
+  command_holds word asks = by word asks (record { reason = unchanged.reason; tool_phase = resized_holds word now.tool.tool_phase unchanged.tool_phase; turns = unchanged.turns }) where
     by : (word : OperatorWord) → entry.asked ≡ Command word → New (taken word) → New (panics word (taken word))
     by Panic asks holds = reverts_hold plan more (Panicked tool.turns) (taken Panic) (record { entry = entry; before = now; is = is_turn plan journal entry tool.turns turn_is; asked = asks }) holds
     by Throttle asks holds = holds
@@ -659,8 +659,8 @@ module _ (plan : PlanData) (journal : List Entry) (entry : Entry) (together : Is
   asked_holds : (asked : Asked) → entry.asked ≡ asked → (moment plan more).tool ≡ asked_took plan now.server entry asked tool → New (asked_took plan now.server entry asked tool)
   asked_holds (Command word) asks final = command_holds word asks
   asked_holds Cut asks final = by (has_work now.server entry.session) refl where
-    by : (b : Bool) → has_work now.server entry.session ≡ b → New (cond b (actor_took plan entry.actor answers.Lost tool.course tool) tool)
-    by true worked = actor_holds answers.Lost entry.actor now.tool.course refl refl (record { is = lost_at asks; work = λ cut. worked })
+    by : (b : Bool) → has_work now.server entry.session ≡ b → New (cond b (actor_took plan entry.actor answers.Lost tool.tool_phase tool) tool)
+    by true worked = actor_holds answers.Lost entry.actor now.tool.tool_phase refl refl (record { is = lost_at asks; work = λ cut. worked })
     by false idle = unchanged
   asked_holds (Call request) asks final = heard_holds (λ cut. no_cut (sym asks ∙ cut)) final where
     no_cut : Call request ≡ Cut → ⊥
@@ -678,4 +678,4 @@ module _ (plan : PlanData) (journal : List Entry) (entry : Entry) (together : Is
 
 pub holds_begin : (plan : PlanData) → ToolHolds plan [] (moment plan []).tool
 unfolding moment
-holds_begin plan = record { reason = tt; course = no_tries (IsFailedTry plan [] tasks.Setup) 0; turns = refl }
+holds_begin plan = record { reason = tt; tool_phase = no_tries (IsFailedTry plan [] tasks.Setup) 0; turns = refl }

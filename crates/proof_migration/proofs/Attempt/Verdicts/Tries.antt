@@ -99,7 +99,7 @@ module _ (plan : PlanData) (journal : List Entry) (last : Entry) where
       turns = undrained.turns;
       drained = undrained.drained;
       last = undrained.last;
-      behind = ap (λ (turns : List Entry). has_passed (moment plan turns).tool.course) upto ∙ undrained.behind;
+      following = ap (λ (turns : List Entry). has_passed (moment plan turns).tool.tool_phase) upto ∙ undrained.following;
     }
 
     bad_more : IsBad plan journal turn entry before → IsBad plan more turn entry before

@@ -22,12 +22,12 @@ use Rattle.server_model.specs.declared.session.Session.{Session}
 use Rattle.server_model.specs.declared.session.Waiting.{Waiting}
 use Rattle.server_model.specs.Answers.{ok}
 use Rattle.server_model.specs.Entries.{same_actor, is_client, is_command}
-use Rattle.server_model.specs.Locking.{need, blocker}
-use Rattle.server_model.specs.Serving.{done, without_waiting, counting, called_unless, calls, limit_if, is_over, polled_over, polled_unless, polled_of, polls, serves, leaves}
+use Rattle.server_model.specs.Blockers.{need, blocker}
+use Rattle.server_model.specs.PlainServer.{done, without_waiting, counting, called_unless, calls, limit_if, is_over, polled_over, polled_unless, polled_of, polls, serves, leaves}
 use Rattle.server_model.specs.States.{State, session_of, with_session, waiting_of, polls_of, is_of_tool}
 use Rattle.plan_data.specs.PlanData.{PlanData}
 use Rattle.tool_program.specs.JournalWords.Journals.{state_at, opens}
-use Rattle.tool_program.specs.JournalWords.Keeping.{words_of}
+use Rattle.tool_program.specs.JournalWords.KeptPlans.{words_of}
 use Rattle.tool_program.specs.JournalWords.Sessions.{live_session, session_left}
 use Rattle.tool_program.specs.CutoverCore.CutOvers.{is_wait}
 use Rattle.tool_program.specs.Failures.{is_call, is_poll, waited_for}
@@ -314,12 +314,12 @@ module _ (plan : PlanData) (journal : List Entry) (entry : Entry) (together : Is
       answer = answer_is no_side Poll asks ∙ ap (λ (o : Option Waiting). (polled_of o open_now own).answer) was
 
       times_out : (one : ℕ) → entry.answer ≡ (polled_over true one open_now own).answer → is_over open_now own ≡ true → IsOverdue plan journal own waited
-      times_out one told over = record {
-        over = told_is (sym timed ∙ told) ∙ ap (λ (s : State). polls_of (session_of own s.sessions) + 1) (still_open lives) ∙ times before plan.options.tool_wait (sym limit ∙ over);
+      times_out one reported over = record {
+        over = reported_is (sym timed ∙ reported) ∙ ap (λ (s : State). polls_of (session_of own s.sessions) + 1) (still_open lives) ∙ times before plan.options.tool_wait (sym limit ∙ over);
         polls = ap (λ (k : ℕ). waited_for k (turns_in own journal)) (sym (less before plan.options.tool_wait (times before plan.options.tool_wait (sym limit ∙ over)))) ∙ counts entry.actor own old tool lives waited_before;
       } where
-        told_is : answers.TimedOut waited ≡ answers.TimedOut (polls_of (session_of own open_now.sessions) + 1) → waited ≡ polls_of (session_of own open_now.sessions) + 1
-        told_is same = cc
+        reported_is : answers.TimedOut waited ≡ answers.TimedOut (polls_of (session_of own open_now.sessions) + 1) → waited ≡ polls_of (session_of own open_now.sessions) + 1
+        reported_is same = cc
 
         times : (n m : ℕ) → (n + 1 == m) ≡ true → n + 1 ≡ m
         times n m same = grind (arith, nat_tests)
@@ -328,14 +328,14 @@ module _ (plan : PlanData) (journal : List Entry) (entry : Entry) (together : Is
         less n m same = omega (arith, same)
 
       still_blocked : (one : ℕ) (b : Bool) → is_over open_now own ≡ b → entry.answer ≡ (polled_over b one open_now own).answer → IsOverdue plan journal own waited
-      still_blocked one true over told = times_out one told over
-      still_blocked one false over told = absurd (not_waits one told)
+      still_blocked one true over reported = times_out one reported over
+      still_blocked one false over reported = absurd (not_waits one reported)
 
       poll_is_over : IsOverdue plan journal own waited
       poll_is_over = by (blocker open_now own (need open_now own old.request)) answer where
         by : (blocked : Option ℕ) → entry.answer ≡ (polled_unless blocked open_now own old.request).answer → IsOverdue plan journal own waited
-        by None told = absurd (never_timed (done (without_waiting own open_now) own old.request).answer waited (done_answers (without_waiting own open_now) own old.request) (sym told ∙ timed))
-        by (Some one) told = still_blocked one (is_over open_now own) refl told
+        by None reported = absurd (never_timed (done (without_waiting own open_now) own old.request).answer waited (done_answers (without_waiting own open_now) own old.request) (sym reported ∙ timed))
+        by (Some one) reported = still_blocked one (is_over open_now own) refl reported
 
     not_ok : ok ≡ answers.TimedOut waited → ⊥
     not_ok same = cc
@@ -348,8 +348,8 @@ module _ (plan : PlanData) (journal : List Entry) (entry : Entry) (together : Is
       no same = cc
     heard_over (Call request) asks no_side = by (blocker open_now own (need open_now own request)) (answer_is no_side (Call request) asks) where
       by : (blocked : Option ℕ) → entry.answer ≡ (called_unless blocked open_now own request).answer → IsOverdue plan journal own waited
-      by None told = absurd (never_timed (done open_now own request).answer waited (done_answers open_now own request) (sym told ∙ timed))
-      by (Some one) told = absurd (not_waits one told)
+      by None reported = absurd (never_timed (done open_now own request).answer waited (done_answers open_now own request) (sym reported ∙ timed))
+      by (Some one) reported = absurd (not_waits one reported)
     heard_over Poll asks no_side = by (waiting_of own open_now.waiting) refl where
       by : (waiting : Option Waiting) → waiting_of own open_now.waiting ≡ waiting → IsOverdue plan journal own waited
       by None none = absurd (not_ok (sym (answer_is no_side Poll asks ∙ ap (λ (o : Option Waiting). (polled_of o open_now own).answer) none) ∙ timed))

@@ -13,18 +13,18 @@ use Rattle.server_model.specs.declared.session.Waiting.{Waiting}
 use Rattle.server_model.specs.Effects.{Effect, effect}
 use Rattle.server_model.specs.Effects.Effect.{Rests, Grows, Writes, Forgets, Moves, Locks, Unlocks}
 use Rattle.server_model.specs.Entries.{is_client, is_command}
-use Rattle.server_model.specs.Locking.{blocker, need}
-use Rattle.server_model.specs.Serving.{at_rest, called_unless, calls, counting, does, done, holding, is_over, leaves, locking, polled_of, polled_over, polled_unless, polls, serves, unlocking, without_waiting}
+use Rattle.server_model.specs.Blockers.{blocker, need}
+use Rattle.server_model.specs.PlainServer.{at_rest, called_unless, calls, counting, does, done, holding, is_over, leaves, locking, polled_of, polled_over, polled_unless, polls, serves, unlocking, without_waiting}
 use Rattle.server_model.specs.States.{State, opened, polls_of, session_of, waiting_of, with_session}
 use Rattle.tool_program.specs.JournalWords.Journals.{opens}
 use Rattle.proof_journals.specs.Scenes.{Scene}
 use Rattle.proof_journals.specs.Holdings.{Face, face_in, face_of}
-use Rattle.proof_journals.specs.Turns.{IsTold, about, answer_at, inner, request_of, scene_state}
+use Rattle.proof_journals.specs.Turns.{IsReported, about, answer_at, inner, request_of, scene_state}
 use Rattle.proof_journals.proofs.Faces.{changed_here, faces_opened, opened_live}
 use Rattle.proof_journals.proofs.Journals.{found_live, no_command, state_more}
 use Rattle.proof_journals.proofs.Waiting.{IsDone, done_answers}
 use Rattle.proof_journals.proofs.ServerTurns.Others.{at_wait}
-use Rattle.proof_journals.specs.Ghost.Leaving.{was_done, where_done}
+use Rattle.proof_journals.specs.Ghost.EffectStates.{was_done, where_done}
 use Rattle.proof_journals.proofs.Ghost.Leaving.{There}
 use Rattle.proof_migration.proofs.Migration.Copier.Knowing.{IsWait}
 
@@ -118,7 +118,7 @@ waits_busy now number Cut there waits = absurd waits
 
 -- IN A JOURNAL
 
-module _ (limits : Limits) (scene : Scene) (journal : List Entry) (entry : Entry) (request : Request) (told : IsTold limits scene journal entry) (heard : entry.side ≡ None) (asked : about (opens entry (scene_state limits scene journal)) entry.session entry.asked ≡ Some request) where
+module _ (limits : Limits) (scene : Scene) (journal : List Entry) (entry : Entry) (request : Request) (reported : IsReported limits scene journal entry) (heard : entry.side ≡ None) (asked : about (opens entry (scene_state limits scene journal)) entry.session entry.asked ≡ Some request) where
   abbrev before : State
   before = scene_state limits scene journal
 
@@ -134,7 +134,7 @@ module _ (limits : Limits) (scene : Scene) (journal : List Entry) (entry : Entry
       (λ found there. each (record { found = found; is = there }))
 
   answered : entry.answer ≡ (serves now entry.session entry.asked).answer
-  answered = told.answer ∙ ap (λ (s : Option Side). answer_at s (inner before entry)) heard
+  answered = reported.answer ∙ ap (λ (s : Option Side). answer_at s (inner before entry)) heard
 
   left : scene_state limits scene (journal ++ entry ∷ []) ≡ (serves now entry.session entry.asked).after
   left = state_more (opened limits scene.opening) journal entry ∙ ap (λ (s : Option Side). leaves s now entry.session entry.asked) heard

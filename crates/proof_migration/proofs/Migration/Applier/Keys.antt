@@ -8,12 +8,12 @@ use Rattle.base_values.specs.declared.kind.Kind.{Kind}
 use Rattle.base_values.specs.declared.kind.Kind.TheVariants.{Int, VarChar, VarBinary}
 use Rattle.base_values.specs.declared.value.Value.{Value}
 use Rattle.base_values.specs.declared.value.Value.TheVariants.{Null, Num, Text, Blob}
-use Rattle.base_values.specs.Storing.{IsOfKind, seeks, stores}
+use Rattle.base_values.specs.StoredValues.{IsOfKind, seeks, stores}
 use Rattle.base_values.proofs.StoredValues.{keeps}
 use Rattle.base_values.specs.declared.gho_schema.schema.Column.{Column}
 use Rattle.base_values.specs.declared.gho_schema.schema.Index.{Index}
 use Rattle.base_values.specs.declared.gho_schema.schema.Schema.{Schema}
-use Rattle.base_values.specs.GhoSchema.Clustering.{clustered_among, is_not_null, may_cluster}
+use Rattle.base_values.specs.GhoSchema.ClusteredKey.{clustered_among, is_not_null, may_cluster}
 use Rattle.base_values.specs.GhoSchema.Rows.{key_of, key_places}
 use Rattle.base_values.specs.GhoSchema.Tables.{IsRow}
 use Rattle.base_values.proofs.SchemaRules.Lists.{All-at, list_all-All, slice_get-map-some}
@@ -23,18 +23,18 @@ use Rattle.sql_change.specs.Columns.{is_key_conversion}
 use Rattle.table_store.specs.ClusteredKeys.{HasClusteredKey}
 use Rattle.base_script.specs.declared.statement.Set.{Set}
 use Rattle.server_model.specs.declared.answer.Answer.{Answer}
-use Rattle.server_model.specs.Checking.{are_distinct, has_columns, places_named, wanted_at, wanted_each}
+use Rattle.server_model.specs.Checks.{are_distinct, has_columns, places_named, wanted_at, wanted_each}
 use Rattle.server_model.proofs.LockedRows.Tests.{are_one, same_number}
 use Rattle.tool_program.specs.EventApplier.Appliers.{given_values}
 use Rattle.tool_program.specs.EventApplier.Appliers as appliers
-use Rattle.tool_program.specs.EventApplier.Planning.{key_sets}
+use Rattle.tool_program.specs.EventApplier.BatchPlans.{key_sets}
 use Rattle.proof_journals.specs.Ghost.Rows.Moments.{Row}
 use Rattle.proof_journals.specs.Ghost.Rows.Timelines.{IsPlanned, Migration, old_places}
-use Rattle.proof_journals.specs.Ghost.Holding.{Clustered}
+use Rattle.proof_journals.specs.Ghost.HeldKeys.{Clustered}
 use Rattle.proof_journals.proofs.Ghost.Keys.{clustered}
 use Rattle.proof_journals.proofs.Ghost.Texts.{FindsKey}
 use Rattle.proof_schemas.proofs.Alters.Apart.{names-apart}
-use Rattle.proof_migration.specs.Migration.Applier.Finding.{FindsRows, IsFrom}
+use Rattle.proof_migration.specs.Migration.Applier.FoundColumns.{FindsRows, IsFrom}
 use Rattle.proof_migration.proofs.Migration.Applier.Names.{HasColumn, key_named}
 
 -- VALUES OF ROWS

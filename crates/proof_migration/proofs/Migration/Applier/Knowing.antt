@@ -6,7 +6,7 @@ use Rattle.server_model.specs.declared.answer.Answer.TheVariants as answers
 use Rattle.server_model.specs.declared.entry.Entry.{Entry}
 use Rattle.server_model.specs.declared.outcome.Progress.TheVariants.{Unfit}
 use Rattle.server_model.specs.Entries.{answer_at}
-use Rattle.server_model.specs.Reading.{events_in}
+use Rattle.server_model.specs.EarlierAnswers.{events_in}
 use Rattle.tool_program.specs.declared.event_applier.applier.Applier.{Applier}
 use Rattle.tool_program.specs.declared.event_applier.applier.ApplyStep.{ApplyStep}
 use Rattle.tool_program.specs.declared.event_applier.applier.ApplyStep.TheVariants.{Reading, Beginning, Applying, Committing}
@@ -16,10 +16,10 @@ use Rattle.tool_program.specs.declared.event_applier.applier.Part.TheVariants.{W
 use Rattle.tool_program.specs.EventApplier.Appliers.{after_answer, call_at, next, progress, progress_at, took}
 use Rattle.proof_journals.specs.Ghost.Rows.Timelines.{Migration}
 use Rattle.proof_journals.specs.Ghost.Doings.{planned}
-use Rattle.proof_journals.specs.Ghost.Reading.{own_changes}
+use Rattle.proof_journals.specs.Ghost.OwnChanges.{own_changes}
 use Rattle.proof_migration.proofs.Migration.Copier.Knowing.{IsBad, IsGood, IsWait}
 use Rattle.tool_program.proofs.JournalWords.Answers.{answer_more}
-use Rattle.proof_migration.specs.Migration.Applier.Applying.{IsBatchTold, PartKnows, StepKnows, plan_at, plan_in, todo_of}
+use Rattle.proof_migration.specs.Migration.Applier.ApplierPlace.{IsBatchReported, PartKnows, StepKnows, plan_at, plan_in, todo_of}
 
 -- THE NEXT CALL
 
@@ -76,14 +76,14 @@ unfit_progress applier batch done part number column here = ap (λ (s : ApplySte
 
 -- WHAT STAYS KNOWN
 
-pub same_told : (m : Migration) (journal more : List Entry) (batch : Batch) → IsBatchTold m journal batch → answer_at (journal ++ more) batch.read ≡ answer_at journal batch.read
-same_told m journal more batch told = answer_more journal more batch.read _ told.told ∙ sym told.told
+pub same_reported : (m : Migration) (journal more : List Entry) (batch : Batch) → IsBatchReported m journal batch → answer_at (journal ++ more) batch.read ≡ answer_at journal batch.read
+same_reported m journal more batch reported = answer_more journal more batch.read _ reported.reported ∙ sym reported.reported
 
-pub told_more : (m : Migration) (journal more : List Entry) (batch : Batch) → IsBatchTold m journal batch → IsBatchTold m (journal ++ more) batch
-told_more m journal more batch told = record { events = told.events; told = answer_more journal more batch.read _ told.told; counted = told.counted; rows = told.rows }
+pub reported_more : (m : Migration) (journal more : List Entry) (batch : Batch) → IsBatchReported m journal batch → IsBatchReported m (journal ++ more) batch
+reported_more m journal more batch reported = record { events = reported.events; reported = answer_more journal more batch.read _ reported.reported; counted = reported.counted; rows = reported.rows }
 
-pub todo_more : (m : Migration) (journal more : List Entry) (batch : Batch) (done : ℕ) → IsBatchTold m journal batch → todo_of m (journal ++ more) batch done ≡ todo_of m journal batch done
-todo_more m journal more batch done told = ap (λ (answer : Option Answer). drop done (planned m (own_changes m.name (events_in answer)))) (same_told m journal more batch told)
+pub todo_more : (m : Migration) (journal more : List Entry) (batch : Batch) (done : ℕ) → IsBatchReported m journal batch → todo_of m (journal ++ more) batch done ≡ todo_of m journal batch done
+todo_more m journal more batch done reported = ap (λ (answer : Option Answer). drop done (planned m (own_changes m.name (events_in answer)))) (same_reported m journal more batch reported)
 
 pub plan_more : (m : Migration) (journal more : List Entry) (step : ApplyStep) → StepKnows m journal step → plan_at m (journal ++ more) step ≡ plan_at m journal step
 plan_more m journal more Reading knows = refl
@@ -91,11 +91,11 @@ plan_more m journal more (Beginning batch) knows = ap (plan_in Whole batch.next)
 plan_more m journal more (Applying batch done part) knows = ap (plan_in part batch.next) (todo_more m journal more batch done knows.0)
 plan_more m journal more (Committing batch) knows = refl
 
-pub part_more : (m : Migration) (journal more : List Entry) (batch : Batch) (done : ℕ) (part : Part) → IsBatchTold m journal batch → PartKnows part (todo_of m journal batch done) → PartKnows part (todo_of m (journal ++ more) batch done)
-part_more m journal more batch done part told knows = subst (PartKnows part) (sym (todo_more m journal more batch done told)) knows
+pub part_more : (m : Migration) (journal more : List Entry) (batch : Batch) (done : ℕ) (part : Part) → IsBatchReported m journal batch → PartKnows part (todo_of m journal batch done) → PartKnows part (todo_of m (journal ++ more) batch done)
+part_more m journal more batch done part reported knows = subst (PartKnows part) (sym (todo_more m journal more batch done reported)) knows
 
 pub step_more : (m : Migration) (journal more : List Entry) (step : ApplyStep) → StepKnows m journal step → StepKnows m (journal ++ more) step
 step_more m journal more Reading knows = tt
-step_more m journal more (Beginning batch) knows = (told_more m journal more batch knows.0, knows.1)
-step_more m journal more (Applying batch done part) knows = (told_more m journal more batch knows.0, knows.1, part_more m journal more batch done part knows.0 knows.2)
+step_more m journal more (Beginning batch) knows = (reported_more m journal more batch knows.0, knows.1)
+step_more m journal more (Applying batch done part) knows = (reported_more m journal more batch knows.0, knows.1, part_more m journal more batch done part knows.0 knows.2)
 step_more m journal more (Committing batch) knows = tt

@@ -13,9 +13,9 @@ use Rattle.base_values.proofs.SchemaRules.SameNames.{other_name-turned, same_nam
 use Rattle.base_values.specs.declared.row_conversion.map.MapColumn.{MapColumn}
 use Rattle.proof_schemas.proofs.Alters.Apart.{Apart, IsNot}
 use Rattle.base_script.specs.declared.statement.Set.{Set}
-use Rattle.server_model.specs.Checking.{are_distinct, place_of, places_from, places_named}
+use Rattle.server_model.specs.Checks.{are_distinct, place_of, places_from, places_named}
 use Rattle.tool_program.specs.EventApplier.Appliers.{name_at, sets}
-use Rattle.tool_program.specs.EventApplier.Planning.{key_sets}
+use Rattle.tool_program.specs.EventApplier.BatchPlans.{key_sets}
 use Rattle.proof_journals.specs.Ghost.Rows.Moments.{Row}
 
 -- one of the columns that have another name
@@ -57,13 +57,13 @@ key_named schema cs row (place ∷ places) apart all =
 -- ALL COLUMNS
 
 -- the columns behind so many others
-abbrev Behind : List Column → ℕ → List Column → Type 0
-Behind all place columns = (i : ℕ) → slice_get all (place + i) ≡ slice_get columns i
+abbrev Following : List Column → ℕ → List Column → Type 0
+Following all place columns = (i : ℕ) → slice_get all (place + i) ≡ slice_get columns i
 
-after_next : (all : List Column) (place : ℕ) (first : Column) (columns : List Column) → Behind all place (first ∷ columns) → Behind all (place + 1) columns
+after_next : (all : List Column) (place : ℕ) (first : Column) (columns : List Column) → Following all place (first ∷ columns) → Following all (place + 1) columns
 after_next all place first columns is i = let e : (place + 1) + i ≡ place + (suc i) = omega arith in ap (slice_get all) e ∙ is (suc i)
 
-all_named : (schema : Schema) (place : ℕ) (columns : List Column) (values : List Value) → Apart schema.columns → Behind schema.columns place columns → length values ≡ length columns → places_named schema (map (λ (s : Set). s.column) (sets columns values)) ≡ Ok (places_from place columns)
+all_named : (schema : Schema) (place : ℕ) (columns : List Column) (values : List Value) → Apart schema.columns → Following schema.columns place columns → length values ≡ length columns → places_named schema (map (λ (s : Set). s.column) (sets columns values)) ≡ Ok (places_from place columns)
 unfolding places_named
 all_named schema place [] values apart is long = refl
 all_named schema place (first ∷ columns) [] apart is long = absurd (omega (arith, long))

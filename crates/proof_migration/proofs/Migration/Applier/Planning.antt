@@ -6,7 +6,7 @@ use Rattle.std.specs.Str.{bytes_eq}
 use Rattle.std.specs.Ordering.{is_eq}
 use Rattle.std.proofs.lemmas.Option.{slice_get_within}
 use Rattle.base_values.specs.declared.value.Value.{Value}
-use Rattle.base_values.specs.Comparing.{compare_keys}
+use Rattle.base_values.specs.KeyOrder.{compare_keys}
 use Rattle.base_values.specs.declared.gho_schema.schema.Column.{Column}
 use Rattle.base_values.specs.declared.gho_schema.schema.Index.{Index}
 use Rattle.base_values.specs.declared.gho_schema.schema.Schema.{Schema}
@@ -28,10 +28,10 @@ use Rattle.proof_journals.proofs.Ghost.Rows.TimelineLaws.{each_table, step}
 use Rattle.proof_journals.specs.Ghost.Rows.Moments.{Fits, LogFits, Row, rows_at}
 use Rattle.proof_journals.specs.Ghost.Rows.Timelines.{EventAt, IsPlanned, Migration, changes_key, kept}
 use Rattle.proof_journals.specs.Ghost.Doings.{changes_in, doings, own_change, planned}
-use Rattle.proof_journals.specs.Ghost.Reading.{own_changes}
+use Rattle.proof_journals.specs.Ghost.OwnChanges.{own_changes}
 use Rattle.proof_journals.proofs.Ghost.Tests.{HasOld, changes_given, tests_alike, values_at}
-use Rattle.proof_migration.specs.Migration.Applier.Applying.{ChangesRows}
-use Rattle.proof_migration.specs.Migration.Applier.Finding.{FindsRows, IsFrom}
+use Rattle.proof_migration.specs.Migration.Applier.ApplierPlace.{ChangesRows}
+use Rattle.proof_migration.specs.Migration.Applier.FoundColumns.{FindsRows, IsFrom}
 use Rattle.proof_migration.proofs.Migration.Applier.Keys.{value_of}
 
 -- WHETHER A KEY CHANGES

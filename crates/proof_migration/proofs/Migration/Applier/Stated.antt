@@ -4,10 +4,10 @@ use Rattle.std.specs.List.{AllByRecursion}
 use Rattle.base_values.specs.declared.gho_schema.schema.Column.{Column}
 use Rattle.base_values.specs.declared.gho_schema.schema.Index.{Index}
 use Rattle.base_values.specs.declared.gho_schema.schema.Schema.{Schema}
-use Rattle.base_values.specs.GhoSchema.Clustering.{clustered_key}
+use Rattle.base_values.specs.GhoSchema.ClusteredKey.{clustered_key}
 use Rattle.base_values.specs.GhoSchema.Rows.{places_of}
-use Rattle.sql_change.specs.declared.so_far.Standing.{Standing}
-use Rattle.sql_change.specs.Altering.{map_of}
+use Rattle.sql_change.specs.declared.so_far.AlteredSoFar.{AlteredSoFar}
+use Rattle.sql_change.specs.AlteredSchema.{map_of}
 use Rattle.proof_schemas.proofs.Alters.ConvertedRowTables.{Both, both-clustered}
 use Rattle.proof_schemas.proofs.Alters.ConvertedRows.{map-at}
 use Rattle.proof_schemas.proofs.Alters.KeepingKeys.{Ends, ends}
@@ -17,7 +17,7 @@ use Rattle.proof_journals.specs.Ghost.Rows.Timelines.{old_places}
 use Rattle.proof_journals.specs.Ghost.Statements.{SameColumns}
 use Rattle.proof_migration.specs.Migration.Planning.{migration_of}
 use Rattle.proof_migration.proofs.Migration.Planning.OldPlaces.{clustered_places}
-use Rattle.proof_migration.specs.Migration.Applier.Finding.{IsFrom}
+use Rattle.proof_migration.specs.Migration.Applier.FoundColumns.{IsFrom}
 use Rattle.proof_migration.specs.Migration.Applier.Laws.{AltersFindRows}
 
 -- the map's columns are the altered table's
@@ -28,7 +28,7 @@ same_columns (column ∷ columns) [] same = absurd (omega (arith, same))
 same_columns (column ∷ columns) (origin ∷ origins) same = (refl, refl, same_columns columns origins (omega (arith, same)))
 
 -- a traced key's columns were columns before
-module _ (schema : Schema) (standing : Standing) where
+module _ (schema : Schema) (standing : AlteredSoFar) where
   abbrev made : Altered
   made = (standing.schema, map_of standing.schema.columns standing.origins)
 

@@ -2,7 +2,7 @@
 use Rattle.std.proofs.Common.{◌≡◌, ℕ, suc, true, false, List, [], ◌∷◌, length, Some, None, Result, Ok, Err, refl, sym, ap, ◌∙◌}
 use Rattle.base_values.specs.declared.gho_schema.schema.Column.{Column}
 use Rattle.base_values.specs.declared.gho_schema.schema.Schema.{Schema}
-use Rattle.base_values.specs.GhoSchema.Clustering.{clustered_place}
+use Rattle.base_values.specs.GhoSchema.ClusteredKey.{clustered_place}
 use Rattle.base_values.specs.GhoSchema.Rows.{key_of, key_places}
 use Rattle.base_values.specs.GhoSchema.Tables.{IsRow}
 use Rattle.base_values.specs.declared.row_conversion.conversion_fault.UnfitAt.{UnfitAt}
@@ -14,18 +14,18 @@ use Rattle.base_script.specs.declared.statement.Statement.TheVariants as stateme
 use Rattle.server_model.specs.declared.work.Work.{Work}
 use Rattle.server_model.specs.declared.work.Work.TheVariants as works
 use Rattle.server_model.specs.Answers.{refuses, refuses_value}
-use Rattle.server_model.specs.Checking.{are_distinct, reach_equal, reach_of, work_of}
-use Rattle.server_model.specs.Jobs.{table_of}
+use Rattle.server_model.specs.Checks.{are_distinct, reach_equal, reach_of, work_of}
+use Rattle.server_model.specs.Operations.{table_of}
 use Rattle.tool_program.specs.declared.event_applier.applier.Applier.{Applier}
 use Rattle.tool_program.specs.EventApplier.Appliers.{Doing, by_key, given_values, sets, statement_of}
 use Rattle.tool_program.specs.EventApplier.Appliers.Doing.{Putting, Removing, Changing}
-use Rattle.tool_program.specs.EventApplier.Planning.{key_sets}
+use Rattle.tool_program.specs.EventApplier.BatchPlans.{key_sets}
 use Rattle.proof_journals.specs.Ghost.Rows.Moments.{Row}
 use Rattle.proof_journals.specs.Ghost.Rows.Timelines.{IsPlanned, Migration}
-use Rattle.proof_journals.specs.Ghost.Holding.{Clustered}
+use Rattle.proof_journals.specs.Ghost.HeldKeys.{Clustered}
 use Rattle.proof_journals.specs.Ghost.Statements.{SameColumns, delete_at, unfit_at, update_at}
 use Rattle.proof_journals.proofs.Ghost.Texts.{delete_text, replace_refused, replace_work, sets_or, update_text}
-use Rattle.proof_migration.specs.Migration.Applier.Finding.{FindsRows}
+use Rattle.proof_migration.specs.Migration.Applier.FoundColumns.{FindsRows}
 use Rattle.proof_migration.proofs.Migration.Applier.Keys.{finds_key, key_is_long, key_is_wanted, names_found, new_at}
 use Rattle.proof_migration.proofs.Migration.Applier.Names.{all_distinct, all_values, columns_named}
 

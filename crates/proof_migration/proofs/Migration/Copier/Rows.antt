@@ -21,12 +21,12 @@ use Rattle.server_model.specs.declared.outcome.Progress.TheVariants.{Unfit}
 use Rattle.server_model.specs.declared.work.Work.{Work}
 use Rattle.server_model.specs.declared.work.Work.TheVariants as works
 use Rattle.server_model.specs.Answers.{refuses_value}
-use Rattle.server_model.specs.Checking.{beside, new_row, places_from, row_from}
+use Rattle.server_model.specs.Checks.{beside, new_row, places_from, row_from}
 use Rattle.base_values.specs.declared.span.Span.{Span}
 use Rattle.server_model.specs.Chunks.{first_keys, span_keys}
 use Rattle.server_model.specs.Chunks as chunks
-use Rattle.server_model.specs.Jobs.{Job, after_events, copy_job, copy_work, events_of, job_says}
-use Rattle.server_model.specs.Saying.{tells}
+use Rattle.server_model.specs.Operations.{Operation, after_events, copy_operation, copy_work, events_of, operation_result}
+use Rattle.server_model.specs.StatementResults.{tells}
 use Rattle.tool_program.specs.declared.chunk_copier.copier.Chunk.{Chunk}
 use Rattle.tool_program.specs.declared.chunk_copier.copier.Copier.{Copier}
 use Rattle.tool_program.specs.declared.chunk_copier.copier.CopyStep.{CopyStep}
@@ -84,7 +84,7 @@ refuses_converted_row schema map row at imaged = rw imaged refl
 
 -- the copy of the row that stands at the key
 pub copy_is : (seen : Database) (from into : List ℕ) (map : List MapColumn) (key row : Row) (old : TableRows) (schema : Schema) → find_table from seen ≡ Some old → find (is_at (key_places old.schema) key) old.rows ≡ Some row
-    → (copy_job seen from into map key).work schema ≡ copy_work (Some (converted_row map row)) schema
+    → (copy_operation seen from into map key).work schema ≡ copy_work (Some (converted_row map row)) schema
 copy_is seen from into map key row old schema found stands = rw (found, stands) refl
 
 -- events of one table are none of another's
@@ -109,13 +109,13 @@ pub record NewSeen (m : Migration) (seen : Database) : Type 0 where
   pub is : find_table m.new.name seen ≡ Some (record { schema = m.new; rows = rows })
 
 -- so many rows were copied
-pub record Counted (seen : Database) (job : Job) : Type 0 where
+pub record Counted (seen : Database) (operation : Operation) : Type 0 where
   pub count : ℕ
-  pub is : (job_says seen job).answer ≡ answers.Ok count
+  pub is : (operation_result seen operation).answer ≡ answers.Ok count
 
-pub job_tells : (seen : Database) (job : Job) (schema : Schema) (rows : List Row) (work : Work) → find_table job.table seen ≡ Some (record { schema = schema; rows = rows }) → job.work schema ≡ work → (job_says seen job).answer ≡ (tells schema rows work).answer
-unfolding job_says
-job_tells seen job schema rows work found does = rw (found, does) refl
+pub operation_tells : (seen : Database) (operation : Operation) (schema : Schema) (rows : List Row) (work : Work) → find_table operation.table seen ≡ Some (record { schema = schema; rows = rows }) → operation.work schema ≡ work → (operation_result seen operation).answer ≡ (tells schema rows work).answer
+unfolding operation_result
+operation_tells seen operation schema rows work found does = rw (found, does) refl
 
 refuses_so : (schema : Schema) (rows : List Row) (refusal : Answer) → (tells schema rows (works.Refuse refusal)).answer ≡ refusal
 unfolding tells
@@ -126,14 +126,14 @@ unfolding tells
 copies_so schema rows made true is = rw is refl
 copies_so schema rows made false is = rw is refl
 
-pub refused_says : (seen : Database) (job : Job) (schema : Schema) (rows : List Row) (refusal : Answer) → find_table job.table seen ≡ Some (record { schema = schema; rows = rows }) → job.work schema ≡ works.Refuse refusal → (job_says seen job).answer ≡ refusal
-refused_says seen job schema rows refusal found does = job_tells seen job schema rows (works.Refuse refusal) found does ∙ refuses_so schema rows refusal
+pub refused_says : (seen : Database) (operation : Operation) (schema : Schema) (rows : List Row) (refusal : Answer) → find_table operation.table seen ≡ Some (record { schema = schema; rows = rows }) → operation.work schema ≡ works.Refuse refusal → (operation_result seen operation).answer ≡ refusal
+refused_says seen operation schema rows refusal found does = operation_tells seen operation schema rows (works.Refuse refusal) found does ∙ refuses_so schema rows refusal
 
-pub copied_says : (seen : Database) (job : Job) (schema : Schema) (rows : List Row) (made : Row) → find_table job.table seen ≡ Some (record { schema = schema; rows = rows }) → job.work schema ≡ works.Copy made → Counted seen job
-copied_says seen job schema rows made found does = by (list_any (clash schema.uniques made) rows) refl
+pub copied_says : (seen : Database) (operation : Operation) (schema : Schema) (rows : List Row) (made : Row) → find_table operation.table seen ≡ Some (record { schema = schema; rows = rows }) → operation.work schema ≡ works.Copy made → Counted seen operation
+copied_says seen operation schema rows made found does = by (list_any (clash schema.uniques made) rows) refl
   where
-    by : (b : Bool) → list_any (clash schema.uniques made) rows ≡ b → Counted seen job
-    by b is = record { count = cond b 0 1; is = job_tells seen job schema rows (works.Copy made) found does ∙ copies_so schema rows made b is }
+    by : (b : Bool) → list_any (clash schema.uniques made) rows ≡ b → Counted seen operation
+    by b is = record { count = cond b 0 1; is = operation_tells seen operation schema rows (works.Copy made) found does ∙ copies_so schema rows made b is }
 
 -- a refusal with a column ends the copy
 pub unfit_progress : (copier : Copier) (chunk : Chunk) (copied number column : ℕ) → copier.step ≡ Copying chunk copied → progress copier (answers.Refused number (Some column)) ≡ Unfit column number

@@ -13,7 +13,7 @@ use Rattle.server_model.specs.Answers.{refuses}
 use Rattle.server_model.specs.Effects.{Effect, effect, effect_unless, effect_within, is_outside}
 use Rattle.server_model.specs.Effects.Effect.{Rests}
 use Rattle.server_model.specs.Entries.{is_client, is_command}
-use Rattle.server_model.specs.Jobs.{after_events}
+use Rattle.server_model.specs.Operations.{after_events}
 use Rattle.server_model.specs.States.{State, is_in_transaction, session_of, view, writes_of}
 use Rattle.tool_program.specs.JournalWords.Journals.{opens}
 use Rattle.server_model.proofs.LockedRows.Tests.{are_one}
@@ -23,12 +23,12 @@ use Rattle.proof_journals.proofs.Faces.{faces_opened, writes_face, busy_face}
 use Rattle.proof_journals.proofs.Journals.{stored_opened}
 use Rattle.proof_journals.specs.Ghost.Rows.Moments.{Row}
 use Rattle.proof_journals.specs.Ghost.Rows.Timelines.{Migration}
-use Rattle.proof_journals.specs.Ghost.Holding.{Clustered}
-use Rattle.proof_journals.specs.Ghost.Leaving.{where_done}
-use Rattle.proof_journals.specs.Ghost.Running.{ApplyPlan, ToolStands}
+use Rattle.proof_journals.specs.Ghost.HeldKeys.{Clustered}
+use Rattle.proof_journals.specs.Ghost.EffectStates.{where_done}
+use Rattle.proof_journals.specs.Ghost.ToolTurns.{ApplyPlan, ToolStands}
 use Rattle.proof_journals.specs.Ghost.Tool.{CopyState}
 use Rattle.proof_journals.proofs.Ghost.Leaving.{holds_of}
-use Rattle.proof_migration.specs.Migration.Copier.Copying.{moment_of}
+use Rattle.proof_migration.specs.Migration.Copier.CopierPlace.{moment_of}
 
 -- the tables as the session sees them
 abbrev pub seen_of : State → ℕ → Database

@@ -5,10 +5,10 @@ use Rattle.std.specs.Ordering.{is_eq}
 use Rattle.std.proofs.lemmas.Bool.{not-false}
 use Rattle.std.proofs.lemmas.Map.Keys.{any_passes_from_place}
 use Rattle.base_values.specs.declared.value.Value.{Value}
-use Rattle.base_values.specs.Comparing.{compare_keys}
+use Rattle.base_values.specs.KeyOrder.{compare_keys}
 use Rattle.base_values.specs.declared.gho_schema.schema.Index.{Index}
 use Rattle.base_values.specs.declared.gho_schema.schema.Schema.{Schema}
-use Rattle.base_values.specs.GhoSchema.Clustering.{clustered_key}
+use Rattle.base_values.specs.GhoSchema.ClusteredKey.{clustered_key}
 use Rattle.base_values.specs.GhoSchema.Rows.{key_of}
 use Rattle.base_values.specs.GhoSchema.Tables.{IsRow, clash, no_null}
 use Rattle.base_values.specs.declared.row_conversion.clause.Clause.{Clause}
@@ -18,8 +18,8 @@ use Rattle.base_values.specs.SchemaRules.Valid.{IsValid}
 use Rattle.base_values.specs.SchemaRules.Reasons.{first_reason}
 use Rattle.base_values.proofs.SchemaRules.Steps.{none_first}
 use Rattle.sql_change.specs.declared.code.AlterCode.TheVariants as codes
-use Rattle.sql_change.specs.declared.so_far.Standing.{Standing}
-use Rattle.sql_change.specs.Altering.{keeps_key, result_reasons, map_of, altered}
+use Rattle.sql_change.specs.declared.so_far.AlteredSoFar.{AlteredSoFar}
+use Rattle.sql_change.specs.AlteredSchema.{keeps_key, result_reasons, map_of, altered}
 use Rattle.proof_schemas.specs.Alters.Laws.{Altered}
 use Rattle.proof_schemas.proofs.Alters.ConvertedRows.{map-at, key-same}
 use Rattle.proof_schemas.proofs.Alters.Steps.{Kept}
@@ -28,7 +28,7 @@ use Rattle.proof_schemas.proofs.Alters.KeepingKeys.{ends, at-place, any-item, cl
 use Rattle.proof_journals.specs.Ghost.Rows.Timelines.{old_places, kept_key, kept_keys}
 
 -- the places that a traced key's columns come from
-pub from-places : (old : Schema) (standing : Standing) (places sources : List ℕ) → SamePlaces old standing places sources → old_places (map_of standing.schema.columns standing.origins) places ≡ sources
+pub from-places : (old : Schema) (standing : AlteredSoFar) (places sources : List ℕ) → SamePlaces old standing places sources → old_places (map_of standing.schema.columns standing.origins) places ≡ sources
 from-places old standing [] [] same = refl
 from-places old standing [] (q ∷ qs) same = absurd same
 from-places old standing (p ∷ ps) [] same = absurd same
@@ -42,7 +42,7 @@ pub record StaysAt (schema : Schema) (new : Altered) (index : Index) : Type 0 wh
   pub places : old_places new.1 index.places ≡ old.places
   pub keeps : (row made : List Value) → IsRow schema.columns row → converted_row new.1 row ≡ Ok made → key_of index.places made ≡ key_of old.places row
 
-stays-at : (schema : Schema) (standing : Standing) (place : ℕ) (index : Index) → Kept schema standing → slice_get standing.schema.uniques place ≡ Some index → StaysAt schema (standing.schema, map_of standing.schema.columns standing.origins) index
+stays-at : (schema : Schema) (standing : AlteredSoFar) (place : ℕ) (index : Index) → Kept schema standing → slice_get standing.schema.uniques place ≡ Some index → StaysAt schema (standing.schema, map_of standing.schema.columns standing.origins) index
 stays-at schema standing place index kept e =
     let t = at-place (Traced schema standing) standing.schema.uniques place index kept.traced e in
     record { place = t.place; old = t.source; stands = t.stands; places = from-places schema standing index.places t.source.places t.places; keeps = λ row made is h. key-same schema standing row made is h index.places t.source.places t.places }
@@ -87,7 +87,7 @@ converted_rows_clash approve schema clauses new a b made other valid e is also c
     any_passes_from_place (clashes a b) (kept_keys new.1 new.0.uniques) found.place (kept_key new.1 found.item) (get-kept new.1 new.0.uniques found.place found.item found.here) passes
 
 -- *The clustered key is kept.*
-pub clustered_from : (schema : Schema) (standing : Standing) (old index : Index) → Kept schema standing → first_reason (result_reasons schema standing) ≡ None → clustered_key schema ≡ Some old → clustered_key standing.schema ≡ Some index
+pub clustered_from : (schema : Schema) (standing : AlteredSoFar) (old index : Index) → Kept schema standing → first_reason (result_reasons schema standing) ≡ None → clustered_key schema ≡ Some old → clustered_key standing.schema ≡ Some index
     → old_places (map_of standing.schema.columns standing.origins) index.places ≡ old.places
 clustered_from schema standing old index kept none there here =
     let changed = not (keeps_key standing (clustered_key schema) (clustered_key standing.schema)) in

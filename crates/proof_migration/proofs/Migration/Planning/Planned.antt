@@ -6,7 +6,7 @@ use Rattle.std.proofs.lemmas.Bool.{and_parts, not-false}
 use Rattle.base_values.specs.Laws.{StoresAgain}
 use Rattle.base_values.specs.declared.gho_schema.schema.Index.{Index}
 use Rattle.base_values.specs.declared.gho_schema.schema.Schema.{Schema}
-use Rattle.base_values.specs.GhoSchema.Clustering.{is_not_null, clustered_key}
+use Rattle.base_values.specs.GhoSchema.ClusteredKey.{is_not_null, clustered_key}
 use Rattle.base_values.specs.GhoSchema.Rows.{places_of}
 use Rattle.base_values.specs.declared.row_conversion.map.MapColumn.{MapColumn}
 use Rattle.base_values.specs.SchemaRules.Valid.{IsKey, IsValid, IsNotNull}
@@ -16,8 +16,8 @@ use Rattle.base_values.proofs.SchemaRules.Steps.{none_first}
 use Rattle.table_store.specs.ClusteredKeys.{HasClusteredKey}
 use Rattle.sql_change.specs.declared.code.AlterCode.{AlterCode}
 use Rattle.sql_change.specs.declared.code.AlterCode.TheVariants as codes
-use Rattle.sql_change.specs.declared.so_far.Standing.{Standing}
-use Rattle.sql_change.specs.Altering.{keeps_key, result_reasons, same_columns}
+use Rattle.sql_change.specs.declared.so_far.AlteredSoFar.{AlteredSoFar}
+use Rattle.sql_change.specs.AlteredSchema.{keeps_key, result_reasons, same_columns}
 use Rattle.proof_schemas.proofs.Alters.ConvertedRowRows.{converted_rows_are_rows}
 use Rattle.proof_schemas.proofs.Alters.ConvertedRowTables.{Both, both-clustered, clustered_keys_kept}
 use Rattle.proof_schemas.proofs.Alters.KeepingKeys.{at-place, clustered-stands, ends}
@@ -51,7 +51,7 @@ old_keyed schema index valid there =
     keyed schema index there (has_columns schema index valid there) (subst (λ (o : Option Index). IsNotNull schema.columns o) there valid.clustered)
 
 -- none of the altered table's clustered columns may be null
-kept_not_null : (standing : Standing) (a b : Option Index) (index : Index) → b ≡ Some index → keeps_key standing a b ≡ true → AreNotNull standing.schema index.places
+kept_not_null : (standing : AlteredSoFar) (a b : Option Index) (index : Index) → b ≡ Some index → keeps_key standing a b ≡ true → AreNotNull standing.schema index.places
 kept_not_null standing (Some old) (Some found) index is e =
     let same : found ≡ index = cc in
     let parts = and_parts (same_columns standing.origins found.places old.places) (list_all (λ place. is_not_null (slice_get standing.schema.columns place)) found.places) e in
@@ -59,7 +59,7 @@ kept_not_null standing (Some old) (Some found) index is e =
 kept_not_null standing (Some old) None index is e = absurd cc
 kept_not_null standing None b index is e = absurd cc
 
-end_not_null : (schema : Schema) (standing : Standing) (index : Index) → first_reason (result_reasons schema standing) ≡ None → clustered_key standing.schema ≡ Some index → AreNotNull standing.schema index.places
+end_not_null : (schema : Schema) (standing : AlteredSoFar) (index : Index) → first_reason (result_reasons schema standing) ≡ None → clustered_key standing.schema ≡ Some index → AreNotNull standing.schema index.places
 end_not_null schema standing index none here =
     let changed = not (keeps_key standing (clustered_key schema) (clustered_key standing.schema)) in
     let first = none_first (eqb (length standing.schema.columns) 0) codes.AllColumnsDropped ((changed, codes.ClusteredKeyChange) ∷ []) none in

@@ -23,7 +23,7 @@ none_of_both t (event ∷ part) none = by (bytes_eq event.table t) (bytes_eq eve
   by false false is none rest = rest none
 
 -- *None is told*
-pub none_told : (t : List ℕ) (log : List RowEvent) (position next : ℕ) (events : List RowEvent) → IsRead t log position events next → events_of t (drop position log) ≡ [] → events_of t events ≡ []
-none_told t log position next events is none = ap (events_of t) is.read ∙ none_of_both t is.part (none_front t is.part (drop next log) (ap (events_of t) (sym parts) ∙ none)) where
+pub none_reported : (t : List ℕ) (log : List RowEvent) (position next : ℕ) (events : List RowEvent) → IsRead t log position events next → events_of t (drop position log) ≡ [] → events_of t events ≡ []
+none_reported t log position next events is none = ap (events_of t) is.read ∙ none_of_both t is.part (none_front t is.part (drop next log) (ap (events_of t) (sym parts) ∙ none)) where
   parts : drop position log ≡ is.part ++ drop next log
   parts = append_cancel_left (take position log) (drop position log) (is.part ++ drop next log) (take-append-drop position log ∙ sym (take-append-drop next log) ∙ ap (λ (l : List RowEvent). l ++ drop next log) is.joins ∙ append_assoc (take position log) is.part (drop next log))

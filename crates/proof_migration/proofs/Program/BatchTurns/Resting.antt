@@ -24,18 +24,18 @@ use Rattle.tool_program.specs.JournalWords.Sessions.{live_session}
 use Rattle.tool_program.specs.Operators.{is_throttled}
 use Rattle.tool_program.specs.Programs.{Follows, apply_call, copy_call, given, in_transaction, rolls_back, tool_call}
 use Rattle.tool_program.specs.Setups.{Setup, Listing, Clearing, MakingLog, MakingGhost, Marking, Reaching, Ready, setup_after}
-use Rattle.tool_program.specs.Tools.{Course, Migrating, SettingUp, Tool, Work, course_of, is_reverting, moment, stopped}
-use Rattle.proof_journals.specs.Machine.Machines.{ApplierStands, CourseStands, applier_asks, copier_asks}
+use Rattle.tool_program.specs.Tools.{ToolPhase, Migrating, SettingUp, Tool, Work, tool_phase_of, is_reverting, moment, stopped}
+use Rattle.proof_journals.specs.Machine.Machines.{ApplierStands, ToolPhaseStands, applier_asks, copier_asks}
 use Rattle.proof_journals.specs.Machine.Runnable.{IsRunnable}
 use Rattle.proof_journals.specs.Machine.Standings.{standing_of}
-use Rattle.proof_journals.specs.Machine.Tabling.{CourseTables, WorkTables}
+use Rattle.proof_journals.specs.Machine.MigrationTables.{ToolPhaseTables, WorkTables}
 use Rattle.proof_journals.proofs.Machine.Asking.{applier_next, copier_next, unless_called}
 use Rattle.proof_journals.proofs.Machine.Calling.{reverting_or}
 use Rattle.proof_journals.proofs.Machine.Journals.{Asking, IsRun, IsTogether, all_runs, apply_called, asking, calls_so, polls_so}
 use Rattle.proof_journals.proofs.Machine.Polling.{AllWaits, waits_begin, waits_more}
 use Rattle.proof_journals.proofs.Machine.Tabling.{back_quiet, copied_idle}
-use Rattle.proof_migration.proofs.Course.CourseTurns.{AnswerKeeps, CopyKeeps, DrainKeeps, Kept, ResizeKeeps, SetupKeeps, TurnKeeps, UnfitKeeps, ApplyKeeps, gives_asked, turn_kept}
-use Rattle.proof_migration.proofs.Course.Unaltered.Away.{IsKnownAsked, asked_begins, asked_more}
+use Rattle.proof_migration.proofs.ToolPhase.ToolPhaseTurns.{AnswerKeeps, CopyKeeps, DrainKeeps, Kept, ResizeKeeps, SetupKeeps, TurnKeeps, UnfitKeeps, ApplyKeeps, gives_asked, turn_kept}
+use Rattle.proof_migration.proofs.ToolPhase.Unaltered.Away.{IsKnownAsked, asked_begins, asked_more}
 
 -- ALL IS COPIED
 
@@ -45,7 +45,7 @@ IsRested copier = copier.is_copied ≡ true → copier.step ≡ copying.Choosing
 -- the last chunk's commit copies all
 after_rests : (turn : ℕ) (copier : Copier) (step : CopyStep) (answer : Answer) → copier.is_copied ≡ false → copier.step ≡ step → IsRested (copiers.after_answer turn copier step answer)
 after_rests turn copier copying.Choosing (answers.End end) off same copied = absurd (true≢false (sym copied ∙ off))
-after_rests turn copier (copying.Spanning told size) (answers.Keys keys end) off same copied = absurd (true≢false (sym copied ∙ off))
+after_rests turn copier (copying.Spanning reported size) (answers.Keys keys end) off same copied = absurd (true≢false (sym copied ∙ off))
 after_rests turn copier (copying.Copying chunk done) (answers.Ok count) off same copied = absurd (true≢false (sym copied ∙ off))
 after_rests turn copier (copying.Committing chunk) (answers.Ok count) off same copied = refl
 after_rests turn copier step answer off same copied = absurd (true≢false (sym copied ∙ off))
@@ -71,12 +71,12 @@ copied_stays turn copier answers.Lost rests copied = copied
 copied_stays turn copier (answers.TimedOut waited) rests copied = copied
 copied_stays turn copier answer rests copied = subst (λ (s : CopyStep). (copiers.after_answer turn copier s answer).is_copied ≡ true) (sym (rests copied)) (choosing_stays turn copier answer copied)
 
-abbrev pub CourseRests : Course → Type 0
-CourseRests (SettingUp setup tries) = Unit {0}
-CourseRests (Migrating work) = IsRested work.copier
+abbrev pub ToolPhaseRests : ToolPhase → Type 0
+ToolPhaseRests (SettingUp setup tries) = Unit {0}
+ToolPhaseRests (Migrating work) = IsRested work.copier
 
 -- the range of a new copy is copied only where there is none, and then nothing was chosen
-begins_rests : (plan : PlanData) (size : ℕ) (setup : Setup) (tries : List ℕ) → CourseRests (course_of plan size setup tries)
+begins_rests : (plan : PlanData) (size : ℕ) (setup : Setup) (tries : List ℕ) → ToolPhaseRests (tool_phase_of plan size setup tries)
 begins_rests plan size (Ready position range) tries = λ copied. refl
 begins_rests plan size Listing tries = tt
 begins_rests plan size (Clearing left) tries = tt
@@ -85,7 +85,7 @@ begins_rests plan size MakingGhost tries = tt
 begins_rests plan size Marking tries = tt
 begins_rests plan size (Reaching position) tries = tt
 
-back_rests : (b : Bool) (course : Course) → CourseRests course → CourseRests (stopped course)
+back_rests : (b : Bool) (tool_phase : ToolPhase) → ToolPhaseRests tool_phase → ToolPhaseRests (stopped tool_phase)
 back_rests b (SettingUp setup tries) at = tt
 back_rests b (Migrating work) at = at
 
@@ -98,7 +98,7 @@ FreeAt actor request = Unit {0}
 
 copier_free : (step : CopyStep) (request : Request) → copier_asks step request ≡ true → is_exclusive request ≡ false
 copier_free copying.Choosing (requests.ChunkEnd table low top size) kind = refl
-copier_free (copying.Spanning told most) (requests.BeginSpan table span size) kind = refl
+copier_free (copying.Spanning reported most) (requests.BeginSpan table span size) kind = refl
 copier_free (copying.Copying chunk copied) (requests.CopyRow from into columns key) kind = refl
 copier_free (copying.Committing chunk) requests.Commit kind = refl
 copier_free step request kind = absurd (false≢true kind)
@@ -120,13 +120,13 @@ module _ (plan : PlanData) (journal : List Entry) (is : IsTogether plan journal)
   back_free : (actor : Actor) (request : Request) → rolls_back server (live_session journal actor) ≡ Some request → is_exclusive request ≡ false
   back_free actor request back = ap is_exclusive (back_quiet (in_transaction server (live_session journal actor)) request back)
 
-  copy_free : (request : Request) (course : Course) → tool_call plan server journal then course Copy ≡ Some request → is_exclusive request ≡ false
+  copy_free : (request : Request) (tool_phase : ToolPhase) → tool_call plan server journal then tool_phase Copy ≡ Some request → is_exclusive request ≡ false
   copy_free request (SettingUp setup tries) call = absurd cc
   copy_free request (Migrating work) call =
       reverting_or (is_exclusive request ≡ false) (is_reverting then.reason) (rolls_back server (live_session journal Copy)) (copy_call plan server journal then work) request call (λ reverting back. back_free Copy request back)
       (λ going asks. copier_free work.copier.step request (copier_next journal work.copier request (unless_called (copiers.starts work.copier && is_throttled plan server then.operator) (copiers.next journal work.copier) request asks)))
 
-  apply_free : (request : Request) (course : Course) → CourseStands journal (standing_of plan journal) (is_reverting then.reason) course → tool_call plan server journal then course Apply ≡ Some request → is_exclusive request ≡ false
+  apply_free : (request : Request) (tool_phase : ToolPhase) → ToolPhaseStands journal (standing_of plan journal) (is_reverting then.reason) tool_phase → tool_call plan server journal then tool_phase Apply ≡ Some request → is_exclusive request ≡ false
   unfolding appliers.next
   apply_free request (SettingUp setup tries) at call = absurd cc
   apply_free request (Migrating work) at call =
@@ -135,7 +135,7 @@ module _ (plan : PlanData) (journal : List Entry) (is : IsTogether plan journal)
         by (inl reverting) going asks = absurd (true≢false (sym reverting ∙ going))
         by (inr stands) going asks = applier_free work.applier.step request (ap (applier_asks work.applier.step) (apply_called plan journal work request asks) ∙ applier_next journal work.applier work.applier.step stands.known)
 
-  tool_free : (actor : Actor) (request : Request) → Asking plan journal actor (Call request) → (tool_call plan server journal then then.course actor ≡ Some request → is_exclusive request ≡ false) → is_exclusive request ≡ false
+  tool_free : (actor : Actor) (request : Request) → Asking plan journal actor (Call request) → (tool_call plan server journal then then.tool_phase actor ≡ Some request → is_exclusive request ≡ false) → is_exclusive request ≡ false
   tool_free actor request (calls_so other same idle call) then_free = let one : other ≡ request = cc in then_free (call ∙ ap Some one)
   tool_free actor request (polls_so other same some) then_free = absurd (no same) where
     no : Call request ≡ Poll → ⊥
@@ -143,8 +143,8 @@ module _ (plan : PlanData) (journal : List Entry) (is : IsTogether plan journal)
 
   pub given_free : (actor : Actor) (request : Request) → given plan journal actor ≡ Some (Call request) → FreeAt actor request
   unfolding given
-  given_free Copy request gives = tool_free Copy request (asking plan journal Copy (Call request) is.server gives) (λ call. copy_free request then.course call)
-  given_free Apply request gives = tool_free Apply request (asking plan journal Apply (Call request) is.server gives) (λ call. apply_free request then.course is.stands call)
+  given_free Copy request gives = tool_free Copy request (asking plan journal Copy (Call request) is.server gives) (λ call. copy_free request then.tool_phase call)
+  given_free Apply request gives = tool_free Apply request (asking plan journal Apply (Call request) is.server gives) (λ call. apply_free request then.tool_phase is.stands call)
   given_free Op request gives = tt
   given_free Insp request gives = tt
   given_free Lock request gives = tt
@@ -155,7 +155,7 @@ module _ (plan : PlanData) (journal : List Entry) (is : IsTogether plan journal)
 
 pub record IsResting (plan : PlanData) (journal : List Entry) : Type 0 where
   pub known : IsKnownAsked plan journal
-  pub rests : CourseRests (moment plan journal).tool.course
+  pub rests : ToolPhaseRests (moment plan journal).tool.tool_phase
   pub free : AllWaits FreeAt plan journal
 
 module _ (plan : PlanData) (journal : List Entry) (entry : Entry) (run : IsRun plan journal entry) (is : IsResting plan journal) where
@@ -163,10 +163,10 @@ module _ (plan : PlanData) (journal : List Entry) (entry : Entry) (run : IsRun p
   tool = record (moment plan journal).tool { turns = (moment plan journal).tool.turns + 1 }
 
   abbrev New : Kept
-  New b course = CourseRests course
+  New b tool_phase = ToolPhaseRests tool_phase
 
-  rests_at : (course : Course) → (moment plan journal).tool.course ≡ course → CourseRests course
-  rests_at course same = subst CourseRests same is.rests
+  rests_at : (tool_phase : ToolPhase) → (moment plan journal).tool.tool_phase ≡ tool_phase → ToolPhaseRests tool_phase
+  rests_at tool_phase same = subst ToolPhaseRests same is.rests
 
   setup_rests : (answer : Answer) (setup : Setup) (tries : List ℕ) → SetupKeeps plan New answer tool setup tries
   setup_rests answer setup tries = record { reverting = λ back. tt; again = λ going bad some. tt; goes = λ going good. begins_rests plan tool.operator.size (setup_after plan.table setup answer) tries }
@@ -178,33 +178,33 @@ module _ (plan : PlanData) (journal : List Entry) (entry : Entry) (run : IsRun p
   unfolding given
   asks_copy same uncut = asking plan journal Copy entry.asked is.known.marking.tabled.all.tool.server (subst (λ (a : Actor). given plan journal a ≡ Some entry.asked) same (gives_asked plan journal entry entry.asked run.followed.given refl uncut))
 
-  copied_idles : (work : Work) → (moment plan journal).tool.course ≡ Migrating work → entry.actor ≡ Copy → (entry.asked ≡ Cut → ⊥) → is_reverting tool.reason ≡ false → work.copier.is_copied ≡ true → ⊥
-  copied_idles work course same uncut going copied =
-      true≢false (sym (copied_idle plan journal entry is.known.marking.tabled.all is.known.marking.tabled.quiet run work course copied (tables.copied copied) (asks_copy same uncut)).0 ∙ going) where
+  copied_idles : (work : Work) → (moment plan journal).tool.tool_phase ≡ Migrating work → entry.actor ≡ Copy → (entry.asked ≡ Cut → ⊥) → is_reverting tool.reason ≡ false → work.copier.is_copied ≡ true → ⊥
+  copied_idles work tool_phase same uncut going copied =
+      true≢false (sym (copied_idle plan journal entry is.known.marking.tabled.all is.known.marking.tabled.quiet run work tool_phase copied (tables.copied copied) (asks_copy same uncut)).0 ∙ going) where
         tables : WorkTables plan (state_at plan journal).tables (standing_of plan journal) work
-        tables = subst (CourseTables plan (state_at plan journal).tables (standing_of plan journal)) course is.known.marking.tabled.tables
+        tables = subst (ToolPhaseTables plan (state_at plan journal).tables (standing_of plan journal)) tool_phase is.known.marking.tabled.tables
 
-  copy_rests : (answer : Answer) (work : Work) → (moment plan journal).tool.course ≡ Migrating work → ((is_reverting tool.reason ≡ false) → work.copier.is_copied ≡ true → answer ≡ answers.Lost) → CopyKeeps New answer tool work
-  copy_rests answer work course lost =
-      let at : IsRested work.copier = rests_at (Migrating work) course in
+  copy_rests : (answer : Answer) (work : Work) → (moment plan journal).tool.tool_phase ≡ Migrating work → ((is_reverting tool.reason ≡ false) → work.copier.is_copied ≡ true → answer ≡ answers.Lost) → CopyKeeps New answer tool work
+  copy_rests answer work tool_phase lost =
+      let at : IsRested work.copier = rests_at (Migrating work) tool_phase in
       record { reverting = λ back. at; unfit = λ going place number unfit. unfit_rests work at; took = λ going fits tries. by going work.copier.is_copied refl } where
         by : is_reverting tool.reason ≡ false → (b : Bool) → work.copier.is_copied ≡ b → IsRested (copiers.took tool.turns work.copier answer)
         by going true copied = subst (λ (a : Answer). IsRested (copiers.took tool.turns work.copier a)) (sym (lost going copied)) (lost_rests tool.turns work.copier)
         by going false off = took_rests tool.turns work.copier answer off
 
-  apply_rests : (answer : Answer) (work : Work) → (moment plan journal).tool.course ≡ Migrating work → ApplyKeeps New answer tool work
-  apply_rests answer work course = let at : IsRested work.copier = rests_at (Migrating work) course in record { reverting = λ back. at; unfit = λ going place number unfit. unfit_rests work at; took = λ going fits tries. at }
+  apply_rests : (answer : Answer) (work : Work) → (moment plan journal).tool.tool_phase ≡ Migrating work → ApplyKeeps New answer tool work
+  apply_rests answer work tool_phase = let at : IsRested work.copier = rests_at (Migrating work) tool_phase in record { reverting = λ back. at; unfit = λ going place number unfit. unfit_rests work at; took = λ going fits tries. at }
 
-  answer_rests : (answer : Answer) (actor : Actor) (course : Course) → (moment plan journal).tool.course ≡ course → (actor ≡ Copy → (work : Work) → course ≡ Migrating work → (is_reverting tool.reason ≡ false) → work.copier.is_copied ≡ true → answer ≡ answers.Lost) → AnswerKeeps plan New answer tool actor course
-  answer_rests answer Insp (SettingUp setup tries) course lost = setup_rests answer setup tries
-  answer_rests answer Insp (Migrating work) course lost = λ tries. rests_at (Migrating work) course
-  answer_rests answer Lock (Migrating work) course lost = λ tries. rests_at (Migrating work) course
-  answer_rests answer Ren (Migrating work) course lost = λ tries. rests_at (Migrating work) course
-  answer_rests answer Copy (Migrating work) course lost = copy_rests answer work course (lost refl work refl)
-  answer_rests answer Apply (Migrating work) course lost = apply_rests answer work course
-  answer_rests answer actor course same lost = rests_at course same
+  answer_rests : (answer : Answer) (actor : Actor) (tool_phase : ToolPhase) → (moment plan journal).tool.tool_phase ≡ tool_phase → (actor ≡ Copy → (work : Work) → tool_phase ≡ Migrating work → (is_reverting tool.reason ≡ false) → work.copier.is_copied ≡ true → answer ≡ answers.Lost) → AnswerKeeps plan New answer tool actor tool_phase
+  answer_rests answer Insp (SettingUp setup tries) tool_phase lost = setup_rests answer setup tries
+  answer_rests answer Insp (Migrating work) tool_phase lost = λ tries. rests_at (Migrating work) tool_phase
+  answer_rests answer Lock (Migrating work) tool_phase lost = λ tries. rests_at (Migrating work) tool_phase
+  answer_rests answer Ren (Migrating work) tool_phase lost = λ tries. rests_at (Migrating work) tool_phase
+  answer_rests answer Copy (Migrating work) tool_phase lost = copy_rests answer work tool_phase (lost refl work refl)
+  answer_rests answer Apply (Migrating work) tool_phase lost = apply_rests answer work tool_phase
+  answer_rests answer actor tool_phase same lost = rests_at tool_phase same
 
-  resize_rests : (size : ℕ) (course : Course) → CourseRests course → ResizeKeeps New tool size course
+  resize_rests : (size : ℕ) (tool_phase : ToolPhase) → ToolPhaseRests tool_phase → ResizeKeeps New tool size tool_phase
   resize_rests size (SettingUp setup tries) at = at
   resize_rests size (Migrating work) at = at
 
@@ -214,10 +214,10 @@ module _ (plan : PlanData) (journal : List Entry) (entry : Entry) (run : IsRun p
   turn_rests : TurnKeeps plan New (moment plan journal).server entry tool
   turn_rests = record {
     commanded = λ word asks unsized. is.rests;
-    resized = λ size asks. resize_rests size (moment plan journal).tool.course is.rests;
+    resized = λ size asks. resize_rests size (moment plan journal).tool.tool_phase is.rests;
     idle = λ cut idle. is.rests;
-    lost = λ cut worked. answer_rests answers.Lost entry.actor (moment plan journal).tool.course refl (λ same work course going copied. refl);
-    heard = λ uncut uncommanded. answer_rests entry.answer entry.actor (moment plan journal).tool.course refl (λ same work course going copied. absurd (copied_idles work course same uncut going copied));
+    lost = λ cut worked. answer_rests answers.Lost entry.actor (moment plan journal).tool.tool_phase refl (λ same work tool_phase going copied. refl);
+    heard = λ uncut uncommanded. answer_rests entry.answer entry.actor (moment plan journal).tool.tool_phase refl (λ same work tool_phase going copied. absurd (copied_idles work tool_phase same uncut going copied));
   }
 
   rests_more : IsResting plan (journal ++ entry ∷ [])

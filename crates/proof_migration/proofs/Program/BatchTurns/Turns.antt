@@ -18,8 +18,8 @@ use Rattle.tool_program.specs.EventApplier.Appliers.{events_of}
 use Rattle.tool_program.specs.JournalWords.Journals.{opens, state_at}
 use Rattle.tool_program.specs.JournalWords.Sessions.{live_session}
 use Rattle.tool_program.specs.Programs.{IsGiven, apply_call, given, in_transaction, rolls_back, tool_call}
-use Rattle.tool_program.specs.Tools.{Course, Migrating, SettingUp, Work, is_reverting, moment}
-use Rattle.tool_program.proofs.OnlineCalls.Machines.{CourseIsNamed, named}
+use Rattle.tool_program.specs.Tools.{ToolPhase, Migrating, SettingUp, Work, is_reverting, moment}
+use Rattle.tool_program.proofs.OnlineCalls.Machines.{ToolPhaseIsNamed, named}
 use Rattle.proof_journals.specs.Plans.{IsSerialPlan, limits_of, scene_of}
 use Rattle.proof_journals.specs.Turns.{about}
 use Rattle.proof_journals.proofs.PlanJournals.{plan_runs_are_scene_runs}
@@ -31,18 +31,18 @@ use Rattle.proof_journals.proofs.Machine.Calling.{reverting_or}
 use Rattle.proof_journals.proofs.Machine.Journals.{Asking, IsRun, IsTogether, all_together, asking, calls_so, polls_so}
 use Rattle.proof_journals.proofs.Machine.Seated.{IsServed, own_fits}
 use Rattle.proof_journals.proofs.Machine.Tabling.{back_quiet}
-use Rattle.proof_migration.proofs.Course.CourseTurns.{gives_asked}
-use Rattle.proof_migration.proofs.Course.Owners.{commands_operator}
+use Rattle.proof_migration.proofs.ToolPhase.ToolPhaseTurns.{gives_asked}
+use Rattle.proof_migration.proofs.ToolPhase.Owners.{commands_operator}
 use Rattle.proof_journals.specs.Sentry.Sentries.{IsDrained, scene}
-use Rattle.proof_journals.specs.Sentry.Turning.{ApplierTurn, AskedTurn, CopierTurn, CourseTurn, IsTurned, OtherTurn, WorkTurn, last_session, told_if}
+use Rattle.proof_journals.specs.Sentry.TurnResults.{ApplierTurn, AskedTurn, CopierTurn, ToolPhaseTurn, IsTurned, OtherTurn, WorkTurn, last_session, reported_if}
 use Rattle.proof_journals.proofs.Sentry.Applying.{has_turned}
 use Rattle.proof_journals.proofs.Sentry.Calling.{other_says}
 use Rattle.proof_journals.proofs.Sentry.Draining.{Knows, knows_later}
 use Rattle.proof_journals.proofs.Sentry.Knowing.{Reads}
 use Rattle.proof_migration.proofs.Program.Holds.ActorStates.{kept_differs}
-use Rattle.proof_migration.specs.Course.Unaltered.{IsUnaltered}
-use Rattle.proof_migration.proofs.Course.Unaltered.Away.{IsKnownAsked, unaltered_front}
-use Rattle.proof_migration.proofs.Course.Unaltered.Runs.{unaltered_runs}
+use Rattle.proof_migration.specs.ToolPhase.Unaltered.{IsUnaltered}
+use Rattle.proof_migration.proofs.ToolPhase.Unaltered.Away.{IsKnownAsked, unaltered_front}
+use Rattle.proof_migration.proofs.ToolPhase.Unaltered.Runs.{unaltered_runs}
 use Rattle.proof_migration.proofs.Program.Turns.Asked.{waits_with}
 use Rattle.proof_migration.proofs.Program.Turns.Follows.{kept_front, kept_run}
 use Rattle.proof_migration.proofs.Program.Hints.Asked.{others_left}
@@ -50,10 +50,10 @@ use Rattle.proof_migration.proofs.Program.Hints.Courses.{applier_reads, names_re
 use Rattle.proof_migration.proofs.Program.Hints.Known.{hints_go}
 use Rattle.proof_migration.proofs.Program.Hints.Logging.{LogsAway}
 use Rattle.proof_migration.proofs.Program.Hints.Phases.{HintsStand, IsAhead}
-use Rattle.proof_migration.proofs.Program.Hints.States.{CourseAhead, CourseHints, HintsGo}
+use Rattle.proof_migration.proofs.Program.Hints.States.{ToolPhaseAhead, ToolPhaseHints, HintsGo}
 use Rattle.proof_migration.specs.Program.BatchTurns.{AppliersAreTurned, CopiersAreTurned}
-use Rattle.proof_migration.proofs.Program.BatchTurns.Drained.{none_told}
-use Rattle.proof_migration.proofs.Program.BatchTurns.Resting.{CourseRests, FreeAt, IsResting, all_rest, copied_stays, given_free}
+use Rattle.proof_migration.proofs.Program.BatchTurns.Drained.{none_reported}
+use Rattle.proof_migration.proofs.Program.BatchTurns.Resting.{ToolPhaseRests, FreeAt, IsResting, all_rest, copied_stays, given_free}
 
 module _ (entries_are_turns : EntriesAreTurns) (plan : PlanData) (journal : List Entry) (entry : Entry) (runs : IsRunnable plan) (serial : IsSerialPlan plan) (kept : IsKept plan (journal ++ entry ∷ [])) (off : IsUnaltered plan (journal ++ entry ∷ [])) where
   abbrev more : List Entry
@@ -136,31 +136,31 @@ module _ (entries_are_turns : EntriesAreTurns) (plan : PlanData) (journal : List
 
   -- a whole turn, by what is told
   turned_by : (entry.actor ≡ Op → ⊥)
-      → ((work : Work) → (moment plan journal).tool.course ≡ Migrating work → (turns : ℕ) (answer : Option Answer) → ((a : Answer) → answer ≡ Some a → (a ≡ answers.Lost → ⊥) → (a ≡ entry.answer) × (entry.asked ≡ Cut → ⊥)) → WorkTurn plan before after locker renamer work turns entry entry.actor answer)
+      → ((work : Work) → (moment plan journal).tool.tool_phase ≡ Migrating work → (turns : ℕ) (answer : Option Answer) → ((a : Answer) → answer ≡ Some a → (a ≡ answers.Lost → ⊥) → (a ≡ entry.answer) × (entry.asked ≡ Cut → ⊥)) → WorkTurn plan before after locker renamer work turns entry entry.actor answer)
       → IsTurned plan journal entry
-  turned_by other works = record { turn = by (moment plan journal).tool.course refl } where
+  turned_by other works = record { turn = by (moment plan journal).tool.tool_phase refl } where
     heard : (entry.asked ≡ Cut → ⊥) → (a : Answer) → Some entry.answer ≡ Some a → (a ≡ answers.Lost → ⊥) → (a ≡ entry.answer) × (entry.asked ≡ Cut → ⊥)
     heard uncut a same unlost = let one : entry.answer ≡ a = cc in (sym one, uncut)
 
-    lost : (b : Bool) (a : Answer) → told_if b ≡ Some a → (a ≡ answers.Lost → ⊥) → (a ≡ entry.answer) × (entry.asked ≡ Cut → ⊥)
+    lost : (b : Bool) (a : Answer) → reported_if b ≡ Some a → (a ≡ answers.Lost → ⊥) → (a ≡ entry.answer) × (entry.asked ≡ Cut → ⊥)
     lost true a same unlost = absurd (unlost (let one : answers.Lost ≡ a = cc in sym one))
     lost false a same unlost = absurd cc
 
-    asks_so : (work : Work) → (moment plan journal).tool.course ≡ Migrating work → (turns : ℕ) (asked : Asked) → entry.asked ≡ asked → IsGiven plan journal entry asked → AskedTurn plan before after locker renamer work turns entry asked
-    asks_so work course turns (Command word) asks gives = absurd (uncommanded other word gives)
-    asks_so work course turns (Call request) asks gives = works work course turns (Some entry.answer) (heard (λ cut. no (sym asks ∙ cut))) where
+    asks_so : (work : Work) → (moment plan journal).tool.tool_phase ≡ Migrating work → (turns : ℕ) (asked : Asked) → entry.asked ≡ asked → IsGiven plan journal entry asked → AskedTurn plan before after locker renamer work turns entry asked
+    asks_so work tool_phase turns (Command word) asks gives = absurd (uncommanded other word gives)
+    asks_so work tool_phase turns (Call request) asks gives = works work tool_phase turns (Some entry.answer) (heard (λ cut. no (sym asks ∙ cut))) where
       no : Call request ≡ Cut → ⊥
       no both = cc
-    asks_so work course turns Poll asks gives = works work course turns (Some entry.answer) (heard (λ cut. no (sym asks ∙ cut))) where
+    asks_so work tool_phase turns Poll asks gives = works work tool_phase turns (Some entry.answer) (heard (λ cut. no (sym asks ∙ cut))) where
       no : Poll ≡ Cut → ⊥
       no both = cc
-    asks_so work course turns Cut asks gives = works work course turns (told_if (has_work before entry.session)) (lost (has_work before entry.session))
+    asks_so work tool_phase turns Cut asks gives = works work tool_phase turns (reported_if (has_work before entry.session)) (lost (has_work before entry.session))
 
-    by : (course : Course) → (moment plan journal).tool.course ≡ course → CourseTurn plan (moment plan journal).server (moment plan more).server locker renamer course ((moment plan journal).tool.turns + 1) entry
-    by (SettingUp setup tries) course = tt
-    by (Migrating work) course =
+    by : (tool_phase : ToolPhase) → (moment plan journal).tool.tool_phase ≡ tool_phase → ToolPhaseTurn plan (moment plan journal).server (moment plan more).server locker renamer tool_phase ((moment plan journal).tool.turns + 1) entry
+    by (SettingUp setup tries) tool_phase = tt
+    by (Migrating work) tool_phase =
         subst (λ (s : State). AskedTurn plan s (moment plan more).server locker renamer work ((moment plan journal).tool.turns + 1) entry entry.asked) (sym together.server)
-        (subst (λ (s : State). AskedTurn plan before s locker renamer work ((moment plan journal).tool.turns + 1) entry entry.asked) (sym then_together.server) (asks_so work course ((moment plan journal).tool.turns + 1) entry.asked refl run.followed.given))
+        (subst (λ (s : State). AskedTurn plan before s locker renamer work ((moment plan journal).tool.turns + 1) entry entry.asked) (sym then_together.server) (asks_so work tool_phase ((moment plan journal).tool.turns + 1) entry.asked refl run.followed.given))
 
   -- THE COPIER'S
 
@@ -174,12 +174,12 @@ module _ (entries_are_turns : EntriesAreTurns) (plan : PlanData) (journal : List
         others (no_operator Copy refl same) (ap (λ (a : Actor). same_actor a Lock) same) (ap (λ (a : Actor). same_actor a Ren) same)
         (λ request free. subst (λ (a : Actor). FreeAt a request) same free)
 
-    copies : (work : Work) → (moment plan journal).tool.course ≡ Migrating work → (turns : ℕ) (answer : Option Answer) → CopierTurn plan after work turns answer
-    copies work course turns None = tt
-    copies work course turns (Some answer) = λ copied. copied_stays turns work.copier answer (subst CourseRests course resting.rests) copied
+    copies : (work : Work) → (moment plan journal).tool.tool_phase ≡ Migrating work → (turns : ℕ) (answer : Option Answer) → CopierTurn plan after work turns answer
+    copies work tool_phase turns None = tt
+    copies work tool_phase turns (Some answer) = λ copied. copied_stays turns work.copier answer (subst ToolPhaseRests tool_phase resting.rests) copied
 
-    works : (work : Work) → (moment plan journal).tool.course ≡ Migrating work → (turns : ℕ) (answer : Option Answer) → ((a : Answer) → answer ≡ Some a → (a ≡ answers.Lost → ⊥) → (a ≡ entry.answer) × (entry.asked ≡ Cut → ⊥)) → WorkTurn plan before after locker renamer work turns entry entry.actor answer
-    works work course turns answer says = subst (λ (a : Actor). WorkTurn plan before after locker renamer work turns entry a answer) (sym same) (apart, copies work course turns answer)
+    works : (work : Work) → (moment plan journal).tool.tool_phase ≡ Migrating work → (turns : ℕ) (answer : Option Answer) → ((a : Answer) → answer ≡ Some a → (a ≡ answers.Lost → ⊥) → (a ≡ entry.answer) × (entry.asked ≡ Cut → ⊥)) → WorkTurn plan before after locker renamer work turns entry entry.actor answer
+    works work tool_phase turns answer statement_result = subst (λ (a : Actor). WorkTurn plan before after locker renamer work turns entry a answer) (sym same) (apart, copies work tool_phase turns answer)
 
   -- THE APPLIER'S
 
@@ -193,15 +193,15 @@ module _ (entries_are_turns : EntriesAreTurns) (plan : PlanData) (journal : List
     gave : (entry.asked ≡ Cut → ⊥) → given plan journal Apply ≡ Some entry.asked
     gave uncut = subst (λ (a : Actor). given plan journal a ≡ Some entry.asked) same (gives_asked plan journal entry entry.asked run.followed.given refl uncut)
 
-    module _ (work : Work) (course : (moment plan journal).tool.course ≡ Migrating work) where
+    module _ (work : Work) (tool_phase : (moment plan journal).tool.tool_phase ≡ Migrating work) where
       stands : HintsStand plan.table before.log (standing_of plan journal Insp).waits work.applier work.cutover.attempts work.cutover.phase
-      stands = subst (CourseHints plan.table before.log (standing_of plan journal Insp).waits) course hints.course
+      stands = subst (ToolPhaseHints plan.table before.log (standing_of plan journal Insp).waits) tool_phase hints.tool_phase
 
       ahead : IsAhead work.applier.hint work.cutover.attempts work.cutover.phase
-      ahead = subst CourseAhead course hints.ahead
+      ahead = subst ToolPhaseAhead tool_phase hints.ahead
 
       own : work.applier.table ≡ plan.table
-      own = (subst (CourseIsNamed plan) course (named plan journal)).applier
+      own = (subst (ToolPhaseIsNamed plan) tool_phase (named plan journal)).applier
 
       knows : Knows plan.table after.log work.applier
       knows = subst (λ (l : List RowEvent). Knows plan.table l work.applier) (sym logs.log) (knows_later plan.table before.log logs.events work.applier stands.knows)
@@ -217,7 +217,7 @@ module _ (entries_are_turns : EntriesAreTurns) (plan : PlanData) (journal : List
         none events next is (polls_so request asks waits) = names_read request events next (hints.names request waits) (ap (answers_to request) (sym is) ∙ fits request (is_polled asks waits))
         none events next is (calls_so request asks idle call) =
             reverting_or ⊥ (is_reverting (moment plan journal).tool.reason) (rolls_back (moment plan journal).server (live_session journal Apply)) (apply_call plan (moment plan journal).server journal (moment plan journal).tool work) request
-            (ap (λ (c : Course). tool_call plan (moment plan journal).server journal (moment plan journal).tool c Apply) (sym course) ∙ call)
+            (ap (λ (c : ToolPhase). tool_call plan (moment plan journal).server journal (moment plan journal).tool c Apply) (sym tool_phase) ∙ call)
             (λ reverting rolls. false≢true (ap (λ (r : Request). answers_to r (answers.Events events next)) (sym (back_quiet (in_transaction (moment plan journal).server (live_session journal Apply)) request rolls)) ∙ ap (answers_to request) (sym is) ∙ fits request (is_called asks idle)))
             (λ going calls. true≢false (sym back ∙ going))
 
@@ -229,21 +229,21 @@ module _ (entries_are_turns : EntriesAreTurns) (plan : PlanData) (journal : List
       reads uncut = by (is_reverting (moment plan journal).tool.reason) refl where
         by : (b : Bool) → is_reverting (moment plan journal).tool.reason ≡ b → Reads plan.table after.log work.applier entry.answer
         by true back = back_reads uncut back
-        by false going = applier_reads plan runs serial journal entry kept off hints work course same uncut going
+        by false going = applier_reads plan runs serial journal entry kept off hints work tool_phase same uncut going
 
       -- what was told, a loss aside
-      told_reads : (answer : Answer) → ((answer ≡ answers.Lost → ⊥) → (answer ≡ entry.answer) × (entry.asked ≡ Cut → ⊥)) → Reads plan.table after.log work.applier answer
-      told_reads answers.Lost says = tt
-      told_reads (answers.Events events next) says = let all = says (λ lost. cc) in subst (Reads plan.table after.log work.applier) (sym all.0) (reads all.1)
-      told_reads answer says = tt
+      reported_reads : (answer : Answer) → ((answer ≡ answers.Lost → ⊥) → (answer ≡ entry.answer) × (entry.asked ≡ Cut → ⊥)) → Reads plan.table after.log work.applier answer
+      reported_reads answers.Lost statement_result = tt
+      reported_reads (answers.Events events next) statement_result = let all = statement_result (λ lost. cc) in subst (Reads plan.table after.log work.applier) (sym all.0) (reads all.1)
+      reported_reads answer statement_result = tt
 
       none_read : (answer : Answer) → Reads plan.table after.log work.applier answer → (events : List RowEvent) (next : ℕ) → answer ≡ answers.Events events next → IsDrained plan.table after.log work.copier work.applier → events_of plan.table events ≡ []
-      none_read answer reads events next is drained = none_told plan.table after.log work.applier.position next events (subst (Reads plan.table after.log work.applier) is reads) drained.applied
+      none_read answer reads events next is drained = none_reported plan.table after.log work.applier.position next events (subst (Reads plan.table after.log work.applier) is reads) drained.applied
 
       applies : (turns : ℕ) (answer : Option Answer) → ((a : Answer) → answer ≡ Some a → (a ≡ answers.Lost → ⊥) → (a ≡ entry.answer) × (entry.asked ≡ Cut → ⊥)) → ApplierTurn plan after work turns answer
-      applies turns None says = tt
-      applies turns (Some answer) says = (
-        has_turned plan.table (scene after) turns work.copier work.applier answer work.cutover.attempts work.cutover.phase own knows (told_reads answer (says answer refl)) ahead (none_read answer (told_reads answer (says answer refl))),
+      applies turns None statement_result = tt
+      applies turns (Some answer) statement_result = (
+        has_turned plan.table (scene after) turns work.copier work.applier answer work.cutover.attempts work.cutover.phase own knows (reported_reads answer (statement_result answer refl)) ahead (none_read answer (reported_reads answer (statement_result answer refl))),
         record { knows = knows.hint; within = knows.within; idle = λ draining is. absurd (ahead draining is); stays = λ drained. drained },
       )
 
@@ -254,8 +254,8 @@ module _ (entries_are_turns : EntriesAreTurns) (plan : PlanData) (journal : List
           others (no_operator Apply refl same) (ap (λ (a : Actor). same_actor a Lock) same) (ap (λ (a : Actor). same_actor a Ren) same)
           (λ request free. subst (λ (a : Actor). FreeAt a request) same free)
 
-      works : (work : Work) → (moment plan journal).tool.course ≡ Migrating work → (turns : ℕ) (answer : Option Answer) → ((a : Answer) → answer ≡ Some a → (a ≡ answers.Lost → ⊥) → (a ≡ entry.answer) × (entry.asked ≡ Cut → ⊥)) → WorkTurn plan before after locker renamer work turns entry entry.actor answer
-      works work course turns answer says = subst (λ (a : Actor). WorkTurn plan before after locker renamer work turns entry a answer) (sym same) (apart, applies work course turns answer says)
+      works : (work : Work) → (moment plan journal).tool.tool_phase ≡ Migrating work → (turns : ℕ) (answer : Option Answer) → ((a : Answer) → answer ≡ Some a → (a ≡ answers.Lost → ⊥) → (a ≡ entry.answer) × (entry.asked ≡ Cut → ⊥)) → WorkTurn plan before after locker renamer work turns entry entry.actor answer
+      works work tool_phase turns answer statement_result = subst (λ (a : Actor). WorkTurn plan before after locker renamer work turns entry a answer) (sym same) (apart, applies work tool_phase turns answer statement_result)
 
 -- *Copiers are turned*
 pub copiers_turned : EntriesAreTurns → CopiersAreTurned

@@ -12,7 +12,7 @@ use Rattle.server_model.specs.declared.entry.Entry.{Entry}
 use Rattle.server_model.specs.declared.request.Request.{Request}
 use Rattle.server_model.specs.declared.request.Request.TheVariants as requests
 use Rattle.server_model.specs.Entries.{is_command, is_cut, same_actor}
-use Rattle.server_model.specs.Jobs.{table_of}
+use Rattle.server_model.specs.Operations.{table_of}
 use Rattle.server_model.specs.States.{State}
 use Rattle.plan_data.specs.PlanData.{PlanData}
 use Rattle.base_values.specs.ToolNames.{is_tool_name, log_name}
@@ -27,8 +27,8 @@ use Rattle.tool_program.specs.declared.cutover_core.cutover.Stage.TheVariants.{H
 use Rattle.tool_program.specs.CutoverCore.Attempts as cutovers
 use Rattle.tool_program.specs.Programs.{IsGiven, given, tool_call}
 use Rattle.tool_program.specs.Setups.{Setup, Listing, Clearing as Clears, MakingLog, MakingGhost, Marking, Reaching, Ready, setup_call}
-use Rattle.tool_program.specs.Tools.{Course, Migrating, SettingUp, Work, is_reverting, moment}
-use Rattle.tool_program.proofs.OnlineCalls.Machines.{CourseIsNamed, named}
+use Rattle.tool_program.specs.Tools.{ToolPhase, Migrating, SettingUp, Work, is_reverting, moment}
+use Rattle.tool_program.proofs.OnlineCalls.Machines.{ToolPhaseIsNamed, named}
 use Rattle.proof_journals.specs.Plans.{IsSerialPlan, limits_of, scene_of}
 use Rattle.proof_journals.specs.Holdings.{face_in, face_of}
 use Rattle.proof_journals.specs.Turns.{ClientAsks, IsSceneRun, about}
@@ -36,19 +36,19 @@ use Rattle.proof_journals.proofs.Actors.{Begins, Commands, GoesOn, Placed, place
 use Rattle.proof_journals.proofs.PlanJournals.{plan_runs_are_scene_runs}
 use Rattle.proof_migration.proofs.Migration.Leaves.{WritesAway}
 use Rattle.proof_journals.specs.Run.Kept.{IsKept}
-use Rattle.proof_journals.specs.Machine.Machines.{CourseStands, WorkStands}
+use Rattle.proof_journals.specs.Machine.Machines.{ToolPhaseStands, WorkStands}
 use Rattle.proof_journals.specs.Machine.Runnable.{IsRunnable}
 use Rattle.proof_journals.specs.Machine.Standings.{Standing, standing_in, standing_of}
-use Rattle.proof_journals.specs.Machine.Tabling.{CourseTables, SetupTables}
+use Rattle.proof_journals.specs.Machine.MigrationTables.{ToolPhaseTables, SetupTables}
 use Rattle.proof_journals.proofs.Machine.Asking.{some_request, unless_called}
 use Rattle.proof_journals.proofs.Machine.Journals.{Asking, IsRun, IsTogether, asking, calls_so, polls_so}
 use Rattle.proof_journals.proofs.Machine.Marks.{ghost_not_log}
 use Rattle.proof_journals.proofs.Machine.Seated.{IsServed}
 use Rattle.server_model.proofs.LockedRows.Tests.{are_same}
-use Rattle.proof_migration.specs.Course.Unaltered.{IsUnaltered}
-use Rattle.proof_migration.proofs.Course.Unaltered.Asking.{AskedAs, ToolCall}
-use Rattle.proof_migration.proofs.Course.Unaltered.Away.{IsKnownAsked, all_asked, log_is_tool, tool_not_mine}
-use Rattle.proof_migration.proofs.Course.Unaltered.Runs.{unaltered_runs}
+use Rattle.proof_migration.specs.ToolPhase.Unaltered.{IsUnaltered}
+use Rattle.proof_migration.proofs.ToolPhase.Unaltered.Asking.{AskedAs, ToolCall}
+use Rattle.proof_migration.proofs.ToolPhase.Unaltered.Away.{IsKnownAsked, all_asked, log_is_tool, tool_not_mine}
+use Rattle.proof_migration.proofs.ToolPhase.Unaltered.Runs.{unaltered_runs}
 use Rattle.proof_migration.proofs.Program.Turns.Asked.{asked_as, waits_with}
 use Rattle.proof_migration.proofs.Program.Turns.Follows.{kept_front, kept_run}
 use Rattle.proof_migration.proofs.Program.Hints.Logging.{LeavesAway, LeavesHint, LogsAway, LogsHint, NoneWrote, away_left, cut_left, hint_left, watched}
@@ -136,7 +136,7 @@ module _ (plan : PlanData) (runs : IsRunnable plan) (serial : IsSerialPlan plan)
     by (Command word) asks is = absurd cc
 
   -- the inspector's request was called now, or waits
-  pub insp_from : (P : Type 0) (request : Request) → entry.actor ≡ Insp → About request → (tool_call plan (moment plan journal).server journal (moment plan journal).tool (moment plan journal).tool.course Insp ≡ Some request → P) → ((has Insp).waits ≡ Some request → P) → P
+  pub insp_from : (P : Type 0) (request : Request) → entry.actor ≡ Insp → About request → (tool_call plan (moment plan journal).server journal (moment plan journal).tool (moment plan journal).tool.tool_phase Insp ≡ Some request → P) → ((has Insp).waits ≡ Some request → P) → P
   unfolding given
   insp_from P request same is calls waits = by entry.asked refl run.followed.given is where
     waited : is_command entry.asked ≡ false → about (opens entry now) entry.session Poll ≡ Some request → P
@@ -157,19 +157,19 @@ module _ (plan : PlanData) (runs : IsRunnable plan) (serial : IsSerialPlan plan)
     by (Command word) asks gives is = absurd cc
 
   -- while the setup goes on it is the setup's call
-  pub insp_setup : (setup : Setup) (tries : List ℕ) (request : Request) → (moment plan journal).tool.course ≡ SettingUp setup tries → entry.actor ≡ Insp → About request → setup_call plan setup ≡ Some request
-  insp_setup setup tries request course same is =
+  pub insp_setup : (setup : Setup) (tries : List ℕ) (request : Request) → (moment plan journal).tool.tool_phase ≡ SettingUp setup tries → entry.actor ≡ Insp → About request → setup_call plan setup ≡ Some request
+  insp_setup setup tries request tool_phase same is =
       insp_from (setup_call plan setup ≡ Some request) request same is
-      (λ call. unless_called (is_reverting (moment plan journal).tool.reason) (setup_call plan setup) request (ap (λ (c : Course). tool_call plan (moment plan journal).server journal (moment plan journal).tool c Insp) (sym course) ∙ call))
+      (λ call. unless_called (is_reverting (moment plan journal).tool.reason) (setup_call plan setup) request (ap (λ (c : ToolPhase). tool_call plan (moment plan journal).server journal (moment plan journal).tool c Insp) (sym tool_phase) ∙ call))
       (λ some. tables.waits request some) where
         tables : SetupTables plan now.tables has setup
-        tables = subst (CourseTables plan now.tables has) course known.marking.tabled.tables
+        tables = subst (ToolPhaseTables plan now.tables has) tool_phase known.marking.tabled.tables
 
   -- afterwards it is the cut-over's
-  pub insp_work : (work : Work) (request : Request) → (moment plan journal).tool.course ≡ Migrating work → WaitsHint t work.cutover.attempts work.cutover.phase (has Insp).waits → entry.actor ≡ Insp → About request → AsksHint t work.cutover.attempts work.cutover.phase request
-  insp_work work request course waits same is =
+  pub insp_work : (work : Work) (request : Request) → (moment plan journal).tool.tool_phase ≡ Migrating work → WaitsHint t work.cutover.attempts work.cutover.phase (has Insp).waits → entry.actor ≡ Insp → About request → AsksHint t work.cutover.attempts work.cutover.phase request
+  insp_work work request tool_phase waits same is =
       insp_from (AsksHint t work.cutover.attempts work.cutover.phase request) request same is
-      (λ call. insp_called t work.cutover request (subst (CourseIsNamed plan) course (named plan journal)).cutover (ap (λ (c : Course). tool_call plan (moment plan journal).server journal (moment plan journal).tool c Insp) (sym course) ∙ call)) (λ some. waits request some)
+      (λ call. insp_called t work.cutover request (subst (ToolPhaseIsNamed plan) tool_phase (named plan journal)).cutover (ap (λ (c : ToolPhase). tool_call plan (moment plan journal).server journal (moment plan journal).tool c Insp) (sym tool_phase) ∙ call)) (λ some. waits request some)
 
   -- WHO WRITES NO ROW OF THE CHANGELOG
 
@@ -218,8 +218,8 @@ module _ (plan : PlanData) (runs : IsRunnable plan) (serial : IsSerialPlan plan)
     pub lost_left : entry.asked ≡ Cut → LeavesAway t now then
     lost_left cut = cut_left t (limits_of plan) (scene_of plan more) journal entry scene_run run.answered.sides none (ap is_cut cut) (ap may_lose cut)
 
-    pub setup_left : (setup : Setup) (tries : List ℕ) → (moment plan journal).tool.course ≡ SettingUp setup tries → entry.actor ≡ Insp → LeavesAway t now then
-    setup_left setup tries course same = leaves_away (λ request is. setup_away plan t setup request (insp_setup setup tries request course same is))
+    pub setup_left : (setup : Setup) (tries : List ℕ) → (moment plan journal).tool.tool_phase ≡ SettingUp setup tries → entry.actor ≡ Insp → LeavesAway t now then
+    setup_left setup tries tool_phase same = leaves_away (λ request is. setup_away plan t setup request (insp_setup setup tries request tool_phase same is))
 
     -- the inspector's turn behind the setup
     pub record InspLeft (work : Work) : Type 0 where
@@ -237,10 +237,10 @@ module _ (plan : PlanData) (runs : IsRunnable plan) (serial : IsSerialPlan plan)
       by (GoesOn calls live) = ap (λ (o : Option ℕ). (standing_in now o).busy) (sym live)
       by (Begins calls uncut live above) = ap (λ s. (face_in s).busy) (together.known.fresh entry.session above) ∙ ap (λ (o : Option ℕ). (standing_in now o).busy) (sym live)
 
-    hint_so : (work : Work) (statement : Statement) → (moment plan journal).tool.course ≡ Migrating work → entry.actor ≡ Insp → is_cut entry.asked ≡ false → About (requests.Do statement) → AsksHint t work.cutover.attempts work.cutover.phase (requests.Do statement) → InspLeft work
-    hint_so work statement course same uncut is asks = record { logs = by left.logs; wrote = left.none } where
+    hint_so : (work : Work) (statement : Statement) → (moment plan journal).tool.tool_phase ≡ Migrating work → entry.actor ≡ Insp → is_cut entry.asked ≡ false → About (requests.Do statement) → AsksHint t work.cutover.attempts work.cutover.phase (requests.Do statement) → InspLeft work
+    hint_so work statement tool_phase same uncut is asks = record { logs = by left.logs; wrote = left.none } where
       stands : WorkStands journal (is_reverting (moment plan journal).tool.reason) has work
-      stands = subst (CourseStands journal has (is_reverting (moment plan journal).tool.reason)) course together.stands
+      stands = subst (ToolPhaseStands journal has (is_reverting (moment plan journal).tool.reason)) tool_phase together.stands
 
       left : LeavesHint t work.cutover.attempts entry.answer now then
       left =
@@ -254,16 +254,16 @@ module _ (plan : PlanData) (runs : IsRunnable plan) (serial : IsSerialPlan plan)
     same_about : (one other : Request) → About one → About other → one ≡ other
     same_about one other is also = let both : Some one ≡ Some other = sym is ∙ also in cc
 
-    pub insp_left : (work : Work) → (moment plan journal).tool.course ≡ Migrating work → WaitsHint t work.cutover.attempts work.cutover.phase (has Insp).waits → entry.actor ≡ Insp → is_cut entry.asked ≡ false → InspLeft work
-    insp_left work course waits same uncut = by (about (opens entry now) entry.session entry.asked) refl where
+    pub insp_left : (work : Work) → (moment plan journal).tool.tool_phase ≡ Migrating work → WaitsHint t work.cutover.attempts work.cutover.phase (has Insp).waits → entry.actor ≡ Insp → is_cut entry.asked ≡ false → InspLeft work
+    insp_left work tool_phase waits same uncut = by (about (opens entry now) entry.session entry.asked) refl where
       only : (request : Request) → About request → WritesAway (watched t) request → InspLeft work
       only request is away = away_so work (leaves_away (λ other also. subst (WritesAway (watched t)) (same_about request other is also) away))
 
       asked_so : (request : Request) → About request → AsksHint t work.cutover.attempts work.cutover.phase request → ToolCall plan request Insp → InspLeft work
-      asked_so (requests.Do statement) is asks call = hint_so work statement course same uncut is asks
+      asked_so (requests.Do statement) is asks call = hint_so work statement tool_phase same uncut is asks
       asked_so (requests.CopyRow from into map key) is asks call = absurd call
       asked_so request is asks call = only request is tt
 
       by : (asks : Option Request) → about (opens entry now) entry.session entry.asked ≡ asks → InspLeft work
       by None is = away_so work (leaves_away (λ request some. absurd (none-some request (sym is ∙ some))))
-      by (Some request) is = asked_so request is (insp_work work request course waits same is) (subst (λ (a : Actor). AskedAs plan a request) same (asked_as plan serial runs.fitting journal entry known run off request is))
+      by (Some request) is = asked_so request is (insp_work work request tool_phase waits same is) (subst (λ (a : Actor). AskedAs plan a request) same (asked_as plan serial runs.fitting journal entry known run off request is))

@@ -35,12 +35,12 @@ use Rattle.tool_program.specs.CutoverCore.CutOvers as cutovers
 use Rattle.tool_program.specs.CutoverCore.CutOvers.{inspector_phase, is_bad, renamer_phase}
 use Rattle.tool_program.specs.Programs.{IsGiven, apply_call, given, rolls_back, tool_call}
 use Rattle.tool_program.specs.Setups.{Setup, Listing, Clearing, MakingLog, MakingGhost, Marking, Reaching, Ready, clearing, listed, setup_after, setup_call, setup_step}
-use Rattle.tool_program.specs.Tools.{Course, Migrating, SettingUp, Moment, Tool, Work, actor_took, asked_took, course_of, drains, is_failure, is_reverting, moment, stopped, took, turn_counts}
-use Rattle.tool_program.proofs.OnlineCalls.Machines.{CourseIsNamed, named}
+use Rattle.tool_program.specs.Tools.{ToolPhase, Migrating, SettingUp, Moment, Tool, Work, actor_took, asked_took, tool_phase_of, drains, is_failure, is_reverting, moment, stopped, took, turn_counts}
+use Rattle.tool_program.proofs.OnlineCalls.Machines.{ToolPhaseIsNamed, named}
 use Rattle.proof_journals.specs.Plans.{IsSerialPlan, limits_of, scene_of}
 use Rattle.proof_journals.specs.Turns.{about}
 use Rattle.proof_journals.proofs.Actors.{same_actor_is}
-use Rattle.proof_journals.proofs.Joined.{told_answer, told_missed}
+use Rattle.proof_journals.proofs.Joined.{reported_answer, reported_missed}
 use Rattle.proof_journals.specs.Ghost.Invariant.{NotOf}
 use Rattle.proof_journals.proofs.Ghost.Turns.{run_front}
 use Rattle.proof_journals.specs.Run.Kept.{IsKept}
@@ -49,8 +49,8 @@ use Rattle.proof_journals.specs.Machine.Standings.{IsAbout, Standing, answered, 
 use Rattle.proof_journals.proofs.Machine.Journals.{Asking, IsRun, apply_called, asking, calls_so, polls_so}
 use Rattle.proof_journals.proofs.Machine.Lifting.{attempt_keeps}
 use Rattle.proof_journals.proofs.Machine.Seated.{others_stand, own_fits, own_lost, own_missed, own_stands}
-use Rattle.proof_migration.proofs.Course.CourseTurns.{AnswerKeeps, ApplyKeeps, CopyKeeps, CutKeeps, DrainKeeps, Kept, ResizeKeeps, SetupKeeps, TurnKeeps, UnfitKeeps, gives_asked, turn_kept}
-use Rattle.proof_migration.proofs.Course.Owners.{commands_operator}
+use Rattle.proof_migration.proofs.ToolPhase.ToolPhaseTurns.{AnswerKeeps, ApplyKeeps, CopyKeeps, CutKeeps, DrainKeeps, Kept, ResizeKeeps, SetupKeeps, TurnKeeps, UnfitKeeps, gives_asked, turn_kept}
+use Rattle.proof_migration.proofs.ToolPhase.Owners.{commands_operator}
 use Rattle.proof_migration.proofs.Program.Said.{log_said}
 use Rattle.proof_migration.proofs.Program.Starts.{grows, NotedIn}
 use Rattle.proof_migration.proofs.Program.Turns.Asked.{about_called}
@@ -59,14 +59,14 @@ use Rattle.proof_journals.proofs.Sentry.Draining.{IsRead, Knows, knows_later}
 use Rattle.proof_journals.proofs.Sentry.Hinting.{HintsBelow, none_earlier}
 use Rattle.proof_journals.proofs.Sentry.Inductions.{moment_more}
 use Rattle.proof_journals.proofs.Sentry.Knowing.{Reads, knows_took}
-use Rattle.proof_migration.specs.Course.Unaltered.{IsUnaltered}
+use Rattle.proof_migration.specs.ToolPhase.Unaltered.{IsUnaltered}
 use Rattle.proof_migration.proofs.Migration.Leaves.{not_both}
 use Rattle.proof_migration.specs.Program.Hints.{is_unhinted}
 use Rattle.proof_migration.proofs.Program.Hints.Asked.{InspLeft, before, insp_left, insp_setup, insp_work, known, lost_left, others_left, run, scene_run, served, setup_left, together}
 use Rattle.proof_migration.proofs.Program.Hints.Logging.{LeavesAway, LogsAway, LogsHint, NoneWrote}
 use Rattle.proof_migration.proofs.Program.Hints.Phases.{AsksHint, HintsIn, HintsStand, WaitsHint, asks_waits, drain_ahead, drain_passes, end_drains, end_passes, hint_below, insp_below, insp_drains, locker_drains, locker_hints, may_hint, passes, renamer_drains, renamer_passes}
 use Rattle.proof_migration.proofs.Program.Hints.Telling.{both_tables, read_later, reading_said}
-use Rattle.proof_migration.proofs.Program.Hints.States.{BatchIs, CourseAhead, CourseHints, HintsGo, SetupHints, batch_is, hints_later, last_at_most, none_hinted, weakly}
+use Rattle.proof_migration.proofs.Program.Hints.States.{BatchIs, ToolPhaseAhead, ToolPhaseHints, HintsGo, SetupHints, batch_is, hints_later, last_at_most, none_hinted, weakly}
 use Rattle.proof_migration.proofs.Program.Hints.Writes.{Rises, rises_away, rises_both, below_both, none_below}
 
 -- ONE TURN
@@ -93,7 +93,7 @@ no_waits standing request none some = no (sym (ap (λ (s : Standing). s.waits) n
   no : None ≡ Some request → ⊥
   no same = cc
 
-setup_ahead : (plan : PlanData) (size : ℕ) (setup : Setup) (tries : List ℕ) → CourseAhead (course_of plan size setup tries)
+setup_ahead : (plan : PlanData) (size : ℕ) (setup : Setup) (tries : List ℕ) → ToolPhaseAhead (tool_phase_of plan size setup tries)
 setup_ahead plan size (Ready position range) tries = λ drains. absurd drains
 setup_ahead plan size Listing tries = tt
 setup_ahead plan size (Clearing left) tries = tt
@@ -102,17 +102,17 @@ setup_ahead plan size MakingGhost tries = tt
 setup_ahead plan size Marking tries = tt
 setup_ahead plan size (Reaching position) tries = tt
 
-back_ahead : (b : Bool) (course : Course) → CourseAhead course → CourseAhead (stopped course)
+back_ahead : (b : Bool) (tool_phase : ToolPhase) → ToolPhaseAhead tool_phase → ToolPhaseAhead (stopped tool_phase)
 unfolding cutovers.reverted
 back_ahead b (SettingUp setup tries) at = tt
 back_ahead b (Migrating work) at = λ drains. at (end_drains work.cutover.phase drains)
 
 -- behind the applier's turn an attempt that is drained isn't the applier's hint's
-counted_ahead : (plan : PlanData) (course : Course) (tool : Tool) → tool.course ≡ course → CourseAhead (drains plan course tool).course
+counted_ahead : (plan : PlanData) (tool_phase : ToolPhase) (tool : Tool) → tool.tool_phase ≡ tool_phase → ToolPhaseAhead (drains plan tool_phase tool).tool_phase
 unfolding cutovers.applier_turn
-counted_ahead plan (SettingUp setup tries) tool is = subst CourseAhead (sym is) tt
+counted_ahead plan (SettingUp setup tries) tool is = subst ToolPhaseAhead (sym is) tt
 counted_ahead plan (Migrating work) tool is =
-    attempt_keeps (λ (b : Bool) (course : Course). CourseAhead course) back_ahead plan (is_failure work.cutover.phase (cutovers.applier_turn work.applier.hint work.cutover).phase) work (cutovers.applier_turn work.applier.hint work.cutover) tool
+    attempt_keeps (λ (b : Bool) (tool_phase : ToolPhase). ToolPhaseAhead tool_phase) back_ahead plan (is_failure work.cutover.phase (cutovers.applier_turn work.applier.hint work.cutover).phase) work (cutovers.applier_turn work.applier.hint work.cutover) tool
     (λ tries. drain_ahead work.cutover work.applier.hint work.cutover.phase)
 
 module _ (plan : PlanData) (runs : IsRunnable plan) (serial : IsSerialPlan plan) (journal : List Entry) (entry : Entry) (kept : IsKept plan (journal ++ entry ∷ [])) (off : IsUnaltered plan (journal ++ entry ∷ [])) (was : HintsGo plan journal) where
@@ -141,8 +141,8 @@ module _ (plan : PlanData) (runs : IsRunnable plan) (serial : IsSerialPlan plan)
   waits_now = (now_has Insp).waits
 
   -- what is to be shown
-  abbrev Goal : Course → Type 0
-  Goal course = CourseHints t then.log waits_now course
+  abbrev Goal : ToolPhase → Type 0
+  Goal tool_phase = ToolPhaseHints t then.log waits_now tool_phase
 
   the_run : IsRun plan journal entry
   the_run = run plan runs serial journal entry kept off
@@ -152,7 +152,7 @@ module _ (plan : PlanData) (runs : IsRunnable plan) (serial : IsSerialPlan plan)
   rises_later : LogsAway t now then → Rises t 0 now.log → Rises t 0 then.log
   rises_later logs at = subst (Rises t 0) (sym logs.log) (rises_both t 0 now.log logs.events at (rises_away t (last_hint t 0 now.log) logs.events logs.away))
 
-  log_later : LogsAway t now then → (course : Course) → ((work : Work) → course ≡ Migrating work → WaitsHint t work.cutover.attempts work.cutover.phase waits_now) → CourseHints t now.log (has Insp).waits course → Goal course
+  log_later : LogsAway t now then → (tool_phase : ToolPhase) → ((work : Work) → tool_phase ≡ Migrating work → WaitsHint t work.cutover.attempts work.cutover.phase waits_now) → ToolPhaseHints t now.log (has Insp).waits tool_phase → Goal tool_phase
   log_later logs (SettingUp setup tries) waits at =
       let size : length then.log ≡ length now.log + length logs.events = ap length logs.log ∙ length-append now.log logs.events in
       record { away = subst (NotOf (log_name t)) (sym logs.log) (not_both (log_name t) now.log logs.events at.away logs.away); noted = grows setup (length now.log) (length then.log) (omega (arith, size)) at.noted }
@@ -164,39 +164,39 @@ module _ (plan : PlanData) (runs : IsRunnable plan) (serial : IsSerialPlan plan)
   }
 
   -- the inspector waits as before
-  same_waits : now_has Insp ≡ has Insp → (course : Course) → CourseHints t now.log (has Insp).waits course → (work : Work) → course ≡ Migrating work → WaitsHint t work.cutover.attempts work.cutover.phase waits_now
-  same_waits same course at work is = subst (λ (s : Standing). WaitsHint t work.cutover.attempts work.cutover.phase s.waits) (sym same) (subst (CourseHints t now.log (has Insp).waits) is at).waits_so
+  same_waits : now_has Insp ≡ has Insp → (tool_phase : ToolPhase) → ToolPhaseHints t now.log (has Insp).waits tool_phase → (work : Work) → tool_phase ≡ Migrating work → WaitsHint t work.cutover.attempts work.cutover.phase waits_now
+  same_waits same tool_phase at work is = subst (λ (s : Standing). WaitsHint t work.cutover.attempts work.cutover.phase s.waits) (sym same) (subst (ToolPhaseHints t now.log (has Insp).waits) is at).waits_so
 
-  no_waits_now : now_has Insp ≡ free → (course : Course) (work : Work) → course ≡ Migrating work → WaitsHint t work.cutover.attempts work.cutover.phase waits_now
-  no_waits_now none course work is request some = absurd (no_waits (now_has Insp) request none some)
+  no_waits_now : now_has Insp ≡ free → (tool_phase : ToolPhase) (work : Work) → tool_phase ≡ Migrating work → WaitsHint t work.cutover.attempts work.cutover.phase waits_now
+  no_waits_now none tool_phase work is request some = absurd (no_waits (now_has Insp) request none some)
 
   others_same : same_actor entry.actor Insp ≡ false → now_has Insp ≡ has Insp
   others_same other = others_stand plan journal entry (together plan runs serial journal entry kept off).known (served plan runs serial journal entry kept off) Insp other
 
   -- of another actor's turn
-  others_old : same_actor entry.actor Insp ≡ false → Goal (moment plan journal).tool.course
-  others_old other = log_later (others_left plan runs serial journal entry kept off was.none other).logs (moment plan journal).tool.course (same_waits (others_same other) (moment plan journal).tool.course was.course) was.course
+  others_old : same_actor entry.actor Insp ≡ false → Goal (moment plan journal).tool.tool_phase
+  others_old other = log_later (others_left plan runs serial journal entry kept off was.none other).logs (moment plan journal).tool.tool_phase (same_waits (others_same other) (moment plan journal).tool.tool_phase was.tool_phase) was.tool_phase
 
   insp_or : (b : Bool) → same_actor entry.actor Insp ≡ b → entry.actor ≡ Insp ⊎ (same_actor entry.actor Insp ≡ false)
   insp_or true is = inl (same_actor_is entry.actor Insp is)
   insp_or false is = inr is
 
   -- of a loss between calls
-  lost_old : entry.asked ≡ Cut → Goal (moment plan journal).tool.course
-  lost_old cut = log_later (lost_left plan runs serial journal entry kept off was.none cut).logs (moment plan journal).tool.course (by (insp_or (same_actor entry.actor Insp) refl)) was.course where
-    by : entry.actor ≡ Insp ⊎ (same_actor entry.actor Insp ≡ false) → (work : Work) → (moment plan journal).tool.course ≡ Migrating work → WaitsHint t work.cutover.attempts work.cutover.phase waits_now
-    by (inr other) = same_waits (others_same other) (moment plan journal).tool.course was.course
-    by (inl same) = no_waits_now (subst (λ (a : Actor). now_has a ≡ free) same (own_lost plan journal entry (together plan runs serial journal entry kept off).known (served plan runs serial journal entry kept off) cut)) (moment plan journal).tool.course
+  lost_old : entry.asked ≡ Cut → Goal (moment plan journal).tool.tool_phase
+  lost_old cut = log_later (lost_left plan runs serial journal entry kept off was.none cut).logs (moment plan journal).tool.tool_phase (by (insp_or (same_actor entry.actor Insp) refl)) was.tool_phase where
+    by : entry.actor ≡ Insp ⊎ (same_actor entry.actor Insp ≡ false) → (work : Work) → (moment plan journal).tool.tool_phase ≡ Migrating work → WaitsHint t work.cutover.attempts work.cutover.phase waits_now
+    by (inr other) = same_waits (others_same other) (moment plan journal).tool.tool_phase was.tool_phase
+    by (inl same) = no_waits_now (subst (λ (a : Actor). now_has a ≡ free) same (own_lost plan journal entry (together plan runs serial journal entry kept off).known (served plan runs serial journal entry kept off) cut)) (moment plan journal).tool.tool_phase
 
   -- THE MACHINES
 
-  back : (b : Bool) (course : Course) → Goal course → Goal (stopped course)
+  back : (b : Bool) (tool_phase : ToolPhase) → Goal tool_phase → Goal (stopped tool_phase)
   unfolding cutovers.reverted
   back b (SettingUp setup tries) at = at
   back b (Migrating work) at = passes t then.log waits_now work.applier work.cutover.attempts work.cutover.phase (cutovers.ended work.cutover.phase) (end_passes work.cutover.phase) at
 
   abbrev New : Kept
-  New b course = Goal course
+  New b tool_phase = Goal tool_phase
 
   drained_so : DrainKeeps New
   unfolding cutovers.applier_turn
@@ -208,12 +208,12 @@ module _ (plan : PlanData) (runs : IsRunnable plan) (serial : IsSerialPlan plan)
   copy_so : (answer : Answer) (work : Work) → Goal (Migrating work) → CopyKeeps New answer tool work
   copy_so answer work at = record { reverting = λ is. at; unfit = λ going place number is. unfit_so work at; took = λ going fits tries. at }
 
-  apply_so : (answer : Answer) (work : Work) → (moment plan journal).tool.course ≡ Migrating work → (is_reverting tool.reason ≡ false → Reads t then.log work.applier answer) → Goal (Migrating work) → ApplyKeeps New answer tool work
-  apply_so answer work course reads at = record {
+  apply_so : (answer : Answer) (work : Work) → (moment plan journal).tool.tool_phase ≡ Migrating work → (is_reverting tool.reason ≡ false → Reads t then.log work.applier answer) → Goal (Migrating work) → ApplyKeeps New answer tool work
+  apply_so answer work tool_phase reads at = record {
     reverting = λ is. at;
     unfit = λ going place number is. unfit_so work at;
     took = λ going fits tries. record {
-      knows = knows_took t then.log tool.turns work.applier answer (subst (CourseIsNamed plan) course (named plan journal)).applier at.knows (reads going);
+      knows = knows_took t then.log tool.turns work.applier answer (subst (ToolPhaseIsNamed plan) tool_phase (named plan journal)).applier at.knows (reads going);
       below = at.below;
       rises = at.rises;
       waits_so = at.waits_so;
@@ -285,27 +285,27 @@ module _ (plan : PlanData) (runs : IsRunnable plan) (serial : IsSerialPlan plan)
   no_cut (Command word) uncut = refl
 
   -- the applier's reading told what the log has
-  pub applier_reads : (work : Work) → (moment plan journal).tool.course ≡ Migrating work → entry.actor ≡ Apply → (entry.asked ≡ Cut → ⊥) → is_reverting tool.reason ≡ false → Reads t then.log work.applier entry.answer
+  pub applier_reads : (work : Work) → (moment plan journal).tool.tool_phase ≡ Migrating work → entry.actor ≡ Apply → (entry.asked ≡ Cut → ⊥) → is_reverting tool.reason ≡ false → Reads t then.log work.applier entry.answer
   unfolding appliers.next given
-  applier_reads work course same uncut going = by entry.answer refl where
+  applier_reads work tool_phase same uncut going = by entry.answer refl where
     own : work.applier.table ≡ t
-    own = (subst (CourseIsNamed plan) course (named plan journal)).applier
+    own = (subst (ToolPhaseIsNamed plan) tool_phase (named plan journal)).applier
 
     stands : HintsStand t now.log (has Insp).waits work.applier work.cutover.attempts work.cutover.phase
-    stands = subst (CourseHints t now.log (has Insp).waits) course was.course
+    stands = subst (ToolPhaseHints t now.log (has Insp).waits) tool_phase was.tool_phase
 
     logs : LogsAway t now then
     logs = (others_left plan runs serial journal entry kept off was.none (ap (λ (a : Actor). same_actor a Insp) same)).logs
 
     some : 1 ≤ work.applier.batch
-    some = let is : work.applier.batch ≡ plan.options.dml_batch_size = subst (BatchIs plan) course (batch_is plan journal) in let fits = runs.fitting.batch in omega (arith, is, fits)
+    some = let is : work.applier.batch ≡ plan.options.dml_batch_size = subst (BatchIs plan) tool_phase (batch_is plan journal) in let fits = runs.fitting.batch in omega (arith, is, fits)
 
     read : (events : List RowEvent) (next : ℕ) → entry.answer ≡ answers.Events events next → entry.asked ≡ Call (requests.ReadLog work.applier.position work.applier.batch (both_tables t)) → Reads t then.log work.applier (answers.Events events next)
     read events next is asks =
         subst (λ (l : List RowEvent). IsRead t l work.applier.position events next) (sym logs.log)
         (read_later t now.log logs.events work.applier.position next events
         (reading_said t (limits_of plan) (scene_of plan more) journal entry work.applier.batch work.applier.position events next (run_front (limits_of plan) (scene_of plan more) journal (entry ∷ []) (scene_run plan runs serial journal entry kept off))
-        (record { answer = told_answer now entry the_run.answered; missed = told_missed now entry the_run.answered }) (heard_here (answers.Events events next) is (λ same. cc)) (ap (about (opens entry now) entry.session) asks) is some stands.knows.within))
+        (record { answer = reported_answer now entry the_run.answered; missed = reported_missed now entry the_run.answered }) (heard_here (answers.Events events next) is (λ same. cc)) (ap (about (opens entry now) entry.session) asks) is some stands.knows.within))
 
     -- its call at this step, that is answered events
     called : (events : List RowEvent) (next : ℕ) → entry.answer ≡ answers.Events events next → (step : ApplyStep) → entry.asked ≡ Call (appliers.call_at journal work.applier step) → answers_to (appliers.call_at journal work.applier step) (answers.Events events next) ≡ true → Reads t then.log work.applier (answers.Events events next)
@@ -313,42 +313,42 @@ module _ (plan : PlanData) (runs : IsRunnable plan) (serial : IsSerialPlan plan)
     called events next is (Beginning batch) asks fits = absurd (false≢true fits)
     called events next is (Committing batch) asks fits = absurd (false≢true fits)
     called events next is (Applying batch done part) asks fits = absurd (none (appliers.doing_at journal work.applier (Applying batch done part)) fits) where
-      none : (doing : Option appliers.Doing) → answers_to (appliers.says work.applier doing) (answers.Events events next) ≡ true → ⊥
+      none : (doing : Option appliers.Doing) → answers_to (appliers.statement_result work.applier doing) (answers.Events events next) ≡ true → ⊥
       none None fits = false≢true fits
       none (Some doing) fits = false≢true fits
 
-    told : (events : List RowEvent) (next : ℕ) → entry.answer ≡ answers.Events events next → Asking plan journal Apply entry.asked → Reads t then.log work.applier (answers.Events events next)
-    told events next is (calls_so request asks idle call) =
+    reported : (events : List RowEvent) (next : ℕ) → entry.answer ≡ answers.Events events next → Asking plan journal Apply entry.asked → Reads t then.log work.applier (answers.Events events next)
+    reported events next is (calls_so request asks idle call) =
         let one : request ≡ appliers.next journal work.applier = apply_called plan journal work request
         (ap (λ (b : Bool). cond b (rolls_back (moment plan journal).server (live_session journal Apply)) (apply_call plan (moment plan journal).server journal (moment plan journal).tool work)) (sym going)
-        ∙ ap (λ (c : Course). tool_call plan (moment plan journal).server journal (moment plan journal).tool c Apply) (sym course) ∙ call) in
+        ∙ ap (λ (c : ToolPhase). tool_call plan (moment plan journal).server journal (moment plan journal).tool c Apply) (sym tool_phase) ∙ call) in
         called events next is work.applier.step (asks ∙ ap Call one)
         (ap (λ (r : Request). answers_to r (answers.Events events next)) (sym one) ∙ ap (answers_to request) (sym is)
         ∙ own_fits plan journal entry (together plan runs serial journal entry kept off).known (served plan runs serial journal entry kept off) request (subst (λ (a : Actor). IsAbout request (has a) entry.asked) (sym same) (is_called asks idle)))
-    told events next is (polls_so request asks waits) =
+    reported events next is (polls_so request asks waits) =
         absurd (names_read request events next (was.names request waits)
         (ap (answers_to request) (sym is)
         ∙ own_fits plan journal entry (together plan runs serial journal entry kept off).known (served plan runs serial journal entry kept off) request (subst (λ (a : Actor). IsAbout request (has a) entry.asked) (sym same) (is_polled asks waits))))
 
     by : (answer : Answer) → entry.answer ≡ answer → Reads t then.log work.applier answer
-    by (answers.Events events next) is = told events next is (asking plan journal Apply entry.asked (together plan runs serial journal entry kept off).server (gave Apply same uncut))
+    by (answers.Events events next) is = reported events next is (asking plan journal Apply entry.asked (together plan runs serial journal entry kept off).server (gave Apply same uncut))
     by answer is = tt
 
   -- THE INSPECTOR'S TURN
 
-  insp_setup_so : (setup : Setup) (tries : List ℕ) → (moment plan journal).tool.course ≡ SettingUp setup tries → entry.actor ≡ Insp → (entry.asked ≡ Cut → ⊥) → SetupKeeps plan New entry.answer tool setup tries
-  insp_setup_so setup tries course same uncut = record { reverting = λ is. at; again = λ going bad some. on Listing tt; goes = λ going good. rw good (steps setup refl entry.answer refl) } where
+  insp_setup_so : (setup : Setup) (tries : List ℕ) → (moment plan journal).tool.tool_phase ≡ SettingUp setup tries → entry.actor ≡ Insp → (entry.asked ≡ Cut → ⊥) → SetupKeeps plan New entry.answer tool setup tries
+  insp_setup_so setup tries tool_phase same uncut = record { reverting = λ is. at; again = λ going bad some. on Listing tt; goes = λ going good. rw good (steps setup refl entry.answer refl) } where
     left : LeavesAway t now then
-    left = setup_left plan runs serial journal entry kept off was.none setup tries course same
+    left = setup_left plan runs serial journal entry kept off was.none setup tries tool_phase same
 
     at : Goal (SettingUp setup tries)
-    at = log_later left.logs (SettingUp setup tries) (λ work is. absurd cc) (subst (CourseHints t now.log (has Insp).waits) course was.course)
+    at = log_later left.logs (SettingUp setup tries) (λ work is. absurd cc) (subst (ToolPhaseHints t now.log (has Insp).waits) tool_phase was.tool_phase)
 
     asks : InspAsks
     asks = insp_asks same uncut
 
     call : setup_call plan setup ≡ Some asks.request
-    call = insp_setup plan runs serial journal entry kept off setup tries asks.request course same asks.about_it
+    call = insp_setup plan runs serial journal entry kept off setup tries asks.request tool_phase same asks.about_it
 
     on : (next : Setup) → NotedIn next (length then.log) → SetupHints t then.log next
     on next noted = record { away = at.away; noted = noted }
@@ -357,7 +357,7 @@ module _ (plan : PlanData) (runs : IsRunnable plan) (serial : IsSerialPlan plan)
     size = tool.operator.size
 
     To : Setup → Type 0
-    To next = Goal (course_of plan size next tries)
+    To next = Goal (tool_phase_of plan size next tries)
 
     cleared : (left : Leftovers) → To (clearing left)
     cleared left = by (is_clear left) where
@@ -380,42 +380,42 @@ module _ (plan : PlanData) (runs : IsRunnable plan) (serial : IsSerialPlan plan)
     keeps (Ready position range) is = absurd (no_call position range is)
 
     marked : (position : ℕ) → setup ≡ Marking → entry.answer ≡ answers.At position → position ≤ length then.log
-    marked position is told =
+    marked position is reported =
         let asked : About requests.LogEnd = asks.about_it ∙ sym call ∙ ap (setup_call plan) is in
-        let end : position ≡ length now.log = log_said (limits_of plan) (scene_of plan more) journal entry (scene_run plan runs serial journal entry kept off) (heard_here (answers.At position) told (λ same. cc)) position asked told in
+        let end : position ≡ length now.log = log_said (limits_of plan) (scene_of plan more) journal entry (scene_run plan runs serial journal entry kept off) (heard_here (answers.At position) reported (λ same. cc)) position asked reported in
         let later : length then.log ≡ length now.log + length left.logs.events = ap length left.logs.log ∙ length-append now.log left.logs.events in
         omega (arith, end, later)
 
     ready : (position : ℕ) (range : Option KeyRange) → setup ≡ Reaching position → entry.answer ≡ answers.Ends range → To (Ready position range)
-    ready position range is told = record {
+    ready position range is reported = record {
       knows = record { within = subst (λ (s : Setup). NotedIn s (length then.log)) is at.noted; hint = sym (none_hinted t then.log position at.away); step = tt };
       below = none_below t 0 then.log at.away;
       rises = rises_away t 0 then.log at.away;
       waits_so = λ request some. absurd (no (waits_wait asks.request request entry.answer (has Insp) (ap (λ (s : Standing). s.waits) (sym (insp_has asks.request same asks.is_about)) ∙ some)));
     } where
       no : {request : Request} → IsWait asks.request request entry.answer → ⊥
-      no wait = let both : answers.Ends range ≡ answers.Waits wait.by = sym told ∙ wait.is in cc
+      no wait = let both : answers.Ends range ≡ answers.Waits wait.by = sym reported ∙ wait.is in cc
 
     steps : (s : Setup) → setup ≡ s → (answer : Answer) → entry.answer ≡ answer → To (setup_step t s answer)
-    steps Listing is (answers.Tables tables) told = cleared (listed t tables)
-    steps (Clearing some) is (answers.Ok count) told = cleared (without_first some)
-    steps MakingLog is (answers.Ok count) told = on MakingGhost tt
-    steps MakingGhost is (answers.Ok count) told = on Marking tt
-    steps Marking is (answers.At position) told = on (Reaching position) (marked position is told)
-    steps (Reaching position) is (answers.Ends range) told = ready position range is told
-    steps s is answer told = keeps s is
+    steps Listing is (answers.Tables tables) reported = cleared (listed t tables)
+    steps (Clearing some) is (answers.Ok count) reported = cleared (without_first some)
+    steps MakingLog is (answers.Ok count) reported = on MakingGhost tt
+    steps MakingGhost is (answers.Ok count) reported = on Marking tt
+    steps Marking is (answers.At position) reported = on (Reaching position) (marked position is reported)
+    steps (Reaching position) is (answers.Ends range) reported = ready position range is reported
+    steps s is answer reported = keeps s is
 
-  insp_work_so : (work : Work) → (moment plan journal).tool.course ≡ Migrating work → entry.actor ≡ Insp → (entry.asked ≡ Cut → ⊥) → ((word : OperatorWord) → entry.asked ≡ Command word → ⊥) → CutKeeps New entry.answer tool Inspector work
+  insp_work_so : (work : Work) → (moment plan journal).tool.tool_phase ≡ Migrating work → entry.actor ≡ Insp → (entry.asked ≡ Cut → ⊥) → ((word : OperatorWord) → entry.asked ≡ Command word → ⊥) → CutKeeps New entry.answer tool Inspector work
   unfolding cutovers.took
-  insp_work_so work course same uncut uncommanded tries = record { knows = knows_so left.logs; below = below_so left.logs; rises = rises_so left.logs; waits_so = waits_so } where
+  insp_work_so work tool_phase same uncut uncommanded tries = record { knows = knows_so left.logs; below = below_so left.logs; rises = rises_so left.logs; waits_so = waits_so } where
     at : HintsStand t now.log (has Insp).waits work.applier work.cutover.attempts work.cutover.phase
-    at = subst (CourseHints t now.log (has Insp).waits) course was.course
+    at = subst (ToolPhaseHints t now.log (has Insp).waits) tool_phase was.tool_phase
 
     asks : InspAsks
     asks = insp_asks same uncut
 
     left : InspLeft plan runs serial journal entry kept off was.none work
-    left = insp_left plan runs serial journal entry kept off was.none work course at.waits_so same (no_cut entry.asked uncut)
+    left = insp_left plan runs serial journal entry kept off was.none work tool_phase at.waits_so same (no_cut entry.asked uncut)
 
     next : Phase
     next = inspector_phase work.cutover work.cutover.phase entry.answer
@@ -450,107 +450,107 @@ module _ (plan : PlanData) (runs : IsRunnable plan) (serial : IsSerialPlan plan)
       by wait =
           subst (λ (a : Answer). AsksHint t work.cutover.attempts (inspector_phase work.cutover work.cutover.phase a) request) (sym wait.is)
           (asks_waits t work.cutover work.cutover.attempts work.cutover.phase wait.by request
-          (subst (AsksHint t work.cutover.attempts work.cutover.phase) wait.same (insp_work plan runs serial journal entry kept off work asks.request course at.waits_so same asks.about_it)))
+          (subst (AsksHint t work.cutover.attempts work.cutover.phase) wait.same (insp_work plan runs serial journal entry kept off work asks.request tool_phase at.waits_so same asks.about_it)))
 
   -- THE WHOLE TURN
 
-  lost_so : entry.asked ≡ Cut → (actor : Actor) → entry.actor ≡ actor → (course : Course) → (moment plan journal).tool.course ≡ course → Goal course → AnswerKeeps plan New answers.Lost tool actor course
-  lost_so cut Insp same (SettingUp setup tries) course at = insp_cut setup tries at
-  lost_so cut Insp same (Migrating work) course at = insp_lost work (subst (λ (a : Actor). now_has a ≡ free) same (own_lost plan journal entry (together plan runs serial journal entry kept off).known (served plan runs serial journal entry kept off) cut)) at
-  lost_so cut Lock same (Migrating work) course at = lock_so answers.Lost work at
-  lost_so cut Ren same (Migrating work) course at = ren_so answers.Lost work at
-  lost_so cut Copy same (Migrating work) course at = copy_so answers.Lost work at
-  lost_so cut Apply same (Migrating work) course at = apply_so answers.Lost work course (λ going. tt) at
-  lost_so cut actor same course is at = at
+  lost_so : entry.asked ≡ Cut → (actor : Actor) → entry.actor ≡ actor → (tool_phase : ToolPhase) → (moment plan journal).tool.tool_phase ≡ tool_phase → Goal tool_phase → AnswerKeeps plan New answers.Lost tool actor tool_phase
+  lost_so cut Insp same (SettingUp setup tries) tool_phase at = insp_cut setup tries at
+  lost_so cut Insp same (Migrating work) tool_phase at = insp_lost work (subst (λ (a : Actor). now_has a ≡ free) same (own_lost plan journal entry (together plan runs serial journal entry kept off).known (served plan runs serial journal entry kept off) cut)) at
+  lost_so cut Lock same (Migrating work) tool_phase at = lock_so answers.Lost work at
+  lost_so cut Ren same (Migrating work) tool_phase at = ren_so answers.Lost work at
+  lost_so cut Copy same (Migrating work) tool_phase at = copy_so answers.Lost work at
+  lost_so cut Apply same (Migrating work) tool_phase at = apply_so answers.Lost work tool_phase (λ going. tt) at
+  lost_so cut actor same tool_phase is at = at
 
-  heard_so : (entry.asked ≡ Cut → ⊥) → ((word : OperatorWord) → entry.asked ≡ Command word → ⊥) → (actor : Actor) → entry.actor ≡ actor → (course : Course) → (moment plan journal).tool.course ≡ course → AnswerKeeps plan New entry.answer tool actor course
-  heard_so uncut uncommanded Insp same (SettingUp setup tries) course = insp_setup_so setup tries course same uncut
-  heard_so uncut uncommanded Insp same (Migrating work) course = insp_work_so work course same uncut uncommanded
-  heard_so uncut uncommanded Lock same (Migrating work) course = lock_so entry.answer work (subst Goal course (others_old (ap (λ (a : Actor). same_actor a Insp) same)))
-  heard_so uncut uncommanded Ren same (Migrating work) course = ren_so entry.answer work (subst Goal course (others_old (ap (λ (a : Actor). same_actor a Insp) same)))
-  heard_so uncut uncommanded Copy same (Migrating work) course = copy_so entry.answer work (subst Goal course (others_old (ap (λ (a : Actor). same_actor a Insp) same)))
-  heard_so uncut uncommanded Apply same (Migrating work) course = apply_so entry.answer work course (applier_reads work course same uncut) (subst Goal course (others_old (ap (λ (a : Actor). same_actor a Insp) same)))
-  heard_so uncut uncommanded Lock same (SettingUp setup tries) course = subst Goal course (others_old (ap (λ (a : Actor). same_actor a Insp) same))
-  heard_so uncut uncommanded Ren same (SettingUp setup tries) course = subst Goal course (others_old (ap (λ (a : Actor). same_actor a Insp) same))
-  heard_so uncut uncommanded Copy same (SettingUp setup tries) course = subst Goal course (others_old (ap (λ (a : Actor). same_actor a Insp) same))
-  heard_so uncut uncommanded Apply same (SettingUp setup tries) course = subst Goal course (others_old (ap (λ (a : Actor). same_actor a Insp) same))
-  heard_so uncut uncommanded Op same course is = subst Goal is (others_old (ap (λ (a : Actor). same_actor a Insp) same))
-  heard_so uncut uncommanded (Client c) same course is = subst Goal is (others_old (ap (λ (a : Actor). same_actor a Insp) same))
+  heard_so : (entry.asked ≡ Cut → ⊥) → ((word : OperatorWord) → entry.asked ≡ Command word → ⊥) → (actor : Actor) → entry.actor ≡ actor → (tool_phase : ToolPhase) → (moment plan journal).tool.tool_phase ≡ tool_phase → AnswerKeeps plan New entry.answer tool actor tool_phase
+  heard_so uncut uncommanded Insp same (SettingUp setup tries) tool_phase = insp_setup_so setup tries tool_phase same uncut
+  heard_so uncut uncommanded Insp same (Migrating work) tool_phase = insp_work_so work tool_phase same uncut uncommanded
+  heard_so uncut uncommanded Lock same (Migrating work) tool_phase = lock_so entry.answer work (subst Goal tool_phase (others_old (ap (λ (a : Actor). same_actor a Insp) same)))
+  heard_so uncut uncommanded Ren same (Migrating work) tool_phase = ren_so entry.answer work (subst Goal tool_phase (others_old (ap (λ (a : Actor). same_actor a Insp) same)))
+  heard_so uncut uncommanded Copy same (Migrating work) tool_phase = copy_so entry.answer work (subst Goal tool_phase (others_old (ap (λ (a : Actor). same_actor a Insp) same)))
+  heard_so uncut uncommanded Apply same (Migrating work) tool_phase = apply_so entry.answer work tool_phase (applier_reads work tool_phase same uncut) (subst Goal tool_phase (others_old (ap (λ (a : Actor). same_actor a Insp) same)))
+  heard_so uncut uncommanded Lock same (SettingUp setup tries) tool_phase = subst Goal tool_phase (others_old (ap (λ (a : Actor). same_actor a Insp) same))
+  heard_so uncut uncommanded Ren same (SettingUp setup tries) tool_phase = subst Goal tool_phase (others_old (ap (λ (a : Actor). same_actor a Insp) same))
+  heard_so uncut uncommanded Copy same (SettingUp setup tries) tool_phase = subst Goal tool_phase (others_old (ap (λ (a : Actor). same_actor a Insp) same))
+  heard_so uncut uncommanded Apply same (SettingUp setup tries) tool_phase = subst Goal tool_phase (others_old (ap (λ (a : Actor). same_actor a Insp) same))
+  heard_so uncut uncommanded Op same tool_phase is = subst Goal is (others_old (ap (λ (a : Actor). same_actor a Insp) same))
+  heard_so uncut uncommanded (Client c) same tool_phase is = subst Goal is (others_old (ap (λ (a : Actor). same_actor a Insp) same))
 
-  commanded_old : (word : OperatorWord) → entry.asked ≡ Command word → Goal (moment plan journal).tool.course
+  commanded_old : (word : OperatorWord) → entry.asked ≡ Command word → Goal (moment plan journal).tool.tool_phase
   commanded_old word asks =
       others_old (ap (λ (a : Actor). same_actor a Insp) (commands_operator plan journal entry.actor word (subst (IsGiven plan journal entry) asks the_run.followed.given)))
 
-  resize_so : (size : ℕ) (course : Course) → Goal course → ResizeKeeps New tool size course
+  resize_so : (size : ℕ) (tool_phase : ToolPhase) → Goal tool_phase → ResizeKeeps New tool size tool_phase
   resize_so size (SettingUp setup tries) at = at
   resize_so size (Migrating work) at = at
 
   turn_hints : TurnKeeps plan New (moment plan journal).server entry tool
   turn_hints = record {
     commanded = λ word asks unsized. commanded_old word asks;
-    resized = λ size asks. resize_so size (moment plan journal).tool.course (commanded_old (ChunkSize size) asks);
+    resized = λ size asks. resize_so size (moment plan journal).tool.tool_phase (commanded_old (ChunkSize size) asks);
     idle = λ cut idle. lost_old cut;
-    lost = λ cut worked. lost_so cut entry.actor refl (moment plan journal).tool.course refl (lost_old cut);
-    heard = λ uncut uncommanded. heard_so uncut uncommanded entry.actor refl (moment plan journal).tool.course refl;
+    lost = λ cut worked. lost_so cut entry.actor refl (moment plan journal).tool.tool_phase refl (lost_old cut);
+    heard = λ uncut uncommanded. heard_so uncut uncommanded entry.actor refl (moment plan journal).tool.tool_phase refl;
   }
 
-  course_then : Goal (moment plan more).tool.course
-  course_then = turn_kept plan New back journal entry drained_so turn_hints
+  tool_phase_then : Goal (moment plan more).tool.tool_phase
+  tool_phase_then = turn_kept plan New back journal entry drained_so turn_hints
 
   -- AHEAD OF THE HINT ROW
 
   abbrev Ahead : Kept
-  Ahead b course = CourseAhead course
+  Ahead b tool_phase = ToolPhaseAhead tool_phase
 
-  ahead_at : (course : Course) → (moment plan journal).tool.course ≡ course → CourseAhead course
-  ahead_at course is = subst CourseAhead is was.ahead
+  ahead_at : (tool_phase : ToolPhase) → (moment plan journal).tool.tool_phase ≡ tool_phase → ToolPhaseAhead tool_phase
+  ahead_at tool_phase is = subst ToolPhaseAhead is was.ahead
 
-  insp_ahead : (answer : Answer) (work : Work) → (moment plan journal).tool.course ≡ Migrating work → CutKeeps Ahead answer tool Inspector work
+  insp_ahead : (answer : Answer) (work : Work) → (moment plan journal).tool.tool_phase ≡ Migrating work → CutKeeps Ahead answer tool Inspector work
   unfolding cutovers.took
-  insp_ahead answer work course tries drains = by (insp_drains work.cutover work.cutover.phase answer drains) where
+  insp_ahead answer work tool_phase tries drains = by (insp_drains work.cutover work.cutover.phase answer drains) where
     at : HintsStand t now.log (has Insp).waits work.applier work.cutover.attempts work.cutover.phase
-    at = subst (CourseHints t now.log (has Insp).waits) course was.course
+    at = subst (ToolPhaseHints t now.log (has Insp).waits) tool_phase was.tool_phase
 
     by : IsDraining work.cutover.phase ⊎ (work.cutover.phase ≡ Attempting Hinting) → work.applier.hint ≢ work.cutover.attempts
-    by (inl before) = ahead_at (Migrating work) course before
+    by (inl before) = ahead_at (Migrating work) tool_phase before
     by (inr hinting) =
         let below : HintsIn true t work.cutover.attempts now.log = subst (λ (p : Phase). HintsIn (is_unhinted p) t work.cutover.attempts now.log) hinting at.below in
         λ same. none_earlier t below.0 work.cutover.attempts now.log below.1 below.2 work.applier.position (sym at.knows.hint ∙ same)
 
-  lock_ahead : (answer : Answer) (work : Work) → (moment plan journal).tool.course ≡ Migrating work → CutKeeps Ahead answer tool Locker work
+  lock_ahead : (answer : Answer) (work : Work) → (moment plan journal).tool.tool_phase ≡ Migrating work → CutKeeps Ahead answer tool Locker work
   unfolding cutovers.took
-  lock_ahead answer work course tries = locker_drains work.applier.hint work.cutover.attempts work.cutover.phase answer (ahead_at (Migrating work) course)
+  lock_ahead answer work tool_phase tries = locker_drains work.applier.hint work.cutover.attempts work.cutover.phase answer (ahead_at (Migrating work) tool_phase)
 
-  ren_ahead : (answer : Answer) (work : Work) → (moment plan journal).tool.course ≡ Migrating work → CutKeeps Ahead answer tool Renamer work
+  ren_ahead : (answer : Answer) (work : Work) → (moment plan journal).tool.tool_phase ≡ Migrating work → CutKeeps Ahead answer tool Renamer work
   unfolding cutovers.took
-  ren_ahead answer work course tries = λ drains. ahead_at (Migrating work) course (renamer_drains work.cutover.phase answer drains)
+  ren_ahead answer work tool_phase tries = λ drains. ahead_at (Migrating work) tool_phase (renamer_drains work.cutover.phase answer drains)
 
   setup_ahead_so : (answer : Answer) (setup : Setup) (tries : List ℕ) → SetupKeeps plan Ahead answer tool setup tries
   setup_ahead_so answer setup tries = record { reverting = λ is. tt; again = λ going bad some. tt; goes = λ going good. setup_ahead plan tool.operator.size (setup_after plan.table setup answer) tries }
 
-  unfit_ahead : (work : Work) → CourseAhead (Migrating work) → UnfitKeeps Ahead work
+  unfit_ahead : (work : Work) → ToolPhaseAhead (Migrating work) → UnfitKeeps Ahead work
   unfit_ahead work at = record { renamed = λ is. at; reverts = back_ahead true (Migrating work) at }
 
   -- but for the applier's own turn
-  answer_ahead : (answer : Answer) (actor : Actor) → (actor ≡ Apply → answer ≡ answers.Lost) → (course : Course) → (moment plan journal).tool.course ≡ course → AnswerKeeps plan Ahead answer tool actor course
+  answer_ahead : (answer : Answer) (actor : Actor) → (actor ≡ Apply → answer ≡ answers.Lost) → (tool_phase : ToolPhase) → (moment plan journal).tool.tool_phase ≡ tool_phase → AnswerKeeps plan Ahead answer tool actor tool_phase
   unfolding appliers.took
-  answer_ahead answer Insp lost (SettingUp setup tries) course = setup_ahead_so answer setup tries
-  answer_ahead answer Insp lost (Migrating work) course = insp_ahead answer work course
-  answer_ahead answer Lock lost (Migrating work) course = lock_ahead answer work course
-  answer_ahead answer Ren lost (Migrating work) course = ren_ahead answer work course
-  answer_ahead answer Copy lost (Migrating work) course =
-      let at : CourseAhead (Migrating work) = ahead_at (Migrating work) course in
+  answer_ahead answer Insp lost (SettingUp setup tries) tool_phase = setup_ahead_so answer setup tries
+  answer_ahead answer Insp lost (Migrating work) tool_phase = insp_ahead answer work tool_phase
+  answer_ahead answer Lock lost (Migrating work) tool_phase = lock_ahead answer work tool_phase
+  answer_ahead answer Ren lost (Migrating work) tool_phase = ren_ahead answer work tool_phase
+  answer_ahead answer Copy lost (Migrating work) tool_phase =
+      let at : ToolPhaseAhead (Migrating work) = ahead_at (Migrating work) tool_phase in
       record { reverting = λ is. at; unfit = λ going place number is. unfit_ahead work at; took = λ going fits tries. at }
-  answer_ahead answer Apply lost (Migrating work) course =
-      let at : CourseAhead (Migrating work) = ahead_at (Migrating work) course in
+  answer_ahead answer Apply lost (Migrating work) tool_phase =
+      let at : ToolPhaseAhead (Migrating work) = ahead_at (Migrating work) tool_phase in
       record {
         reverting = λ is. at;
         unfit = λ going place number is. unfit_ahead work at;
-        took = λ going fits tries. subst (λ (a : Answer). CourseAhead (Migrating (record work { applier = appliers.took tool.turns work.applier a; batch_tries = tries }))) (sym (lost refl)) at;
+        took = λ going fits tries. subst (λ (a : Answer). ToolPhaseAhead (Migrating (record work { applier = appliers.took tool.turns work.applier a; batch_tries = tries }))) (sym (lost refl)) at;
       }
-  answer_ahead answer actor lost course is = ahead_at course is
+  answer_ahead answer actor lost tool_phase is = ahead_at tool_phase is
 
-  resize_ahead : (size : ℕ) (course : Course) → CourseAhead course → ResizeKeeps Ahead tool size course
+  resize_ahead : (size : ℕ) (tool_phase : ToolPhase) → ToolPhaseAhead tool_phase → ResizeKeeps Ahead tool size tool_phase
   resize_ahead size (SettingUp setup tries) at = at
   resize_ahead size (Migrating work) at = at
 
@@ -558,30 +558,30 @@ module _ (plan : PlanData) (runs : IsRunnable plan) (serial : IsSerialPlan plan)
   unfolding cutovers.applier_turn
   drained_ahead b work tries at = drain_ahead work.cutover work.applier.hint work.cutover.phase
 
-  turn_ahead : (entry.asked ≡ Cut ⊎ (entry.actor ≡ Apply → ⊥)) → CourseAhead (moment plan more).tool.course
+  turn_ahead : (entry.asked ≡ Cut ⊎ (entry.actor ≡ Apply → ⊥)) → ToolPhaseAhead (moment plan more).tool.tool_phase
   turn_ahead but = turn_kept plan Ahead back_ahead journal entry drained_ahead (record {
     commanded = λ word asks unsized. was.ahead;
-    resized = λ size asks. resize_ahead size (moment plan journal).tool.course was.ahead;
+    resized = λ size asks. resize_ahead size (moment plan journal).tool.tool_phase was.ahead;
     idle = λ cut idle. was.ahead;
-    lost = λ cut worked. answer_ahead answers.Lost entry.actor (λ same. refl) (moment plan journal).tool.course refl;
-    heard = λ uncut uncommanded. answer_ahead entry.answer entry.actor (λ same. absurd (no uncut same but)) (moment plan journal).tool.course refl;
+    lost = λ cut worked. answer_ahead answers.Lost entry.actor (λ same. refl) (moment plan journal).tool.tool_phase refl;
+    heard = λ uncut uncommanded. answer_ahead entry.answer entry.actor (λ same. absurd (no uncut same but)) (moment plan journal).tool.tool_phase refl;
   }) where
     no : (entry.asked ≡ Cut → ⊥) → entry.actor ≡ Apply → (entry.asked ≡ Cut ⊎ (entry.actor ≡ Apply → ⊥)) → ⊥
     no uncut same (inl cut) = uncut cut
     no uncut same (inr other) = other same
 
   -- the applier's own
-  own_ahead : entry.actor ≡ Apply → CourseAhead (moment plan more).tool.course
+  own_ahead : entry.actor ≡ Apply → ToolPhaseAhead (moment plan more).tool.tool_phase
   unfolding took
   own_ahead same = by entry.asked refl the_run.followed.given where
-    counted : (asked : Asked) → entry.asked ≡ asked → asked_took plan (moment plan journal).server entry asked tool ≡ turn_counts plan entry.actor (actor_took plan entry.actor entry.answer tool.course tool) → CourseAhead (moment plan more).tool.course
+    counted : (asked : Asked) → entry.asked ≡ asked → asked_took plan (moment plan journal).server entry asked tool ≡ turn_counts plan entry.actor (actor_took plan entry.actor entry.answer tool.tool_phase tool) → ToolPhaseAhead (moment plan more).tool.tool_phase
     counted asked asks is =
-        subst (λ (m : Moment). CourseAhead m.tool.course) (sym (moment_more plan journal entry))
-        (subst (λ (a : Asked). CourseAhead (asked_took plan (moment plan journal).server entry a tool).course) (sym asks)
-        (subst (λ (x : Tool). CourseAhead x.course) (sym is)
-        (subst (λ (a : Actor). CourseAhead (turn_counts plan a (actor_took plan entry.actor entry.answer tool.course tool)).course) (sym same) (counted_ahead plan (actor_took plan entry.actor entry.answer tool.course tool).course (actor_took plan entry.actor entry.answer tool.course tool) refl))))
+        subst (λ (m : Moment). ToolPhaseAhead m.tool.tool_phase) (sym (moment_more plan journal entry))
+        (subst (λ (a : Asked). ToolPhaseAhead (asked_took plan (moment plan journal).server entry a tool).tool_phase) (sym asks)
+        (subst (λ (x : Tool). ToolPhaseAhead x.tool_phase) (sym is)
+        (subst (λ (a : Actor). ToolPhaseAhead (turn_counts plan a (actor_took plan entry.actor entry.answer tool.tool_phase tool)).tool_phase) (sym same) (counted_ahead plan (actor_took plan entry.actor entry.answer tool.tool_phase tool).tool_phase (actor_took plan entry.actor entry.answer tool.tool_phase tool) refl))))
 
-    by : (asked : Asked) → entry.asked ≡ asked → IsGiven plan journal entry asked → CourseAhead (moment plan more).tool.course
+    by : (asked : Asked) → entry.asked ≡ asked → IsGiven plan journal entry asked → ToolPhaseAhead (moment plan more).tool.tool_phase
     by Cut asks gives = turn_ahead (inl asks)
     by (Call request) asks gives = counted (Call request) asks refl
     by Poll asks gives = counted Poll asks refl
@@ -589,9 +589,9 @@ module _ (plan : PlanData) (runs : IsRunnable plan) (serial : IsSerialPlan plan)
       no : Op ≡ Apply → ⊥
       no both = cc
 
-  ahead_then : CourseAhead (moment plan more).tool.course
+  ahead_then : ToolPhaseAhead (moment plan more).tool.tool_phase
   ahead_then = by (same_actor entry.actor Apply) refl where
-    by : (b : Bool) → same_actor entry.actor Apply ≡ b → CourseAhead (moment plan more).tool.course
+    by : (b : Bool) → same_actor entry.actor Apply ≡ b → ToolPhaseAhead (moment plan more).tool.tool_phase
     by true is = own_ahead (same_actor_is entry.actor Apply is)
     by false is = turn_ahead (inr (λ same. true≢false (sym (ap (λ (a : Actor). same_actor a Apply) same) ∙ is)))
 
@@ -637,17 +637,17 @@ module _ (plan : PlanData) (runs : IsRunnable plan) (serial : IsSerialPlan plan)
   -- what sessions wrote
   none_then : NoneWrote t then
   none_then = by (insp_or (same_actor entry.actor Insp) refl) entry.asked refl where
-    insp : entry.actor ≡ Insp → is_cut entry.asked ≡ false → (course : Course) → (moment plan journal).tool.course ≡ course → NoneWrote t then
-    insp same uncut (SettingUp setup tries) course = (setup_left plan runs serial journal entry kept off was.none setup tries course same).none
-    insp same uncut (Migrating work) course = (insp_left plan runs serial journal entry kept off was.none work course (subst (CourseHints t now.log (has Insp).waits) course was.course).waits_so same uncut).wrote
+    insp : entry.actor ≡ Insp → is_cut entry.asked ≡ false → (tool_phase : ToolPhase) → (moment plan journal).tool.tool_phase ≡ tool_phase → NoneWrote t then
+    insp same uncut (SettingUp setup tries) tool_phase = (setup_left plan runs serial journal entry kept off was.none setup tries tool_phase same).none
+    insp same uncut (Migrating work) tool_phase = (insp_left plan runs serial journal entry kept off was.none work tool_phase (subst (ToolPhaseHints t now.log (has Insp).waits) tool_phase was.tool_phase).waits_so same uncut).wrote
 
     by : entry.actor ≡ Insp ⊎ (same_actor entry.actor Insp ≡ false) → (asked : Asked) → entry.asked ≡ asked → NoneWrote t then
     by (inr other) asked asks = (others_left plan runs serial journal entry kept off was.none other).none
     by (inl same) Cut asks = (lost_left plan runs serial journal entry kept off was.none asks).none
-    by (inl same) (Call request) asks = insp same (ap is_cut asks) (moment plan journal).tool.course refl
-    by (inl same) Poll asks = insp same (ap is_cut asks) (moment plan journal).tool.course refl
-    by (inl same) (Command word) asks = insp same (ap is_cut asks) (moment plan journal).tool.course refl
+    by (inl same) (Call request) asks = insp same (ap is_cut asks) (moment plan journal).tool.tool_phase refl
+    by (inl same) Poll asks = insp same (ap is_cut asks) (moment plan journal).tool.tool_phase refl
+    by (inl same) (Command word) asks = insp same (ap is_cut asks) (moment plan journal).tool.tool_phase refl
 
   -- *One turn more*
   pub hints_more : HintsGo plan more
-  hints_more = record { none = none_then; course = course_then; ahead = ahead_then; names = names_then }
+  hints_more = record { none = none_then; tool_phase = tool_phase_then; ahead = ahead_then; names = names_then }

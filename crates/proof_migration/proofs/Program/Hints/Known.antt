@@ -12,14 +12,14 @@ use Rattle.proof_journals.specs.Plans.{IsSerialPlan}
 use Rattle.proof_journals.specs.Run.Kept.{IsKept}
 use Rattle.proof_journals.specs.Machine.Runnable.{IsRunnable}
 use Rattle.proof_journals.specs.Machine.Standings.{standing_of}
-use Rattle.proof_migration.specs.Course.Unaltered.{IsUnaltered}
-use Rattle.proof_migration.proofs.Course.Unaltered.Away.{unaltered_front}
+use Rattle.proof_migration.specs.ToolPhase.Unaltered.{IsUnaltered}
+use Rattle.proof_migration.proofs.ToolPhase.Unaltered.Away.{unaltered_front}
 use Rattle.proof_migration.proofs.Program.Turns.Follows.{kept_front}
 use Rattle.proof_migration.specs.Program.Hints.{HintsAreKnown, IsBegun, is_unhinted}
 use Rattle.proof_migration.proofs.Program.Hints.Courses.{hints_more}
 use Rattle.proof_migration.proofs.Program.Hints.Phases.{HintsIn, HintsStand}
 use Rattle.proof_migration.proofs.Program.Hints.Writes.{rises_take}
-use Rattle.proof_migration.proofs.Program.Hints.States.{at_most, CourseHints, CourseAhead, HintsGo}
+use Rattle.proof_migration.proofs.Program.Hints.States.{at_most, ToolPhaseHints, ToolPhaseAhead, HintsGo}
 
 -- from one journal to all that go on from it
 all_go : (plan : PlanData) → IsRunnable plan → IsSerialPlan plan → (journal rest : List Entry) → IsKept plan (journal ++ rest) → IsUnaltered plan (journal ++ rest) → HintsGo plan journal → HintsGo plan (journal ++ rest)
@@ -34,7 +34,7 @@ all_go plan runs serial journal (entry ∷ rest) kept off was =
 
 begins : (plan : PlanData) → HintsGo plan []
 unfolding moment state_after live_session
-begins plan = record { none = λ n. tt; course = record { away = tt; noted = tt }; ahead = tt; names = λ request some. absurd cc }
+begins plan = record { none = λ n. tt; tool_phase = record { away = tt; noted = tt }; ahead = tt; names = λ request some. absurd cc }
 
 pub hints_go : (plan : PlanData) (journal : List Entry) → IsRunnable plan → IsSerialPlan plan → IsKept plan journal → IsUnaltered plan journal → HintsGo plan journal
 hints_go plan journal runs serial kept off = all_go plan runs serial [] journal kept off (begins plan)
@@ -46,15 +46,15 @@ begun_by t attempts count log false below = at_most t attempts count log below
 
 -- *Hints are known*
 pub hints_known : HintsAreKnown
-hints_known plan journal work runs serial kept off course = record {
+hints_known plan journal work runs serial kept off tool_phase = record {
   within = at.knows.within;
   hint = at.knows.hint;
   begun = λ count. begun_by plan.table work.cutover.attempts count (state_at plan journal).log (is_unhinted work.cutover.phase) at.below;
   rising = λ one other less. rises_take plan.table 0 (state_at plan journal).log one other less at.rises;
-  ahead = subst CourseAhead course all.ahead;
+  ahead = subst ToolPhaseAhead tool_phase all.ahead;
 } where
   all : HintsGo plan journal
   all = hints_go plan journal runs serial kept off
 
   at : HintsStand plan.table (state_at plan journal).log (standing_of plan journal Insp).waits work.applier work.cutover.attempts work.cutover.phase
-  at = subst (CourseHints plan.table (state_at plan journal).log (standing_of plan journal Insp).waits) course all.course
+  at = subst (ToolPhaseHints plan.table (state_at plan journal).log (standing_of plan journal Insp).waits) tool_phase all.tool_phase

@@ -17,18 +17,18 @@ use Rattle.server_model.specs.Answers.{refuses}
 use Rattle.server_model.specs.Effects.{Effect, effect, result_effect}
 use Rattle.server_model.specs.Effects.Effect.{Rests, Writes}
 use Rattle.server_model.specs.Entries.{is_cut}
-use Rattle.server_model.specs.Jobs.{job_of, job_says}
-use Rattle.server_model.specs.Locking.{need_within}
+use Rattle.server_model.specs.Operations.{operation_of, operation_result}
+use Rattle.server_model.specs.Blockers.{need_within}
 use Rattle.server_model.specs.States.{State}
 use Rattle.base_values.specs.ToolNames.{log_name}
 use Rattle.base_values.specs.declared.mysql_errors.TheConstants.{ER_TABLE_NOT_LOCKED}
 use Rattle.tool_program.specs.JournalWords.Journals.{may_lose, opens}
 use Rattle.proof_journals.specs.Scenes.{Besides, Scene, SessionHold, Stored, no_hold}
 use Rattle.proof_journals.specs.Holdings.{face_of, stored}
-use Rattle.proof_journals.specs.Turns.{IsSceneRun, IsTold, about, answer_at, inner, scene_state, told_at}
+use Rattle.proof_journals.specs.Turns.{IsSceneRun, IsReported, about, answer_at, inner, scene_state, reported_at}
 use Rattle.proof_journals.specs.Ghost.Rows.Timelines.{Migration}
 use Rattle.proof_journals.specs.Ghost.Invariant.{NotOf}
-use Rattle.proof_journals.specs.Ghost.Leaving.{EffectLeaves, effect_answer, is_lost, told_done, undone_hold, unless_lost, was_done, where_done}
+use Rattle.proof_journals.specs.Ghost.EffectStates.{EffectLeaves, effect_answer, is_lost, reported_done, undone_hold, unless_lost, was_done, where_done}
 use Rattle.proof_journals.proofs.Ghost.Leaving.{effects_are_done, holds_of}
 use Rattle.proof_journals.proofs.Ghost.Turns.{along_next, run_front}
 use Rattle.proof_journals.proofs.Ghost.Undone.{cuts_are_left, effects_answer, undone_is_left}
@@ -128,15 +128,15 @@ module _ (t : List ℕ) (limits : Limits) (scene : Scene) (journal : List Entry)
       run : IsSceneRun limits scene journal
       run = run_front limits scene journal (entry ∷ []) more
 
-      entry_told : IsTold limits scene journal entry
-      entry_told = along_next (IsTold limits scene) [] journal entry [] more.told
+      entry_reported : IsReported limits scene journal entry
+      entry_reported = along_next (IsReported limits scene) [] journal entry [] more.reported
 
       resting : LeavesAway t before after → Goal
       resting left = record { logs = inl left.logs; none = left.none }
 
-      undone : told_done (told_at entry.side entry.answer entry.missed) ≡ false → Goal
+      undone : reported_done (reported_at entry.side entry.answer entry.missed) ≡ false → Goal
       undone none =
-          let left = undone_is_left limits scene journal entry request run entry_told uncut asked none in
+          let left = undone_is_left limits scene journal entry request run entry_reported uncut asked none in
           resting (rests (undone_hold entry.side entry.answer own) (held entry.side entry.answer) left.0 left.1)
         where
           held : (side : Option Side) (answer : Answer) → NotOf (log_name t) (undone_hold side answer own).writes
@@ -151,14 +151,14 @@ module _ (t : List ℕ) (limits : Limits) (scene : Scene) (journal : List Entry)
       seen = seen_of before entry.session
 
       abbrev result : StatementResult
-      result = job_says seen (job_of (hint_insert t attempt))
+      result = operation_result seen (operation_of (hint_insert t attempt))
 
-      module _ (given : Answer) (told : told_at entry.side entry.answer entry.missed ≡ Some given) (done : was_done given ≡ true) where
+      module _ (given : Answer) (reported : reported_at entry.side entry.answer entry.missed ≡ Some given) (done : was_done given ≡ true) where
         left_as : (one : Effect) → effect_now ≡ one → EffectLeaves one (is_lost entry.side) entry.session (stored before) (stored after) (holds_of before) (holds_of after)
-        left_as one is = subst (λ (d : Effect). EffectLeaves d (is_lost entry.side) entry.session (stored before) (stored after) (holds_of before) (holds_of after)) is (effects_are_done limits scene journal entry request given run entry_told asked told done)
+        left_as one is = subst (λ (d : Effect). EffectLeaves d (is_lost entry.side) entry.session (stored before) (stored after) (holds_of before) (holds_of after)) is (effects_are_done limits scene journal entry request given run entry_reported asked reported done)
 
         says_so : given ≡ effect_answer effect_now
-        says_so = effects_answer limits scene journal entry request given run entry_told asked told done
+        says_so = effects_answer limits scene journal entry request given run entry_reported asked reported done
 
         lost_away : (b : Bool) → NotOf (log_name t) (unless_lost b own).writes
         lost_away true = tt
@@ -168,9 +168,9 @@ module _ (t : List ℕ) (limits : Limits) (scene : Scene) (journal : List Entry)
         refused answer is = let all = left_as (Rests answer) is in resting (rests (unless_lost (is_lost entry.side) own) (lost_away (is_lost entry.side)) all.0 all.1)
 
         -- what is heard of ok
-        said : (side : Option Side) → entry.side ≡ side → told_at side entry.answer entry.missed ≡ Some given → given ≡ answers.Ok 1 → (entry.answer ≡ answers.Ok 1) ⊎ (entry.answer ≡ answers.Lost)
+        said : (side : Option Side) → entry.side ≡ side → reported_at side entry.answer entry.missed ≡ Some given → given ≡ answers.Ok 1 → (entry.answer ≡ answers.Ok 1) ⊎ (entry.answer ≡ answers.Lost)
         said None at_side is ok = let one : entry.answer ≡ given = cc in inl (one ∙ ok)
-        said (Some side) at_side is ok = inr (entry_told.answer ∙ ap (λ (s : Option Side). answer_at s (inner before entry)) at_side)
+        said (Some side) at_side is ok = inr (entry_reported.answer ∙ ap (λ (s : Option Side). answer_at s (inner before entry)) at_side)
 
         committed : effect_now ≡ Writes result.answer result.events → Goal
         committed is = by (hint_inserts t attempt attempt seen (omega arith)) where
@@ -186,7 +186,7 @@ module _ (t : List ℕ) (limits : Limits) (scene : Scene) (journal : List Entry)
             none = none_after;
           }
           by (one_so below rises ok) = record {
-            logs = inr (record { events = own.writes ++ result.events; log = all.1; below = below_both t attempt own.writes result.events (none_below t attempt own.writes (none_wrote entry.session)) below; rises = λ last less. rises_both t last own.writes result.events (rises_away t last own.writes (none_wrote entry.session)) (subst (λ (n : ℕ). Rises t n result.events) (sym (away_hint t last own.writes (none_wrote entry.session))) (rises last less)); said = said entry.side refl told (says_so ∙ ap effect_answer is ∙ ok) });
+            logs = inr (record { events = own.writes ++ result.events; log = all.1; below = below_both t attempt own.writes result.events (none_below t attempt own.writes (none_wrote entry.session)) below; rises = λ last less. rises_both t last own.writes result.events (rises_away t last own.writes (none_wrote entry.session)) (subst (λ (n : ℕ). Rises t n result.events) (sym (away_hint t last own.writes (none_wrote entry.session))) (rises last less)); said = said entry.side refl reported (says_so ∙ ap effect_answer is ∙ ok) });
             none = none_after;
           }
 
@@ -196,10 +196,10 @@ module _ (t : List ℕ) (limits : Limits) (scene : Scene) (journal : List Entry)
           by (outside_so is) = refused (refuses ER_TABLE_NOT_LOCKED) is
           by (within_so there same log is) = committed (is ∙ ap (λ (b : Bool). result_effect b (need_within seen request) result) idle)
 
-      told_goal : (given : Option Answer) → told_at entry.side entry.answer entry.missed ≡ given → (b : Bool) → told_done given ≡ b → Goal
-      told_goal given told false none = undone (ap told_done told ∙ none)
-      told_goal None told true done = absurd (let no : false ≡ true = done in cc)
-      told_goal (Some given) told true done = done_goal given told done
+      reported_goal : (given : Option Answer) → reported_at entry.side entry.answer entry.missed ≡ given → (b : Bool) → reported_done given ≡ b → Goal
+      reported_goal given reported false none = undone (ap reported_done reported ∙ none)
+      reported_goal None reported true done = absurd (let no : false ≡ true = done in cc)
+      reported_goal (Some given) reported true done = done_goal given reported done
 
       pub hint_left : Goal
-      hint_left = told_goal (told_at entry.side entry.answer entry.missed) refl (told_done (told_at entry.side entry.answer entry.missed)) refl
+      hint_left = reported_goal (reported_at entry.side entry.answer entry.missed) refl (reported_done (reported_at entry.side entry.answer entry.missed)) refl

@@ -12,7 +12,7 @@ use Rattle.tool_changelog.specs.Hints.{last_hint}
 use Rattle.base_values.specs.ToolNames.{log_name}
 use Rattle.tool_program.specs.JournalWords.Journals.{state_at}
 use Rattle.tool_program.specs.Setups.{Setup}
-use Rattle.tool_program.specs.Tools.{Course, Migrating, SettingUp, moment, stopped}
+use Rattle.tool_program.specs.Tools.{ToolPhase, Migrating, SettingUp, moment, stopped}
 use Rattle.tool_program.proofs.OnlineCalls.Keeping.{Keeps, always}
 use Rattle.proof_journals.specs.Ghost.Invariant.{NotOf}
 use Rattle.proof_journals.specs.Machine.Standings.{needs_names, standing_of}
@@ -30,18 +30,18 @@ pub record SetupHints (t : List ℕ) (log : List RowEvent) (setup : Setup) : Typ
   pub away : NotOf (log_name t) log
   pub noted : NotedIn setup (length log)
 
-abbrev pub CourseHints : List ℕ → List RowEvent → Option Request → Course → Type 0
-CourseHints t log waits (SettingUp setup tries) = SetupHints t log setup
-CourseHints t log waits (Migrating work) = HintsStand t log waits work.applier work.cutover.attempts work.cutover.phase
+abbrev pub ToolPhaseHints : List ℕ → List RowEvent → Option Request → ToolPhase → Type 0
+ToolPhaseHints t log waits (SettingUp setup tries) = SetupHints t log setup
+ToolPhaseHints t log waits (Migrating work) = HintsStand t log waits work.applier work.cutover.attempts work.cutover.phase
 
-abbrev pub CourseAhead : Course → Type 0
-CourseAhead (SettingUp setup tries) = Unit {0}
-CourseAhead (Migrating work) = IsAhead work.applier.hint work.cutover.attempts work.cutover.phase
+abbrev pub ToolPhaseAhead : ToolPhase → Type 0
+ToolPhaseAhead (SettingUp setup tries) = Unit {0}
+ToolPhaseAhead (Migrating work) = IsAhead work.applier.hint work.cutover.attempts work.cutover.phase
 
 pub record HintsGo (plan : PlanData) (journal : List Entry) : Type 0 where
   pub none : NoneWrote plan.table (state_at plan journal)
-  pub course : CourseHints plan.table (state_at plan journal).log (standing_of plan journal Insp).waits (moment plan journal).tool.course
-  pub ahead : CourseAhead (moment plan journal).tool.course
+  pub tool_phase : ToolPhaseHints plan.table (state_at plan journal).log (standing_of plan journal Insp).waits (moment plan journal).tool.tool_phase
+  pub ahead : ToolPhaseAhead (moment plan journal).tool.tool_phase
   -- what reads the log doesn't wait
   pub names : (request : Request) → (standing_of plan journal Apply).waits ≡ Some request → needs_names request ≡ true
 
@@ -74,11 +74,11 @@ pub last_at_most : (t : List ℕ) (most : ℕ) (log : List RowEvent) → HintsBe
 last_at_most t most log below = subst (λ (l : List RowEvent). last_hint t 0 l ≤ most) (take_all (length log) log (omega arith)) (at_most t most (length log) log below)
 
 -- the batch is the plan's
-abbrev pub BatchIs : PlanData → Course → Type 0
+abbrev pub BatchIs : PlanData → ToolPhase → Type 0
 BatchIs plan (SettingUp setup tries) = Unit {0}
 BatchIs plan (Migrating work) = work.applier.batch ≡ plan.options.dml_batch_size
 
-stops : (plan : PlanData) (course : Course) → BatchIs plan course → BatchIs plan (stopped course)
+stops : (plan : PlanData) (tool_phase : ToolPhase) → BatchIs plan tool_phase → BatchIs plan (stopped tool_phase)
 stops plan (SettingUp setup tries) at = tt
 stops plan (Migrating work) at = at
 
@@ -94,5 +94,5 @@ keeps_batch plan = record {
   resized = λ size work at. at;
 }
 
-pub batch_is : (plan : PlanData) (journal : List Entry) → BatchIs plan (moment plan journal).tool.course
+pub batch_is : (plan : PlanData) (journal : List Entry) → BatchIs plan (moment plan journal).tool.tool_phase
 batch_is plan journal = always plan (BatchIs plan) (keeps_batch plan) journal

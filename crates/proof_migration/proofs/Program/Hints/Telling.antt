@@ -13,14 +13,14 @@ use Rattle.server_model.specs.declared.request.Request.TheVariants as requests
 use Rattle.server_model.specs.declared.session.Limits.{Limits}
 use Rattle.server_model.specs.Answers.{refuses}
 use Rattle.server_model.specs.Effects.{Effect, effect}
-use Rattle.server_model.specs.Showing.{ReadEvent, after_last, events_given, events_read, read_from}
+use Rattle.server_model.specs.Listings.{ReadEvent, after_last, events_given, events_read, read_from}
 use Rattle.server_model.specs.States.{State, is_of}
 use Rattle.base_values.specs.ToolNames.{log_name}
 use Rattle.base_values.specs.declared.mysql_errors.TheConstants.{ER_TABLE_NOT_LOCKED}
 use Rattle.tool_program.specs.JournalWords.Journals.{opens}
 use Rattle.proof_journals.specs.Scenes.{Scene}
-use Rattle.proof_journals.specs.Turns.{IsSceneRun, IsTold, about, scene_state}
-use Rattle.proof_journals.specs.Ghost.Leaving.{effect_answer, was_done, where_done}
+use Rattle.proof_journals.specs.Turns.{IsSceneRun, IsReported, about, scene_state}
+use Rattle.proof_journals.specs.Ghost.EffectStates.{effect_answer, was_done, where_done}
 use Rattle.proof_journals.proofs.Ghost.Undone.{effects_answer}
 use Rattle.proof_journals.proofs.Ghost.Reading.{read_is, taken_length}
 use Rattle.proof_migration.proofs.Migration.Copier.Served.{Deeded, deeded}
@@ -51,23 +51,23 @@ events_in given = map (λ (read : ReadEvent). read.event) given
 record Takes (tables : List (List ℕ)) (part : List RowEvent) (place last : ℕ) (given : List ReadEvent) : Type 0 where
   steps : ℕ
   within : steps ≤ length part
-  behind : after_last last given ≡ place + steps
+  following : after_last last given ≡ place + steps
   are : events_in given ≡ filter (is_of tables) (take steps part)
 
-full_by : (tables : List (List ℕ)) (n place last : ℕ) (event : RowEvent) (part : List RowEvent) (others : List ReadEvent) (b : Bool) → is_of tables event ≡ b → length (take (suc n) (cond b (record { event = event; behind = place + 1 } ∷ others) others)) ≡ suc n
-    → ((m d : ℕ) → length (take (suc m) others) ≡ suc m → Takes tables part (place + 1) d (take (suc m) others)) → Takes tables (event ∷ part) place last (take (suc n) (cond b (record { event = event; behind = place + 1 } ∷ others) others))
-full_by tables zero place last event part others true is full rest = record { steps = 1; within = omega arith; behind = refl; are = rw is refl }
+full_by : (tables : List (List ℕ)) (n place last : ℕ) (event : RowEvent) (part : List RowEvent) (others : List ReadEvent) (b : Bool) → is_of tables event ≡ b → length (take (suc n) (cond b (record { event = event; following = place + 1 } ∷ others) others)) ≡ suc n
+    → ((m d : ℕ) → length (take (suc m) others) ≡ suc m → Takes tables part (place + 1) d (take (suc m) others)) → Takes tables (event ∷ part) place last (take (suc n) (cond b (record { event = event; following = place + 1 } ∷ others) others))
+full_by tables zero place last event part others true is full rest = record { steps = 1; within = omega arith; following = refl; are = rw is refl }
 full_by tables (suc n) place last event part others true is full rest =
     let less : length (take (suc n) others) ≡ suc n = omega (arith, full) in
     let then : Takes tables part (place + 1) (place + 1) (take (suc n) others) = rest n (place + 1) less in
     let within = then.within in
     let sum : (place + 1) + then.steps ≡ place + suc then.steps = omega arith in
-    record { steps = suc then.steps; within = omega (arith, within); behind = then.behind ∙ sum; are = rw is (ap (λ (e : List RowEvent). event ∷ e) then.are) }
+    record { steps = suc then.steps; within = omega (arith, within); following = then.following ∙ sum; are = rw is (ap (λ (e : List RowEvent). event ∷ e) then.are) }
 full_by tables n place last event part others false is full rest =
     let then : Takes tables part (place + 1) last (take (suc n) others) = rest n last full in
     let within = then.within in
     let sum : (place + 1) + then.steps ≡ place + suc then.steps = omega arith in
-    record { steps = suc then.steps; within = omega (arith, within); behind = then.behind ∙ sum; are = rw is then.are }
+    record { steps = suc then.steps; within = omega (arith, within); following = then.following ∙ sum; are = rw is then.are }
 
 full : (tables : List (List ℕ)) (part : List RowEvent) (place n last : ℕ) → length (take (suc n) (read_from tables place part)) ≡ suc n → Takes tables part place last (take (suc n) (read_from tables place part))
 unfolding read_from
@@ -76,8 +76,8 @@ full tables (event ∷ part) place n last is = full_by tables n place last event
 
 -- FEWER
 
-short_by : (tables : List (List ℕ)) (n place : ℕ) (event : RowEvent) (part : List RowEvent) (others : List ReadEvent) (b : Bool) → is_of tables event ≡ b → length (take (suc n) (cond b (record { event = event; behind = place + 1 } ∷ others) others)) < suc n
-    → ((m : ℕ) → length (take m others) < m → events_in (take m others) ≡ filter (is_of tables) part) → events_in (take (suc n) (cond b (record { event = event; behind = place + 1 } ∷ others) others)) ≡ filter (is_of tables) (event ∷ part)
+short_by : (tables : List (List ℕ)) (n place : ℕ) (event : RowEvent) (part : List RowEvent) (others : List ReadEvent) (b : Bool) → is_of tables event ≡ b → length (take (suc n) (cond b (record { event = event; following = place + 1 } ∷ others) others)) < suc n
+    → ((m : ℕ) → length (take m others) < m → events_in (take m others) ≡ filter (is_of tables) part) → events_in (take (suc n) (cond b (record { event = event; following = place + 1 } ∷ others) others)) ≡ filter (is_of tables) (event ∷ part)
 short_by tables n place event part others true is less rest = let fewer : length (take n others) < n = omega (arith, less) in rw is (ap (λ (e : List RowEvent). event ∷ e) (rest n fewer))
 short_by tables n place event part others false is less rest = rw is (rest (suc n) less)
 
@@ -106,18 +106,18 @@ reads t log limit position within = at (length given == suc limit) refl where
   at true is =
       let takes : Takes (both_tables t) part position 0 given = full (both_tables t) part position limit 0 (are_one (length given) (suc limit) is) in
       let steps = takes.within in
-      let behind = takes.behind in
-      record { forward = omega (arith, behind); within = omega (arith, behind, steps, size, within); part = take takes.steps part; joins = ap (λ (n : ℕ). take n log) behind ∙ take-add position takes.steps log; read = takes.are ∙ of_either t (take takes.steps part) }
+      let following = takes.following in
+      record { forward = omega (arith, following); within = omega (arith, following, steps, size, within); part = take takes.steps part; joins = ap (λ (n : ℕ). take n log) following ∙ take-add position takes.steps log; read = takes.are ∙ of_either t (take takes.steps part) }
   at false is =
       let most : length given ≤ suc limit = taken_length (suc limit) (read_from (both_tables t) position part) in
       let fewer : length given < suc limit = grind (arith, nat_tests, most, is) in
       record { forward = within; within = omega arith; part = part; joins = take-length log ∙ sym (take-append-drop position log); read = short (both_tables t) part position (suc limit) fewer ∙ of_either t part }
 
 -- one event at least is asked for
-told_reads : (t : List ℕ) (log : List RowEvent) (limit position : ℕ) (events : List RowEvent) (next : ℕ) → 1 ≤ limit → position ≤ length log → answers.Events events next ≡ events_read position limit (both_tables t) log → IsRead t log position events next
-told_reads t log zero position events next some within is = absurd (omega (arith, some))
-told_reads t log (suc limit) position events next some within is =
-    let told : answers.Events events next ≡ events_given (suc limit) (length log) (take (suc limit) (read_from (both_tables t) position (drop position log))) = is ∙ read_is position (suc limit) (both_tables t) log in
+reported_reads : (t : List ℕ) (log : List RowEvent) (limit position : ℕ) (events : List RowEvent) (next : ℕ) → 1 ≤ limit → position ≤ length log → answers.Events events next ≡ events_read position limit (both_tables t) log → IsRead t log position events next
+reported_reads t log zero position events next some within is = absurd (omega (arith, some))
+reported_reads t log (suc limit) position events next some within is =
+    let reported : answers.Events events next ≡ events_given (suc limit) (length log) (take (suc limit) (read_from (both_tables t) position (drop position log))) = is ∙ read_is position (suc limit) (both_tables t) log in
     let list : events ≡ events_in (take (suc limit) (read_from (both_tables t) position (drop position log))) = cc in
     let place : next ≡ cond (length (take (suc limit) (read_from (both_tables t) position (drop position log))) == suc limit) (after_last 0 (take (suc limit) (read_from (both_tables t) position (drop position log)))) (length log) = cc in
     subst (λ (e : List RowEvent). IsRead t log position e next) (sym list) (subst (λ (n : ℕ). IsRead t log position (events_in (take (suc limit) (read_from (both_tables t) position (drop position log)))) n) (sym place) (reads t log limit position within))
@@ -137,10 +137,10 @@ read_later t log more position next events is =
     }
 
 -- *The applier's reading tells what the log has*
-pub reading_said : (t : List ℕ) (limits : Limits) (scene : Scene) (journal : List Entry) (entry : Entry) (limit position : ℕ) (events : List RowEvent) (next : ℕ) → IsSceneRun limits scene journal → IsTold limits scene journal entry → entry.side ≡ Rattle.std.proofs.Common.None
+pub reading_said : (t : List ℕ) (limits : Limits) (scene : Scene) (journal : List Entry) (entry : Entry) (limit position : ℕ) (events : List RowEvent) (next : ℕ) → IsSceneRun limits scene journal → IsReported limits scene journal entry → entry.side ≡ Rattle.std.proofs.Common.None
     → about (opens entry (scene_state limits scene journal)) entry.session entry.asked ≡ Some (requests.ReadLog position limit (both_tables t)) → entry.answer ≡ answers.Events events next → 1 ≤ limit → position ≤ length (scene_state limits scene journal).log
     → IsRead t (scene_state limits scene journal).log position events next
-reading_said t limits scene journal entry limit position events next run told heard asked is some within = by (deeded entry before request) where
+reading_said t limits scene journal entry limit position events next run reported heard asked is some within = by (deeded entry before request) where
   before : State
   before = scene_state limits scene journal
 
@@ -150,11 +150,11 @@ reading_said t limits scene journal entry limit position events next run told he
   effect_now : Effect
   effect_now = effect (where_done entry.asked entry.session (opens entry before)) entry.session request
 
-  says : entry.answer ≡ effect_answer effect_now
-  says = effects_answer limits scene journal entry request entry.answer run told asked (rw heard refl) (ap was_done is)
+  statement_result : entry.answer ≡ effect_answer effect_now
+  statement_result = effects_answer limits scene journal entry request entry.answer run reported asked (rw heard refl) (ap was_done is)
 
   by : Deeded before entry.session request effect_now → IsRead t before.log position events next
-  by (outside_so out) = absurd (no (sym is ∙ says ∙ ap effect_answer out)) where
+  by (outside_so out) = absurd (no (sym is ∙ statement_result ∙ ap effect_answer out)) where
     no : answers.Events events next ≡ refuses ER_TABLE_NOT_LOCKED → ⊥
     no same = cc
-  by (within_so there same log within_it) = told_reads t before.log limit position events next some within (sym is ∙ says ∙ ap effect_answer within_it ∙ ap (events_read position limit (both_tables t)) log)
+  by (within_so there same log within_it) = reported_reads t before.log limit position events next some within (sym is ∙ statement_result ∙ ap effect_answer within_it ∙ ap (events_read position limit (both_tables t)) log)

@@ -11,7 +11,7 @@ use Rattle.base_values.specs.declared.kind.Kind.{Kind}
 use Rattle.base_values.specs.declared.kind.Kind.TheVariants.{Int, VarChar, VarBinary}
 use Rattle.base_values.specs.declared.value.Value.{Value}
 use Rattle.base_values.specs.declared.value.Value.TheVariants.{Num, Text, Blob}
-use Rattle.base_values.specs.Storing.{bytes_within, character_count, highest, in_range, lowest, stores, text_within}
+use Rattle.base_values.specs.StoredValues.{bytes_within, character_count, highest, in_range, lowest, stores, text_within}
 use Rattle.base_values.specs.declared.gho_schema.schema.Column.{Column}
 use Rattle.base_values.specs.declared.gho_schema.schema.Schema.{Schema}
 use Rattle.base_values.specs.GhoSchema.Tables.{clash}
@@ -25,9 +25,9 @@ use Rattle.server_model.specs.declared.answer.Answer.{Answer}
 use Rattle.server_model.specs.declared.answer.Answer.TheVariants as answers
 use Rattle.server_model.specs.declared.work.StatementResult.{StatementResult}
 use Rattle.server_model.specs.declared.work.Work.TheVariants as works
-use Rattle.server_model.specs.Checking.{◌>>=◌, beside, new_row, or_refused, places_from, row_from, unless, value_at, work_of}
-use Rattle.server_model.specs.Jobs.{events_of, job_of, job_says, result_in}
-use Rattle.server_model.specs.Saying.{only, tells}
+use Rattle.server_model.specs.Checks.{◌>>=◌, beside, new_row, or_refused, places_from, row_from, unless, value_at, work_of}
+use Rattle.server_model.specs.Operations.{events_of, operation_of, operation_result, result_in}
+use Rattle.server_model.specs.StatementResults.{only, tells}
 use Rattle.tool_changelog.specs.Hints.{hint_if, hint_in, hint_of, hint_row, last_hint, or_last}
 use Rattle.base_values.specs.ToolNames.{log_name}
 use Rattle.proof_journals.proofs.Sentry.Hinting.{HintsBelow}
@@ -150,10 +150,10 @@ row_inserts : (t name : List ℕ) (n most : ℕ) (schema : Schema) (rows : List 
     → Inserts t n most (record { answer = (tells schema rows (works.Insert row)).answer; events = events_of name (tells schema rows (works.Insert row)).changes })
 unfolding tells
 row_inserts t name n most schema rows row begins small = by (list_any (clash schema.uniques row) rows) where
-  told : Bool → Rattle.server_model.specs.Saying.TableResult
-  told b = cond b (only (Rattle.server_model.specs.Answers.refuses ER_DUP_ENTRY)) (record { answer = answers.Ok 1; changes = Write row ∷ [] })
+  reported : Bool → Rattle.server_model.specs.StatementResults.TableResult
+  reported b = cond b (only (Rattle.server_model.specs.Answers.refuses ER_DUP_ENTRY)) (record { answer = answers.Ok 1; changes = Write row ∷ [] })
 
-  by : (b : Bool) → Inserts t n most (record { answer = (told b).answer; events = events_of name (told b).changes })
+  by : (b : Bool) → Inserts t n most (record { answer = (reported b).answer; events = events_of name (reported b).changes })
   by true = none_so refl
   by false = one_so ((λ named last less. hint_small n most last row begins small less), tt) (λ last less. row_rises t name n row last begins less) refl
 
@@ -166,10 +166,10 @@ made_inserts t name n most schema rows (Err refusal) begins small = none_so (ref
   refused answer = refl
 
 -- *What the INSERT of a hint row writes*
-pub hint_inserts : (t : List ℕ) (attempt most : ℕ) (seen : Database) → attempt ≤ most → Inserts t attempt most (job_says seen (job_of (hint_insert t attempt)))
-unfolding job_says work_of hint_row
+pub hint_inserts : (t : List ℕ) (attempt most : ℕ) (seen : Database) → attempt ≤ most → Inserts t attempt most (operation_result seen (operation_of (hint_insert t attempt)))
+unfolding operation_result work_of hint_row
 hint_inserts t attempt most seen small = by (find_table (log_name t) seen) where
-  by : (found : Option TableRows) → Inserts t attempt most (result_in (job_of (hint_insert t attempt)) found)
+  by : (found : Option TableRows) → Inserts t attempt most (result_in (operation_of (hint_insert t attempt)) found)
   by None = none_so refl
   by (Some table) =
       made_inserts t (log_name t) attempt most table.schema table.rows (new_row table.schema None (hint_row attempt)) (λ row is. new_begins attempt _ table.schema row is) small

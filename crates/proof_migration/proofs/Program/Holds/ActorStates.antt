@@ -15,7 +15,7 @@ use Rattle.tool_program.specs.Programs.{Follows, IsFollowed}
 use Rattle.proof_journals.proofs.Actors.{live_more}
 use Rattle.proof_journals.specs.Run.Kept.{IsKept}
 use Rattle.proof_journals.specs.Sentry.Laws.{FollowsNumbered}
-use Rattle.proof_journals.specs.Sentry.Turning.{IsNumbered, last_session}
+use Rattle.proof_journals.specs.Sentry.TurnResults.{IsNumbered, last_session}
 use Rattle.proof_journals.proofs.Sentry.Sessions.{live_is_last, sessions_differ}
 use Rattle.proof_journals.proofs.Machine.Journals.{IsRun}
 use Rattle.proof_migration.proofs.Program.Turns.Follows.{kept_front, kept_run}

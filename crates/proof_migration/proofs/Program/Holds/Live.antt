@@ -20,10 +20,10 @@ use Rattle.tool_program.specs.declared.cutover_core.cutover.Stage.TheVariants.{L
 use Rattle.tool_program.specs.JournalWords.Journals.{state_at}
 use Rattle.tool_program.specs.JournalWords.Sessions.{IsInSession, live_session}
 use Rattle.tool_program.specs.Programs.{IsGiven, given, tool_call}
-use Rattle.tool_program.specs.Tools.{Course, Migrating, Work, is_reverting, moment}
+use Rattle.tool_program.specs.Tools.{ToolPhase, Migrating, Work, is_reverting, moment}
 use Rattle.proof_journals.specs.Run.Kept.{IsKept}
-use Rattle.proof_journals.specs.Sentry.Turning.{IsLockerFree, IsRenamerFree, last_session}
-use Rattle.proof_journals.specs.Machine.Machines.{CourseStands, WorkStands, held, renaming}
+use Rattle.proof_journals.specs.Sentry.TurnResults.{IsLockerFree, IsRenamerFree, last_session}
+use Rattle.proof_journals.specs.Machine.Machines.{ToolPhaseStands, WorkStands, held, renaming}
 use Rattle.proof_journals.specs.Machine.Standings.{Standing, free, standing_in, standing_of}
 use Rattle.proof_journals.proofs.Machine.CuttingOver.{LockerAsks}
 use Rattle.proof_journals.proofs.Machine.Journals.{Asking, IsRun, IsTogether, all_together, asking, calls_so, lock_about, polls_so}
@@ -48,13 +48,13 @@ nothing_waits : (table : List ℕ) (waits : Bool) → renaming table waits ≡ f
 nothing_waits table false is = refl
 nothing_waits table true is = absurd (none-some _ (sym (ap (λ (s : Standing). s.waits) is)))
 
-pub work_stands : (plan : PlanData) (journal : List Entry) (work : Work) → IsTogether plan journal → (moment plan journal).tool.course ≡ Migrating work → WorkStands journal (is_reverting (moment plan journal).tool.reason) (standing_of plan journal) work
-work_stands plan journal work together course = subst (CourseStands journal (standing_of plan journal) (is_reverting (moment plan journal).tool.reason)) course together.stands
+pub work_stands : (plan : PlanData) (journal : List Entry) (work : Work) → IsTogether plan journal → (moment plan journal).tool.tool_phase ≡ Migrating work → WorkStands journal (is_reverting (moment plan journal).tool.reason) (standing_of plan journal) work
+work_stands plan journal work together tool_phase = subst (ToolPhaseStands journal (standing_of plan journal) (is_reverting (moment plan journal).tool.reason)) tool_phase together.stands
 
 -- *Holds are live*
 pub holds_live : HoldsAreLive
-holds_live plan journal work faithful follows course =
-    let stands : WorkStands journal (is_reverting (moment plan journal).tool.reason) (standing_of plan journal) work = work_stands plan journal work (all_together plan journal faithful follows) course in
+holds_live plan journal work faithful follows tool_phase =
+    let stands : WorkStands journal (is_reverting (moment plan journal).tool.reason) (standing_of plan journal) work = work_stands plan journal work (all_together plan journal faithful follows) tool_phase in
     record {
       locker = λ none. nothing_held work.cutover.table work.cutover.hold (sym stands.locker ∙ free_without plan journal Lock none);
       renamer = λ none. nothing_waits work.cutover.table work.cutover.renamer_waits (sym stands.renamer ∙ free_without plan journal Ren none);
@@ -71,7 +71,7 @@ renamer_free : (cutover : CutOver) (phase : Phase) (request : Request) → cutov
 renamer_free cutover (Attempting Drained) request is = tt
 renamer_free cutover phase request is = absurd cc
 
-module _ (plan : PlanData) (journal : List Entry) (entry : Entry) (work : Work) (kept : IsKept plan (journal ++ entry ∷ [])) (course : (moment plan journal).tool.course ≡ Migrating work) (called : is_command entry.asked ≡ false) where
+module _ (plan : PlanData) (journal : List Entry) (entry : Entry) (work : Work) (kept : IsKept plan (journal ++ entry ∷ [])) (tool_phase : (moment plan journal).tool.tool_phase ≡ Migrating work) (called : is_command entry.asked ≡ false) where
   before : IsKept plan journal
   before = kept_front plan journal (entry ∷ []) kept
 
@@ -82,7 +82,7 @@ module _ (plan : PlanData) (journal : List Entry) (entry : Entry) (work : Work) 
   together = all_together plan journal before.faithful before.follows
 
   stands : WorkStands journal (is_reverting (moment plan journal).tool.reason) (standing_of plan journal) work
-  stands = work_stands plan journal work together course
+  stands = work_stands plan journal work together tool_phase
 
   -- a session that is new was given a call or a poll
   gave : live_session journal entry.actor ≡ None → given plan journal entry.actor ≡ Some entry.asked
@@ -97,16 +97,16 @@ module _ (plan : PlanData) (journal : List Entry) (entry : Entry) (work : Work) 
   new_locker : entry.actor ≡ Lock → live_session journal Lock ≡ None → IsLockerFree work.cutover.phase
   unfolding given
   new_locker same none =
-      lock_about plan journal entry together run work course stands
+      lock_about plan journal entry together run work tool_phase stands
       (asking plan journal Lock entry.asked together.server (subst (λ (a : Actor). given plan journal a ≡ Some entry.asked) same (gave (ap (live_session journal) same ∙ none)))) (IsLockerFree work.cutover.phase)
-      (λ request about asks. locker_free work.cutover.table work.cutover.phase request (subst (λ (h : Hold). LockerAsks work.cutover.table h work.cutover.phase request) ((holds_live plan journal work before.faithful before.follows course).locker none) asks))
+      (λ request about asks. locker_free work.cutover.table work.cutover.phase request (subst (λ (h : Hold). LockerAsks work.cutover.table h work.cutover.phase request) ((holds_live plan journal work before.faithful before.follows tool_phase).locker none) asks))
 
   new_renamer : entry.actor ≡ Ren → live_session journal Ren ≡ None → IsRenamerFree work.cutover.phase
   unfolding given cutovers.next
   new_renamer same none =
       by (asking plan journal Ren entry.asked together.server (subst (λ (a : Actor). given plan journal a ≡ Some entry.asked) same (gave (ap (live_session journal) same ∙ none)))) where
         by : Asking plan journal Ren entry.asked → IsRenamerFree work.cutover.phase
-        by (calls_so request asks idle call) = renamer_free work.cutover work.cutover.phase request (ap (λ (c : Course). tool_call plan (moment plan journal).server journal (moment plan journal).tool c Ren) (sym course) ∙ call)
+        by (calls_so request asks idle call) = renamer_free work.cutover work.cutover.phase request (ap (λ (c : ToolPhase). tool_call plan (moment plan journal).server journal (moment plan journal).tool c Ren) (sym tool_phase) ∙ call)
         by (polls_so request asks some) = absurd (no (sym (ap (λ (s : Standing). s.waits) (free_without plan journal Ren none)) ∙ some)) where
           no : None ≡ Some request → ⊥
           no same = cc
@@ -119,8 +119,8 @@ module _ (plan : PlanData) (journal : List Entry) (entry : Entry) (work : Work) 
 
 -- *Lockers go on*
 pub lockers_go_on : LockersGoOn
-lockers_go_on plan journal entry work kept course same called = in_last plan journal entry work kept course called Lock (IsLockerFree work.cutover.phase) same (new_locker plan journal entry work kept course called same)
+lockers_go_on plan journal entry work kept tool_phase same called = in_last plan journal entry work kept tool_phase called Lock (IsLockerFree work.cutover.phase) same (new_locker plan journal entry work kept tool_phase called same)
 
 -- *Renamers go on*
 pub renamers_go_on : RenamersGoOn
-renamers_go_on plan journal entry work kept course same called = in_last plan journal entry work kept course called Ren (IsRenamerFree work.cutover.phase) same (new_renamer plan journal entry work kept course called same)
+renamers_go_on plan journal entry work kept tool_phase same called = in_last plan journal entry work kept tool_phase called Ren (IsRenamerFree work.cutover.phase) same (new_renamer plan journal entry work kept tool_phase called same)

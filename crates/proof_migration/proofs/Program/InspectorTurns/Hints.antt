@@ -8,22 +8,22 @@ use Rattle.base_values.specs.declared.unfit.Unfit.{Unfit}
 use Rattle.base_values.specs.declared.unfit.Unfit.TheVariants as unfit
 use Rattle.base_values.specs.declared.value.Value.{Value}
 use Rattle.base_values.specs.declared.value.Value.TheVariants.{Num, Text}
-use Rattle.base_values.specs.Storing.{character_count, highest, in_range, lowest, stores, text_within}
+use Rattle.base_values.specs.StoredValues.{character_count, highest, in_range, lowest, stores, text_within}
 use Rattle.base_values.specs.GhoSchema.Tables.{clash}
 use Rattle.base_values.specs.declared.gho_schema.schema.Schema.{Schema}
 use Rattle.base_values.specs.declared.event.Change.TheVariants.{Write}
 use Rattle.base_values.specs.declared.event.RowEvent.{RowEvent}
-use Rattle.server_locks.specs.MetadataLocks.Granting as grants
+use Rattle.server_locks.specs.MetadataLocks.Grants as grants
 use Rattle.table_store.specs.Databases.{Database, TableRows, find_table}
 use Rattle.base_script.specs.declared.statement.Statement.{Statement}
 use Rattle.base_script.specs.declared.statement.Statement.TheVariants as statements
 use Rattle.server_model.specs.Answers.{refuses, refuses_value}
-use Rattle.server_model.specs.Checking.{◌>>=◌, beside, new_row, or_refused, row_from, value_at, work_of}
+use Rattle.server_model.specs.Checks.{◌>>=◌, beside, new_row, or_refused, row_from, value_at, work_of}
 use Rattle.server_model.specs.Effects.{effect_unless, is_outside}
-use Rattle.server_model.specs.Jobs.{events_of, job_of, job_says, result_in, says}
-use Rattle.server_model.specs.Locking.{blocker, need}
-use Rattle.server_model.specs.Saying.{only, tells}
-use Rattle.server_model.specs.Serving.{Served, at_rest, called_unless, calls, does, done, is_over, polled_of, polled_over, polled_unless, polls, serves, without_waiting}
+use Rattle.server_model.specs.Operations.{events_of, operation_of, operation_result, result_in, statement_result}
+use Rattle.server_model.specs.Blockers.{blocker, need}
+use Rattle.server_model.specs.StatementResults.{only, tells}
+use Rattle.server_model.specs.PlainServer.{Served, at_rest, called_unless, calls, does, done, is_over, polled_of, polled_over, polled_unless, polls, serves, without_waiting}
 use Rattle.server_model.specs.States.{State, is_in_transaction, kept_names, names_held, session_of, view, waiting_of, with_session, writes_of}
 use Rattle.server_model.specs.declared.answer.Answer.{Answer}
 use Rattle.server_model.specs.declared.answer.Answer.TheVariants as answers
@@ -43,7 +43,7 @@ use Rattle.tool_program.specs.CutoverCore.Attempts.{writes_hint}
 use Rattle.proof_journals.specs.Turns.{about, request_of}
 use Rattle.proof_journals.proofs.Names.{as_held}
 use Rattle.proof_journals.specs.ServerTurns.Others.{held_at}
-use Rattle.proof_journals.specs.Machine.Tabling.{schema_of}
+use Rattle.proof_journals.specs.Machine.MigrationTables.{schema_of}
 use Rattle.proof_journals.proofs.Machine.Schemas.{schema_events}
 
 -- WHAT IS STORED
@@ -126,28 +126,28 @@ hint_insert t n = statements.Insert (log_name t) None (hint_row n)
 abbrev Hints : List ℕ → ℕ → StatementResult → Type 0
 Hints t n result = (count : ℕ) → result.answer ≡ answers.Ok count → result.events ≡ hint_event t n ∷ []
 
-told_hints : (t : List ℕ) (n : ℕ) (rows : List (List Value)) (made : Result (List Value) Answer) → new_row (log_schema t) None (hint_row n) ≡ made
+reported_hints : (t : List ℕ) (n : ℕ) (rows : List (List Value)) (made : Result (List Value) Answer) → new_row (log_schema t) None (hint_row n) ≡ made
     → Hints t n (record { answer = (tells (log_schema t) rows (or_refused made works.Insert)).answer; events = events_of (log_name t) (tells (log_schema t) rows (or_refused made works.Insert)).changes })
 unfolding tells
-told_hints t n rows (Err refusal) is count ok = absurd (never refusal (row_refuses t n refusal is) ok) where
+reported_hints t n rows (Err refusal) is count ok = absurd (never refusal (row_refuses t n refusal is) ok) where
   never : (answer : Answer) → IsRefusal answer → answer ≡ answers.Ok count → ⊥
   never (answers.Refused number column) refused same = cc
   never answer refused same = refused
-told_hints t n rows (Ok row) is count ok = by (list_any (clash (log_schema t).uniques row) rows) ok where
+reported_hints t n rows (Ok row) is count ok = by (list_any (clash (log_schema t).uniques row) rows) ok where
   by : (b : Bool) → (cond b (only (refuses ER_DUP_ENTRY)) (record { answer = answers.Ok 1; changes = Write row ∷ [] })).answer ≡ answers.Ok count → events_of (log_name t) (cond b (only (refuses ER_DUP_ENTRY)) (record { answer = answers.Ok 1; changes = Write row ∷ [] })).changes ≡ hint_event t n ∷ []
   by true ok = absurd cc
   by false ok = ap (λ (r : List Value). let one : RowEvent = record { table = log_name t; change = Write r } in one ∷ []) (row_is t n row is)
 
-in_hints : (t : List ℕ) (n : ℕ) (found : Option TableRows) → option_map (λ table. table.schema) found ≡ Some (log_schema t) → Hints t n (result_in (job_of (hint_insert t n)) found)
+in_hints : (t : List ℕ) (n : ℕ) (found : Option TableRows) → option_map (λ table. table.schema) found ≡ Some (log_schema t) → Hints t n (result_in (operation_of (hint_insert t n)) found)
 unfolding work_of
 in_hints t n None stands = absurd cc
 in_hints t n (Some table) stands =
     let same : table.schema ≡ log_schema t = cc in
     subst (λ (schema : Schema). Hints t n (record { answer = (tells schema table.rows (or_refused (new_row schema None (hint_row n)) works.Insert)).answer; events = events_of (log_name t) (tells schema table.rows (or_refused (new_row schema None (hint_row n)) works.Insert)).changes })) (sym same)
-    (told_hints t n table.rows (new_row (log_schema t) None (hint_row n)) refl)
+    (reported_hints t n table.rows (new_row (log_schema t) None (hint_row n)) refl)
 
-says_hints : (t : List ℕ) (n : ℕ) (seen : Database) → schema_of (log_name t) seen ≡ Some (log_schema t) → Hints t n (says seen (hint_insert t n))
-unfolding job_says
+says_hints : (t : List ℕ) (n : ℕ) (seen : Database) → schema_of (log_name t) seen ≡ Some (log_schema t) → Hints t n (statement_result seen (hint_insert t n))
+unfolding operation_result
 says_hints t n seen stands = in_hints t n (find_table (log_name t) seen) stands
 
 -- WHAT IS DONE
@@ -182,7 +182,7 @@ module _ (t : List ℕ) (n : ℕ) (state : State) (number : ℕ) (bare : IsBare 
 
   within : (w : List Waiting) → DoneSo (does (effect_unless false (is_in_transaction (session_of number state.sessions)) (view number state) (record state { waiting = w }) (writes_hint t n)) (record state { waiting = w }) number)
   within w = subst (λ (b : Bool). DoneSo (does (effect_unless false b (view number state) (record state { waiting = w }) (writes_hint t n)) (record state { waiting = w }) number)) (sym bare.busy) (λ count ok. record {
-    log = ap (λ (written : List RowEvent). state.log ++ (written ++ (says (view number state) (hint_insert t n)).events)) bare.writes ∙ ap (λ (events : List RowEvent). state.log ++ events) (says_hints t n (view number state) seen_stands count ok);
+    log = ap (λ (written : List RowEvent). state.log ++ (written ++ (statement_result (view number state) (hint_insert t n)).events)) bare.writes ∙ ap (λ (events : List RowEvent). state.log ++ events) (says_hints t n (view number state) seen_stands count ok);
     held = rested_names number state.sessions bare.names;
   })
 

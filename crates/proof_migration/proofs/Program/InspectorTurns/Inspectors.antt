@@ -33,8 +33,8 @@ use Rattle.tool_program.specs.declared.cutover_core.cutover.Phase.TheVariants.{A
 use Rattle.tool_program.specs.declared.cutover_core.cutover.Stage.TheVariants.{Hinting, Showing}
 use Rattle.tool_program.specs.JournalWords.Journals.{opens, state_at}
 use Rattle.tool_program.specs.Programs.{IsGiven, given, tool_call}
-use Rattle.tool_program.specs.Tools.{Course, Migrating, SettingUp, Work, is_reverting, moment}
-use Rattle.tool_program.proofs.OnlineCalls.Machines.{CourseIsNamed, named}
+use Rattle.tool_program.specs.Tools.{ToolPhase, Migrating, SettingUp, Work, is_reverting, moment}
+use Rattle.tool_program.proofs.OnlineCalls.Machines.{ToolPhaseIsNamed, named}
 use Rattle.proof_journals.specs.Plans.{IsSerialPlan}
 use Rattle.proof_journals.specs.Turns.{about, request_of}
 use Rattle.proof_journals.proofs.Journals.{opened_waits}
@@ -43,15 +43,15 @@ use Rattle.proof_journals.specs.Run.Kept.{IsKept}
 use Rattle.proof_journals.specs.Machine.Machines.{WorkStands, inspector_waits}
 use Rattle.proof_journals.specs.Machine.Runnable.{IsRunnable}
 use Rattle.proof_journals.specs.Machine.Standings.{IsAbout, Standing, answers_to, free, is_called, is_polled, standing_of}
-use Rattle.proof_journals.specs.Machine.Tabling.{schema_of}
+use Rattle.proof_journals.specs.Machine.MigrationTables.{schema_of}
 use Rattle.proof_journals.proofs.Machine.Asking.{waits_asks as waits_kind}
 use Rattle.proof_journals.proofs.Machine.Journals.{Asking, IsRun, IsTogether, all_together, asking, calls_so, never_commands, polls_so}
 use Rattle.proof_journals.proofs.Machine.Seated.{own_fits, own_waiting}
 use Rattle.proof_journals.specs.Sentry.Sentries.{InspectorMay, InspectorTurns, InspectorWrites, OthersTurn, Rests, WritesHint, scene}
-use Rattle.proof_journals.specs.Sentry.Turning.{Apart, AskedTurn, CourseTurn, InspectorSays, InspectorTurn, IsTurned, WorkTurn, last_session, told_if}
+use Rattle.proof_journals.specs.Sentry.TurnResults.{Apart, AskedTurn, ToolPhaseTurn, InspectorSays, InspectorTurn, IsTurned, WorkTurn, last_session, reported_if}
 use Rattle.proof_journals.proofs.Sentry.Serving.{others_turn, waits_on}
-use Rattle.proof_migration.specs.Course.Unaltered.{IsUnaltered}
-use Rattle.proof_migration.proofs.Course.Unaltered.Away.{unaltered_front}
+use Rattle.proof_migration.specs.ToolPhase.Unaltered.{IsUnaltered}
+use Rattle.proof_migration.proofs.ToolPhase.Unaltered.Away.{unaltered_front}
 use Rattle.proof_migration.specs.Program.Hints.{HintsAreKnown, IsBegun, is_unhinted}
 use Rattle.proof_migration.proofs.Program.Turns.Asked.{about_called, gave}
 use Rattle.proof_migration.proofs.Program.Turns.Follows.{kept_front, kept_run}
@@ -61,7 +61,7 @@ use Rattle.proof_migration.proofs.Program.LockerTurns.Entries as entries
 use Rattle.proof_migration.specs.Program.InspectorTurns.{InspectorsAreTurned}
 use Rattle.proof_migration.proofs.Program.InspectorTurns.Fitting.{AsksAt, WaitsAt, waits_asks}
 use Rattle.proof_migration.proofs.Program.InspectorTurns.Hints.{Hinted, IsBare, hinted}
-use Rattle.proof_migration.proofs.Program.InspectorTurns.Keeping.{CourseFits, WorkFits, all_fit, insp_asks}
+use Rattle.proof_migration.proofs.Program.InspectorTurns.Keeping.{ToolPhaseFits, WorkFits, all_fit, insp_asks}
 
 -- while an attempt may succeed, and where its end is looked at, it asks nothing that makes or drops a table
 abbrev IsShared : Request → Phase → Type 0
@@ -134,12 +134,12 @@ lost_writes t attempt Finished before after = tt
 -- where the hint row of an attempt comes next, none of that attempt is in the log yet
 abbrev IsUnhinted : PlanData → List Entry → Type 0
 IsUnhinted plan journal =
-    (work : Work) → (moment plan journal).tool.course ≡ Migrating work → work.cutover.phase ≡ Attempting Hinting → (count : ℕ) → last_hint plan.table 0 (take count (state_at plan journal).log) ≢ work.cutover.attempts
+    (work : Work) → (moment plan journal).tool.tool_phase ≡ Migrating work → work.cutover.phase ≡ Attempting Hinting → (count : ℕ) → last_hint plan.table 0 (take count (state_at plan journal).log) ≢ work.cutover.attempts
 
 none_hinted : HintsAreKnown → (plan : PlanData) (journal : List Entry) → IsRunnable plan → IsSerialPlan plan → IsKept plan journal → IsUnaltered plan journal → IsUnhinted plan journal
-none_hinted hints_are_known plan journal runs serial kept off work course hints count =
+none_hinted hints_are_known plan journal runs serial kept off work tool_phase hints count =
     let less : last_hint plan.table 0 (take count (state_at plan journal).log) < work.cutover.attempts =
-    subst (λ (phase : Phase). IsBegun (is_unhinted phase) work.cutover.attempts (last_hint plan.table 0 (take count (state_at plan journal).log))) hints ((hints_are_known plan journal work runs serial kept off course).begun count) in
+    subst (λ (phase : Phase). IsBegun (is_unhinted phase) work.cutover.attempts (last_hint plan.table 0 (take count (state_at plan journal).log))) hints ((hints_are_known plan journal work runs serial kept off tool_phase).begun count) in
     ne_of_lt less
 
 module _ (entries_are_turns : EntriesAreTurns) (plan : PlanData) (journal : List Entry) (entry : Entry) (inspects : entry.actor ≡ Insp) (runs : IsRunnable plan) (serial : IsSerialPlan plan) (kept : IsKept plan (journal ++ entry ∷ [])) (off : IsUnaltered plan (journal ++ entry ∷ [])) (unhinted : IsUnhinted plan journal) where
@@ -194,15 +194,15 @@ module _ (entries_are_turns : EntriesAreTurns) (plan : PlanData) (journal : List
   shared_turn : asks_exclusive (about now entry.session entry.asked) ≡ false → OthersTurn plan.table renamer entry.session (scene before) (scene after)
   shared_turn shared = others_turn plan.table renamer entry.session before after apart.renames (subst (λ (takes : Bool). TurnOf takes entry.session before after) shared turn)
 
-  module _ (work : Work) (course : (moment plan journal).tool.course ≡ Migrating work) where
+  module _ (work : Work) (tool_phase : (moment plan journal).tool.tool_phase ≡ Migrating work) where
     stands : WorkStands journal (is_reverting (moment plan journal).tool.reason) has work
-    stands = work_stands plan journal work together course
+    stands = work_stands plan journal work together tool_phase
 
     own_table : work.cutover.table ≡ plan.table
-    own_table = (subst (CourseIsNamed plan) course (named plan journal)).cutover
+    own_table = (subst (ToolPhaseIsNamed plan) tool_phase (named plan journal)).cutover
 
     fits_now : WorkFits plan before.tables (has Insp).waits work
-    fits_now = subst (CourseFits plan before.tables (has Insp).waits) course (all_fit plan journal runs serial (kept_front plan journal (entry ∷ []) kept) (unaltered_front plan journal (entry ∷ []) off))
+    fits_now = subst (ToolPhaseFits plan before.tables (has Insp).waits) tool_phase (all_fit plan journal runs serial (kept_front plan journal (entry ∷ []) kept) (unaltered_front plan journal (entry ∷ []) off))
 
     busy : (has entry.actor).busy ≡ false
     busy = ap (λ (a : Actor). (has a).busy) inspects ∙ stands.inspector.busy
@@ -274,7 +274,7 @@ module _ (entries_are_turns : EntriesAreTurns) (plan : PlanData) (journal : List
           (entries.given_heard entries_are_turns plan journal entry runs serial kept off (heard count is) ∙ is) in
           let left : after ≡ (entries.served entries_are_turns plan journal entry runs serial kept off).after = entries.after_is entries_are_turns plan journal entry runs serial kept off None (heard count is) in
           record {
-            earlier = unhinted work course hints;
+            earlier = unhinted work tool_phase hints;
             tables = (shared_turn (ap asks_exclusive (about_here ∙ ap Some asked_row))).old_stays;
             held = ap held_at left ∙ done.held ∙ entries.held_now entries_are_turns plan journal entry runs serial kept off;
             log = ap (λ (s : State). s.log) left ∙ done.log ∙ ap (λ (log : List RowEvent). log ++ Rattle.proof_migration.proofs.Program.InspectorTurns.Hints.hint_event plan.table work.cutover.attempts ∷ []) (entries.log_now entries_are_turns plan journal entry runs serial kept off);
@@ -291,16 +291,16 @@ module _ (entries_are_turns : EntriesAreTurns) (plan : PlanData) (journal : List
 
     may_so : Asking plan journal Insp entry.asked → InspectorMay work.cutover.phase work.cutover.hold work.cutover.renamer_waits entry.answer
     unfolding cutovers.next
-    may_so (calls_so request asks idle call) = called_may work.cutover work.cutover.phase request entry.answer (ap (λ (c : Course). tool_call plan (moment plan journal).server journal (moment plan journal).tool c Insp) (sym course) ∙ call)
+    may_so (calls_so request asks idle call) = called_may work.cutover work.cutover.phase request entry.answer (ap (λ (c : ToolPhase). tool_call plan (moment plan journal).server journal (moment plan journal).tool c Insp) (sym tool_phase) ∙ call)
     may_so (polls_so request asks some) =
         polled_may work.cutover.phase work.cutover.hold work.cutover.renamer_waits request entry.answer (waits_kind inspector_waits (has Insp).waits request stands.inspector.waits some)
         (own_fits plan journal entry together.known (entries.seated entries_are_turns plan journal entry runs serial kept off) request (subst (λ (a : Actor). IsAbout request (has a) entry.asked) (sym inspects) (is_polled asks some)))
 
-    says : given plan journal Insp ≡ Some entry.asked → InspectorSays plan before after locker renamer work entry.answer entry.session
+    statement_result : given plan journal Insp ≡ Some entry.asked → InspectorSays plan before after locker renamer work entry.answer entry.session
     unfolding given
-    says gives =
+    statement_result gives =
         let asks : Asking plan journal Insp entry.asked = asking plan journal Insp entry.asked together.server gives in
-        insp_asks plan journal entry serial runs (entries.known entries_are_turns plan journal entry runs serial kept off) run off (all_fit plan journal runs serial (kept_front plan journal (entry ∷ []) kept) (unaltered_front plan journal (entry ∷ []) off)) work course asks
+        insp_asks plan journal entry serial runs (entries.known entries_are_turns plan journal entry runs serial kept off) run off (all_fit plan journal runs serial (kept_front plan journal (entry ∷ []) kept) (unaltered_front plan journal (entry ∷ []) off)) work tool_phase asks
         (InspectorSays plan before after locker renamer work entry.answer entry.session)
         (λ request is_about kind. record { apart = apart; turn = turns_so work.cutover.phase (about_one request is_about kind); writes = writes_so request is_about kind work.cutover.phase refl entry.answer refl; may = may_so asks })
 
@@ -328,9 +328,9 @@ module _ (entries_are_turns : EntriesAreTurns) (plan : PlanData) (journal : List
         waits = waits_on plan.table renamer entry.session before after turn apart.renames;
       }
 
-      lost : InspectorTurn plan before after locker renamer work (told_if (has_work before entry.session)) entry.session
+      lost : InspectorTurn plan before after locker renamer work (reported_if (has_work before entry.session)) entry.session
       lost = by (has_work before entry.session) where
-        by : (b : Bool) → InspectorTurn plan before after locker renamer work (told_if b) entry.session
+        by : (b : Bool) → InspectorTurn plan before after locker renamer work (reported_if b) entry.session
         by true = worked
         by false = idle
 
@@ -342,21 +342,21 @@ module _ (entries_are_turns : EntriesAreTurns) (plan : PlanData) (journal : List
       by_insp answer is = subst (λ (a : Actor). WorkTurn plan before after locker renamer work turns entry a answer) (sym inspects) is
 
       said : is_cut entry.asked ≡ false → InspectorSays plan before after locker renamer work entry.answer entry.session
-      said uncut = says (gave plan serial runs.fitting journal entry (entries.known entries_are_turns plan journal entry runs serial kept off) run off Insp inspects uncut)
+      said uncut = statement_result (gave plan serial runs.fitting journal entry (entries.known entries_are_turns plan journal entry runs serial kept off) run off Insp inspects uncut)
 
       by : (asked : Asked) → entry.asked ≡ asked → IsGiven plan journal entry asked → AskedTurn plan before after locker renamer work turns entry asked
       by (Command word) asks gives = absurd (never word gives)
       by (Call request) asks gives = by_insp (Some entry.answer) (said (ap is_cut asks))
       by Poll asks gives = by_insp (Some entry.answer) (said (ap is_cut asks))
-      by Cut asks gives = by_insp (told_if (has_work before entry.session)) (lost asks)
+      by Cut asks gives = by_insp (reported_if (has_work before entry.session)) (lost asks)
 
   turned : IsTurned plan journal entry
-  turned = record { turn = by (moment plan journal).tool.course refl } where
-    by : (course : Course) → (moment plan journal).tool.course ≡ course → CourseTurn plan (moment plan journal).server (moment plan (journal ++ entry ∷ [])).server locker renamer course ((moment plan journal).tool.turns + 1) entry
-    by (SettingUp setup tries) course = tt
-    by (Migrating work) course =
+  turned = record { turn = by (moment plan journal).tool.tool_phase refl } where
+    by : (tool_phase : ToolPhase) → (moment plan journal).tool.tool_phase ≡ tool_phase → ToolPhaseTurn plan (moment plan journal).server (moment plan (journal ++ entry ∷ [])).server locker renamer tool_phase ((moment plan journal).tool.turns + 1) entry
+    by (SettingUp setup tries) tool_phase = tt
+    by (Migrating work) tool_phase =
         subst (λ (s : State). AskedTurn plan s (moment plan (journal ++ entry ∷ [])).server locker renamer work ((moment plan journal).tool.turns + 1) entry entry.asked) (sym together.server)
-        (subst (λ (s : State). AskedTurn plan before s locker renamer work ((moment plan journal).tool.turns + 1) entry entry.asked) (sym then_together.server) (asked_turn work course ((moment plan journal).tool.turns + 1) entry.asked refl run.followed.given))
+        (subst (λ (s : State). AskedTurn plan before s locker renamer work ((moment plan journal).tool.turns + 1) entry entry.asked) (sym then_together.server) (asked_turn work tool_phase ((moment plan journal).tool.turns + 1) entry.asked refl run.followed.given))
 
 -- *Inspectors are turned*
 pub inspectors_turned : EntriesAreTurns → HintsAreKnown → InspectorsAreTurned

@@ -2,14 +2,14 @@
 use Rattle.std.proofs.Common.{◌≡◌, ℕ, Bool, true, false, not, ◌||◌, List, [], ◌∷◌, ◌++◌, filter, cond, Option, Some, None, refl, sym, ap, ◌∙◌}
 use Rattle.std.specs.Prelude.{◌==◌, is_some}
 use Rattle.std.proofs.lemmas.Bool.{true≢false}
-use Rattle.server_locks.specs.MetadataLocks.Granting as grants
-use Rattle.server_locks.specs.MetadataLocks.Granting.{holds}
+use Rattle.server_locks.specs.MetadataLocks.Grants as grants
+use Rattle.server_locks.specs.MetadataLocks.Grants.{holds}
 use Rattle.base_script.specs.declared.actor.Side.{Side}
 use Rattle.base_script.specs.declared.actor.Side.TheVariants.{Before, After}
 use Rattle.server_model.specs.Effects.{Effect, Forgets, Grows, Locks, Moves, Rests, Unlocks, Writes, effect}
 use Rattle.server_model.specs.Entries.{is_client, is_command}
-use Rattle.server_model.specs.Locking.{blocker, need}
-use Rattle.server_model.specs.Serving.{at_rest, called_unless, calls, counting, does, done, holding, is_over, leaves, locking, loses, polled_of, polled_over, polled_unless, polls, serves, unlocking, without_waiting}
+use Rattle.server_model.specs.Blockers.{blocker, need}
+use Rattle.server_model.specs.PlainServer.{at_rest, called_unless, calls, counting, does, done, holding, is_over, leaves, locking, loses, polled_of, polled_over, polled_unless, polls, serves, unlocking, without_waiting}
 use Rattle.server_model.specs.States.{State, connected, names_held, new_session, session_of, waiting_of, with_session}
 use Rattle.server_model.specs.declared.entry.Asked.{Asked}
 use Rattle.server_model.specs.declared.entry.Asked.TheVariants.{Call, Poll, Command, Cut}

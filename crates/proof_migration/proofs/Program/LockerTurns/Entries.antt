@@ -4,8 +4,8 @@ use Rattle.std.proofs.lemmas.Bool.{true≢false, ne_eqb, or_left, or_right}
 use Rattle.std.proofs.lemmas.List.Folds.{list_any-append}
 use Rattle.std.proofs.lemmas.Option.{same_Some}
 use Rattle.base_values.specs.declared.gho_schema.schema.Schema.{Schema}
-use Rattle.server_locks.specs.MetadataLocks.Granting as grants
-use Rattle.server_locks.specs.MetadataLocks.Granting.{holds}
+use Rattle.server_locks.specs.MetadataLocks.Grants as grants
+use Rattle.server_locks.specs.MetadataLocks.Grants.{holds}
 use Rattle.table_store.specs.Databases.{Database, has_table, is_named, without_table}
 use Rattle.base_script.specs.declared.actor.Actor.{Actor}
 use Rattle.base_script.specs.declared.actor.Side.{Side}
@@ -13,7 +13,7 @@ use Rattle.base_script.specs.declared.actor.Side.TheVariants.{Before, After}
 use Rattle.server_model.specs.Answers.{ok}
 use Rattle.server_model.specs.Effects.{created, dropped}
 use Rattle.server_model.specs.Entries.{is_client, is_command}
-use Rattle.server_model.specs.Serving.{Served, leaves, loses, serves}
+use Rattle.server_model.specs.PlainServer.{Served, leaves, loses, serves}
 use Rattle.server_model.specs.States.{State, is_in_transaction, kept_names, locked_names, session_of, shared_names, writes_of}
 use Rattle.server_model.specs.declared.answer.Answer.{Answer}
 use Rattle.server_model.specs.declared.answer.Answer.TheVariants as answers
@@ -30,9 +30,9 @@ use Rattle.server_model.proofs.LockedRows.Tests.{same_bytes}
 use Rattle.proof_journals.specs.Holdings.{Face, IsHeld, face_in, face_of, names_of}
 use Rattle.proof_journals.specs.Plans.{IsSerialPlan, limits_of, scene_of}
 use Rattle.proof_journals.specs.Scenes.{SessionHold, Stored, no_hold}
-use Rattle.proof_journals.specs.Turns.{IsSceneRun, IsTold, about, told_at}
+use Rattle.proof_journals.specs.Turns.{IsSceneRun, IsReported, about, reported_at}
 use Rattle.proof_journals.proofs.Faces.{faces_opened, writes_face}
-use Rattle.proof_journals.proofs.Joined.{told_answer, told_missed}
+use Rattle.proof_journals.proofs.Joined.{reported_answer, reported_missed}
 use Rattle.proof_journals.proofs.Journals.{JournalHolds, journal_holds, stored_opened}
 use Rattle.proof_journals.proofs.PlanJournals.{plan_runs_are_scene_runs}
 use Rattle.proof_journals.specs.ServerTurns.Others.{DefinitionsAreDone, EntriesAreTurns, ExclusiveIsAlone, LocksAreTaken, TurnOf, asks_exclusive, held_at}
@@ -46,9 +46,9 @@ use Rattle.proof_journals.proofs.Machine.Journals.{IsRun, IsTogether}
 use Rattle.proof_journals.proofs.Machine.Seated.{IsOpen, IsServed, is_open, own_given, own_missed, state_more}
 use Rattle.proof_journals.specs.Sentry.Sentries.{OthersHold}
 use Rattle.proof_journals.specs.Sentry.Turns.{CallLeaves, CreateLeaves, DropLeaves, HoldsNothing, LockLeaves, UnlockLeaves}
-use Rattle.proof_migration.specs.Course.Unaltered.{IsUnaltered}
-use Rattle.proof_migration.proofs.Course.Unaltered.Away.{IsKnownAsked, all_asked, unaltered_front}
-use Rattle.proof_migration.proofs.Course.Unaltered.Runs.{unaltered_runs}
+use Rattle.proof_migration.specs.ToolPhase.Unaltered.{IsUnaltered}
+use Rattle.proof_migration.proofs.ToolPhase.Unaltered.Away.{IsKnownAsked, all_asked, unaltered_front}
+use Rattle.proof_migration.proofs.ToolPhase.Unaltered.Runs.{unaltered_runs}
 use Rattle.proof_migration.proofs.Program.Turns.Asked.{about_called}
 use Rattle.proof_migration.proofs.Program.Turns.Follows.{kept_front, kept_run}
 use Rattle.proof_migration.proofs.Program.LockerTurns.Apart.{gone_names, lost_holds, nameless_holds, opened_apart}
@@ -112,8 +112,8 @@ module _ (entries_are_turns : EntriesAreTurns) (plan : PlanData) (journal : List
   pub scene_run : IsSceneRun (limits_of plan) (scene_of plan journal) journal
   scene_run = plan_runs_are_scene_runs plan journal (unaltered_runs plan journal runs serial kept_before (unaltered_front plan journal (entry ∷ []) off))
 
-  told : IsTold (limits_of plan) (scene_of plan journal) journal entry
-  told = record { answer = told_answer before entry run.answered; missed = told_missed before entry run.answered }
+  reported : IsReported (limits_of plan) (scene_of plan journal) journal entry
+  reported = record { answer = reported_answer before entry run.answered; missed = reported_missed before entry run.answered }
 
   -- *The turn, as others see it*
   pub turn : TurnOf (asks_exclusive (about now entry.session entry.asked)) entry.session before after
@@ -270,15 +270,15 @@ module _ (entries_are_turns : EntriesAreTurns) (plan : PlanData) (journal : List
           no : answers.Lost ≡ answers.Ok count → ⊥
           no same = cc
 
-    pub was_done : (count : ℕ) → entry.answer ≡ answers.Ok count → told_at entry.side entry.answer entry.missed ≡ Some ok
-    was_done count is = let both = done_ok count is in ap (λ (s : Option Side). told_at s entry.answer entry.missed) both.0 ∙ ap Some both.1
+    pub was_done : (count : ℕ) → entry.answer ≡ answers.Ok count → reported_at entry.side entry.answer entry.missed ≡ Some ok
+    was_done count is = let both = done_ok count is in ap (λ (s : Option Side). reported_at s entry.answer entry.missed) both.0 ∙ ap Some both.1
 
     -- what the laws of the locker's calls ask
     module _ (definitions_are_done : DefinitionsAreDone) (exclusive_is_alone : ExclusiveIsAlone) (locks_are_taken : LocksAreTaken) where
       create_leaves : (schema : Schema) → request ≡ requests.Create schema → (answer : Answer) → entry.answer ≡ answer → CreateLeaves schema.name answer after
       create_leaves schema asks (answers.Ok count) is =
           created_stands (has_table schema.name before.tables) schema before.tables after.tables
-          (definitions_are_done (limits_of plan) (scene_of plan journal) journal entry (requests.Create schema) (created (has_table schema.name before.tables) schema before.tables) told (about_here ∙ ap Some asks) refl (was_done count is))
+          (definitions_are_done (limits_of plan) (scene_of plan journal) journal entry (requests.Create schema) (created (has_table schema.name before.tables) schema before.tables) reported (about_here ∙ ap Some asks) refl (was_done count is))
       create_leaves schema asks answer is = tt
 
       stays : defines request ≡ false → (name : List ℕ) → has_table name after.tables ≡ has_table name before.tables
@@ -286,8 +286,8 @@ module _ (entries_are_turns : EntriesAreTurns) (plan : PlanData) (journal : List
 
       lock_leaves : (names : List (List ℕ)) → request ≡ requests.LockTables names → (answer : Answer) → entry.answer ≡ answer → LockLeaves names entry.session answer before after
       lock_leaves names asks (answers.Ok count) is = record {
-        taken = locks_are_taken (limits_of plan) (scene_of plan journal) journal entry names told (about_here ∙ ap Some asks) (done_ok count is).0 (done_ok count is).1;
-        alone = exclusive_is_alone (limits_of plan) (scene_of plan journal) journal entry (requests.LockTables names) scene_run told (about_here ∙ ap Some asks) refl (was_done count is);
+        taken = locks_are_taken (limits_of plan) (scene_of plan journal) journal entry names reported (about_here ∙ ap Some asks) (done_ok count is).0 (done_ok count is).1;
+        alone = exclusive_is_alone (limits_of plan) (scene_of plan journal) journal entry (requests.LockTables names) scene_run reported (about_here ∙ ap Some asks) refl (was_done count is);
         defines = stays (ap defines asks);
       }
       lock_leaves names asks answer is = stays (ap defines asks)
@@ -297,7 +297,7 @@ module _ (entries_are_turns : EntriesAreTurns) (plan : PlanData) (journal : List
         takes = asks_exclusive (about now entry.session entry.asked);
         turn = turn;
         tables = dropped_leaves (has_table name before.tables) name before.tables after.tables
-            (definitions_are_done (limits_of plan) (scene_of plan journal) journal entry (requests.Drop name) (dropped (has_table name before.tables) name before.tables) told (about_here ∙ ap Some asks) refl (was_done count is));
+            (definitions_are_done (limits_of plan) (scene_of plan journal) journal entry (requests.Drop name) (dropped (has_table name before.tables) name before.tables) reported (about_here ∙ ap Some asks) refl (was_done count is));
         names = quiet_names (done_ok count is).0 (ap defines asks) (ap is_late is);
         logs = quiet_log;
       }

@@ -29,8 +29,8 @@ use Rattle.tool_program.specs.declared.cutover_core.cutover.Stage.TheVariants.{D
 use Rattle.tool_program.specs.JournalWords.Journals.{state_at}
 use Rattle.tool_program.specs.JournalWords.Sessions.{live_session}
 use Rattle.tool_program.specs.Programs.{IsGiven, given}
-use Rattle.tool_program.specs.Tools.{Course, Migrating, SettingUp, Work, is_reverting, moment}
-use Rattle.tool_program.proofs.OnlineCalls.Machines.{CourseIsNamed, named}
+use Rattle.tool_program.specs.Tools.{ToolPhase, Migrating, SettingUp, Work, is_reverting, moment}
+use Rattle.tool_program.proofs.OnlineCalls.Machines.{ToolPhaseIsNamed, named}
 use Rattle.server_model.proofs.LockedRows.Tests.{same_bytes}
 use Rattle.proof_journals.specs.Plans.{IsSerialPlan}
 use Rattle.proof_journals.specs.ServerTurns.Others.{DefinitionsAreDone, EntriesAreTurns, ExclusiveIsAlone, LocksAreTaken}
@@ -45,11 +45,11 @@ use Rattle.proof_journals.proofs.Machine.Journals.{Asking, IsRun, IsTogether, al
 use Rattle.proof_journals.proofs.Machine.Seated.{own_fits, own_prompt, own_session}
 use Rattle.proof_journals.proofs.Machine.Tabling.{free_idle}
 use Rattle.proof_journals.specs.Sentry.Sentries.{LockerMay, LockerServes, OnlyFreesLock, scene}
-use Rattle.proof_journals.specs.Sentry.Turning.{AskedTurn, CourseTurn, IsIdle, IsLockerFree, IsTurned, LockerSays, LockerTurn, WorkTurn, last_session, told_if}
+use Rattle.proof_journals.specs.Sentry.TurnResults.{AskedTurn, ToolPhaseTurn, IsIdle, IsLockerFree, IsTurned, LockerSays, LockerTurn, WorkTurn, last_session, reported_if}
 use Rattle.proof_journals.specs.Sentry.Turns.{CallLeaves, LockLeaves}
 use Rattle.proof_journals.proofs.Sentry.Calling.{locker_given, locker_serves}
 use Rattle.proof_journals.proofs.Sentry.Serving.{only_frees, takes_lock, waits_on}
-use Rattle.proof_migration.specs.Course.Unaltered.{IsUnaltered}
+use Rattle.proof_migration.specs.ToolPhase.Unaltered.{IsUnaltered}
 use Rattle.proof_migration.proofs.Program.Turns.Asked.{gave}
 use Rattle.proof_migration.proofs.Program.Turns.Follows.{kept_run}
 use Rattle.proof_migration.proofs.Program.Holds.Live.{lockers_go_on, work_stands}
@@ -215,15 +215,15 @@ module _ (entries_are_turns : EntriesAreTurns) (definitions_are_done : Definitio
   apart : renamer ≢ entry.session
   apart = kept_differs plan journal entry kept called Ren (ap (λ (a : Actor). same_actor a Ren) locks)
 
-  module _ (work : Work) (course : (moment plan journal).tool.course ≡ Migrating work) where
+  module _ (work : Work) (tool_phase : (moment plan journal).tool.tool_phase ≡ Migrating work) where
     stands : WorkStands journal (is_reverting (moment plan journal).tool.reason) has work
-    stands = work_stands plan journal work together course
+    stands = work_stands plan journal work together tool_phase
 
     own_table : work.cutover.table ≡ plan.table
-    own_table = (subst (CourseIsNamed plan) course (named plan journal)).cutover
+    own_table = (subst (ToolPhaseIsNamed plan) tool_phase (named plan journal)).cutover
 
     same : (entry.session ≡ own) ⊎ IsLockerFree work.cutover.phase
-    same = lockers_go_on plan journal entry work kept course locks called
+    same = lockers_go_on plan journal entry work kept tool_phase locks called
 
     -- A CALL OR A POLL
 
@@ -259,17 +259,17 @@ module _ (entries_are_turns : EntriesAreTurns) (definitions_are_done : Definitio
     resting_free rests = stands.locker ∙ ap (held work.cutover.table) (subst (λ (p : Phase). PhaseHolds p work.cutover.hold) rests stands.phase)
 
     copied : given plan journal Lock ≡ Some entry.asked → Asking plan journal Lock entry.asked → work.cutover.phase ≡ Resting → work.copier.is_copied ≡ true
-    copied gives (calls_so request asks idle call) = (locker_given plan journal work request course (gives ∙ ap Some asks)).1
+    copied gives (calls_so request asks idle call) = (locker_given plan journal work request tool_phase (gives ∙ ap Some asks)).1
     copied gives (polls_so request asks some) = λ rests. absurd (no (sym (ap (λ (s : Standing). s.waits) (resting_free rests)) ∙ some)) where
       no : None ≡ Some request → ⊥
       no same = cc
 
-    says : given plan journal Lock ≡ Some entry.asked → LockerSays plan before after own renamer work entry.answer entry.session
+    statement_result : given plan journal Lock ≡ Some entry.asked → LockerSays plan before after own renamer work entry.answer entry.session
     unfolding given
-    says gives =
+    statement_result gives =
         let asks : Asking plan journal Lock entry.asked = asking plan journal Lock entry.asked together.server gives in
         let both : Steps plan.table entry.session renamer work.cutover.hold work.cutover.phase entry.answer before after =
-        lock_about plan journal entry together run work course stands asks (Steps plan.table entry.session renamer work.cutover.hold work.cutover.phase entry.answer before after) steps_now in
+        lock_about plan journal entry together run work tool_phase stands asks (Steps plan.table entry.session renamer work.cutover.hold work.cutover.phase entry.answer before after) steps_now in
         record { same = same; copied = copied gives asks; may = both.0; serves = both.1 }
 
     -- A LOSS BETWEEN CALLS
@@ -305,9 +305,9 @@ module _ (entries_are_turns : EntriesAreTurns) (definitions_are_done : Definitio
         nothing : has entry.actor ≡ free
         nothing = ap has locks ∙ ap (standing_in before) live ∙ idle_stands before entry.session rests
 
-      lost : LockerTurn plan before after own renamer work (told_if (has_work before entry.session)) entry.session
+      lost : LockerTurn plan before after own renamer work (reported_if (has_work before entry.session)) entry.session
       lost = by (has_work before entry.session) refl where
-        by : (b : Bool) → has_work before entry.session ≡ b → LockerTurn plan before after own renamer work (told_if b) entry.session
+        by : (b : Bool) → has_work before entry.session ≡ b → LockerTurn plan before after own renamer work (reported_if b) entry.session
         by true works = worked works
         by false rests = idle rests
 
@@ -320,17 +320,17 @@ module _ (entries_are_turns : EntriesAreTurns) (definitions_are_done : Definitio
 
       by : (asked : Asked) → entry.asked ≡ asked → IsGiven plan journal entry asked → AskedTurn plan before after own renamer work turns entry asked
       by (Command word) asks gives = absurd (never word gives)
-      by (Call request) asks gives = by_lock (Some entry.answer) (says (gave plan serial runs.fitting journal entry (entries.known entries_are_turns plan journal entry runs serial kept off) run off Lock locks (ap is_cut asks)))
-      by Poll asks gives = by_lock (Some entry.answer) (says (gave plan serial runs.fitting journal entry (entries.known entries_are_turns plan journal entry runs serial kept off) run off Lock locks (ap is_cut asks)))
-      by Cut asks gives = by_lock (told_if (has_work before entry.session)) (lost asks)
+      by (Call request) asks gives = by_lock (Some entry.answer) (statement_result (gave plan serial runs.fitting journal entry (entries.known entries_are_turns plan journal entry runs serial kept off) run off Lock locks (ap is_cut asks)))
+      by Poll asks gives = by_lock (Some entry.answer) (statement_result (gave plan serial runs.fitting journal entry (entries.known entries_are_turns plan journal entry runs serial kept off) run off Lock locks (ap is_cut asks)))
+      by Cut asks gives = by_lock (reported_if (has_work before entry.session)) (lost asks)
 
   turned : IsTurned plan journal entry
-  turned = record { turn = by (moment plan journal).tool.course refl } where
-    by : (course : Course) → (moment plan journal).tool.course ≡ course → CourseTurn plan (moment plan journal).server (moment plan (journal ++ entry ∷ [])).server own renamer course ((moment plan journal).tool.turns + 1) entry
-    by (SettingUp setup tries) course = tt
-    by (Migrating work) course =
+  turned = record { turn = by (moment plan journal).tool.tool_phase refl } where
+    by : (tool_phase : ToolPhase) → (moment plan journal).tool.tool_phase ≡ tool_phase → ToolPhaseTurn plan (moment plan journal).server (moment plan (journal ++ entry ∷ [])).server own renamer tool_phase ((moment plan journal).tool.turns + 1) entry
+    by (SettingUp setup tries) tool_phase = tt
+    by (Migrating work) tool_phase =
         subst (λ (s : State). AskedTurn plan s (moment plan (journal ++ entry ∷ [])).server own renamer work ((moment plan journal).tool.turns + 1) entry entry.asked) (sym together.server)
-        (subst (λ (s : State). AskedTurn plan before s own renamer work ((moment plan journal).tool.turns + 1) entry entry.asked) (sym then_together.server) (asked_turn work course ((moment plan journal).tool.turns + 1) entry.asked refl run.followed.given))
+        (subst (λ (s : State). AskedTurn plan before s own renamer work ((moment plan journal).tool.turns + 1) entry entry.asked) (sym then_together.server) (asked_turn work tool_phase ((moment plan journal).tool.turns + 1) entry.asked refl run.followed.given))
 
 -- *Lockers are turned*
 pub lockers_turned : EntriesAreTurns → DefinitionsAreDone → ExclusiveIsAlone → LocksAreTaken → LockersAreTurned

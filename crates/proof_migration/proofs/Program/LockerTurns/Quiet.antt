@@ -4,14 +4,14 @@ use Rattle.std.proofs.Common.{◌≡◌, ℕ, Bool, true, false, List, [], ◌�
 use Rattle.std.specs.Prelude.{◌==◌}
 use Rattle.std.proofs.lemmas.Bool.{true≢false, false≢true}
 use Rattle.base_values.specs.declared.mysql_errors.TheConstants.{ER_NO_SUCH_TABLE, ER_TABLE_NOT_LOCKED}
-use Rattle.server_locks.specs.MetadataLocks.Granting as grants
-use Rattle.server_locks.specs.MetadataLocks.Granting.{blocker_of_names}
-use Rattle.server_locks.specs.RowLocks.Granting.{blocker_of_set}
+use Rattle.server_locks.specs.MetadataLocks.Grants as grants
+use Rattle.server_locks.specs.MetadataLocks.Grants.{blocker_of_names}
+use Rattle.server_locks.specs.RowLocks.Grants.{blocker_of_set}
 use Rattle.table_store.specs.Databases.{Database, has_table, rename_tables}
 use Rattle.server_model.specs.Answers.{refuses}
-use Rattle.server_model.specs.Effects.{all_stand, created, effect_unless, defined, dropped, is_outside, locks_if, renamed_or}
-use Rattle.server_model.specs.Locking.{blocker, need}
-use Rattle.server_model.specs.Serving.{Served, called_unless, calls, counting, does, done, is_over, polled_of, polled_over, polled_unless, polls, serves, without_waiting}
+use Rattle.server_model.specs.Effects.{all_exist, created, effect_unless, defined, dropped, is_outside, locks_if, renamed_or}
+use Rattle.server_model.specs.Blockers.{blocker, need}
+use Rattle.server_model.specs.PlainServer.{Served, called_unless, calls, counting, does, done, is_over, polled_of, polled_over, polled_unless, polls, serves, without_waiting}
 use Rattle.server_model.specs.States.{State, is_exclusive, is_in_transaction, locks_held, names_held, names_in, session_of, view, waiters, waiting_of, with_session}
 use Rattle.server_model.specs.declared.answer.Answer.{Answer}
 use Rattle.server_model.specs.declared.answer.Answer.TheVariants as answers
@@ -91,7 +91,7 @@ module _ (state : State) (number : ℕ) (w : List Waiting) where
   moved request is (Err error) = refused request error
 
   within : (busy : Bool) (seen : Database) (request : Request) → is_rowless request ≡ true → Quiet request state number (does (effect_unless false busy seen there request) there number)
-  within busy seen (requests.LockTables names) is = by (all_stand names state.tables) where
+  within busy seen (requests.LockTables names) is = by (all_exist names state.tables) where
     by : (b : Bool) → Quiet (requests.LockTables names) state number (does (locks_if b names) there number)
     by true = record { log = refl; tables = λ off. refl; undone = λ off. refl; counts = refl; fewer = λ no. absurd (false≢true no); names = λ no. absurd (false≢true no) }
     by false = refused (requests.LockTables names) ER_NO_SUCH_TABLE

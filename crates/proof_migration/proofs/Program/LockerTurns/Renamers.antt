@@ -4,8 +4,8 @@ use Rattle.std.specs.Prelude.{◌==◌}
 use Rattle.std.specs.List.{list_any}
 use Rattle.std.proofs.lemmas.Bool.{true≢false}
 use Rattle.std.proofs.lemmas.List.Folds.{list_any-append}
-use Rattle.server_locks.specs.MetadataLocks.Granting as grants
-use Rattle.server_locks.specs.MetadataLocks.Granting.{has_name, holds, blocker_of_name, blocker_of_names}
+use Rattle.server_locks.specs.MetadataLocks.Grants as grants
+use Rattle.server_locks.specs.MetadataLocks.Grants.{has_name, holds, blocker_of_name, blocker_of_names}
 use Rattle.table_store.specs.Databases.{has_table}
 use Rattle.base_script.specs.declared.actor.Actor.{Actor}
 use Rattle.base_script.specs.declared.actor.Actor.TheVariants.{Lock, Ren}
@@ -33,8 +33,8 @@ use Rattle.tool_program.specs.declared.cutover_core.cutover.Stage.TheVariants.{D
 use Rattle.tool_program.specs.JournalWords.Journals.{opens, state_at}
 use Rattle.tool_program.specs.JournalWords.Sessions.{live_session, session_left}
 use Rattle.tool_program.specs.Programs.{IsGiven, given, waits}
-use Rattle.tool_program.specs.Tools.{Course, Migrating, SettingUp, Work, is_reverting, moment}
-use Rattle.tool_program.proofs.OnlineCalls.Machines.{CourseIsNamed, named}
+use Rattle.tool_program.specs.Tools.{ToolPhase, Migrating, SettingUp, Work, is_reverting, moment}
+use Rattle.tool_program.proofs.OnlineCalls.Machines.{ToolPhaseIsNamed, named}
 use Rattle.server_model.proofs.LockedRows.Tests.{same_bytes}
 use Rattle.proof_journals.specs.Plans.{IsSerialPlan}
 use Rattle.proof_journals.specs.Turns.{request_of}
@@ -49,10 +49,10 @@ use Rattle.proof_journals.proofs.Machine.Fitting.{IsPrompt}
 use Rattle.proof_journals.proofs.Machine.Journals.{Asking, IsRun, IsTogether, all_together, asking, has_now, never_commands, ren_about}
 use Rattle.proof_journals.proofs.Machine.Seated.{own_fits, own_session}
 use Rattle.proof_journals.specs.Sentry.Sentries.{Guards, IsGone, IsLocked, MayAnswer, RefusesRename, RenameRests, RenameWaits, RenamerServes, scene, waits_for}
-use Rattle.proof_journals.specs.Sentry.Turning.{AskedTurn, CourseHolds, CourseTurn, Holds, IsGuarded, IsIdle, IsRenamerFree, IsTurned, RenamerSays, RenamerTurn, WorkTurn, last_session, told_if}
+use Rattle.proof_journals.specs.Sentry.TurnResults.{AskedTurn, ToolPhaseHolds, ToolPhaseTurn, Holds, IsGuarded, IsIdle, IsRenamerFree, IsTurned, RenamerSays, RenamerTurn, WorkTurn, last_session, reported_if}
 use Rattle.proof_journals.proofs.Sentry.Calling.{renamer_called, renamer_polled}
 use Rattle.proof_journals.proofs.Sentry.Holding.{granted_each, refused_exclusive}
-use Rattle.proof_migration.specs.Course.Unaltered.{IsUnaltered}
+use Rattle.proof_migration.specs.ToolPhase.Unaltered.{IsUnaltered}
 use Rattle.proof_migration.proofs.Program.Turns.Asked.{gave}
 use Rattle.proof_migration.proofs.Program.Turns.Follows.{kept_run}
 use Rattle.proof_migration.proofs.Program.Holds.Live.{renamers_go_on, work_stands}
@@ -163,18 +163,18 @@ module _ (entries_are_turns : EntriesAreTurns) (plan : PlanData) (journal : List
   apart : locker ≢ entry.session
   apart = kept_differs plan journal entry kept called Lock (ap (λ (a : Actor). same_actor a Lock) renames)
 
-  module _ (work : Work) (course : (moment plan journal).tool.course ≡ Migrating work) where
+  module _ (work : Work) (tool_phase : (moment plan journal).tool.tool_phase ≡ Migrating work) where
     stands : WorkStands journal (is_reverting (moment plan journal).tool.reason) has work
-    stands = work_stands plan journal work together course
+    stands = work_stands plan journal work together tool_phase
 
     own_table : work.cutover.table ≡ plan.table
-    own_table = (subst (CourseIsNamed plan) course (named plan journal)).cutover
+    own_table = (subst (ToolPhaseIsNamed plan) tool_phase (named plan journal)).cutover
 
     same : (entry.session ≡ own) ⊎ IsRenamerFree work.cutover.phase
-    same = renamers_go_on plan journal entry work kept course renames called
+    same = renamers_go_on plan journal entry work kept tool_phase renames called
 
     holds_now : Holds plan (moment plan journal).server locker own work
-    holds_now = subst (CourseHolds plan (moment plan journal).server locker own) course guarded.course
+    holds_now = subst (ToolPhaseHolds plan (moment plan journal).server locker own) tool_phase guarded.tool_phase
 
     guards : Guards plan.table (scene before) work.copier work.applier work.cutover locker own work.cutover.phase
     guards = subst (λ (s : State). Guards plan.table (scene s) work.copier work.applier work.cutover locker own work.cutover.phase) together.server holds_now.guards
@@ -194,7 +194,7 @@ module _ (entries_are_turns : EntriesAreTurns) (plan : PlanData) (journal : List
     -- A CALL OR A POLL
 
     may : (asked : Asked) → entry.asked ≡ asked → is_cut asked ≡ false → given plan journal Ren ≡ Some asked → MayAnswer work.cutover.phase work.cutover.renamer_waits
-    may (Call request) asks uncut gives = renamer_called plan journal work request course gives
+    may (Call request) asks uncut gives = renamer_called plan journal work request tool_phase gives
     may Poll asks uncut gives =
         renamer_polled plan journal work gives holds_now.fits
         (λ waiting. waits_renaming work.cutover.table work.cutover.renamer_waits (subst (λ (s : Standing). WaitsWith s.waits) stands.renamer (busy_waits before (live_session journal Ren) (ap (λ (s : State). waits s (live_session journal Ren)) (sym together.server) ∙ waiting))))
@@ -274,11 +274,11 @@ module _ (entries_are_turns : EntriesAreTurns) (plan : PlanData) (journal : List
             no same = cc
       serves_so answer is fit = absurd cc
 
-    says : given plan journal Ren ≡ Some entry.asked → is_cut entry.asked ≡ false → RenamerSays plan before after locker own work entry.answer entry.session
+    statement_result : given plan journal Ren ≡ Some entry.asked → is_cut entry.asked ≡ false → RenamerSays plan before after locker own work entry.answer entry.session
     unfolding given
-    says gives uncut =
+    statement_result gives uncut =
         let asks : Asking plan journal Ren entry.asked = asking plan journal Ren entry.asked together.server gives in
-        let serves : RenamerServes plan.table entry.session work.cutover.phase entry.answer (scene before) (scene after) = ren_about plan journal entry together run work course stands asks (RenamerServes plan.table entry.session work.cutover.phase entry.answer (scene before) (scene after))
+        let serves : RenamerServes plan.table entry.session work.cutover.phase entry.answer (scene before) (scene after) = ren_about plan journal entry together run work tool_phase stands asks (RenamerServes plan.table entry.session work.cutover.phase entry.answer (scene before) (scene after))
         (λ request is_about is. let exchanges : request ≡ exchange plan.table = is ∙ ap exchange own_table in serves_so request is_about exchanges entry.answer refl (fits request is_about exchanges)) in
         record { same = same; apart = apart; may = inr (may entry.asked refl uncut gives); serves = serves }
 
@@ -305,9 +305,9 @@ module _ (entries_are_turns : EntriesAreTurns) (plan : PlanData) (journal : List
         is = same;
       }
 
-      lost : RenamerTurn plan before after locker own work (told_if (has_work before entry.session)) entry.session
+      lost : RenamerTurn plan before after locker own work (reported_if (has_work before entry.session)) entry.session
       lost = by (has_work before entry.session) refl where
-        by : (b : Bool) → has_work before entry.session ≡ b → RenamerTurn plan before after locker own work (told_if b) entry.session
+        by : (b : Bool) → has_work before entry.session ≡ b → RenamerTurn plan before after locker own work (reported_if b) entry.session
         by true works = worked
         by false rested = idle rested
 
@@ -319,21 +319,21 @@ module _ (entries_are_turns : EntriesAreTurns) (plan : PlanData) (journal : List
       by_ren answer is = subst (λ (a : Actor). WorkTurn plan before after locker own work turns entry a answer) (sym renames) is
 
       said : is_cut entry.asked ≡ false → RenamerSays plan before after locker own work entry.answer entry.session
-      said uncut = says (gave plan serial runs.fitting journal entry (entries.known entries_are_turns plan journal entry runs serial kept off) run off Ren renames uncut) uncut
+      said uncut = statement_result (gave plan serial runs.fitting journal entry (entries.known entries_are_turns plan journal entry runs serial kept off) run off Ren renames uncut) uncut
 
       by : (asked : Asked) → entry.asked ≡ asked → IsGiven plan journal entry asked → AskedTurn plan before after locker own work turns entry asked
       by (Command word) asks gives = absurd (never word gives)
       by (Call request) asks gives = by_ren (Some entry.answer) (said (ap is_cut asks))
       by Poll asks gives = by_ren (Some entry.answer) (said (ap is_cut asks))
-      by Cut asks gives = by_ren (told_if (has_work before entry.session)) (lost asks)
+      by Cut asks gives = by_ren (reported_if (has_work before entry.session)) (lost asks)
 
   turned : IsTurned plan journal entry
-  turned = record { turn = by (moment plan journal).tool.course refl } where
-    by : (course : Course) → (moment plan journal).tool.course ≡ course → CourseTurn plan (moment plan journal).server (moment plan (journal ++ entry ∷ [])).server locker own course ((moment plan journal).tool.turns + 1) entry
-    by (SettingUp setup tries) course = tt
-    by (Migrating work) course =
+  turned = record { turn = by (moment plan journal).tool.tool_phase refl } where
+    by : (tool_phase : ToolPhase) → (moment plan journal).tool.tool_phase ≡ tool_phase → ToolPhaseTurn plan (moment plan journal).server (moment plan (journal ++ entry ∷ [])).server locker own tool_phase ((moment plan journal).tool.turns + 1) entry
+    by (SettingUp setup tries) tool_phase = tt
+    by (Migrating work) tool_phase =
         subst (λ (s : State). AskedTurn plan s (moment plan (journal ++ entry ∷ [])).server locker own work ((moment plan journal).tool.turns + 1) entry entry.asked) (sym together.server)
-        (subst (λ (s : State). AskedTurn plan before s locker own work ((moment plan journal).tool.turns + 1) entry entry.asked) (sym then_together.server) (asked_turn work course ((moment plan journal).tool.turns + 1) entry.asked refl run.followed.given))
+        (subst (λ (s : State). AskedTurn plan before s locker own work ((moment plan journal).tool.turns + 1) entry entry.asked) (sym then_together.server) (asked_turn work tool_phase ((moment plan journal).tool.turns + 1) entry.asked refl run.followed.given))
 
 -- *Renamers are turned*
 pub renamers_turned : EntriesAreTurns → RenamersAreTurned

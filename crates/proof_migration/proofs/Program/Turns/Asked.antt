@@ -15,7 +15,7 @@ use Rattle.server_model.specs.declared.request.Request.{Request}
 use Rattle.server_model.specs.declared.request.Request.TheVariants as requests
 use Rattle.server_model.specs.declared.session.Waiting.{Waiting}
 use Rattle.server_model.specs.Entries.{is_client, is_command, is_cut}
-use Rattle.server_model.specs.Serving.{serves}
+use Rattle.server_model.specs.PlainServer.{serves}
 use Rattle.server_model.specs.States.{State, waiting_of}
 use Rattle.plan_data.specs.PlanData.{PlanData}
 use Rattle.tool_program.specs.JournalWords.Histories as histories
@@ -24,16 +24,16 @@ use Rattle.tool_program.specs.JournalWords.Journals.{may_lose, opens, state_at}
 use Rattle.tool_program.specs.JournalWords.Journals as journals
 use Rattle.tool_program.specs.Programs.{given, IsGiven}
 use Rattle.proof_journals.specs.Plans.{IsSerialPlan}
-use Rattle.proof_journals.specs.Turns.{about, answer_at, inner, request_of, told_at}
-use Rattle.proof_journals.proofs.Joined.{told_answer}
+use Rattle.proof_journals.specs.Turns.{about, answer_at, inner, request_of, reported_at}
+use Rattle.proof_journals.proofs.Joined.{reported_answer}
 use Rattle.proof_journals.proofs.Journals.{opened_waits}
-use Rattle.proof_journals.specs.Machine.Forming.{IsFitting}
+use Rattle.proof_journals.specs.Machine.FormedPlans.{IsFitting}
 use Rattle.proof_journals.specs.Machine.Standings.{IsAbout, is_called, is_polled, Standing, standing_of}
 use Rattle.proof_journals.proofs.Machine.Journals.{IsRun, IsTogether}
 use Rattle.proof_journals.proofs.Machine.Seated.{IsServed, own_waiting}
-use Rattle.proof_migration.specs.Course.Unaltered.{IsUnaltered}
-use Rattle.proof_migration.proofs.Course.Unaltered.Asking.{AskedAs, given_asked}
-use Rattle.proof_migration.proofs.Course.Unaltered.Away.{IsKnownAsked, never_away}
+use Rattle.proof_migration.specs.ToolPhase.Unaltered.{IsUnaltered}
+use Rattle.proof_migration.proofs.ToolPhase.Unaltered.Asking.{AskedAs, given_asked}
+use Rattle.proof_migration.proofs.ToolPhase.Unaltered.Away.{IsKnownAsked, never_away}
 
 module _ (plan : PlanData) (serial : IsSerialPlan plan) (fit : IsFitting plan) (journal : List Entry) (entry : Entry) (known : IsKnownAsked plan journal) (run : IsRun plan journal entry) (off : IsUnaltered plan (journal ++ entry ∷ [])) where
   abbrev now : State
@@ -42,8 +42,8 @@ module _ (plan : PlanData) (serial : IsSerialPlan plan) (fit : IsFitting plan) (
   abbrev has : Actor → Standing
   has = standing_of plan journal
 
-  abbrev told : Option Answer
-  told = told_at entry.side entry.answer entry.missed
+  abbrev reported : Option Answer
+  reported = reported_at entry.side entry.answer entry.missed
 
   served : IsServed plan journal entry
   served = record { answered = run.answered; seated = record { session = run.followed.session } }
@@ -69,12 +69,12 @@ module _ (plan : PlanData) (serial : IsSerialPlan plan) (fit : IsFitting plan) (
     by Cut asks is = waiting Cut asks refl is
     by (Command word) asks is = absurd cc
 
-  pub told_so : told ≡ Some ok → is_command entry.asked ≡ false → answer_in entry.asked entry.side entry.answer entry.missed ≡ Some ok
-  told_so is called = by entry.asked refl called entry.side refl is where
-    lost : entry.asked ≡ Cut → entry.side ≡ None → told_at None entry.answer entry.missed ≡ Some ok → answer_in Cut None entry.answer entry.missed ≡ Some ok
+  pub reported_so : reported ≡ Some ok → is_command entry.asked ≡ false → answer_in entry.asked entry.side entry.answer entry.missed ≡ Some ok
+  reported_so is called = by entry.asked refl called entry.side refl is where
+    lost : entry.asked ≡ Cut → entry.side ≡ None → reported_at None entry.answer entry.missed ≡ Some ok → answer_in Cut None entry.answer entry.missed ≡ Some ok
     lost asks no_side is = absurd (no (ap Some (sym here) ∙ is)) where
       here : entry.answer ≡ answers.Lost
-      here = told_answer now entry run.answered ∙ ap (λ (s : Option Side). answer_at s (inner now entry)) no_side ∙ ap (λ (a : Asked). (serves (opens entry now) entry.session a).answer) asks
+      here = reported_answer now entry run.answered ∙ ap (λ (s : Option Side). answer_at s (inner now entry)) no_side ∙ ap (λ (a : Asked). (serves (opens entry now) entry.session a).answer) asks
 
       no : Some answers.Lost ≡ Some ok → ⊥
       no same = cc
@@ -84,7 +84,7 @@ module _ (plan : PlanData) (serial : IsSerialPlan plan) (fit : IsFitting plan) (
       no : None ≡ Some ok → ⊥
       no same = cc
 
-    by : (asked : Asked) → entry.asked ≡ asked → is_command asked ≡ false → (side : Option Side) → entry.side ≡ side → told_at side entry.answer entry.missed ≡ Some ok → answer_in asked side entry.answer entry.missed ≡ Some ok
+    by : (asked : Asked) → entry.asked ≡ asked → is_command asked ≡ false → (side : Option Side) → entry.side ≡ side → reported_at side entry.answer entry.missed ≡ Some ok → answer_in asked side entry.answer entry.missed ≡ Some ok
     by (Command word) asks called side at_side is = absurd (true≢false called)
     by Cut asks called None at_side is = lost asks at_side is
     by Cut asks called (Some side) at_side is = absurd (no (sym at_side ∙ run.answered.sides (ap may_lose asks))) where
@@ -97,8 +97,8 @@ module _ (plan : PlanData) (serial : IsSerialPlan plan) (fit : IsFitting plan) (
     by Poll asks called (Some Before) at_side is = absurd (missed_none at_side is)
     by Poll asks called (Some After) at_side is = is
 
-  pub never_told : is_client entry.actor ≡ false → is_command entry.asked ≡ false → (pairs : List Pair) → about (opens entry now) entry.session entry.asked ≡ Some (requests.Rename pairs) → takes_away plan.table pairs ≡ true → told ≡ Some ok → ⊥
-  never_told tool called pairs is takes told = never_away plan serial journal entry fit known run off tool pairs (about_so (requests.Rename pairs) is) (told_so told called) takes
+  pub never_reported : is_client entry.actor ≡ false → is_command entry.asked ≡ false → (pairs : List Pair) → about (opens entry now) entry.session entry.asked ≡ Some (requests.Rename pairs) → takes_away plan.table pairs ≡ true → reported ≡ Some ok → ⊥
+  never_reported tool called pairs is takes reported = never_away plan serial journal entry fit known run off tool pairs (about_so (requests.Rename pairs) is) (reported_so reported called) takes
 
   -- WHAT THE TURN IS ABOUT
 

@@ -29,109 +29,109 @@ use Rattle.tool_program.specs.CutoverCore.CutOvers as cutovers
 use Rattle.tool_program.specs.CutoverCore.CutOvers.{is_done}
 use Rattle.tool_program.specs.Operators.{commanded}
 use Rattle.tool_program.specs.Programs.{given, IsGiven}
-use Rattle.tool_program.specs.Tools.{Work, Course, SettingUp, Migrating, Reason, CopyUnfit, ApplyUnfit, Panicked, Tool, Moment, stopped, is_renamed, reverts, is_reverting, working, copy_after, apply_after, copy_took, apply_took, cutover_took, is_failure, actor_took, turn_counts, resizes, command_took, asked_took, took, moment}
+use Rattle.tool_program.specs.Tools.{Work, ToolPhase, SettingUp, Migrating, Reason, CopyUnfit, ApplyUnfit, Panicked, Tool, Moment, stopped, is_renamed, reverts, is_reverting, working, copy_after, apply_after, copy_took, apply_took, cutover_took, is_failure, actor_took, turn_counts, resizes, command_took, asked_took, took, moment}
 use Rattle.proof_journals.proofs.Sentry.Inductions.{moment_more}
 use Rattle.proof_journals.proofs.Machine.Journals.{IsRun, never_commands, client_commands}
 use Rattle.proof_journals.proofs.Machine.Lifting.{attempt_keeps, drains_keeps, first_some, reverts_keeps, spends_keeps}
 
 -- nothing was reverted before, the setup is over, and these are the two machines
-abbrev pub Are : Bool → Copier → Applier → Course → Type 0
+abbrev pub Are : Bool → Copier → Applier → ToolPhase → Type 0
 Are reverting copier applier (SettingUp setup tries) = ⊥
 Are reverting copier applier (Migrating work) = (reverting ≡ false) × (work.copier ≡ copier) × (work.applier ≡ applier)
 
 -- so it is where nothing is reverted
-abbrev pub AreAfter : Bool → Copier → Applier → Bool → Course → Type 0
-AreAfter reverting copier applier reverts course = reverts ≡ false → Are reverting copier applier course
+abbrev pub AreAfter : Bool → Copier → Applier → Bool → ToolPhase → Type 0
+AreAfter reverting copier applier reverts tool_phase = reverts ≡ false → Are reverting copier applier tool_phase
 
-back : (reverting : Bool) (copier : Copier) (applier : Applier) (b : Bool) (course : Course) → AreAfter reverting copier applier b course → AreAfter reverting copier applier true (stopped course)
-back reverting copier applier b course at off = absurd (true≢false off)
+back : (reverting : Bool) (copier : Copier) (applier : Applier) (b : Bool) (tool_phase : ToolPhase) → AreAfter reverting copier applier b tool_phase → AreAfter reverting copier applier true (stopped tool_phase)
+back reverting copier applier b tool_phase at off = absurd (true≢false off)
 
 -- a row that doesn't fit reverts all
-reverts_on : (reason : Reason) (tool : Tool) → is_renamed tool.course ≡ false → is_reverting (reverts reason tool).reason ≡ true
+reverts_on : (reason : Reason) (tool : Tool) → is_renamed tool.tool_phase ≡ false → is_reverting (reverts reason tool).reason ≡ true
 reverts_on reason tool undone = rw undone (first_some tool.reason reason)
 
 -- ONE MACHINE'S ANSWER
 
-module _ (plan : PlanData) (work : Work) (tool : Tool) (course : tool.course ≡ Migrating work) where
+module _ (plan : PlanData) (work : Work) (tool : Tool) (tool_phase : tool.tool_phase ≡ Migrating work) where
   abbrev reverting : Bool
   reverting = is_reverting tool.reason
 
-  abbrev Behind : Copier → Applier → Tool → Type 0
-  Behind copier applier after = AreAfter reverting copier applier (is_reverting after.reason) after.course
+  abbrev Following : Copier → Applier → Tool → Type 0
+  Following copier applier after = AreAfter reverting copier applier (is_reverting after.reason) after.tool_phase
 
   -- the tool as it was
-  pub stays : Behind work.copier work.applier tool
-  stays off = subst (Are reverting work.copier work.applier) (sym course) (off, refl, refl)
+  pub stays : Following work.copier work.applier tool
+  stays off = subst (Are reverting work.copier work.applier) (sym tool_phase) (off, refl, refl)
 
-  held : (copier : Copier) (applier : Applier) (answered : Tool) → (reverting ≡ false → Behind copier applier answered) → Behind copier applier (cond reverting tool answered)
+  held : (copier : Copier) (applier : Applier) (answered : Tool) → (reverting ≡ false → Following copier applier answered) → Following copier applier (cond reverting tool answered)
   held copier applier answered then = by reverting refl where
-    by : (b : Bool) → reverting ≡ b → Behind copier applier (cond b tool answered)
+    by : (b : Bool) → reverting ≡ b → Following copier applier (cond b tool answered)
     by true on = λ off. absurd (true≢false (sym on ∙ off))
     by false going = then going
 
-  undone_course : is_done work.cutover.phase ≡ false → is_renamed tool.course ≡ false
-  undone_course undone = ap is_renamed course ∙ undone
+  undone_tool_phase : is_done work.cutover.phase ≡ false → is_renamed tool.tool_phase ≡ false
+  undone_tool_phase undone = ap is_renamed tool_phase ∙ undone
 
-  pub copy_takes : (answer : Answer) → is_done work.cutover.phase ≡ false → Behind (copiers.took tool.turns work.copier answer) work.applier (actor_took plan Copy answer (Migrating work) tool)
+  pub copy_takes : (answer : Answer) → is_done work.cutover.phase ≡ false → Following (copiers.took tool.turns work.copier answer) work.applier (actor_took plan Copy answer (Migrating work) tool)
   copy_takes answer undone = held copier work.applier (copy_took plan answer work tool) (λ going. by going (copiers.progress work.copier answer)) where
     copier : Copier
     copier = copiers.took tool.turns work.copier answer
 
-    by : reverting ≡ false → (progress : Progress) → Behind copier work.applier (copy_after plan work progress copier tool)
+    by : reverting ≡ false → (progress : Progress) → Following copier work.applier (copy_after plan work progress copier tool)
     by going Going = λ off. (going, refl, refl)
     by going TaskDone = λ off. (going, refl, refl)
     by going TaskFailed =
         spends_keeps (AreAfter reverting copier work.applier) (back reverting copier work.applier) plan (tasks.Chunk copier.number) (work.chunk_tries ++ tool.turns ∷ [])
         (working (record work { copier = copier; chunk_tries = work.chunk_tries ++ tool.turns ∷ [] }) tool) (λ off. (going, refl, refl))
-    by going (Unfit place number) = λ off. absurd (true≢false (sym (reverts_on (CopyUnfit tool.turns place number) tool (undone_course undone)) ∙ off))
+    by going (Unfit place number) = λ off. absurd (true≢false (sym (reverts_on (CopyUnfit tool.turns place number) tool (undone_tool_phase undone)) ∙ off))
 
   pub copy_fits : (answer : Answer) → is_done work.cutover.phase ≡ false → is_reverting (actor_took plan Copy answer (Migrating work) tool).reason ≡ false → (place number : ℕ) → copiers.progress work.copier answer ≡ Unfit place number → ⊥
   copy_fits answer undone off place number unfit = by reverting refl off where
     by : (b : Bool) → reverting ≡ b → is_reverting (cond b tool (copy_took plan answer work tool)).reason ≡ false → ⊥
     by true on off = true≢false (sym on ∙ off)
     by false going off =
-        true≢false (sym (reverts_on (CopyUnfit tool.turns place number) tool (undone_course undone)) ∙ ap (λ (p : Progress). is_reverting (copy_after plan work p (copiers.took tool.turns work.copier answer) tool).reason) (sym unfit) ∙ off)
+        true≢false (sym (reverts_on (CopyUnfit tool.turns place number) tool (undone_tool_phase undone)) ∙ ap (λ (p : Progress). is_reverting (copy_after plan work p (copiers.took tool.turns work.copier answer) tool).reason) (sym unfit) ∙ off)
 
-  pub apply_takes : (answer : Answer) → is_done work.cutover.phase ≡ false → Behind work.copier (appliers.took tool.turns work.applier answer) (actor_took plan Apply answer (Migrating work) tool)
+  pub apply_takes : (answer : Answer) → is_done work.cutover.phase ≡ false → Following work.copier (appliers.took tool.turns work.applier answer) (actor_took plan Apply answer (Migrating work) tool)
   apply_takes answer undone = held work.copier applier (apply_took plan answer work tool) (λ going. by going (appliers.progress work.applier answer)) where
     applier : Applier
     applier = appliers.took tool.turns work.applier answer
 
-    by : reverting ≡ false → (progress : Progress) → Behind work.copier applier (apply_after plan work progress applier tool)
+    by : reverting ≡ false → (progress : Progress) → Following work.copier applier (apply_after plan work progress applier tool)
     by going Going = λ off. (going, refl, refl)
     by going TaskDone = λ off. (going, refl, refl)
     by going TaskFailed =
         spends_keeps (AreAfter reverting work.copier applier) (back reverting work.copier applier) plan (tasks.Batch applier.position) (work.batch_tries ++ tool.turns ∷ [])
         (working (record work { applier = applier; batch_tries = work.batch_tries ++ tool.turns ∷ [] }) tool) (λ off. (going, refl, refl))
-    by going (Unfit place number) = λ off. absurd (true≢false (sym (reverts_on (ApplyUnfit tool.turns place number) tool (undone_course undone)) ∙ off))
+    by going (Unfit place number) = λ off. absurd (true≢false (sym (reverts_on (ApplyUnfit tool.turns place number) tool (undone_tool_phase undone)) ∙ off))
 
   pub apply_fits : (answer : Answer) → is_done work.cutover.phase ≡ false → is_reverting (actor_took plan Apply answer (Migrating work) tool).reason ≡ false → (place number : ℕ) → appliers.progress work.applier answer ≡ Unfit place number → ⊥
   apply_fits answer undone off place number unfit = by reverting refl off where
     by : (b : Bool) → reverting ≡ b → is_reverting (cond b tool (apply_took plan answer work tool)).reason ≡ false → ⊥
     by true on off = true≢false (sym on ∙ off)
     by false going off =
-        true≢false (sym (reverts_on (ApplyUnfit tool.turns place number) tool (undone_course undone)) ∙ ap (λ (p : Progress). is_reverting (apply_after plan work p (appliers.took tool.turns work.applier answer) tool).reason) (sym unfit) ∙ off)
+        true≢false (sym (reverts_on (ApplyUnfit tool.turns place number) tool (undone_tool_phase undone)) ∙ ap (λ (p : Progress). is_reverting (apply_after plan work p (appliers.took tool.turns work.applier answer) tool).reason) (sym unfit) ∙ off)
 
   -- the drain changes neither
-  pub drains_so : (copier : Copier) (applier : Applier) (answered : Tool) → Behind copier applier answered → Behind copier applier (turn_counts plan Apply answered)
-  drains_so copier applier answered at = drains_keeps (AreAfter reverting copier applier) (back reverting copier applier) plan answered.course answered refl (λ b w tries so. so) at
+  pub drains_so : (copier : Copier) (applier : Applier) (answered : Tool) → Following copier applier answered → Following copier applier (turn_counts plan Apply answered)
+  drains_so copier applier answered at = drains_keeps (AreAfter reverting copier applier) (back reverting copier applier) plan answered.tool_phase answered refl (λ b w tries so. so) at
 
   -- nothing that is reverted before the drain isn't behind it
   pub drains_off : (answered : Tool) → is_reverting (turn_counts plan Apply answered).reason ≡ false → is_reverting answered.reason ≡ false
   drains_off answered off =
-      drains_keeps (λ b c. b ≡ false → is_reverting answered.reason ≡ false) (λ b c at on. absurd (true≢false on)) plan answered.course answered refl (λ b w tries so. so) (λ same. same) off
+      drains_keeps (λ b c. b ≡ false → is_reverting answered.reason ≡ false) (λ b c at on. absurd (true≢false on)) plan answered.tool_phase answered refl (λ b w tries so. so) (λ same. same) off
 
-  pub role_takes : (role : Role) (answer : Answer) → Behind work.copier work.applier (cutover_took plan role answer work tool)
+  pub role_takes : (role : Role) (answer : Answer) → Following work.copier work.applier (cutover_took plan role answer work tool)
   role_takes role answer =
       attempt_keeps (AreAfter reverting work.copier work.applier) (back reverting work.copier work.applier) plan (is_failure work.cutover.phase (cutovers.took role work.cutover answer).phase) work (cutovers.took role work.cutover answer) tool (λ tries off. (off, refl, refl))
 
   -- COMMANDS
 
-  pub resizes_work : (size : ℕ) → Behind (resized size work.copier) work.applier (command_took (ChunkSize size) tool)
-  resizes_work size off = subst (λ (c : Course). Are reverting (resized size work.copier) work.applier (resizes (ChunkSize size) c)) (sym course) (off, refl, refl)
+  pub resizes_work : (size : ℕ) → Following (resized size work.copier) work.applier (command_took (ChunkSize size) tool)
+  resizes_work size off = subst (λ (c : ToolPhase). Are reverting (resized size work.copier) work.applier (resizes (ChunkSize size) c)) (sym tool_phase) (off, refl, refl)
 
-  pub panics_so : Behind work.copier work.applier (command_took Panic tool)
-  panics_so = reverts_keeps (AreAfter reverting work.copier work.applier) (back reverting work.copier work.applier) (Panicked tool.turns) (record tool { operator = commanded Panic tool.operator; course = tool.course }) stays
+  pub panics_so : Following work.copier work.applier (command_took Panic tool)
+  panics_so = reverts_keeps (AreAfter reverting work.copier work.applier) (back reverting work.copier work.applier) (Panicked tool.turns) (record tool { operator = commanded Panic tool.operator; tool_phase = tool.tool_phase }) stays
 
 -- THE WHOLE TURN
 
@@ -149,11 +149,11 @@ pub data Effect (plan : PlanData) (journal : List Entry) (entry : Entry) (before
 -- what the tool's work is behind it; nothing was reverted before
 pub record TurnIs (plan : PlanData) (journal : List Entry) (entry : Entry) (before : Work) : Type 0 where
   pub after : Work
-  pub course : (moment plan (journal ++ entry ∷ [])).tool.course ≡ Migrating after
+  pub tool_phase : (moment plan (journal ++ entry ∷ [])).tool.tool_phase ≡ Migrating after
   pub going : is_reverting (moment plan journal).tool.reason ≡ false
   pub effect : Effect plan journal entry before after
 
-module _ (plan : PlanData) (journal : List Entry) (entry : Entry) (run : IsRun plan journal entry) (before : Work) (course : (moment plan journal).tool.course ≡ Migrating before) (undone : is_done before.cutover.phase ≡ false) (turns : (moment plan journal).tool.turns ≡ length journal)
+module _ (plan : PlanData) (journal : List Entry) (entry : Entry) (run : IsRun plan journal entry) (before : Work) (tool_phase : (moment plan journal).tool.tool_phase ≡ Migrating before) (undone : is_done before.cutover.phase ≡ false) (turns : (moment plan journal).tool.turns ≡ length journal)
     (onward : is_reverting (moment plan (journal ++ entry ∷ [])).tool.reason ≡ false) where
   abbrev now : Moment
   now = moment plan journal
@@ -181,44 +181,44 @@ module _ (plan : PlanData) (journal : List Entry) (entry : Entry) (run : IsRun p
   -- these are the machines behind it
   record Found (copier : Copier) (applier : Applier) : Type 0 where
     after : Work
-    then : (moment plan (journal ++ entry ∷ [])).tool.course ≡ Migrating after
+    then : (moment plan (journal ++ entry ∷ [])).tool.tool_phase ≡ Migrating after
     going : is_reverting now.tool.reason ≡ false
     copies : after.copier ≡ copier
     applies : after.applier ≡ applier
 
-  found : (asked : Asked) → entry.asked ≡ asked → (copier : Copier) (applier : Applier) → AreAfter (is_reverting tool.reason) copier applier (is_reverting (taken asked).reason) (taken asked).course → Found copier applier
-  found asked asks copier applier at = by (taken asked).course (ap (λ (t : Tool). t.course) (same_tool asked asks)) (at (off_now asked asks)) where
-    by : (course : Course) → (moment plan (journal ++ entry ∷ [])).tool.course ≡ course → Are (is_reverting tool.reason) copier applier course → Found copier applier
+  found : (asked : Asked) → entry.asked ≡ asked → (copier : Copier) (applier : Applier) → AreAfter (is_reverting tool.reason) copier applier (is_reverting (taken asked).reason) (taken asked).tool_phase → Found copier applier
+  found asked asks copier applier at = by (taken asked).tool_phase (ap (λ (t : Tool). t.tool_phase) (same_tool asked asks)) (at (off_now asked asks)) where
+    by : (tool_phase : ToolPhase) → (moment plan (journal ++ entry ∷ [])).tool.tool_phase ≡ tool_phase → Are (is_reverting tool.reason) copier applier tool_phase → Found copier applier
     by (SettingUp setup tries) is none = absurd none
     by (Migrating after) is all = record { after = after; then = is; going = all.0; copies = all.1; applies = all.2 }
 
   -- of neither machine
   rested_so : same_actor entry.actor Copy ≡ false → same_actor entry.actor Apply ≡ false → Found before.copier before.applier → Goal
-  rested_so no_copy no_apply all = record { after = all.after; course = all.then; going = all.going; effect = neither no_copy no_apply all.copies all.applies }
+  rested_so no_copy no_apply all = record { after = all.after; tool_phase = all.then; going = all.going; effect = neither no_copy no_apply all.copies all.applies }
 
-  stays_now : AreAfter (is_reverting tool.reason) before.copier before.applier (is_reverting tool.reason) tool.course
-  stays_now = stays plan before tool course
+  stays_now : AreAfter (is_reverting tool.reason) before.copier before.applier (is_reverting tool.reason) tool.tool_phase
+  stays_now = stays plan before tool tool_phase
 
   -- a call or a poll
-  answered : (asked : Asked) → entry.asked ≡ asked → is_cut asked ≡ false → taken asked ≡ turn_counts plan entry.actor (actor_took plan entry.actor entry.answer tool.course tool) → Goal
+  answered : (asked : Asked) → entry.asked ≡ asked → is_cut asked ≡ false → taken asked ≡ turn_counts plan entry.actor (actor_took plan entry.actor entry.answer tool.tool_phase tool) → Goal
   answered asked asks uncut counts = by entry.actor refl where
     took_by : Actor → Tool
-    took_by actor = turn_counts plan actor (actor_took plan actor entry.answer tool.course tool)
+    took_by actor = turn_counts plan actor (actor_took plan actor entry.answer tool.tool_phase tool)
 
     same : (actor : Actor) → entry.actor ≡ actor → taken asked ≡ took_by actor
     same actor is = counts ∙ ap took_by is
 
-    at_course : (actor : Actor) → took_by actor ≡ turn_counts plan actor (actor_took plan actor entry.answer (Migrating before) tool)
-    at_course actor = ap (λ (c : Course). turn_counts plan actor (actor_took plan actor entry.answer c tool)) course
+    at_tool_phase : (actor : Actor) → took_by actor ≡ turn_counts plan actor (actor_took plan actor entry.answer (Migrating before) tool)
+    at_tool_phase actor = ap (λ (c : ToolPhase). turn_counts plan actor (actor_took plan actor entry.answer c tool)) tool_phase
 
     AfterTool : Copier → Applier → Tool → Type 0
-    AfterTool copier applier t = AreAfter (is_reverting tool.reason) copier applier (is_reverting t.reason) t.course
+    AfterTool copier applier t = AreAfter (is_reverting tool.reason) copier applier (is_reverting t.reason) t.tool_phase
 
     here : (actor : Actor) → entry.actor ≡ actor → (copier : Copier) (applier : Applier) → AfterTool copier applier (turn_counts plan actor (actor_took plan actor entry.answer (Migrating before) tool)) → Found copier applier
-    here actor is copier applier at = found asked asks copier applier (subst (AfterTool copier applier) (sym (same actor is ∙ at_course actor)) at)
+    here actor is copier applier at = found asked asks copier applier (subst (AfterTool copier applier) (sym (same actor is ∙ at_tool_phase actor)) at)
 
     off_here : (actor : Actor) → entry.actor ≡ actor → is_reverting (turn_counts plan actor (actor_took plan actor entry.answer (Migrating before) tool)).reason ≡ false
-    off_here actor is = subst (λ (t : Tool). is_reverting t.reason ≡ false) (same actor is ∙ at_course actor) (off_now asked asks)
+    off_here actor is = subst (λ (t : Tool). is_reverting t.reason ≡ false) (same actor is ∙ at_tool_phase actor) (off_now asked asks)
 
     rest : (actor : Actor) → entry.actor ≡ actor → same_actor actor Copy ≡ false → same_actor actor Apply ≡ false → AfterTool before.copier before.applier (turn_counts plan actor (actor_took plan actor entry.answer (Migrating before) tool)) → Goal
     rest actor is no_copy no_apply at =
@@ -226,19 +226,19 @@ module _ (plan : PlanData) (journal : List Entry) (entry : Entry) (run : IsRun p
 
     by : (actor : Actor) → entry.actor ≡ actor → Goal
     by Copy is =
-        let all = here Copy is (copiers.took tool.turns before.copier entry.answer) before.applier (copy_takes plan before tool course entry.answer undone) in
-        record { after = all.after; course = all.then; going = all.going; effect = copier_took is (ap is_cut asks ∙ uncut) (copy_fits plan before tool course entry.answer undone (off_here Copy is)) (all.copies ∙ ap (λ (n : ℕ). copiers.took n before.copier entry.answer) turn_is) all.applies }
+        let all = here Copy is (copiers.took tool.turns before.copier entry.answer) before.applier (copy_takes plan before tool tool_phase entry.answer undone) in
+        record { after = all.after; tool_phase = all.then; going = all.going; effect = copier_took is (ap is_cut asks ∙ uncut) (copy_fits plan before tool tool_phase entry.answer undone (off_here Copy is)) (all.copies ∙ ap (λ (n : ℕ). copiers.took n before.copier entry.answer) turn_is) all.applies }
     by Apply is =
-        let all = here Apply is before.copier (appliers.took tool.turns before.applier entry.answer) (drains_so plan before tool course before.copier (appliers.took tool.turns before.applier entry.answer) (actor_took plan Apply entry.answer (Migrating before) tool) (apply_takes plan before tool course entry.answer undone)) in
+        let all = here Apply is before.copier (appliers.took tool.turns before.applier entry.answer) (drains_so plan before tool tool_phase before.copier (appliers.took tool.turns before.applier entry.answer) (actor_took plan Apply entry.answer (Migrating before) tool) (apply_takes plan before tool tool_phase entry.answer undone)) in
         record {
           after = all.after;
-          course = all.then;
+          tool_phase = all.then;
           going = all.going;
-          effect = applier_took is (ap is_cut asks ∙ uncut) (apply_fits plan before tool course entry.answer undone (drains_off plan before tool course (actor_took plan Apply entry.answer (Migrating before) tool) (off_here Apply is))) all.copies (all.applies ∙ ap (λ (n : ℕ). appliers.took n before.applier entry.answer) turn_is);
+          effect = applier_took is (ap is_cut asks ∙ uncut) (apply_fits plan before tool tool_phase entry.answer undone (drains_off plan before tool tool_phase (actor_took plan Apply entry.answer (Migrating before) tool) (off_here Apply is))) all.copies (all.applies ∙ ap (λ (n : ℕ). appliers.took n before.applier entry.answer) turn_is);
         }
-    by Insp is = rest Insp is refl refl (role_takes plan before tool course Inspector entry.answer)
-    by Lock is = rest Lock is refl refl (role_takes plan before tool course Locker entry.answer)
-    by Ren is = rest Ren is refl refl (role_takes plan before tool course Renamer entry.answer)
+    by Insp is = rest Insp is refl refl (role_takes plan before tool tool_phase Inspector entry.answer)
+    by Lock is = rest Lock is refl refl (role_takes plan before tool tool_phase Locker entry.answer)
+    by Ren is = rest Ren is refl refl (role_takes plan before tool tool_phase Renamer entry.answer)
     by Op is = rest Op is refl refl stays_now
     by (Client c) is = rest (Client c) is refl refl stays_now
 
@@ -247,16 +247,16 @@ module _ (plan : PlanData) (journal : List Entry) (entry : Entry) (run : IsRun p
   unfolding copiers.took appliers.took
   cut asks = by (has_work now.server entry.session) refl where
     lost_by : Actor → Tool
-    lost_by actor = actor_took plan actor answers.Lost tool.course tool
+    lost_by actor = actor_took plan actor answers.Lost tool.tool_phase tool
 
     AfterTool : Copier → Applier → Tool → Type 0
-    AfterTool copier applier t = AreAfter (is_reverting tool.reason) copier applier (is_reverting t.reason) t.course
+    AfterTool copier applier t = AreAfter (is_reverting tool.reason) copier applier (is_reverting t.reason) t.tool_phase
 
-    told : has_work now.server entry.session ≡ true → (actor : Actor) → entry.actor ≡ actor → taken Cut ≡ actor_took plan actor answers.Lost (Migrating before) tool
-    told works actor is = ap (λ (b : Bool). cond b (lost_by entry.actor) tool) works ∙ ap lost_by is ∙ ap (λ (c : Course). actor_took plan actor answers.Lost c tool) course
+    reported : has_work now.server entry.session ≡ true → (actor : Actor) → entry.actor ≡ actor → taken Cut ≡ actor_took plan actor answers.Lost (Migrating before) tool
+    reported works actor is = ap (λ (b : Bool). cond b (lost_by entry.actor) tool) works ∙ ap lost_by is ∙ ap (λ (c : ToolPhase). actor_took plan actor answers.Lost c tool) tool_phase
 
     here : has_work now.server entry.session ≡ true → (actor : Actor) → entry.actor ≡ actor → (copier : Copier) (applier : Applier) → AfterTool copier applier (actor_took plan actor answers.Lost (Migrating before) tool) → Found copier applier
-    here works actor is copier applier at = found Cut asks copier applier (subst (AfterTool copier applier) (sym (told works actor is)) at)
+    here works actor is copier applier at = found Cut asks copier applier (subst (AfterTool copier applier) (sym (reported works actor is)) at)
 
     idle : has_work now.server entry.session ≡ false → Found before.copier before.applier
     idle rests = found Cut asks before.copier before.applier (subst (AfterTool before.copier before.applier) (sym (ap (λ (b : Bool). cond b (lost_by entry.actor) tool) rests)) stays_now)
@@ -271,20 +271,20 @@ module _ (plan : PlanData) (journal : List Entry) (entry : Entry) (run : IsRun p
 
     with_work : has_work now.server entry.session ≡ true → (actor : Actor) → entry.actor ≡ actor → Goal
     with_work works Copy is =
-        let all = here works Copy is (record (before.copier) { step = Choosing }) before.applier (copy_takes plan before tool course answers.Lost undone) in
-        record { after = all.after; course = all.then; going = all.going; effect = copier_lost is asks all.copies all.applies }
+        let all = here works Copy is (record (before.copier) { step = Choosing }) before.applier (copy_takes plan before tool tool_phase answers.Lost undone) in
+        record { after = all.after; tool_phase = all.then; going = all.going; effect = copier_lost is asks all.copies all.applies }
     with_work works Apply is =
-        let all = here works Apply is before.copier (record (before.applier) { step = Reading }) (apply_takes plan before tool course answers.Lost undone) in
-        record { after = all.after; course = all.then; going = all.going; effect = applier_lost is asks all.copies all.applies }
-    with_work works Insp is = rest works Insp is refl refl (role_takes plan before tool course Inspector answers.Lost)
-    with_work works Lock is = rest works Lock is refl refl (role_takes plan before tool course Locker answers.Lost)
-    with_work works Ren is = rest works Ren is refl refl (role_takes plan before tool course Renamer answers.Lost)
+        let all = here works Apply is before.copier (record (before.applier) { step = Reading }) (apply_takes plan before tool tool_phase answers.Lost undone) in
+        record { after = all.after; tool_phase = all.then; going = all.going; effect = applier_lost is asks all.copies all.applies }
+    with_work works Insp is = rest works Insp is refl refl (role_takes plan before tool tool_phase Inspector answers.Lost)
+    with_work works Lock is = rest works Lock is refl refl (role_takes plan before tool tool_phase Locker answers.Lost)
+    with_work works Ren is = rest works Ren is refl refl (role_takes plan before tool tool_phase Renamer answers.Lost)
     with_work works Op is = rest works Op is refl refl stays_now
     with_work works (Client c) is = rest works (Client c) is refl refl stays_now
 
     without : has_work now.server entry.session ≡ false → (actor : Actor) → entry.actor ≡ actor → Goal
-    without rests Copy is = let all = idle rests in record { after = all.after; course = all.then; going = all.going; effect = copier_idle is asks rests all.copies all.applies }
-    without rests Apply is = let all = idle rests in record { after = all.after; course = all.then; going = all.going; effect = applier_idle is asks rests all.copies all.applies }
+    without rests Copy is = let all = idle rests in record { after = all.after; tool_phase = all.then; going = all.going; effect = copier_idle is asks rests all.copies all.applies }
+    without rests Apply is = let all = idle rests in record { after = all.after; tool_phase = all.then; going = all.going; effect = applier_idle is asks rests all.copies all.applies }
     without rests Insp is = rested rests Insp is refl refl
     without rests Lock is = rested rests Lock is refl refl
     without rests Ren is = rested rests Ren is refl refl
@@ -310,14 +310,14 @@ module _ (plan : PlanData) (journal : List Entry) (entry : Entry) (run : IsRun p
 
   command : (word : OperatorWord) → entry.asked ≡ Command word → entry.actor ≡ Op → Goal
   command word asks op = by word asks where
-    other : (word : OperatorWord) → entry.asked ≡ Command word → AreAfter (is_reverting tool.reason) before.copier before.applier (is_reverting (command_took word tool).reason) (command_took word tool).course → Goal
+    other : (word : OperatorWord) → entry.asked ≡ Command word → AreAfter (is_reverting tool.reason) before.copier before.applier (is_reverting (command_took word tool).reason) (command_took word tool).tool_phase → Goal
     other word asks at = rested_so (ap (λ (a : Actor). same_actor a Copy) op) (ap (λ (a : Actor). same_actor a Apply) op) (found (Command word) asks before.copier before.applier at)
 
     by : (word : OperatorWord) → entry.asked ≡ Command word → Goal
     by (ChunkSize size) asks =
-        let all = found (Command (ChunkSize size)) asks (resized size before.copier) before.applier (resizes_work plan before tool course size) in
-        record { after = all.after; course = all.then; going = all.going; effect = resizes_so size asks op all.copies all.applies }
-    by Panic asks = other Panic asks (panics_so plan before tool course)
+        let all = found (Command (ChunkSize size)) asks (resized size before.copier) before.applier (resizes_work plan before tool tool_phase size) in
+        record { after = all.after; tool_phase = all.then; going = all.going; effect = resizes_so size asks op all.copies all.applies }
+    by Panic asks = other Panic asks (panics_so plan before tool tool_phase)
     by Throttle asks = other Throttle asks stays_now
     by NoThrottle asks = other NoThrottle asks stays_now
     by Unpostpone asks = other Unpostpone asks stays_now

@@ -4,7 +4,7 @@ use Rattle.std.proofs.lemmas.Bool.{true≢false}
 use Rattle.server_model.specs.declared.entry.Entry.{Entry}
 use Rattle.plan_data.specs.PlanData.{PlanData}
 use Rattle.tool_program.specs.JournalWords.Journals.{IsAnswered, state_at}
-use Rattle.tool_program.specs.JournalWords.Keeping.{IsPlanned as IsTurnPlanned, KeepsPlan}
+use Rattle.tool_program.specs.JournalWords.KeptPlans.{IsPlanned as IsTurnPlanned, KeepsPlan}
 use Rattle.tool_program.specs.JournalWords.Sessions.{IsSeated, KeepsSessions}
 use Rattle.tool_program.specs.EventApplier.Appliers.{events_of}
 use Rattle.tool_program.specs.Programs.{Follows, IsFollowed}
@@ -14,7 +14,7 @@ use Rattle.proof_journals.specs.Turns.{IsSceneRun}
 use Rattle.proof_journals.proofs.PlanJournals.{plan_runs_are_scene_runs}
 use Rattle.proof_journals.specs.Ghost.Rows.Moments.{Row}
 use Rattle.proof_journals.specs.Ghost.Rows.Timelines.{Migration}
-use Rattle.proof_journals.specs.Ghost.Holding.{Clustered}
+use Rattle.proof_journals.specs.Ghost.HeldKeys.{Clustered}
 use Rattle.proof_journals.proofs.Ghost.Turns.{along_next}
 use Rattle.proof_journals.proofs.ServerTurns.Agreements.{along_front}
 use Rattle.proof_journals.specs.Run.Kept.{IsKept}
@@ -22,9 +22,9 @@ use Rattle.proof_journals.proofs.Machine.Journals.{IsRun}
 use Rattle.proof_journals.proofs.Machine.Marks.{IfUnmarked, Unmarked, is_marked}
 use Rattle.proof_migration.specs.Migration.Machines.{Machines}
 use Rattle.proof_migration.proofs.Migration.Migrating.{ends}
-use Rattle.proof_migration.specs.Course.Unaltered.{IsUnaltered}
-use Rattle.proof_migration.proofs.Course.Unaltered.Away.{IsKnownAsked, all_asked, unaltered_front}
-use Rattle.proof_migration.proofs.Course.Unaltered.Runs.{unaltered_runs}
+use Rattle.proof_migration.specs.ToolPhase.Unaltered.{IsUnaltered}
+use Rattle.proof_migration.proofs.ToolPhase.Unaltered.Away.{IsKnownAsked, all_asked, unaltered_front}
+use Rattle.proof_migration.proofs.ToolPhase.Unaltered.Runs.{unaltered_runs}
 use Rattle.proof_migration.specs.Program.Turns.Goes.{machines_in}
 use Rattle.proof_migration.specs.Program.Turns.Laws.{FollowersGoOn, GoesSomehow, IsMigrationOf, MarksAreAltered}
 use Rattle.proof_migration.proofs.Program.Turns.Effects.{TurnIs, turn_effect}
@@ -54,11 +54,11 @@ pub kept_scene : (plan : PlanData) (m : Migration) (rows : List Row) → IsMigra
 kept_scene plan m rows of journal kept off = plan_runs_are_scene_runs plan journal (unaltered_runs plan journal of.runs of.serial kept off)
 
 -- the cut-over isn't done, and the new table stands
-pub unmarked_now : (plan : PlanData) (journal : List Entry) (work : Work) → IsKnownAsked plan journal → IsUnaltered plan journal → (moment plan journal).tool.course ≡ Migrating work → Unmarked plan journal work
-unmarked_now plan journal work known off course = by known.marking.course where
-  by : (is_marked plan journal ≡ true) ⊎ IfUnmarked plan journal (moment plan journal).tool.course → Unmarked plan journal work
+pub unmarked_now : (plan : PlanData) (journal : List Entry) (work : Work) → IsKnownAsked plan journal → IsUnaltered plan journal → (moment plan journal).tool.tool_phase ≡ Migrating work → Unmarked plan journal work
+unmarked_now plan journal work known off tool_phase = by known.marking.tool_phase where
+  by : (is_marked plan journal ≡ true) ⊎ IfUnmarked plan journal (moment plan journal).tool.tool_phase → Unmarked plan journal work
   by (inl marked) = absurd (true≢false (sym marked ∙ off))
-  by (inr un) = subst (IfUnmarked plan journal) course un
+  by (inr un) = subst (IfUnmarked plan journal) tool_phase un
 
 -- one turn
 goes_more : (plan : PlanData) (m : Migration) (at : Clustered m.schema) (rows : List Row) → IsMigrationOf plan m rows → (journal : List Entry) (entry : Entry) → IsKept plan (journal ++ entry ∷ []) → IsUnaltered plan (journal ++ entry ∷ []) → is_reverting (moment plan (journal ++ entry ∷ [])).tool.reason ≡ false
@@ -67,12 +67,12 @@ goes_more plan m at rows of journal entry kept off going was =
     let before : IsKept plan journal = kept_front plan journal (entry ∷ []) kept in
     let known : IsKnownAsked plan journal = all_asked plan journal of.runs before.faithful before.follows in
     let run : IsRun plan journal entry = kept_run plan journal entry kept in
-    let unmarked : Unmarked plan journal was.work = unmarked_now plan journal was.work known (unaltered_front plan journal (entry ∷ []) off) was.course in
-    let turn : TurnIs plan journal entry was.work = turn_effect plan journal entry run was.work was.course (unmarked.undone).undone known.marking.tabled.all.tool.turns going in
+    let unmarked : Unmarked plan journal was.work = unmarked_now plan journal was.work known (unaltered_front plan journal (entry ∷ []) off) was.tool_phase in
+    let turn : TurnIs plan journal entry was.work = turn_effect plan journal entry run was.work was.tool_phase (unmarked.undone).undone known.marking.tabled.all.tool.turns going in
     record {
       work = turn.after;
-      course = turn.course;
-      goes = goes_on plan of.serial of.runs.fitting m at rows of.place of.planned of.is_place of.finds of.of journal entry known run off (kept_scene plan m rows of (journal ++ entry ∷ []) kept off) was.work turn.after was.course unmarked turn.going turn.course going turn.effect was.goes;
+      tool_phase = turn.tool_phase;
+      goes = goes_on plan of.serial of.runs.fitting m at rows of.place of.planned of.is_place of.finds of.of journal entry known run off (kept_scene plan m rows of (journal ++ entry ∷ []) kept off) was.work turn.after was.tool_phase unmarked turn.going turn.tool_phase going turn.effect was.goes;
     }
 
 -- *Followers go on*
@@ -92,7 +92,7 @@ pub marks_are_altered : MarksAreAltered
 marks_are_altered plan m at rows of journal kept mark was =
     let known : IsKnownAsked plan journal = all_asked plan journal of.runs kept.faithful kept.follows in
     let some : SomeActorStates journal = some_actor_states journal known.marking.tabled.all.tool.known.sessions in
-    let same : was.work ≡ mark.work = same_work was.work mark.work (sym was.course ∙ mark.course) in
+    let same : was.work ≡ mark.work = same_work was.work mark.work (sym was.tool_phase ∙ mark.tool_phase) in
     let machines : Machines = machines_in was.work some.copier some.applier in
     ends m at rows of.place of.planned of.is_place (limits_of plan) (scene_of plan journal) journal machines (kept_scene plan m rows of journal kept mark.unaltered)
     (record {

@@ -2,7 +2,7 @@
 use Rattle.std.proofs.Common.{◌≡◌, ◌⊎◌, ◌<◌, ℕ, zero, suc, ◌+◌, Bool, true, false, cond, ◌&&◌, List, [], ◌∷◌, ◌++◌, length, Option, Some, None, refl, sym, ap, ◌∙◌, subst, inl, inr}
 use Rattle.std.specs.List.{AllByRecursion, slice_get}
 use Rattle.std.proofs.lemmas.Bool.{true≢false}
-use Rattle.base_values.specs.GhoSchema.Clustering.{clustered_place}
+use Rattle.base_values.specs.GhoSchema.ClusteredKey.{clustered_place}
 use Rattle.base_script.specs.declared.actor.Actor.{Actor}
 use Rattle.base_script.specs.declared.actor.Actor.TheVariants.{Op, Copy, Apply}
 use Rattle.base_script.specs.declared.operator.OperatorWord.{OperatorWord}
@@ -20,7 +20,7 @@ use Rattle.server_model.specs.States.{State, has_work}
 use Rattle.plan_data.specs.PlanData.{PlanData}
 use Rattle.base_values.specs.ToolNames.{ghost_name}
 use Rattle.tool_program.specs.JournalWords.Journals.{may_lose, opens, state_at}
-use Rattle.tool_program.specs.JournalWords.Keeping.{words_of}
+use Rattle.tool_program.specs.JournalWords.KeptPlans.{words_of}
 use Rattle.tool_program.specs.JournalWords.Sessions.{live_session, session_left}
 use Rattle.tool_program.specs.declared.chunk_copier.copier.Copier.{Copier}
 use Rattle.tool_program.specs.declared.chunk_copier.copier.CopyStep.{CopyStep}
@@ -33,29 +33,29 @@ use Rattle.tool_program.specs.declared.event_applier.applier.ApplyStep.TheVarian
 use Rattle.tool_program.specs.EventApplier.Appliers as appliers
 use Rattle.tool_program.specs.Operators.{is_throttled}
 use Rattle.tool_program.specs.Programs.{apply_call, commands, copy_call, given, IsGiven, rolls_back, tool_call}
-use Rattle.tool_program.specs.Tools.{Work, Course, Migrating, is_reverting, moment}
-use Rattle.tool_program.proofs.OnlineCalls.Machines.{CourseIsNamed, IsNamed, named}
+use Rattle.tool_program.specs.Tools.{Work, ToolPhase, Migrating, is_reverting, moment}
+use Rattle.tool_program.proofs.OnlineCalls.Machines.{ToolPhaseIsNamed, IsNamed, named}
 use Rattle.proof_journals.specs.Plans.{IsSerialPlan, limits_of, scene_of}
 use Rattle.proof_journals.specs.Scenes.{Scene, no_hold}
 use Rattle.proof_journals.specs.Holdings.{face_of}
-use Rattle.proof_journals.specs.Turns.{IsSceneRun, about, told_at}
+use Rattle.proof_journals.specs.Turns.{IsSceneRun, about, reported_at}
 use Rattle.proof_journals.proofs.Actors.{Placed, left_own, live_more, placed, same_actor_itself}
 use Rattle.proof_journals.proofs.Journals.{journal_holds}
 use Rattle.proof_journals.specs.Ghost.Rows.Moments.{Row}
 use Rattle.proof_journals.specs.Ghost.Rows.Timelines.{IsPlanned, Migration}
-use Rattle.proof_journals.specs.Ghost.Holding.{Clustered}
-use Rattle.proof_journals.specs.Ghost.Running.ApplyPlan.{Resting, Planned, Returning}
-use Rattle.proof_journals.specs.Ghost.Running.{ApplyPlan, ToolMoment, ToolStands}
-use Rattle.proof_journals.specs.Ghost.Running.ToolStands.{at_rest, at_work, halfway, returns}
+use Rattle.proof_journals.specs.Ghost.HeldKeys.{Clustered}
+use Rattle.proof_journals.specs.Ghost.ToolTurns.ApplyPlan.{Resting, Planned, Returning}
+use Rattle.proof_journals.specs.Ghost.ToolTurns.{ApplyPlan, ToolMoment, ToolStands}
+use Rattle.proof_journals.specs.Ghost.ToolTurns.ToolStands.{at_rest, at_work, halfway, returns}
 use Rattle.proof_journals.proofs.Ghost.Turns.{run_front}
 use Rattle.proof_journals.proofs.Ghost.Undone.{cuts_are_left}
-use Rattle.proof_migration.specs.Migration.Applier.Finding.{FindsRows}
-use Rattle.proof_migration.specs.Migration.Applier.Applying.{ApplierKnows, plan_at}
-use Rattle.proof_migration.specs.Migration.Copier.Copying.{CopierKnows}
+use Rattle.proof_migration.specs.Migration.Applier.FoundColumns.{FindsRows}
+use Rattle.proof_migration.specs.Migration.Applier.ApplierPlace.{ApplierKnows, plan_at}
+use Rattle.proof_migration.specs.Migration.Copier.CopierPlace.{CopierKnows}
 use Rattle.proof_migration.proofs.Migration.Applier.Knowing as knowing
 use Rattle.proof_migration.proofs.Migration.Copier.Knowing.{quiet_took}
-use Rattle.proof_journals.specs.Machine.Forming.{IsFitting, SizeFits}
-use Rattle.proof_journals.specs.Machine.Machines.{ApplierStands, CourseStands, Stands, WorkStands, applier_busy, copier_asks, copier_busy}
+use Rattle.proof_journals.specs.Machine.FormedPlans.{IsFitting, SizeFits}
+use Rattle.proof_journals.specs.Machine.Machines.{ApplierStands, ToolPhaseStands, Stands, WorkStands, applier_busy, copier_asks, copier_busy}
 use Rattle.proof_journals.specs.Machine.Standings.{IsAbout, MayTake, Standing, answered, free, is_called, is_polled, standing_in, standing_of}
 use Rattle.proof_journals.proofs.Machine.Asking.{idle_stands, unless_called}
 use Rattle.proof_journals.proofs.Machine.Journals.{Asking, IsRun, IsTogether, apply_called, asking, calls_so, polls_so}
@@ -66,8 +66,8 @@ use Rattle.proof_migration.specs.Migration.Machines.{IsBetween, IsCut, IsUnbusy,
 use Rattle.proof_migration.specs.Migration.Machines.MigrationMove.{applier_moves, chunks_resize, copier_moves, span_resizes}
 use Rattle.proof_migration.specs.Migration.Machines.MigrationTurn.{applier_is_cut, applier_is_idle, applier_turns, copier_is_cut, copier_is_idle, copier_turns, others_turn}
 use Rattle.proof_migration.proofs.Migration.Migrating.{moves_keep, turns_keep}
-use Rattle.proof_migration.specs.Course.Unaltered.{IsUnaltered}
-use Rattle.proof_migration.proofs.Course.Unaltered.Away.{IsKnownAsked, asked_more}
+use Rattle.proof_migration.specs.ToolPhase.Unaltered.{IsUnaltered}
+use Rattle.proof_migration.proofs.ToolPhase.Unaltered.Away.{IsKnownAsked, asked_more}
 use Rattle.proof_migration.specs.Program.Turns.Goes.{CopyWaits, Goes, IsOf, ActorStates, machines_in}
 use Rattle.proof_migration.proofs.Program.Turns.Asked.{about_called, gave}
 use Rattle.proof_migration.proofs.Program.Turns.Effects.{Effect, applier_idle, applier_lost, applier_took, copier_idle, copier_lost, copier_took, neither, resizes_so}
@@ -82,7 +82,7 @@ in_scene plan m at rows some other journal now is = record { tool = is.tool; cop
 
 between_if : (step : CopyStep) → copier_busy step ≡ false → IsBetween step
 between_if copying.Choosing off = tt
-between_if (copying.Spanning told size) off = tt
+between_if (copying.Spanning reported size) off = tt
 between_if (copying.Copying chunk copied) off = absurd (true≢false off)
 between_if (copying.Committing chunk) off = absurd (true≢false off)
 
@@ -107,8 +107,8 @@ rests_own m at rows copier applier now rests (returns next old row rest is kept)
 -- ONE TURN
 
 module _ (plan : PlanData) (serial : IsSerialPlan plan) (fit : IsFitting plan) (m : Migration) (at : Clustered m.schema) (rows : List Row) (place : ℕ) (planned : IsPlanned m rows) (is_place : clustered_place m.new ≡ Some place) (finds : FindsRows m) (of : IsOf plan m) (journal : List Entry) (entry : Entry)
-    (known : IsKnownAsked plan journal) (run : IsRun plan journal entry) (off : IsUnaltered plan (journal ++ entry ∷ [])) (scene_run : IsSceneRun (limits_of plan) (scene_of plan (journal ++ entry ∷ [])) (journal ++ entry ∷ [])) (work then_work : Work) (course : (moment plan journal).tool.course ≡ Migrating work)
-    (unmarked : Unmarked plan journal work) (going : is_reverting (moment plan journal).tool.reason ≡ false) (then_course : (moment plan (journal ++ entry ∷ [])).tool.course ≡ Migrating then_work) (then_going : is_reverting (moment plan (journal ++ entry ∷ [])).tool.reason ≡ false)
+    (known : IsKnownAsked plan journal) (run : IsRun plan journal entry) (off : IsUnaltered plan (journal ++ entry ∷ [])) (scene_run : IsSceneRun (limits_of plan) (scene_of plan (journal ++ entry ∷ [])) (journal ++ entry ∷ [])) (work then_work : Work) (tool_phase : (moment plan journal).tool.tool_phase ≡ Migrating work)
+    (unmarked : Unmarked plan journal work) (going : is_reverting (moment plan journal).tool.reason ≡ false) (then_tool_phase : (moment plan (journal ++ entry ∷ [])).tool.tool_phase ≡ Migrating then_work) (then_going : is_reverting (moment plan (journal ++ entry ∷ [])).tool.reason ≡ false)
     (effect : Effect plan journal entry work then_work) (goes : Goes plan m at rows journal work) where
   abbrev more : List Entry
   more = journal ++ entry ∷ []
@@ -131,8 +131,8 @@ module _ (plan : PlanData) (serial : IsSerialPlan plan) (fit : IsFitting plan) (
   abbrev Before : Machines → Type 0
   Before machines = MigrationStands m at rows limits scene journal machines
 
-  abbrev Behind : Machines → Type 0
-  Behind machines = MigrationStands m at rows limits scene more machines
+  abbrev Following : Machines → Type 0
+  Following machines = MigrationStands m at rows limits scene more machines
 
   together : IsTogether plan journal
   together = known.marking.tabled.all.tool
@@ -150,13 +150,13 @@ module _ (plan : PlanData) (serial : IsSerialPlan plan) (fit : IsFitting plan) (
   named_new = ghost_named plan m of ∙ ap ghost_name (sym of.name)
 
   names : IsNamed plan work
-  names = subst (CourseIsNamed plan) course (named plan journal)
+  names = subst (ToolPhaseIsNamed plan) tool_phase (named plan journal)
 
   work_stands : WorkStands journal (is_reverting (moment plan journal).tool.reason) has work
-  work_stands = subst (CourseStands journal has (is_reverting (moment plan journal).tool.reason)) course together.stands
+  work_stands = subst (ToolPhaseStands journal has (is_reverting (moment plan journal).tool.reason)) tool_phase together.stands
 
   then_stands : WorkStands more (is_reverting (moment plan more).tool.reason) (standing_of plan more) then_work
-  then_stands = subst (CourseStands more (standing_of plan more) (is_reverting (moment plan more).tool.reason)) then_course then_together.stands
+  then_stands = subst (ToolPhaseStands more (standing_of plan more) (is_reverting (moment plan more).tool.reason)) then_tool_phase then_together.stands
 
   before_in : (copier applier : ℕ) → ActorStates journal copier applier → Before (machines_in work copier applier)
   before_in copier applier actor_states = in_scene plan m at rows [] more journal (machines_in work copier applier) (goes.stands copier applier actor_states)
@@ -189,7 +189,7 @@ module _ (plan : PlanData) (serial : IsSerialPlan plan) (fit : IsFitting plan) (
             next =
                 unless_called (copiers.starts work.copier && is_throttled plan (moment plan journal).server (moment plan journal).tool.operator) (copiers.next journal work.copier) request
                 (ap (λ (b : Bool). cond b (rolls_back (moment plan journal).server (live_session journal Copy)) (copy_call plan (moment plan journal).server journal (moment plan journal).tool work)) (sym going)
-                ∙ ap (λ (c : Course). tool_call plan (moment plan journal).server journal (moment plan journal).tool c Copy) (sym course) ∙ call);
+                ∙ ap (λ (c : ToolPhase). tool_call plan (moment plan journal).server journal (moment plan journal).tool c Copy) (sym tool_phase) ∙ call);
           };
         }
     by (polls_so request asks some) = record { request = request; is_about = is_polled asks some; waits = goes.copy_waits request some }
@@ -211,7 +211,7 @@ module _ (plan : PlanData) (serial : IsSerialPlan plan) (fit : IsFitting plan) (
               sym
               (apply_called plan journal work request
               (ap (λ (b : Bool). cond b (rolls_back (moment plan journal).server (live_session journal Apply)) (apply_call plan (moment plan journal).server journal (moment plan journal).tool work)) (sym going)
-              ∙ ap (λ (c : Course). tool_call plan (moment plan journal).server journal (moment plan journal).tool c Apply) (sym course) ∙ call));
+              ∙ ap (λ (c : ToolPhase). tool_call plan (moment plan journal).server journal (moment plan journal).tool c Apply) (sym tool_phase) ∙ call));
         }
     by (polls_so request asks some) = record { request = request; is_about = is_polled asks some; next = goes.apply_waits request some }
 
@@ -228,23 +228,23 @@ module _ (plan : PlanData) (serial : IsSerialPlan plan) (fit : IsFitting plan) (
   turn = length journal + 1
 
   -- where the size was another
-  copier_back : (size applier_session : ℕ) (applier : Applier) → Behind (record { copier = copiers.took turn (resized size work.copier) entry.answer; copier_session = entry.session; applier = applier; applier_session = applier_session })
-      → Behind (record { copier = copiers.took turn work.copier entry.answer; copier_session = entry.session; applier = applier; applier_session = applier_session })
+  copier_back : (size applier_session : ℕ) (applier : Applier) → Following (record { copier = copiers.took turn (resized size work.copier) entry.answer; copier_session = entry.session; applier = applier; applier_session = applier_session })
+      → Following (record { copier = copiers.took turn work.copier entry.answer; copier_session = entry.session; applier = applier; applier_session = applier_session })
   copier_back size applier_session applier was = by (sized_took turn size work.copier entry.answer) where
     of_copier : Copier → Machines
     of_copier copier = record { copier = copier; copier_session = entry.session; applier = applier; applier_session = applier_session }
 
-    back : Behind (of_copier (resized work.copier.size (copiers.took turn (resized size work.copier) entry.answer)))
+    back : Following (of_copier (resized work.copier.size (copiers.took turn (resized size work.copier) entry.answer)))
     back = moves_keep m at rows limits scene more (of_copier (copiers.took turn (resized size work.copier) entry.answer)) _ (chunks_resize work.copier.size sized refl) was
 
-    by : Sized (resized work.copier.size (copiers.took turn (resized size work.copier) entry.answer)) (copiers.took turn work.copier entry.answer) → Behind (of_copier (copiers.took turn work.copier entry.answer))
-    by (same_so same) = subst (λ (c : Copier). Behind (of_copier c)) same back
-    by (spans_so told old here same) =
-        subst (λ (c : Copier). Behind (of_copier c)) (sym same)
-        (moves_keep m at rows limits scene more (of_copier (resized work.copier.size (copiers.took turn (resized size work.copier) entry.answer))) _ (span_resizes told old work.copier.size here sized refl) back)
+    by : Sized (resized work.copier.size (copiers.took turn (resized size work.copier) entry.answer)) (copiers.took turn work.copier entry.answer) → Following (of_copier (copiers.took turn work.copier entry.answer))
+    by (same_so same) = subst (λ (c : Copier). Following (of_copier c)) same back
+    by (spans_so reported old here same) =
+        subst (λ (c : Copier). Following (of_copier c)) (sym same)
+        (moves_keep m at rows limits scene more (of_copier (resized work.copier.size (copiers.took turn (resized size work.copier) entry.answer))) _ (span_resizes reported old work.copier.size here sized refl) back)
 
   copier_takes : (applier_session : ℕ) → entry.actor ≡ Copy → is_cut entry.asked ≡ false → ((place number : ℕ) → copiers.progress work.copier entry.answer ≡ Unfit place number → ⊥) → Before (machines_in work entry.session applier_session)
-      → Behind (record { copier = copiers.took turn work.copier entry.answer; copier_session = entry.session; applier = work.applier; applier_session = applier_session })
+      → Following (record { copier = copiers.took turn work.copier entry.answer; copier_session = entry.session; applier = work.applier; applier_session = applier_session })
   unfolding copiers.progress
   copier_takes applier_session same uncut fits was =
       let asks : CopyAsks = copy_asks same uncut in
@@ -264,7 +264,7 @@ module _ (plan : PlanData) (serial : IsSerialPlan plan) (fit : IsFitting plan) (
       }) refl) (moves_keep m at rows limits scene journal (machines_in work entry.session applier_session) before (chunks_resize (asks.waits).size (asks.waits).some refl) was))
 
   applier_takes : (copier_session : ℕ) → entry.actor ≡ Apply → is_cut entry.asked ≡ false → ((place number : ℕ) → appliers.progress work.applier entry.answer ≡ Unfit place number → ⊥) → Before (machines_in work copier_session entry.session)
-      → Behind (record { copier = work.copier; copier_session = copier_session; applier = appliers.took turn work.applier entry.answer; applier_session = entry.session })
+      → Following (record { copier = work.copier; copier_session = copier_session; applier = appliers.took turn work.applier entry.answer; applier_session = entry.session })
   applier_takes copier_session same uncut fits was =
       let asks : ApplyAsks = apply_asks same uncut in
       turns_keep m at rows place planned is_place finds named_new limits scene journal entry (machines_in work copier_session entry.session) _ scene_run
@@ -343,23 +343,23 @@ module _ (plan : PlanData) (serial : IsSerialPlan plan) (fit : IsFitting plan) (
     by (inr applier) = unbusy_if then_work.applier.step (sym (applier.stands).busy ∙ ap (λ (s : Standing). s.busy) (then_free Apply none))
 
   -- the copier goes on in its session, or in a new one
-  copier_seated : (copier applier : ℕ) → entry.actor ≡ Copy → ActorStates more copier applier → Behind (machines_in then_work entry.session applier) → Behind (machines_in then_work copier applier)
+  copier_seated : (copier applier : ℕ) → entry.actor ≡ Copy → ActorStates more copier applier → Following (machines_in then_work entry.session applier) → Following (machines_in then_work copier applier)
   copier_seated copier applier same actor_states was = by (live_session more Copy) refl actor_states.copy where
-    by : (live : Option ℕ) → live_session more Copy ≡ live → MayTake more copier live → Behind (machines_in then_work copier applier)
+    by : (live : Option ℕ) → live_session more Copy ≡ live → MayTake more copier live → Following (machines_in then_work copier applier)
     by (Some session) lives may =
         let own = left_own entry.asked entry.answer entry.session session (sym (left_here Copy same) ∙ lives) in
-        subst (λ (n : ℕ). Behind (machines_in then_work n applier)) (sym (may ∙ own.1)) was
+        subst (λ (n : ℕ). Following (machines_in then_work n applier)) (sym (may ∙ own.1)) was
     by None lives above =
         moves_keep m at rows limits scene more (machines_in then_work entry.session applier) (machines_in then_work copier applier)
         (copier_moves copier (then_copier_between lives) (new_holds plan more copier then_together.known above) actor_states.two refl) was
 
   -- so does the applier
-  applier_seated : (copier applier : ℕ) → entry.actor ≡ Apply → ActorStates more copier applier → (live_session more Apply ≡ None → hold_at then entry.session ≡ no_hold) → Behind (machines_in then_work copier entry.session) → Behind (machines_in then_work copier applier)
+  applier_seated : (copier applier : ℕ) → entry.actor ≡ Apply → ActorStates more copier applier → (live_session more Apply ≡ None → hold_at then entry.session ≡ no_hold) → Following (machines_in then_work copier entry.session) → Following (machines_in then_work copier applier)
   applier_seated copier applier same actor_states gone was = by (live_session more Apply) refl actor_states.apply where
-    by : (live : Option ℕ) → live_session more Apply ≡ live → MayTake more applier live → Behind (machines_in then_work copier applier)
+    by : (live : Option ℕ) → live_session more Apply ≡ live → MayTake more applier live → Following (machines_in then_work copier applier)
     by (Some session) lives may =
         let own = left_own entry.asked entry.answer entry.session session (sym (left_here Apply same) ∙ lives) in
-        subst (λ (n : ℕ). Behind (machines_in then_work copier n)) (sym (may ∙ own.1)) was
+        subst (λ (n : ℕ). Following (machines_in then_work copier n)) (sym (may ∙ own.1)) was
     by None lives above =
         moves_keep m at rows limits scene more (machines_in then_work copier entry.session) (machines_in then_work copier applier)
         (applier_moves applier (gone lives) (then_applier_between lives) (new_holds plan more applier then_together.known above) actor_states.two refl) was
@@ -367,7 +367,7 @@ module _ (plan : PlanData) (serial : IsSerialPlan plan) (fit : IsFitting plan) (
   cut_gone : entry.asked ≡ Cut → hold_at then entry.session ≡ no_hold
   cut_gone asks = (cuts_are_left limits scene journal entry (ap is_cut asks) (run.answered.sides (ap may_lose asks))).1.here
 
-  took_gone : (copier : ℕ) → entry.actor ≡ Apply → is_cut entry.asked ≡ false → then_work.applier ≡ appliers.took turn work.applier entry.answer → Behind (machines_in then_work copier entry.session) → live_session more Apply ≡ None → hold_at then entry.session ≡ no_hold
+  took_gone : (copier : ℕ) → entry.actor ≡ Apply → is_cut entry.asked ≡ false → then_work.applier ≡ appliers.took turn work.applier entry.answer → Following (machines_in then_work copier entry.session) → live_session more Apply ≡ None → hold_at then entry.session ≡ no_hold
   unfolding appliers.took
   took_gone copier same uncut applier was none =
       rests_own m at rows copier entry.session _
@@ -401,12 +401,12 @@ module _ (plan : PlanData) (serial : IsSerialPlan plan) (fit : IsFitting plan) (
   -- ALL TURNS
 
   -- the machines behind the turn are the tool's
-  become : (copier : Copier) (applier : Applier) (copier_session applier_session : ℕ) → then_work.copier ≡ copier → then_work.applier ≡ applier → Behind (record { copier = copier; copier_session = copier_session; applier = applier; applier_session = applier_session }) → Behind (machines_in then_work copier_session applier_session)
+  become : (copier : Copier) (applier : Applier) (copier_session applier_session : ℕ) → then_work.copier ≡ copier → then_work.applier ≡ applier → Following (record { copier = copier; copier_session = copier_session; applier = applier; applier_session = applier_session }) → Following (machines_in then_work copier_session applier_session)
   become copier applier copier_session applier_session one other was =
-      subst (λ (c : Copier). Behind (record { copier = c; copier_session = copier_session; applier = then_work.applier; applier_session = applier_session })) (sym one)
-      (subst (λ (a : Applier). Behind (record { copier = copier; copier_session = copier_session; applier = a; applier_session = applier_session })) (sym other) was)
+      subst (λ (c : Copier). Following (record { copier = c; copier_session = copier_session; applier = then_work.applier; applier_session = applier_session })) (sym one)
+      (subst (λ (a : Applier). Following (record { copier = copier; copier_session = copier_session; applier = a; applier_session = applier_session })) (sym other) was)
 
-  others_turned : (copier applier : ℕ) → IsThird entry.actor → ActorStates more copier applier → Behind (machines_in work copier applier)
+  others_turned : (copier applier : ℕ) → IsThird entry.actor → ActorStates more copier applier → Following (machines_in work copier applier)
   others_turned copier applier third actor_states =
       turns_keep m at rows place planned is_place finds named_new limits scene journal entry (machines_in work copier applier) _ scene_run
       (others_turn
@@ -416,13 +416,13 @@ module _ (plan : PlanData) (serial : IsSerialPlan plan) (fit : IsFitting plan) (
         no_applier = actor_state_apart plan journal entry together.known actor_state Apply applier third.1 actor_states.apply;
         away = λ request is. by entry.asked refl request is;
       }) refl) (before_in copier applier (both_before copier applier third actor_states)) where
-        by : (asked : Asked) → entry.asked ≡ asked → (request : Request) → about (opens entry now) entry.session entry.asked ≡ Some request → KeepsAway m (told_at entry.side entry.answer entry.missed) request
+        by : (asked : Asked) → entry.asked ≡ asked → (request : Request) → about (opens entry now) entry.session entry.asked ≡ Some request → KeepsAway m (reported_at entry.side entry.answer entry.missed) request
         by (Command word) asks request is = absurd (no (sym (ap (about (opens entry now) entry.session) asks) ∙ is)) where
           no : None ≡ Some request → ⊥
           no same = cc
-        by (Call called) asks request is = others_away plan serial m of fit journal entry known run off work course unmarked (ap is_command asks) third request is
-        by Poll asks request is = others_away plan serial m of fit journal entry known run off work course unmarked (ap is_command asks) third request is
-        by Cut asks request is = others_away plan serial m of fit journal entry known run off work course unmarked (ap is_command asks) third request is
+        by (Call called) asks request is = others_away plan serial m of fit journal entry known run off work tool_phase unmarked (ap is_command asks) third request is
+        by Poll asks request is = others_away plan serial m of fit journal entry known run off work tool_phase unmarked (ap is_command asks) third request is
+        by Cut asks request is = others_away plan serial m of fit journal entry known run off work tool_phase unmarked (ap is_command asks) third request is
 
   word_size : (all : List OperatorWord) (column_position : ℕ) (size : ℕ) → AllByRecursion SizeFits all → commands (slice_get all column_position) ≡ Some (Command (ChunkSize size)) → 0 < size
   word_size [] column_position size fits none = absurd cc
@@ -438,7 +438,7 @@ module _ (plan : PlanData) (serial : IsSerialPlan plan) (fit : IsFitting plan) (
     by Poll one gives = absurd cc
     by Cut one gives = absurd cc
 
-  stands_then : (copier applier : ℕ) → ActorStates more copier applier → Effect plan journal entry work then_work → Behind (machines_in then_work copier applier)
+  stands_then : (copier applier : ℕ) → ActorStates more copier applier → Effect plan journal entry work then_work → Following (machines_in then_work copier applier)
   stands_then copier applier actor_states (copier_took same uncut fits one other) =
       let asks : CopyAsks = copy_asks same uncut in
       copier_seated copier applier same actor_states
@@ -454,7 +454,7 @@ module _ (plan : PlanData) (serial : IsSerialPlan plan) (fit : IsFitting plan) (
       (before_in entry.session applier (copier_before copier applier same (ap is_command asks) actor_states))))
   stands_then copier applier actor_states (applier_took same uncut fits one other) =
       let asks : ApplyAsks = apply_asks same uncut in
-      let was : Behind (machines_in then_work copier entry.session) =
+      let was : Following (machines_in then_work copier entry.session) =
       become _ _ copier entry.session one other (applier_takes copier same uncut fits (before_in copier entry.session (applier_before copier applier same (uncommanded Apply same uncut asks.request asks.is_about) actor_states))) in
       applier_seated copier applier same actor_states (took_gone copier same uncut other was) was
   stands_then copier applier actor_states (applier_lost same asks one other) =
@@ -484,7 +484,7 @@ module _ (plan : PlanData) (serial : IsSerialPlan plan) (fit : IsFitting plan) (
   -- with another size it knows as much
   waits_longer : (request : Request) → CopyWaits journal work.copier request → CopyWaits more work.copier request
   waits_longer request waits =
-      record { size = waits.size; some = waits.some; next = next_more journal (entry ∷ []) (resized waits.size work.copier) request (record { behind = copier_knows.behind; step = copier_knows.step; sized = waits.some }) waits.next }
+      record { size = waits.size; some = waits.some; next = next_more journal (entry ∷ []) (resized waits.size work.copier) request (record { following = copier_knows.following; step = copier_knows.step; sized = waits.some }) waits.next }
 
   -- an answer behind which it waits leaves the copier
   quiet_if : (request asked : Request) (answer : Answer) (old : Standing) → (answered asked answer old).waits ≡ Some request → (copiers.took turn work.copier answer ≡ work.copier) × (appliers.took turn work.applier answer ≡ work.applier) × (asked ≡ request)

@@ -12,7 +12,7 @@ use Rattle.server_model.specs.declared.entry.Entry.{Entry}
 use Rattle.server_model.specs.declared.request.Request.{Request}
 use Rattle.server_model.specs.declared.request.Request.TheVariants as requests
 use Rattle.server_model.specs.Entries.{answer_at}
-use Rattle.server_model.specs.Reading.{end_in, events_in, keys_in}
+use Rattle.server_model.specs.EarlierAnswers.{end_in, events_in, keys_in}
 use Rattle.tool_program.specs.declared.chunk_copier.copier.Copier.{Copier}
 use Rattle.tool_program.specs.declared.chunk_copier.copier.CopyRange.{CopyRange}
 use Rattle.tool_program.specs.declared.chunk_copier.copier.CopyStep.{CopyStep}
@@ -25,22 +25,22 @@ use Rattle.tool_program.specs.declared.event_applier.applier.ApplyStep.TheVarian
 use Rattle.tool_program.specs.declared.event_applier.applier.Batch.{Batch}
 use Rattle.tool_program.specs.EventApplier.Appliers as appliers
 use Rattle.proof_journals.specs.Ghost.Rows.Timelines.{Migration}
-use Rattle.proof_migration.specs.Migration.Copier.Copying.{CopierKnows, StepKnows as CopyKnows}
+use Rattle.proof_migration.specs.Migration.Copier.CopierPlace.{CopierKnows, StepKnows as CopyKnows}
 use Rattle.proof_migration.proofs.Migration.Copier.Chunks.{same_answer}
 use Rattle.proof_migration.proofs.Migration.Copier.Knowing.{asks_at, low_more}
-use Rattle.proof_migration.specs.Migration.Applier.Applying.{ApplierKnows, StepKnows}
-use Rattle.proof_migration.proofs.Migration.Applier.Knowing.{same_told}
+use Rattle.proof_migration.specs.Migration.Applier.ApplierPlace.{ApplierKnows, StepKnows}
+use Rattle.proof_migration.proofs.Migration.Applier.Knowing.{same_reported}
 use Rattle.tool_program.proofs.JournalWords.Answers.{answer_more}
 
 -- THE COPIER'S NEXT CALL BEHIND MORE TURNS
 
 call_more : (journal more : List Entry) (copier : Copier) (range : CopyRange) (step : CopyStep) → CopierKnows journal copier → CopyKnows journal copier.range step → copiers.call_at (journal ++ more) copier range step ≡ copiers.call_at journal copier range step
-call_more journal more copier range Choosing knows told = ap (λ (low : Bound). Some (requests.ChunkEnd copier.table low range.top copier.size)) (low_more journal more range copier.behind knows.behind)
-call_more journal more copier range (Spanning turn size) knows told =
-    ap (λ (low : Bound). Some (requests.BeginSpan copier.table (record { low = low; high = Closed (end_in (answer_at (journal ++ more) turn)) }) size)) (low_more journal more range copier.behind knows.behind)
-    ∙ ap (λ (a : Option Answer). Some (requests.BeginSpan copier.table (record { low = copiers.low_end journal range copier.behind; high = Closed (end_in a) }) size)) (answer_more journal more turn told.0.answer told.0.is ∙ sym told.0.is)
-call_more journal more copier range (Copying chunk copied) knows told = ap (λ (a : Option Answer). copiers.copies copier (slice_get (keys_in a) copied)) (same_answer journal more copier.range chunk told.0)
-call_more journal more copier range (Committing chunk) knows told = refl
+call_more journal more copier range Choosing knows reported = ap (λ (low : Bound). Some (requests.ChunkEnd copier.table low range.top copier.size)) (low_more journal more range copier.following knows.following)
+call_more journal more copier range (Spanning turn size) knows reported =
+    ap (λ (low : Bound). Some (requests.BeginSpan copier.table (record { low = low; high = Closed (end_in (answer_at (journal ++ more) turn)) }) size)) (low_more journal more range copier.following knows.following)
+    ∙ ap (λ (a : Option Answer). Some (requests.BeginSpan copier.table (record { low = copiers.low_end journal range copier.following; high = Closed (end_in a) }) size)) (answer_more journal more turn reported.0.answer reported.0.is ∙ sym reported.0.is)
+call_more journal more copier range (Copying chunk copied) knows reported = ap (λ (a : Option Answer). copiers.copies copier (slice_get (keys_in a) copied)) (same_answer journal more copier.range chunk reported.0)
+call_more journal more copier range (Committing chunk) knows reported = refl
 
 pub next_more : (journal more : List Entry) (copier : Copier) (request : Request) → CopierKnows journal copier → copiers.next journal copier ≡ Some request → copiers.next (journal ++ more) copier ≡ Some request
 unfolding copiers.next
@@ -53,11 +53,11 @@ next_more journal more copier request knows next =
 -- the one record is the other; or it has a chunk's end, with another size beside it
 pub data Sized (one other : Copier) : Type 0 where
   same_so : one ≡ other → Sized one other
-  spans_so : (told old : ℕ) → one.step ≡ Spanning told old → other ≡ record one { step = Spanning told one.size } → Sized one other
+  spans_so : (reported old : ℕ) → one.step ≡ Spanning reported old → other ≡ record one { step = Spanning reported one.size } → Sized one other
 
 sized_after : (turn size : ℕ) (copier : Copier) (step : CopyStep) (answer : Answer) → copier.step ≡ step → Sized (resized copier.size (copiers.after_answer turn (resized size copier) step answer)) (copiers.after_answer turn copier step answer)
 sized_after turn size copier Choosing (answers.End end) here = spans_so turn size refl refl
-sized_after turn size copier (Spanning told old) (answers.Keys keys end) here = same_so refl
+sized_after turn size copier (Spanning reported old) (answers.Keys keys end) here = same_so refl
 sized_after turn size copier (Copying chunk copied) (answers.Ok count) here = same_so refl
 sized_after turn size copier (Committing chunk) (answers.Ok count) here = same_so refl
 sized_after turn size copier step answer here = same_so refl
@@ -73,7 +73,7 @@ sized_took turn size copier answer = sized_after turn size copier copier.step an
 
 map_after : (turn : ℕ) (copier : Copier) (step : CopyStep) (answer : Answer) → (copiers.after_answer turn copier step answer).map ≡ copier.map
 map_after turn copier Choosing (answers.End end) = refl
-map_after turn copier (Spanning told size) (answers.Keys keys end) = refl
+map_after turn copier (Spanning reported size) (answers.Keys keys end) = refl
 map_after turn copier (Copying chunk copied) (answers.Ok count) = refl
 map_after turn copier (Committing chunk) (answers.Ok count) = refl
 map_after turn copier step answer = refl
@@ -99,7 +99,7 @@ fixed_read applier batch = by (batch.statements == 0) where
   by false = refl
 
 fixed_after : (turn : ℕ) (applier : Applier) (step : ApplyStep) (answer : Answer) → fixed (appliers.after_answer turn applier step answer) ≡ fixed applier
-fixed_after turn applier Reading (answers.Events events behind) = fixed_read applier (appliers.batch_of turn applier events behind)
+fixed_after turn applier Reading (answers.Events events following) = fixed_read applier (appliers.batch_of turn applier events following)
 fixed_after turn applier (Beginning batch) (answers.Ok count) = refl
 fixed_after turn applier (Applying batch done part) (answers.Ok count) = refl
 fixed_after turn applier (Applying batch done part) (answers.Refused number column) = refl
@@ -118,7 +118,7 @@ apply_call_more : (m : Migration) (journal more : List Entry) (applier : Applier
 apply_call_more m journal more applier Reading knows = refl
 apply_call_more m journal more applier (Beginning batch) knows = refl
 apply_call_more m journal more applier (Applying batch done part) knows =
-    ap (λ (a : Option Answer). appliers.says applier (appliers.doing_in part (slice_get (appliers.planned applier (events_in a)) done))) (same_told m journal more batch knows.0)
+    ap (λ (a : Option Answer). appliers.statement_result applier (appliers.doing_in part (slice_get (appliers.planned applier (events_in a)) done))) (same_reported m journal more batch knows.0)
 apply_call_more m journal more applier (Ending batch) knows = refl
 
 pub apply_next_more : (m : Migration) (journal more : List Entry) (applier : Applier) → ApplierKnows m journal applier → appliers.next (journal ++ more) applier ≡ appliers.next journal applier

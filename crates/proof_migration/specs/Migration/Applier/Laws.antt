@@ -1,10 +1,10 @@
 -- Each turn of the applier keeps the ghost relation; and what its statements rest on holds of each ALTER.
 use Rattle.std.specs.Prelude.{◌≡◌, ◌+◌, ℕ, Bool, false, List, [], ◌∷◌, ◌++◌, length, Some, Ok}
 use Rattle.base_values.specs.declared.gho_schema.schema.Schema.{Schema}
-use Rattle.base_values.specs.GhoSchema.Clustering.{clustered_place}
+use Rattle.base_values.specs.GhoSchema.ClusteredKey.{clustered_place}
 use Rattle.base_values.specs.declared.row_conversion.clause.Clause.{Clause}
 use Rattle.base_values.specs.SchemaRules.Valid.{IsValid}
-use Rattle.sql_change.specs.Altering.{altered}
+use Rattle.sql_change.specs.AlteredSchema.{altered}
 use Rattle.plan_data.specs.PlanData.{Altered}
 use Rattle.server_model.specs.declared.entry.Entry.{Entry}
 use Rattle.server_model.specs.declared.outcome.Progress.TheVariants.{Unfit}
@@ -16,22 +16,22 @@ use Rattle.tool_program.specs.declared.event_applier.applier.Applier.{Applier}
 use Rattle.tool_program.specs.EventApplier.Appliers.{next, progress, took}
 use Rattle.proof_journals.specs.Scenes.{Scene}
 use Rattle.proof_journals.specs.Holdings.{face_of}
-use Rattle.proof_journals.specs.Turns.{about, scene_state, IsSceneRun, IsTold}
+use Rattle.proof_journals.specs.Turns.{about, scene_state, IsSceneRun, IsReported}
 use Rattle.proof_journals.specs.Ghost.Rows.Moments.{Row}
 use Rattle.proof_journals.specs.Ghost.Rows.Timelines.{IsPlanned, Migration}
-use Rattle.proof_journals.specs.Ghost.Holding.{Clustered}
-use Rattle.proof_journals.specs.Ghost.Running.{ToolStands}
+use Rattle.proof_journals.specs.Ghost.HeldKeys.{Clustered}
+use Rattle.proof_journals.specs.Ghost.ToolTurns.{ToolStands}
 use Rattle.proof_journals.specs.Ghost.Tool.{CopyState}
-use Rattle.proof_migration.specs.Migration.Copier.Copying.{moment_of}
+use Rattle.proof_migration.specs.Migration.Copier.CopierPlace.{moment_of}
 use Rattle.proof_migration.specs.Migration.Planning.{migration_of}
-use Rattle.proof_migration.specs.Migration.Applier.Applying.{ApplierKnows, StepIsBusy, apply_plan}
-use Rattle.proof_migration.specs.Migration.Applier.Finding.{FindsRows}
+use Rattle.proof_migration.specs.Migration.Applier.ApplierPlace.{ApplierKnows, StepIsBusy, apply_plan}
+use Rattle.proof_migration.specs.Migration.Applier.FoundColumns.{FindsRows}
 
 -- *A turn of the applier*: it is about the applier's next call of this migration, and no row was found that doesn't fit
 pub record IsApplierTurn (m : Migration) (limits : Limits) (scene : Scene) (journal : List Entry) (entry : Entry) (applier : Applier) (request : Request) : Type 0 where
   pub run : IsSceneRun limits scene journal
   pub more : IsSceneRun limits scene (journal ++ entry ∷ [])
-  pub told : IsTold limits scene journal entry
+  pub reported : IsReported limits scene journal entry
   pub table : applier.table ≡ m.name
   pub schema : applier.new_schema ≡ m.new
   pub map : applier.map ≡ m.columns

@@ -9,20 +9,20 @@ use Rattle.base_values.specs.ToolNames.{ghost_name}
 use Rattle.tool_program.specs.JournalWords.Journals.{opens}
 use Rattle.tool_program.specs.declared.chunk_copier.copier.Copier.{Copier}
 use Rattle.tool_program.specs.ChunkCopier.Copiers.{next, progress, took}
-use Rattle.base_values.specs.GhoSchema.Clustering.{clustered_place}
+use Rattle.base_values.specs.GhoSchema.ClusteredKey.{clustered_place}
 use Rattle.proof_journals.specs.Scenes.{Scene}
-use Rattle.proof_journals.specs.Turns.{about, scene_state, IsSceneRun, IsTold}
+use Rattle.proof_journals.specs.Turns.{about, scene_state, IsSceneRun, IsReported}
 use Rattle.proof_journals.specs.Ghost.Rows.Moments.{Row}
 use Rattle.proof_journals.specs.Ghost.Rows.Timelines.{IsPlanned, Migration}
-use Rattle.proof_journals.specs.Ghost.Holding.{Clustered}
-use Rattle.proof_journals.specs.Ghost.Running.{ApplyPlan, ToolStands}
-use Rattle.proof_migration.specs.Migration.Copier.Copying.{CopierKnows, copy_state, moment_of}
+use Rattle.proof_journals.specs.Ghost.HeldKeys.{Clustered}
+use Rattle.proof_journals.specs.Ghost.ToolTurns.{ApplyPlan, ToolStands}
+use Rattle.proof_migration.specs.Migration.Copier.CopierPlace.{CopierKnows, copy_state, moment_of}
 
 -- *A turn of the copier*: it is about the copier's next call of this migration, and no row was found that doesn't fit
 pub record IsCopierTurn (m : Migration) (limits : Limits) (scene : Scene) (journal : List Entry) (entry : Entry) (copier : Copier) (request : Request) : Type 0 where
   pub run : IsSceneRun limits scene journal
   pub more : IsSceneRun limits scene (journal ++ entry ∷ [])
-  pub told : IsTold limits scene journal entry
+  pub reported : IsReported limits scene journal entry
   pub table : copier.table ≡ m.name
   pub new_name : m.new.name ≡ ghost_name m.name
   pub map : copier.map ≡ m.columns

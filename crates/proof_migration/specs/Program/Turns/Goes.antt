@@ -13,9 +13,9 @@ use Rattle.tool_program.specs.Tools.{Work}
 use Rattle.proof_journals.specs.Plans.{limits_of, scene_of}
 use Rattle.proof_journals.specs.Ghost.Rows.Moments.{Row}
 use Rattle.proof_journals.specs.Ghost.Rows.Timelines.{Migration}
-use Rattle.proof_journals.specs.Ghost.Holding.{Clustered}
+use Rattle.proof_journals.specs.Ghost.HeldKeys.{Clustered}
 use Rattle.proof_journals.specs.Machine.Standings.{MayTake, standing_of}
-use Rattle.proof_journals.specs.Machine.Tabling.{ghost_schema}
+use Rattle.proof_journals.specs.Machine.MigrationTables.{ghost_schema}
 use Rattle.proof_migration.specs.Migration.Machines.{Machines, MigrationStands}
 
 -- the migration of the plan's table

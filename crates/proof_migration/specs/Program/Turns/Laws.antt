@@ -1,6 +1,6 @@
 -- Over a journal that follows the program the migration goes on, and at the mark the new table is the altered one.
 use Rattle.std.specs.Prelude.{◌≡◌, ℕ, true, false, List, [], ◌++◌, drop, Some}
-use Rattle.base_values.specs.GhoSchema.Clustering.{clustered_place}
+use Rattle.base_values.specs.GhoSchema.ClusteredKey.{clustered_place}
 use Rattle.server_model.specs.declared.entry.Entry.{Entry}
 use Rattle.plan_data.specs.PlanData.{PlanData}
 use Rattle.tool_program.specs.JournalWords.Journals.{state_at}
@@ -11,11 +11,11 @@ use Rattle.proof_journals.specs.Plans.{IsSerialPlan}
 use Rattle.proof_journals.specs.Ghost.Rows.Moments.{Row}
 use Rattle.proof_journals.specs.Ghost.Rows.Timelines.{IsPlanned, Migration}
 use Rattle.proof_journals.specs.Ghost.Copies.{IsAltered}
-use Rattle.proof_journals.specs.Ghost.Holding.{Clustered}
-use Rattle.proof_migration.specs.Migration.Applier.Finding.{FindsRows}
+use Rattle.proof_journals.specs.Ghost.HeldKeys.{Clustered}
+use Rattle.proof_migration.specs.Migration.Applier.FoundColumns.{FindsRows}
 use Rattle.proof_journals.specs.Run.Kept.{IsKept}
 use Rattle.proof_journals.specs.Machine.Runnable.{IsRunnable}
-use Rattle.proof_migration.specs.Course.Unaltered.{IsUnaltered}
+use Rattle.proof_migration.specs.ToolPhase.Unaltered.{IsUnaltered}
 use Rattle.proof_migration.specs.Program.Turns.Goes.{Goes, IsOf}
 
 -- *A plan's migration*, and what the ghost relation and its statements rest on
@@ -31,7 +31,7 @@ pub record IsMigrationOf (plan : PlanData) (m : Migration) (rows : List Row) : T
 -- the tool's work after a journal, where it goes
 pub record GoesSomehow (plan : PlanData) (m : Migration) (at : Clustered m.schema) (rows : List Row) (journal : List Entry) : Type 0 where
   pub work : Work
-  pub course : (moment plan journal).tool.course ≡ Migrating work
+  pub tool_phase : (moment plan journal).tool.tool_phase ≡ Migrating work
   pub goes : Goes plan m at rows journal work
 
 -- *Followers go on*: from a journal after which the migration goes, over whatever turns follow the program, until something is
@@ -44,7 +44,7 @@ FollowersGoOn =
 -- *The mark*: the range is copied, no batch is open, no event of the table is unread, nothing is reverted and the RENAME isn't done
 pub record IsMark (plan : PlanData) (journal : List Entry) : Type 0 where
   pub work : Work
-  pub course : (moment plan journal).tool.course ≡ Migrating work
+  pub tool_phase : (moment plan journal).tool.tool_phase ≡ Migrating work
   pub going : is_reverting (moment plan journal).tool.reason ≡ false
   pub unaltered : IsUnaltered plan journal
   pub copied : work.copier.is_copied ≡ true

@@ -12,7 +12,7 @@ use Rattle.base_values.proofs.SchemaRules.Steps.{bind_ok, ok_is, kept_out}
 use Rattle.base_values.specs.SchemaRules.Valid.{IsValid}
 use Rattle.base_values.specs.SchemaRules.Results.{◌>>=◌}
 use Rattle.sql_create.specs.Laws.{ReadSchemasAreValid}
-use Rattle.sql_change.specs.Altering.{altered}
+use Rattle.sql_change.specs.AlteredSchema.{altered}
 use Rattle.proof_schemas.specs.Alters.Laws.{ConvertedRowsKeepClusteredKeys, ConvertedRowsStayApart, AlteredTablesKeepNames}
 use Rattle.plan_data.specs.declared.plan.TheConstants.{CLIENT_LIMIT}
 use Rattle.plan_data.specs.PlanData.{PlanData, Altered}

@@ -11,14 +11,14 @@ use Rattle.plan_reader.proofs.PlanTables.Sound.{Laws, table_is}
 use Rattle.plan_reader.specs.PlanTables.Rows.{next_number}
 use Rattle.plan_reader.specs.PlanTables.Tables.{table_at, tables_from}
 
-behind : (name : List ℕ) (tables : Database) (new : TableRows) → has_table name tables ≡ false → is_named name new ≡ false → has_table name (tables ++ new ∷ []) ≡ false
-behind name tables new none other = list_any-append (is_named name) tables (new ∷ []) ∙ rw (none, other) refl
+following : (name : List ℕ) (tables : Database) (new : TableRows) → has_table name tables ≡ false → is_named name new ≡ false → has_table name (tables ++ new ∷ []) ≡ false
+following name tables new none other = list_any-append (is_named name) tables (new ∷ []) ∙ rw (none, other) refl
 
 added : (tables : Database) (new : TableRows) → NamesDiffer tables → has_table new.schema.name tables ≡ false → NamesDiffer (tables ++ new ∷ [])
 added [] new differ none = (refl, tt)
 added (table ∷ tables) new differ none =
     let parts = or_parts (is_named new.schema.name table) (has_table new.schema.name tables) none in
-    (behind table.schema.name tables new differ.0 (other_way table.schema.name new.schema.name _ parts.0 refl), added tables new differ.1 parts.1)
+    (following table.schema.name tables new differ.0 (other_way table.schema.name new.schema.name _ parts.0 refl), added tables new differ.1 parts.1)
 
 pub differ_from : Laws → ReadSchemasAreValid → (migrated : List ℕ) (number : ℕ) (tables : Database) (texts : List TableData) (made : Database) → NamesDiffer tables → tables_from migrated number tables texts ≡ Ok made → NamesDiffer made
 unfolding tables_from

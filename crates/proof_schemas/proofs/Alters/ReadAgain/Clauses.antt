@@ -22,12 +22,12 @@ use Rattle.sql_grammar.specs.Tokens.{is_keyword, same_sign, text_words}
 use Rattle.sql_change.specs.declared.code.AlterCode.{AlterCode}
 use Rattle.sql_change.specs.declared.code.AlterCode.TheVariants as refusals
 use Rattle.base_values.proofs.SchemaRules.Steps.{bind_ok, ok_is}
-use Rattle.sql_alter.specs.Adding.{add_column_at, add_index_at, add_at, change_at, modify_at}
+use Rattle.sql_alter.specs.Additions.{add_column_at, add_index_at, add_at, change_at, modify_at}
 use Rattle.sql_alter.specs.Clauses.{clause_at, alone, list_at, clauses_at, of_table, after_table, after_alter, front_at, unless_faulty, read}
 use Rattle.sql_alter.specs.Column.{primary_at, new_attribute_at, new_attributes_at, new_column_at, after_at, column_position_of, column_position_at}
 use Rattle.sql_alter.specs.Pieces.{in_alter, without, after_column, is_index_word, is_out_of_scope}
-use Rattle.sql_alter.specs.Reading.{alter_at}
-use Rattle.sql_alter.specs.Removing.{drop_column_at, drop_index_at, drop_at, rename_column_at, rename_at}
+use Rattle.sql_alter.specs.AlterText.{alter_at}
+use Rattle.sql_alter.specs.Removals.{drop_column_at, drop_index_at, drop_at, rename_column_at, rename_at}
 use Rattle.proof_schemas.specs.Printed.Laws.{CanQuote}
 use Rattle.proof_schemas.proofs.ReadAgain.Sound.{AreBytes, AreSound, text-sound}
 use Rattle.proof_schemas.proofs.ReadAgain.SoundReaders.{Leaves, LeavesWords, LeavesSome, Anything, leaves-bind, words-bind, leaves-ok, leaves-err, leaves-cond, some-none, some-err, some-cond, SomeSound, after_keyword-sound, keyword-sound, name_at-sound, listed-sound, gathered-sound, kind_at-sound, SoundAttribute, attribute-sound, SoundName, SoundKey, key_at-sound}
@@ -49,8 +49,8 @@ alter-name : (words : List Token) → AreSound words → Leaves CanQuote (in_alt
 alter-name words sound = alter-leaves CanQuote (name_at words) (name_at-sound words sound)
 
 without-sound : (words : List Token) (o : Option (List Token)) → AreSound words → SomeSound o → AreSound (without words o)
-without-sound words (Some rest) sound behind = behind rest refl
-without-sound words None sound behind = sound
+without-sound words (Some rest) sound following = following rest refl
+without-sound words None sound following = sound
 
 after_column-sound : (words : List Token) → AreSound words → AreSound (after_column words)
 unfolding after_column
@@ -102,8 +102,8 @@ new_column-sound words sound =
 after-sound : (words : List Token) → AreSound words → Leaves {A = ColumnPosition} Anything (after_at words)
 after-sound words sound = leaves-bind {B = ColumnPosition} CanQuote Anything (in_alter (name_at words)) (λ name. Ok (After name.0, name.1)) (alter-name words sound) (λ name is left. leaves-ok {A = ColumnPosition} {C = AlterCode} Anything (After name.0) name.1 tt left)
 
-column_position_of-sound : (words : List Token) (first behind : Option (List Token)) → AreSound words → SomeSound first → SomeSound behind → Leaves {A = ColumnPosition} Anything (column_position_of words first behind)
-column_position_of-sound words (Some rest) behind sound first second = leaves-ok {A = ColumnPosition} {C = AlterCode} Anything First rest tt (first rest refl)
+column_position_of-sound : (words : List Token) (first following : Option (List Token)) → AreSound words → SomeSound first → SomeSound following → Leaves {A = ColumnPosition} Anything (column_position_of words first following)
+column_position_of-sound words (Some rest) following sound first second = leaves-ok {A = ColumnPosition} {C = AlterCode} Anything First rest tt (first rest refl)
 column_position_of-sound words None (Some rest) sound first second = after-sound rest (second rest refl)
 column_position_of-sound words None None sound first second = leaves-ok {A = ColumnPosition} {C = AlterCode} Anything Unsaid words tt sound
 
@@ -221,14 +221,14 @@ of_table-by true code rest words sound e = subst AreSound (ok_is {C = AlterCode}
 of_table-by false code rest words sound e = absurd cc
 
 after_table-sound : (table : List ℕ) (words : List Token) (o : Option (List Token)) → AreSound words → SomeSound o → LeavesWords (after_table table words o)
-after_table-sound table words None sound behind left e = subst AreSound (ok_is {C = AlterCode} words left e) sound
-after_table-sound table words (Some rest) sound behind left e =
+after_table-sound table words None sound following left e = subst AreSound (ok_is {C = AlterCode} words left e) sound
+after_table-sound table words (Some rest) sound following left e =
     let b = bind_ok (in_alter (name_at rest)) (of_table table) left e in
-    of_table-by (bytes_eq b.0.0 table) refusals.Syntax b.0.1 left (alter-name rest (behind rest refl) b.0 b.1).1 b.2
+    of_table-by (bytes_eq b.0.0 table) refusals.Syntax b.0.1 left (alter-name rest (following rest refl) b.0 b.1).1 b.2
 
 after_alter-sound : (table : List ℕ) (words : List Token) (o : Option (List Token)) → AreSound words → SomeSound o → LeavesWords (after_alter table words o)
-after_alter-sound table words None sound behind left e = subst AreSound (ok_is {C = AlterCode} words left e) sound
-after_alter-sound table words (Some rest) sound behind left e = after_table-sound table words (after_keyword (codes "TABLE") rest) sound (after_keyword-sound (codes "TABLE") rest (behind rest refl)) left e
+after_alter-sound table words None sound following left e = subst AreSound (ok_is {C = AlterCode} words left e) sound
+after_alter-sound table words (Some rest) sound following left e = after_table-sound table words (after_keyword (codes "TABLE") rest) sound (after_keyword-sound (codes "TABLE") rest (following rest refl)) left e
 
 front-sound : (table : List ℕ) (words : List Token) → AreSound words → LeavesWords (front_at table words)
 unfolding front_at

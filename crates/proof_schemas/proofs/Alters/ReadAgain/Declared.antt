@@ -16,7 +16,7 @@ use Rattle.base_values.specs.declared.row_conversion.clause.Clause.TheVariants.{
 use Rattle.base_values.specs.declared.row_conversion.clause.NewColumn.{NewColumn}
 use Rattle.base_values.specs.declared.row_conversion.clause.ColumnPosition.{ColumnPosition}
 use Rattle.base_values.specs.SchemaRules.Results.{◌>>=◌}
-use Rattle.base_values.specs.GhoSchema.Clustering.{clustered_place}
+use Rattle.base_values.specs.GhoSchema.ClusteredKey.{clustered_place}
 use Rattle.base_values.specs.SchemaRules.Reasons.{first_reason}
 use Rattle.base_values.specs.SchemaRules.Defaults.{stored_default, default_size, defaults_fit, default_or}
 use Rattle.base_values.specs.SchemaRules.Names.{is_among}
@@ -27,13 +27,13 @@ use Rattle.sql_change.specs.declared.code.AlterCode.{AlterCode}
 use Rattle.sql_change.specs.declared.code.AlterCode.TheVariants as codes
 use Rattle.sql_change.specs.declared.places.PlaceChange.{PlaceChange}
 use Rattle.sql_change.specs.declared.places.PlaceChange.TheVariants.{Added, Dropped, Moved}
-use Rattle.sql_change.specs.declared.so_far.Standing.{Standing}
-use Rattle.sql_change.specs.Altering.{step, steps, result_reasons, map_of, result_of, altered}
-use Rattle.sql_change.specs.Changing.{add_reasons, added, dropped_at, dropped, rename_reasons, with_name, renamed_in, renamed_at, renamed, change_reasons, changed_nullable, changed_in, is_unapproved, unless_unapproved, changed_column, changed_at, changed}
+use Rattle.sql_change.specs.declared.so_far.AlteredSoFar.{AlteredSoFar}
+use Rattle.sql_change.specs.AlteredSchema.{step, steps, result_reasons, map_of, result_of, altered}
+use Rattle.sql_change.specs.ClauseResults.{add_reasons, added, dropped_at, dropped, rename_reasons, with_name, renamed_in, renamed_at, renamed, change_reasons, changed_nullable, changed_in, is_unapproved, unless_unapproved, changed_column, changed_at, changed}
 use Rattle.sql_change.specs.Columns.{has_column, column_named, is_in_keys, is_key_conversion, is_conversion, is_column_position, column_position_place, lacks_default, unless_lacking, column_of, fitting}
-use Rattle.sql_change.specs.Indexing.{index_name, are_columns, index_reasons, index_of, with_index, indexed_as, indexed, index_place, is_clustered, without_unique, without_index, unindexed_at, unindexed, key_names as table_names}
+use Rattle.sql_change.specs.IndexClauses.{index_name, are_columns, index_reasons, index_of, with_index, indexed_as, indexed, index_place, is_clustered, without_unique, without_index, unindexed_at, unindexed, key_names as table_names}
 use Rattle.sql_change.specs.Places.{has_places, index_after, keys_after, indexes_after}
-use Rattle.sql_change.specs.Standing.{start, with_columns, put_in, taken_out, origin_at, moved_to}
+use Rattle.sql_change.specs.AlteredSoFar.{start, with_columns, put_in, taken_out, origin_at, moved_to}
 use Rattle.base_values.proofs.SchemaRules.Steps.{bind_ok, unless_ok, none_first, ok_is, kept_out, let_through, default_is}
 use Rattle.sql_change.proofs.Tables.{fitting-is, approved-is}
 use Rattle.proof_schemas.specs.Alters.Laws.{Altered}
@@ -197,7 +197,7 @@ fit-set : (columns : List Column) (place : ℕ) (old new : Column) → slice_get
 unfolding defaults_fit
 fit-set columns place old new at same fit = ap (λ (n : ℕ). leb n 4096) (sum-set columns place old new at same) ∙ fit
 
-fits-now : (standing next : Standing) → fitting standing ≡ Ok next → defaults_fit standing.schema.columns ≡ true
+fits-now : (standing next : AlteredSoFar) → fitting standing ≡ Ok next → defaults_fit standing.schema.columns ≡ true
 fits-now standing next e = (let_through (defaults_fit standing.schema.columns) standing next codes.Default e).0
 
 -- ---- the changes
@@ -238,13 +238,13 @@ index-free schema names name none =
     (subst (λ (names : List (List ℕ)). is_among names name ≡ false) (table-names schema) third.0, leb-false 8 (length schema.indexes) last.0)
 
 module _ (migrated : List ℕ) where
-  put_in-declared : (standing : Standing) (at : ℕ) (column : Column) → IsFine column → defaults_fit (put_in standing at column).schema.columns ≡ true → IsDeclared migrated standing.schema → IsDeclared migrated (put_in standing at column).schema
+  put_in-declared : (standing : AlteredSoFar) (at : ℕ) (column : Column) → IsFine column → defaults_fit (put_in standing at column).schema.columns ≡ true → IsDeclared migrated standing.schema → IsDeclared migrated (put_in standing at column).schema
   unfolding put_in with_columns
   put_in-declared standing at column fine fit is =
       let columns = declared-columns migrated standing.schema is in
       whole-declared migrated standing.schema (insert standing.schema.columns at column) _ _ is (record { all = All-insert IsFine standing.schema.columns at column fine columns.all; fit = fit }) (changed-keys (Added at) standing.schema.uniques standing.schema.indexes (declared-keys migrated standing.schema is))
 
-  taken_out-declared : (standing : Standing) (at : ℕ) → IsDeclared migrated standing.schema → IsDeclared migrated (taken_out standing at).schema
+  taken_out-declared : (standing : AlteredSoFar) (at : ℕ) → IsDeclared migrated standing.schema → IsDeclared migrated (taken_out standing at).schema
   unfolding taken_out with_columns
   taken_out-declared standing at is =
       let columns = declared-columns migrated standing.schema is in
@@ -252,14 +252,14 @@ module _ (migrated : List ℕ) where
       whole-declared migrated standing.schema (remove standing.schema.columns at) _ _ is (record { all = All-taken IsFine standing.schema.columns at columns.all; fit = fit-left (remove standing.schema.columns at) standing.schema.columns left columns.fit })
       (changed-keys (Dropped at) standing.schema.uniques standing.schema.indexes (declared-keys migrated standing.schema is))
 
-  moved_to-declared : (standing : Standing) (from to : ℕ) (column : Column) → IsFine column → defaults_fit (moved_to standing from to column).schema.columns ≡ true → IsDeclared migrated standing.schema → IsDeclared migrated (moved_to standing from to column).schema
+  moved_to-declared : (standing : AlteredSoFar) (from to : ℕ) (column : Column) → IsFine column → defaults_fit (moved_to standing from to column).schema.columns ≡ true → IsDeclared migrated standing.schema → IsDeclared migrated (moved_to standing from to column).schema
   unfolding moved_to with_columns
   moved_to-declared standing from to column fine fit is =
       let columns = declared-columns migrated standing.schema is in
       whole-declared migrated standing.schema (insert (remove standing.schema.columns from) to column) _ _ is (record { all = All-insert IsFine (remove standing.schema.columns from) to column fine (All-taken IsFine standing.schema.columns from columns.all); fit = fit })
       (changed-keys (Moved from to) standing.schema.uniques standing.schema.indexes (declared-keys migrated standing.schema is))
 
-  renamed_in-declared : (standing : Standing) (place : ℕ) (old : Column) (name : List ℕ) → slice_get standing.schema.columns place ≡ Some old → is_column_name name ≡ true → IsDeclared migrated standing.schema → IsDeclared migrated (renamed_in standing place (with_name old name)).schema
+  renamed_in-declared : (standing : AlteredSoFar) (place : ℕ) (old : Column) (name : List ℕ) → slice_get standing.schema.columns place ≡ Some old → is_column_name name ≡ true → IsDeclared migrated standing.schema → IsDeclared migrated (renamed_in standing place (with_name old name)).schema
   unfolding renamed_in
   renamed_in-declared standing place old name at fine is =
       let columns = declared-columns migrated standing.schema is in
@@ -269,7 +269,7 @@ module _ (migrated : List ℕ) where
 
   -- ---- the clauses
 
-  added-declared : (standing next : Standing) (written : NewColumn) (column_position : ColumnPosition) → IsDeclared migrated standing.schema → added standing written column_position ≡ Ok next → IsDeclared migrated next.schema
+  added-declared : (standing next : AlteredSoFar) (written : NewColumn) (column_position : ColumnPosition) → IsDeclared migrated standing.schema → added standing written column_position ≡ Ok next → IsDeclared migrated next.schema
   unfolding added
   added-declared standing next written column_position is e =
       let columns = standing.schema.columns in
@@ -277,22 +277,22 @@ module _ (migrated : List ℕ) where
       let let_in = unless_ok (first_reason (add_reasons columns written column_position)) (column_of None written (unwrap_or written.nullable true) >>= λ column. fitting (put_in standing place column)) next e in
       let made = bind_ok (column_of None written (unwrap_or written.nullable true)) (λ column. fitting (put_in standing place column)) next let_in.1 in
       let fine = column_of-fine None written (unwrap_or written.nullable true) made.0 (add-named columns written column_position let_in.0) made.1 in
-      subst (λ (s : Standing). IsDeclared migrated s.schema) (fitting-is (put_in standing place made.0) next made.2) (put_in-declared standing place made.0 fine (fits-now (put_in standing place made.0) next made.2) is)
+      subst (λ (s : AlteredSoFar). IsDeclared migrated s.schema) (fitting-is (put_in standing place made.0) next made.2) (put_in-declared standing place made.0 fine (fits-now (put_in standing place made.0) next made.2) is)
 
-  dropped_at-declared : (standing next : Standing) (found : Option (ℕ × Column)) → IsDeclared migrated standing.schema → dropped_at standing found ≡ Ok next → IsDeclared migrated next.schema
+  dropped_at-declared : (standing next : AlteredSoFar) (found : Option (ℕ × Column)) → IsDeclared migrated standing.schema → dropped_at standing found ≡ Ok next → IsDeclared migrated next.schema
   dropped_at-declared standing next None is e = absurd cc
   dropped_at-declared standing next (Some found) is e =
-      subst (λ (s : Standing). IsDeclared migrated s.schema) (kept_out (is_in_keys standing.schema.uniques found.0) (taken_out standing found.0) next codes.KeyColumnDropped e).1 (taken_out-declared standing found.0 is)
+      subst (λ (s : AlteredSoFar). IsDeclared migrated s.schema) (kept_out (is_in_keys standing.schema.uniques found.0) (taken_out standing found.0) next codes.KeyColumnDropped e).1 (taken_out-declared standing found.0 is)
 
-  renamed_at-declared : (approve : Bool) (standing next : Standing) (new : List ℕ) (found : Option (ℕ × Column)) → ((f : ℕ × Column) → found ≡ Some f → slice_get standing.schema.columns f.0 ≡ Some f.1) → IsDeclared migrated standing.schema
+  renamed_at-declared : (approve : Bool) (standing next : AlteredSoFar) (new : List ℕ) (found : Option (ℕ × Column)) → ((f : ℕ × Column) → found ≡ Some f → slice_get standing.schema.columns f.0 ≡ Some f.1) → IsDeclared migrated standing.schema
       → renamed_at approve standing new found ≡ Ok next → IsDeclared migrated next.schema
   renamed_at-declared approve standing next new None here is e = absurd cc
   renamed_at-declared approve standing next new (Some found) here is e =
       let let_in = unless_ok (first_reason (rename_reasons approve standing.schema.columns found.0 found.1.name new)) (Ok (renamed_in standing found.0 (with_name found.1 new))) next e in
       let fine = rename-named approve standing.schema.columns found.0 found.1.name new let_in.0 in
-      subst (λ (s : Standing). IsDeclared migrated s.schema) (ok_is {C = AlterCode} (renamed_in standing found.0 (with_name found.1 new)) next let_in.1) (renamed_in-declared standing found.0 found.1 new (here found refl) fine is)
+      subst (λ (s : AlteredSoFar). IsDeclared migrated s.schema) (ok_is {C = AlterCode} (renamed_in standing found.0 (with_name found.1 new)) next let_in.1) (renamed_in-declared standing found.0 found.1 new (here found refl) fine is)
 
-  changed_at-declared : (approve : Bool) (standing next : Standing) (written : NewColumn) (column_position : ColumnPosition) (found : Option (ℕ × Column)) → IsDeclared migrated standing.schema → changed_at approve standing written column_position found ≡ Ok next → IsDeclared migrated next.schema
+  changed_at-declared : (approve : Bool) (standing next : AlteredSoFar) (written : NewColumn) (column_position : ColumnPosition) (found : Option (ℕ × Column)) → IsDeclared migrated standing.schema → changed_at approve standing written column_position found ≡ Ok next → IsDeclared migrated next.schema
   changed_at-declared approve standing next written column_position None is e = absurd cc
   changed_at-declared approve standing next written column_position (Some found) is e =
       let place = found.0 in
@@ -303,31 +303,31 @@ module _ (migrated : List ℕ) where
       let fit = bind_ok (fitting (changed_in standing place column_position made.0)) (λ changed. unless_unapproved (is_unapproved approve found.1.name written.name) changed) next made.2 in
       let same = fitting-is (changed_in standing place column_position made.0) fit.0 fit.1 ∙ approved-is (is_unapproved approve found.1.name written.name) fit.0 next fit.2 in
       let fine = column_of-fine (origin_at standing place) written nullable made.0 (change-named standing.schema place found.1 written column_position let_in.0) made.1 in
-      subst (λ (s : Standing). IsDeclared migrated s.schema) same (moved_to-declared standing place (column_position_place others column_position place) made.0 fine (fits-now (changed_in standing place column_position made.0) fit.0 fit.1) is)
+      subst (λ (s : AlteredSoFar). IsDeclared migrated s.schema) same (moved_to-declared standing place (column_position_place others column_position place) made.0 fine (fits-now (changed_in standing place column_position made.0) fit.0 fit.1) is)
 
   -- ---- indexes
 
-  indexed_as-declared : (standing next : Standing) (names : List (List ℕ)) (name : List ℕ) → IsDeclared migrated standing.schema → indexed_as standing names name ≡ Ok next → IsDeclared migrated next.schema
+  indexed_as-declared : (standing next : AlteredSoFar) (names : List (List ℕ)) (name : List ℕ) → IsDeclared migrated standing.schema → indexed_as standing names name ≡ Ok next → IsDeclared migrated next.schema
   indexed_as-declared standing next names name is e =
       let index = index_of standing.schema names name in
       let let_in = unless_ok (first_reason (index_reasons standing.schema names name)) (Ok (with_index standing index)) next e in
       let free = index-free standing.schema names name let_in.0 in
       let keys = index-fine standing.schema.uniques standing.schema.indexes index name refl free.0 free.1 (declared-keys migrated standing.schema is) in
-      subst (λ (s : Standing). IsDeclared migrated s.schema) (ok_is {C = AlterCode} (with_index standing index) next let_in.1)
+      subst (λ (s : AlteredSoFar). IsDeclared migrated s.schema) (ok_is {C = AlterCode} (with_index standing index) next let_in.1)
       (whole-declared migrated standing.schema standing.schema.columns standing.schema.uniques (standing.schema.indexes ++ index ∷ []) is (declared-columns migrated standing.schema is) keys)
 
-  unindexed_at-declared : (standing next : Standing) (unique index : Option ℕ) → IsDeclared migrated standing.schema → unindexed_at standing unique index ≡ Ok next → IsDeclared migrated next.schema
+  unindexed_at-declared : (standing next : AlteredSoFar) (unique index : Option ℕ) → IsDeclared migrated standing.schema → unindexed_at standing unique index ≡ Ok next → IsDeclared migrated next.schema
   unindexed_at-declared standing next (Some place) index is e =
       let keys = keys-left (remove standing.schema.uniques place) standing.schema.uniques standing.schema.indexes standing.schema.indexes (left-remove standing.schema.uniques place) (left-own standing.schema.indexes) (declared-keys migrated standing.schema is) in
-      subst (λ (s : Standing). IsDeclared migrated s.schema) (kept_out (is_clustered (clustered_place standing.schema) place) (without_unique standing place) next codes.ClusteredKeyChange e).1
+      subst (λ (s : AlteredSoFar). IsDeclared migrated s.schema) (kept_out (is_clustered (clustered_place standing.schema) place) (without_unique standing place) next codes.ClusteredKeyChange e).1
       (whole-declared migrated standing.schema standing.schema.columns (remove standing.schema.uniques place) standing.schema.indexes is (declared-columns migrated standing.schema is) keys)
   unindexed_at-declared standing next None (Some place) is e =
       let keys = keys-left standing.schema.uniques standing.schema.uniques (remove standing.schema.indexes place) standing.schema.indexes (left-own standing.schema.uniques) (left-remove standing.schema.indexes place) (declared-keys migrated standing.schema is) in
-      subst (λ (s : Standing). IsDeclared migrated s.schema) (ok_is {C = AlterCode} (without_index standing place) next e)
+      subst (λ (s : AlteredSoFar). IsDeclared migrated s.schema) (ok_is {C = AlterCode} (without_index standing place) next e)
       (whole-declared migrated standing.schema standing.schema.columns standing.schema.uniques (remove standing.schema.indexes place) is (declared-columns migrated standing.schema is) keys)
   unindexed_at-declared standing next None None is e = absurd cc
 
-  step-declared : (approve : Bool) (standing next : Standing) (clause : Clause) → IsDeclared migrated standing.schema → step approve standing clause ≡ Ok next → IsDeclared migrated next.schema
+  step-declared : (approve : Bool) (standing next : AlteredSoFar) (clause : Clause) → IsDeclared migrated standing.schema → step approve standing clause ≡ Ok next → IsDeclared migrated next.schema
   unfolding step dropped renamed changed indexed unindexed
   step-declared approve standing next (Add column column_position) is e = added-declared standing next column column_position is e
   step-declared approve standing next (Drop name) is e = dropped_at-declared standing next (column_named standing.schema.columns name) is e
@@ -336,9 +336,9 @@ module _ (migrated : List ℕ) where
   step-declared approve standing next (AddIndex name columns) is e = indexed_as-declared standing next columns (index_name standing.schema columns name) is e
   step-declared approve standing next (DropIndex name) is e = unindexed_at-declared standing next (index_place standing.schema.uniques name) (index_place standing.schema.indexes name) is e
 
-  steps-declared : (approve : Bool) (standing next : Standing) (clauses : List Clause) → IsDeclared migrated standing.schema → steps approve standing clauses ≡ Ok next → IsDeclared migrated next.schema
+  steps-declared : (approve : Bool) (standing next : AlteredSoFar) (clauses : List Clause) → IsDeclared migrated standing.schema → steps approve standing clauses ≡ Ok next → IsDeclared migrated next.schema
   unfolding steps
-  steps-declared approve standing next [] is e = subst (λ (s : Standing). IsDeclared migrated s.schema) (ok_is {C = AlterCode} standing next e) is
+  steps-declared approve standing next [] is e = subst (λ (s : AlteredSoFar). IsDeclared migrated s.schema) (ok_is {C = AlterCode} standing next e) is
   steps-declared approve standing next (clause ∷ clauses) is e =
       let b = bind_ok (step approve standing clause) (λ s. steps approve s clauses) next e in
       steps-declared approve b.0 next clauses (step-declared approve standing b.0 clause is b.1) b.2

@@ -10,7 +10,7 @@ use Rattle.base_values.specs.declared.row_conversion.clause.Clause.TheVariants.{
 use Rattle.base_values.specs.declared.row_conversion.clause.NewColumn.{NewColumn}
 use Rattle.base_values.specs.declared.row_conversion.clause.ColumnPosition.{ColumnPosition}
 use Rattle.base_values.specs.SchemaRules.Results.{◌>>=◌}
-use Rattle.base_values.specs.GhoSchema.Clustering.{clustered_place}
+use Rattle.base_values.specs.GhoSchema.ClusteredKey.{clustered_place}
 use Rattle.base_values.specs.SchemaRules.Reasons.{first_reason}
 use Rattle.base_values.specs.SchemaRules.Defaults.{stored_default, default_or}
 use Rattle.base_values.specs.SchemaRules.Valid.{is_kind}
@@ -20,13 +20,13 @@ use Rattle.sql_change.specs.declared.code.AlterCode.{AlterCode}
 use Rattle.sql_change.specs.declared.code.AlterCode.TheVariants as codes
 use Rattle.sql_change.specs.declared.places.PlaceChange.{PlaceChange}
 use Rattle.sql_change.specs.declared.places.PlaceChange.TheVariants.{Added, Dropped, Moved}
-use Rattle.sql_change.specs.declared.so_far.Standing.{Standing}
-use Rattle.sql_change.specs.Altering.{step, steps}
-use Rattle.sql_change.specs.Changing.{add_reasons, added, dropped_at, dropped, rename_reasons, with_name, renamed_in, renamed_at, renamed, change_reasons, changed_nullable, changed_in, is_unapproved, unless_unapproved, changed_column, changed_at, changed}
+use Rattle.sql_change.specs.declared.so_far.AlteredSoFar.{AlteredSoFar}
+use Rattle.sql_change.specs.AlteredSchema.{step, steps}
+use Rattle.sql_change.specs.ClauseResults.{add_reasons, added, dropped_at, dropped, rename_reasons, with_name, renamed_in, renamed_at, renamed, change_reasons, changed_nullable, changed_in, is_unapproved, unless_unapproved, changed_column, changed_at, changed}
 use Rattle.sql_change.specs.Columns.{column_named, is_in_keys, column_position_place, lacks_default, unless_lacking, column_of, fitting}
-use Rattle.sql_change.specs.Indexing.{key_names, spelled_as, first_column, index_name, index_reasons, index_of, with_index, indexed_as, indexed, index_place, is_clustered, without_unique, without_index, unindexed_at, unindexed}
+use Rattle.sql_change.specs.IndexClauses.{key_names, spelled_as, first_column, index_name, index_reasons, index_of, with_index, indexed_as, indexed, index_place, is_clustered, without_unique, without_index, unindexed_at, unindexed}
 use Rattle.sql_change.specs.Places.{has_places, keys_after, indexes_after}
-use Rattle.sql_change.specs.Standing.{with_columns, put_in, taken_out, origin_at, moved_to}
+use Rattle.sql_change.specs.AlteredSoFar.{with_columns, put_in, taken_out, origin_at, moved_to}
 use Rattle.base_values.proofs.SchemaRules.Steps.{bind_ok, unless_ok, ok_is, kept_out, default_is}
 use Rattle.sql_change.proofs.Tables.{fitting-is, approved-is}
 use Rattle.proof_schemas.specs.Alters.Laws.{IsClause}
@@ -62,10 +62,10 @@ less-quotes change indexes all = All-filter QuotesKey has_places (keys_after cha
 
 -- ---- the changes
 
-abbrev Prints : Standing → Type 0
+abbrev Prints : AlteredSoFar → Type 0
 Prints standing = CanPrint standing.schema
 
-put_in-prints : (standing : Standing) (at : ℕ) (column : Column) → CanPrintColumn column → Prints standing → Prints (put_in standing at column)
+put_in-prints : (standing : AlteredSoFar) (at : ℕ) (column : Column) → CanPrintColumn column → Prints standing → Prints (put_in standing at column)
 unfolding put_in with_columns
 put_in-prints standing at column can prints = record {
   name = prints.name;
@@ -74,7 +74,7 @@ put_in-prints standing at column can prints = record {
   indexes = less-quotes (Added at) standing.schema.indexes prints.indexes;
 }
 
-taken_out-prints : (standing : Standing) (at : ℕ) → Prints standing → Prints (taken_out standing at)
+taken_out-prints : (standing : AlteredSoFar) (at : ℕ) → Prints standing → Prints (taken_out standing at)
 unfolding taken_out with_columns
 taken_out-prints standing at prints = record {
   name = prints.name;
@@ -83,7 +83,7 @@ taken_out-prints standing at prints = record {
   indexes = less-quotes (Dropped at) standing.schema.indexes prints.indexes;
 }
 
-moved_to-prints : (standing : Standing) (from to : ℕ) (column : Column) → CanPrintColumn column → Prints standing → Prints (moved_to standing from to column)
+moved_to-prints : (standing : AlteredSoFar) (from to : ℕ) (column : Column) → CanPrintColumn column → Prints standing → Prints (moved_to standing from to column)
 unfolding moved_to with_columns
 moved_to-prints standing from to column can prints = record {
   name = prints.name;
@@ -92,13 +92,13 @@ moved_to-prints standing from to column can prints = record {
   indexes = less-quotes (Moved from to) standing.schema.indexes prints.indexes;
 }
 
-renamed_in-prints : (standing : Standing) (place : ℕ) (column : Column) → CanPrintColumn column → Prints standing → Prints (renamed_in standing place column)
+renamed_in-prints : (standing : AlteredSoFar) (place : ℕ) (column : Column) → CanPrintColumn column → Prints standing → Prints (renamed_in standing place column)
 unfolding renamed_in
 renamed_in-prints standing place column can prints = record { name = prints.name; columns = All-set CanPrintColumn standing.schema.columns place column can prints.columns; uniques = prints.uniques; indexes = prints.indexes }
 
 -- ---- the clauses
 
-added-prints : StoresAgain → (standing next : Standing) (written : NewColumn) (column_position : ColumnPosition) → is_kind written.kind ≡ true → SoundNew written → Prints standing → added standing written column_position ≡ Ok next → Prints next
+added-prints : StoresAgain → (standing next : AlteredSoFar) (written : NewColumn) (column_position : ColumnPosition) → is_kind written.kind ≡ true → SoundNew written → Prints standing → added standing written column_position ≡ Ok next → Prints next
 unfolding added
 added-prints again standing next written column_position kind sound prints e =
     let columns = standing.schema.columns in
@@ -107,18 +107,18 @@ added-prints again standing next written column_position kind sound prints e =
     let made = bind_ok (column_of None written (unwrap_or written.nullable true)) (λ column. fitting (put_in standing place column)) next let_in.1 in
     subst Prints (fitting-is (put_in standing place made.0) next made.2) (put_in-prints standing place made.0 (column_of-prints again None written (unwrap_or written.nullable true) made.0 kind sound made.1) prints)
 
-dropped_at-prints : (standing next : Standing) (found : Option (ℕ × Column)) → Prints standing → dropped_at standing found ≡ Ok next → Prints next
+dropped_at-prints : (standing next : AlteredSoFar) (found : Option (ℕ × Column)) → Prints standing → dropped_at standing found ≡ Ok next → Prints next
 dropped_at-prints standing next None prints e = absurd cc
 dropped_at-prints standing next (Some found) prints e = subst Prints (kept_out (is_in_keys standing.schema.uniques found.0) (taken_out standing found.0) next codes.KeyColumnDropped e).1 (taken_out-prints standing found.0 prints)
 
-renamed_at-prints : (approve : Bool) (standing next : Standing) (new : List ℕ) (found : Option (ℕ × Column)) → ((f : ℕ × Column) → found ≡ Some f → slice_get standing.schema.columns f.0 ≡ Some f.1) → CanQuote new → Prints standing → renamed_at approve standing new found ≡ Ok next → Prints next
+renamed_at-prints : (approve : Bool) (standing next : AlteredSoFar) (new : List ℕ) (found : Option (ℕ × Column)) → ((f : ℕ × Column) → found ≡ Some f → slice_get standing.schema.columns f.0 ≡ Some f.1) → CanQuote new → Prints standing → renamed_at approve standing new found ≡ Ok next → Prints next
 renamed_at-prints approve standing next new None here can prints e = absurd cc
 renamed_at-prints approve standing next new (Some found) here can prints e =
     let let_in = unless_ok (first_reason (rename_reasons approve standing.schema.columns found.0 found.1.name new)) (Ok (renamed_in standing found.0 (with_name found.1 new))) next e in
     let own = All-at CanPrintColumn standing.schema.columns found.0 found.1 prints.columns (here found refl) in
     subst Prints (ok_is {C = AlterCode} (renamed_in standing found.0 (with_name found.1 new)) next let_in.1) (renamed_in-prints standing found.0 (with_name found.1 new) (can, own.1, own.2) prints)
 
-changed_at-prints : StoresAgain → (approve : Bool) (standing next : Standing) (written : NewColumn) (column_position : ColumnPosition) (found : Option (ℕ × Column)) → is_kind written.kind ≡ true → SoundNew written → Prints standing → changed_at approve standing written column_position found ≡ Ok next → Prints next
+changed_at-prints : StoresAgain → (approve : Bool) (standing next : AlteredSoFar) (written : NewColumn) (column_position : ColumnPosition) (found : Option (ℕ × Column)) → is_kind written.kind ≡ true → SoundNew written → Prints standing → changed_at approve standing written column_position found ≡ Ok next → Prints next
 changed_at-prints again approve standing next written column_position None kind sound prints e = absurd cc
 changed_at-prints again approve standing next written column_position (Some found) kind sound prints e =
     let place = found.0 in
@@ -145,13 +145,13 @@ index_name-quotes : (schema : Schema) (names : List (List ℕ)) (name : Option (
 index_name-quotes schema names (Some name) is prints = is
 index_name-quotes schema names None is prints = free-plain (key_names schema) (first_column schema.columns names) (length (key_names schema)) 1 (first-quotes schema.columns names prints)
 
-indexed_as-prints : (standing next : Standing) (names : List (List ℕ)) (name : List ℕ) → CanQuote name → Prints standing → indexed_as standing names name ≡ Ok next → Prints next
+indexed_as-prints : (standing next : AlteredSoFar) (names : List (List ℕ)) (name : List ℕ) → CanQuote name → Prints standing → indexed_as standing names name ≡ Ok next → Prints next
 indexed_as-prints standing next names name can prints e =
     let index = index_of standing.schema names name in
     let let_in = unless_ok (first_reason (index_reasons standing.schema names name)) (Ok (with_index standing index)) next e in
     subst Prints (ok_is {C = AlterCode} (with_index standing index) next let_in.1) (record { name = prints.name; columns = prints.columns; uniques = prints.uniques; indexes = All-append QuotesKey standing.schema.indexes (index ∷ []) prints.indexes (can, tt) })
 
-unindexed_at-prints : (standing next : Standing) (unique index : Option ℕ) → Prints standing → unindexed_at standing unique index ≡ Ok next → Prints next
+unindexed_at-prints : (standing next : AlteredSoFar) (unique index : Option ℕ) → Prints standing → unindexed_at standing unique index ≡ Ok next → Prints next
 unindexed_at-prints standing next (Some place) index prints e =
     subst Prints (kept_out (is_clustered (clustered_place standing.schema) place) (without_unique standing place) next codes.ClusteredKeyChange e).1
     (record { name = prints.name; columns = prints.columns; uniques = left-all QuotesKey (left-remove standing.schema.uniques place) prints.uniques; indexes = prints.indexes })
@@ -159,7 +159,7 @@ unindexed_at-prints standing next None (Some place) prints e =
     subst Prints (ok_is {C = AlterCode} (without_index standing place) next e) (record { name = prints.name; columns = prints.columns; uniques = prints.uniques; indexes = left-all QuotesKey (left-remove standing.schema.indexes place) prints.indexes })
 unindexed_at-prints standing next None None prints e = absurd cc
 
-step-prints : StoresAgain → (approve : Bool) (standing next : Standing) (clause : Clause) → IsClause clause → SoundClause clause → Prints standing → step approve standing clause ≡ Ok next → Prints next
+step-prints : StoresAgain → (approve : Bool) (standing next : AlteredSoFar) (clause : Clause) → IsClause clause → SoundClause clause → Prints standing → step approve standing clause ≡ Ok next → Prints next
 unfolding step dropped renamed changed indexed unindexed
 step-prints again approve standing next (Add column column_position) kind sound prints e = added-prints again standing next column column_position kind sound prints e
 step-prints again approve standing next (Drop name) kind sound prints e = dropped_at-prints standing next (column_named standing.schema.columns name) prints e
@@ -168,7 +168,7 @@ step-prints again approve standing next (Change before column column_position) k
 step-prints again approve standing next (AddIndex name columns) kind sound prints e = indexed_as-prints standing next columns (index_name standing.schema columns name) (index_name-quotes standing.schema columns name sound prints.columns) prints e
 step-prints again approve standing next (DropIndex name) kind sound prints e = unindexed_at-prints standing next (index_place standing.schema.uniques name) (index_place standing.schema.indexes name) prints e
 
-pub steps-prints : StoresAgain → (approve : Bool) (standing next : Standing) (clauses : List Clause) → AllByRecursion IsClause clauses → AllByRecursion SoundClause clauses → Prints standing → steps approve standing clauses ≡ Ok next → Prints next
+pub steps-prints : StoresAgain → (approve : Bool) (standing next : AlteredSoFar) (clauses : List Clause) → AllByRecursion IsClause clauses → AllByRecursion SoundClause clauses → Prints standing → steps approve standing clauses ≡ Ok next → Prints next
 unfolding steps
 steps-prints again approve standing next [] kinds sound prints e = subst Prints (ok_is {C = AlterCode} standing next e) prints
 steps-prints again approve standing next (clause ∷ clauses) kinds sound prints e =

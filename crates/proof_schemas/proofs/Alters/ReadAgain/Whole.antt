@@ -6,8 +6,8 @@ use Rattle.base_values.specs.declared.gho_schema.schema.Schema.{Schema}
 use Rattle.base_values.specs.declared.row_conversion.clause.Clause.{Clause}
 use Rattle.base_values.specs.SchemaRules.Reasons.{first_reason}
 use Rattle.sql_change.specs.declared.code.AlterCode.{AlterCode}
-use Rattle.sql_change.specs.Altering.{steps, result_reasons, map_of, result_of, altered}
-use Rattle.sql_change.specs.Standing.{start}
+use Rattle.sql_change.specs.AlteredSchema.{steps, result_reasons, map_of, result_of, altered}
+use Rattle.sql_change.specs.AlteredSoFar.{start}
 use Rattle.base_values.proofs.SchemaRules.Steps.{bind_ok, unless_ok, ok_is}
 use Rattle.proof_schemas.specs.Alters.Laws.{Altered, IsClause}
 use Rattle.proof_schemas.proofs.Alters.Clauses.{read-clauses}

@@ -1,5 +1,5 @@
 use Rattle.std.proofs.Common.{◌≡◌, drop}
-use Rattle.tool_program.specs.JournalWords.Keeping.{struck_among}
+use Rattle.tool_program.specs.JournalWords.KeptPlans.{struck_among}
 use Rattle.run_actors.proofs.losses.struck_among.Given as goal
 
 -- none of the losses so far strikes

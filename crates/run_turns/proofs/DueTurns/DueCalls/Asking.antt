@@ -18,15 +18,15 @@ use Rattle.proof_journals.specs.Machine.Laws.{MayLoseAny}
 use Rattle.proof_journals.specs.Machine.Runnable.{IsRunnable}
 use Rattle.proof_journals.specs.Machine.Standings.{MayTake, opened_for}
 use Rattle.proof_journals.proofs.Machine.Whole.{given_called, given_polled, losses as losses_may}
-use Rattle.proof_journals.specs.Run.Counting.{numbered, IsAfter, AreApart}
+use Rattle.proof_journals.specs.Run.Counts.{numbered, IsAfter, AreApart}
 use Rattle.proof_journals.specs.Run.Kept.{IsKept}
 use Rattle.proof_journals.specs.Run.Laws.{Living, NoneWaits}
 use Rattle.proof_journals.proofs.Run.Living.{all_living}
 use Rattle.proof_journals.proofs.Run.Waits.{all_waits}
 use Rattle.run_turns.specs.declared.due_turns.migration_run.turn.Turn.{Turn}
-use Rattle.run_turns.specs.DueTurns.MigrationRun.Asking.{MayAsk}
+use Rattle.run_turns.specs.DueTurns.MigrationRun.Requests.{MayAsk}
 use Rattle.run_turns.specs.DueTurns.MigrationRun.Sessions.{IsSessionOf}
-use Rattle.run_turns.specs.DueTurns.MigrationRun.Turning.{session_for, opened_on, MayTurn}
+use Rattle.run_turns.specs.DueTurns.MigrationRun.ServerTurns.{session_for, opened_on, MayTurn}
 use Rattle.run_turns.proofs.DueTurns.MigrationRun.Connecting.{opened_live}
 use Rattle.run_turns.proofs.DueTurns.Coming.{Comes, Cuts, Gives, comes, given_uncut, Lives, cut_lives}
 use Rattle.run_turns.proofs.DueTurns.Serving.{opened_numbered}
@@ -57,7 +57,7 @@ ask_numbered made state n None (Command word) may = tt
 ask_numbered made state n None Cut may = lose_numbered made state n None Cut may
 ask_numbered made state n (Some side) asked may = lose_numbered made state n (Some side) asked may
 
-module _ (plan : PlanData) (journal : List Entry) (server : State) (actor : Actor) (turn : Turn) (runs : IsRunnable plan) (kept : IsKept plan journal) (behind : IsAfter (state_at plan journal) server) (room : server.made < 4294967295) (comes_so : Comes plan journal actor turn) (called : is_command turn.asked ≡ false) where
+module _ (plan : PlanData) (journal : List Entry) (server : State) (actor : Actor) (turn : Turn) (runs : IsRunnable plan) (kept : IsKept plan journal) (following : IsAfter (state_at plan journal) server) (room : server.made < 4294967295) (comes_so : Comes plan journal actor turn) (called : is_command turn.asked ≡ false) where
   abbrev now : State
   now = state_at plan journal
 
@@ -72,27 +72,27 @@ module _ (plan : PlanData) (journal : List Entry) (server : State) (actor : Acto
 
   -- THE SESSION
 
-  own_told : (session : Option ℕ) → live ≡ session → IsSessionOf (numbered server.made now) turn.actor session
-  own_told (Some own) is = living.kinds turn.actor own is
-  own_told None is = λ k more. living.fresh k (omega (arith, more, behind.made))
+  own_reported : (session : Option ℕ) → live ≡ session → IsSessionOf (numbered server.made now) turn.actor session
+  own_reported (Some own) is = living.kinds turn.actor own is
+  own_reported None is = λ k more. living.fresh k (omega (arith, more, following.made))
 
   own : IsSessionOf server turn.actor live
-  own = subst (λ (s : State). IsSessionOf s turn.actor live) (sym behind.same) (own_told live refl)
+  own = subst (λ (s : State). IsSessionOf s turn.actor live) (sym following.same) (own_reported live refl)
 
   may_take : (session : Option ℕ) → MayTake journal (session_for session server.made) session
   may_take (Some own) = refl
-  may_take None = let named : now.made ≡ sessions_named journal = living.named in omega (arith, named, behind.made)
+  may_take None = let named : now.made ≡ sessions_named journal = living.named in omega (arith, named, following.made)
 
   take_own : MayTake journal n live
   take_own = may_take live
 
   -- WHAT IS ASKED
 
-  abbrev open_told : State
-  open_told = opened_for plan journal turn.actor n
+  abbrev open_reported : State
+  open_reported = opened_for plan journal turn.actor n
 
   -- the session that lives already
-  stays_open : (own : ℕ) → live ≡ Some own → (n ≡ own) × (open_told ≡ now)
+  stays_open : (own : ℕ) → live ≡ Some own → (n ≡ own) × (open_reported ≡ now)
   stays_open own is =
       let same : n ≡ own = ap (λ (o : Option ℕ). session_for o server.made) is in
       (same, ap (λ (k : ℕ). opens_if false (not (is_client turn.actor)) k now) same ∙ sym (opened_live now own (not (is_client turn.actor)) (living.kinds turn.actor own is)))
@@ -100,55 +100,55 @@ module _ (plan : PlanData) (journal : List Entry) (server : State) (actor : Acto
   losses : MayLoseAny plan journal turn.actor
   losses = losses_may plan journal turn.actor runs kept.faithful kept.follows
 
-  cut_may : (own : ℕ) → live ≡ Some own → MayAsk open_told n None Cut
+  cut_may : (own : ℕ) → live ≡ Some own → MayAsk open_reported n None Cut
   cut_may own is =
       let at = stays_open own is in
       subst (λ (s : State). MayLose s n None Cut) (sym at.1) (subst (λ (k : ℕ). MayLose now k None Cut) (sym at.0) (losses.between own is))
 
-  poll_may : (side : Option Side) → given plan journal turn.actor ≡ Some Poll → MayAsk open_told n side Poll
+  poll_may : (side : Option Side) → given plan journal turn.actor ≡ Some Poll → MayAsk open_reported n side Poll
   poll_may None gives =
-      let told = given_polled plan journal turn.actor runs kept.faithful kept.follows gives in
-      let at = stays_open told.0 told.1 in
-      subst (λ (s : State). MayPoll s n) (sym at.1) (subst (λ (k : ℕ). MayPoll now k) (sym at.0) told.2)
+      let reported = given_polled plan journal turn.actor runs kept.faithful kept.follows gives in
+      let at = stays_open reported.0 reported.1 in
+      subst (λ (s : State). MayPoll s n) (sym at.1) (subst (λ (k : ℕ). MayPoll now k) (sym at.0) reported.2)
   poll_may (Some side) gives =
-      let told = given_polled plan journal turn.actor runs kept.faithful kept.follows gives in
-      let at = stays_open told.0 told.1 in
-      subst (λ (s : State). MayLose s n (Some side) Poll) (sym at.1) (subst (λ (k : ℕ). MayLose now k (Some side) Poll) (sym at.0) (losses.polled told.0 side gives told.1))
+      let reported = given_polled plan journal turn.actor runs kept.faithful kept.follows gives in
+      let at = stays_open reported.0 reported.1 in
+      subst (λ (s : State). MayLose s n (Some side) Poll) (sym at.1) (subst (λ (k : ℕ). MayLose now k (Some side) Poll) (sym at.0) (losses.polled reported.0 side gives reported.1))
 
-  call_may : (side : Option Side) (request : Request) → given plan journal turn.actor ≡ Some (Call request) → MayAsk open_told n side (Call request)
+  call_may : (side : Option Side) (request : Request) → given plan journal turn.actor ≡ Some (Call request) → MayAsk open_reported n side (Call request)
   call_may None request gives = given_called plan journal turn.actor request n runs kept.faithful kept.follows gives take_own
   call_may (Some side) request gives = losses.called request n side gives take_own
 
-  given_may : (side : Option Side) (asked : Asked) → is_command asked ≡ false → given plan journal turn.actor ≡ Some asked → MayAsk open_told n side asked
+  given_may : (side : Option Side) (asked : Asked) → is_command asked ≡ false → given plan journal turn.actor ≡ Some asked → MayAsk open_reported n side asked
   given_may side (Call request) none gives = call_may side request gives
   given_may side Poll none gives = poll_may side gives
   given_may side (Command word) none gives = absurd (true≢false none)
   given_may side Cut none gives = absurd (true≢false (given_uncut plan journal turn.actor Cut gives))
 
-  told_may : MayAsk open_told n turn.side turn.asked
-  told_may = by comes_so
+  reported_may : MayAsk open_reported n turn.side turn.asked
+  reported_may = by comes_so
     where
-      by : Comes plan journal actor turn → MayAsk open_told n turn.side turn.asked
+      by : Comes plan journal actor turn → MayAsk open_reported n turn.side turn.asked
       by (Cuts at none cut) =
           let lives : Lives journal turn.actor = cut_lives plan journal turn.actor at in
-          subst (λ (side : Option Side). MayAsk open_told n side turn.asked) (sym none) (subst (MayAsk open_told n None) (sym cut) (cut_may lives.number lives.is))
+          subst (λ (side : Option Side). MayAsk open_reported n side turn.asked) (sym none) (subst (MayAsk open_reported n None) (sym cut) (cut_may lives.number lives.is))
       by (Gives none same gives side) = given_may turn.side turn.asked called gives
 
   may : MayAsk (opened_on server n turn) n turn.side turn.asked
   may =
       subst (λ (s : State). MayAsk s n turn.side turn.asked)
-      (sym (ap (λ (b : Bool). opens_if b (not (is_client turn.actor)) n server) called ∙ ap (opens_if false (not (is_client turn.actor)) n) behind.same ∙ opened_numbered false (not (is_client turn.actor)) n server.made now))
-      (ask_numbered _ open_told n turn.side turn.asked told_may)
+      (sym (ap (λ (b : Bool). opens_if b (not (is_client turn.actor)) n server) called ∙ ap (opens_if false (not (is_client turn.actor)) n) following.same ∙ opened_numbered false (not (is_client turn.actor)) n server.made now))
+      (ask_numbered _ open_reported n turn.side turn.asked reported_may)
 
   few : length server.sessions ≤ server.made
-  few = subst (λ (s : State). length s.sessions ≤ server.made) (sym behind.same) (omega (arith, living.few, behind.made))
+  few = subst (λ (s : State). length s.sessions ≤ server.made) (sym following.same) (omega (arith, living.few, following.made))
 
   pub turn_may : MayTurn server live turn
   turn_may = record {
     own = own;
-    apart = subst (λ (s : State). AreApart s.sessions) (sym behind.same) living.apart;
+    apart = subst (λ (s : State). AreApart s.sessions) (sym following.same) living.apart;
     few = few;
-    waits = subst NoneWaits (sym behind.same) (all_waits plan journal kept.faithful kept.sessions);
+    waits = subst NoneWaits (sym following.same) (all_waits plan journal kept.faithful kept.sessions);
     room = room;
     called = called;
     may = may;
@@ -156,4 +156,4 @@ module _ (plan : PlanData) (journal : List Entry) (server : State) (actor : Acto
 
 -- *Due turns may be taken*
 pub turns_may_be : DueTurnsMayBe
-turns_may_be plan journal server actor turn runs kept behind room is called = turn_may plan journal server actor turn runs kept behind room (comes plan journal actor turn is) called
+turns_may_be plan journal server actor turn runs kept following room is called = turn_may plan journal server actor turn runs kept following room (comes plan journal actor turn is) called

@@ -12,7 +12,7 @@ use Rattle.server_model.specs.declared.request.Request.TheVariants as requests
 use Rattle.plan_data.specs.PlanData.{PlanData}
 use Rattle.tool_changelog.specs.ToolTables.{sentry_schema}
 use Rattle.tool_program.specs.JournalWords.Clients.{client_at, word_asks, client_asks}
-use Rattle.tool_program.specs.JournalWords.Keeping.{words_of}
+use Rattle.tool_program.specs.JournalWords.KeptPlans.{words_of}
 use Rattle.tool_program.specs.JournalWords.Sessions.{live_session}
 use Rattle.tool_program.specs.declared.chunk_copier.copier.CopyStep.{CopyStep}
 use Rattle.tool_program.specs.declared.chunk_copier.copier.CopyStep.TheVariants as copying
@@ -21,7 +21,7 @@ use Rattle.tool_program.specs.declared.event_applier.applier.Applier.{Applier}
 use Rattle.tool_program.specs.declared.event_applier.applier.ApplyStep.{ApplyStep}
 use Rattle.tool_program.specs.declared.event_applier.applier.ApplyStep.TheVariants as applying
 use Rattle.tool_program.specs.EventApplier.Appliers as appliers
-use Rattle.tool_program.specs.EventApplier.Appliers.{Doing, says, doing_at}
+use Rattle.tool_program.specs.EventApplier.Appliers.{Doing, statement_result, doing_at}
 use Rattle.tool_program.specs.declared.cutover_core.cutover.Clearing.{Clearing as Cleared}
 use Rattle.tool_program.specs.declared.cutover_core.cutover.Clearing.TheVariants.{Looking, Drops}
 use Rattle.tool_program.specs.declared.cutover_core.cutover.CutOver.{CutOver}
@@ -37,7 +37,7 @@ use Rattle.tool_program.specs.CutoverCore.CutOvers.{is_resting}
 use Rattle.tool_program.specs.Operators.{is_throttled}
 use Rattle.tool_program.specs.Setups.{Setup, Listing, Clearing, MakingLog, MakingGhost, Marking, Reaching, Ready, setup_call}
 use Rattle.tool_program.specs.Programs.{in_transaction, rolls_back, copy_call, apply_call, may_begin, tool_call, tool_asks, given}
-use Rattle.tool_program.specs.Tools.{Course, SettingUp, Migrating, is_reverting, Moment, moment}
+use Rattle.tool_program.specs.Tools.{ToolPhase, SettingUp, Migrating, is_reverting, Moment, moment}
 use Rattle.proof_journals.specs.Machine.Machines.{copier_asks}
 use Rattle.proof_journals.proofs.Machine.Asking.{some_request, unless_called, copier_next, renamer_next}
 use Rattle.proof_journals.proofs.Machine.Calling.{reverting_or}
@@ -67,7 +67,7 @@ quiet_asks plan actor request is = tt
 
 copier_quiet : (step : CopyStep) (request : Request) → copier_asks step request ≡ true → is_no_ends request ≡ true
 copier_quiet copying.Choosing (requests.ChunkEnd table low top size) kind = refl
-copier_quiet (copying.Spanning told size) (requests.BeginSpan table span most) kind = refl
+copier_quiet (copying.Spanning reported size) (requests.BeginSpan table span most) kind = refl
 copier_quiet (copying.Copying chunk copied) (requests.CopyRow from into map key) kind = refl
 copier_quiet (copying.Committing chunk) requests.Commit kind = refl
 copier_quiet step request kind = absurd cc
@@ -77,7 +77,7 @@ applier_quiet journal applier applying.Reading = refl
 applier_quiet journal applier (applying.Beginning batch) = refl
 applier_quiet journal applier (applying.Applying batch done part) = at (doing_at journal applier (applying.Applying batch done part))
   where
-    at : (doing : Option Doing) → is_no_ends (says applier doing) ≡ true
+    at : (doing : Option Doing) → is_no_ends (statement_result applier doing) ≡ true
     at None = refl
     at (Some doing) = refl
 applier_quiet journal applier (applying.Committing batch) = refl
@@ -147,7 +147,7 @@ module _ (plan : PlanData) (journal : List Entry) where
   abbrev now : Moment
   now = moment plan journal
 
-  call_ends : (actor : Actor) (request : Request) (course : Course) → tool_call plan now.server journal now.tool course actor ≡ Some request → AsksEnds plan actor request
+  call_ends : (actor : Actor) (request : Request) (tool_phase : ToolPhase) → tool_call plan now.server journal now.tool tool_phase actor ≡ Some request → AsksEnds plan actor request
   call_ends Insp request (SettingUp setup tries) call = setup_ends plan setup request (unless_called (is_reverting now.tool.reason) (setup_call plan setup) request call)
   call_ends Insp request (Migrating work) call = quiet_asks plan Insp request (inspector_quiet work.cutover request call)
   call_ends Copy request (Migrating work) call =
@@ -170,7 +170,7 @@ module _ (plan : PlanData) (journal : List Entry) where
   asked_ends actor request server gives = by (asking plan journal actor (Call request) server gives)
     where
       by : Asking plan journal actor (Call request) → AsksEnds plan actor request
-      by (calls_so other same idle call) = let one : other ≡ request = cc in call_ends actor request now.tool.course (call ∙ ap Some one)
+      by (calls_so other same idle call) = let one : other ≡ request = cc in call_ends actor request now.tool.tool_phase (call ∙ ap Some one)
       by (polls_so other same some) = absurd (no same)
         where
           no : Call request ≡ Poll → ⊥

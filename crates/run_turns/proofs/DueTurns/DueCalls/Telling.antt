@@ -18,22 +18,22 @@ use Rattle.server_model.specs.declared.session.Waiting.{Waiting}
 use Rattle.server_model.specs.Chunks.{keys_of, ends_of}
 use Rattle.server_model.specs.Entries.{is_client, is_command}
 use Rattle.server_model.specs.States.{State, session_of, is_in_transaction, view, waiting_of}
-use Rattle.server_model.specs.Locking.{need, blocker}
+use Rattle.server_model.specs.Blockers.{need, blocker}
 use Rattle.server_model.specs.Effects.{of_table, effect_within, effect_unless, is_outside}
-use Rattle.server_model.specs.Serving.{does, done, called_unless, calls, is_over, polled_over, polled_unless, polled_of, polls, serves, without_waiting}
+use Rattle.server_model.specs.PlainServer.{does, done, called_unless, calls, is_over, polled_over, polled_unless, polled_of, polls, serves, without_waiting}
 use Rattle.plan_data.specs.PlanData.{PlanData}
 use Rattle.tool_program.specs.JournalWords.Journals.{opens, state_at, inner_answer, heard, IsFaithful}
 use Rattle.tool_program.specs.Programs.{IsGiven, Follows}
 use Rattle.proof_journals.specs.Scenes.{Stored}
 use Rattle.proof_journals.specs.Turns.{request_of}
 use Rattle.proof_journals.proofs.Journals.{stored_opened, opened_waits}
-use Rattle.proof_journals.specs.Machine.Forming.{IsFitting}
+use Rattle.proof_journals.specs.Machine.FormedPlans.{IsFitting}
 use Rattle.proof_journals.specs.Machine.Standings.{standing_of, serves_to, IsAbout, is_called, is_polled}
 use Rattle.proof_journals.proofs.Machine.Asking.{WaitsWith}
 use Rattle.proof_journals.proofs.Machine.Journals.{IsRun, all_runs}
 use Rattle.proof_journals.proofs.Machine.Polling.{AllTogether, AllWaits, waits_more, waits_begin, together_more_all, together_begins_all, given_idle, given_waits}
 use Rattle.proof_journals.proofs.Machine.Seated.{IsServed, own_heard, own_given, own_missed, own_waiting}
-use Rattle.run_turns.specs.DueTurns.DueCalls.Ranges.{range_of, keys_in, range_of_table, range_in, ahead_of, IsTold}
+use Rattle.run_turns.specs.DueTurns.DueCalls.Ranges.{range_of, keys_in, range_of_table, range_in, ahead_of, IsReported}
 use Rattle.run_turns.specs.DueTurns.DueCalls.Laws.{RangesAreAhead}
 use Rattle.run_turns.proofs.DueTurns.DueCalls.Ends.{EndsBy, AsksEnds, given_ends}
 
@@ -107,34 +107,34 @@ polled_tells state number request waits = at (waiting_of number state.waiting) w
 -- WHAT A TURN IS TOLD
 
 module _ (plan : PlanData) (actor : Actor) (tables : Database) where
-  asked_told : (one : Actor) (table : List ℕ) (range : _) → EndsBy plan one table → range ≡ range_in table tables → range ≡ ahead_of plan tables one
-  asked_told Insp table range by tells = tells ∙ ap (λ (t : List ℕ). range_in t tables) by
-  asked_told Op table range by tells = absurd by
-  asked_told Copy table range by tells = absurd by
-  asked_told Apply table range by tells = absurd by
-  asked_told Lock table range by tells = absurd by
-  asked_told Ren table range by tells = absurd by
-  asked_told (Client c) table range by tells = absurd by
+  asked_reported : (one : Actor) (table : List ℕ) (range : _) → EndsBy plan one table → range ≡ range_in table tables → range ≡ ahead_of plan tables one
+  asked_reported Insp table range by tells = tells ∙ ap (λ (t : List ℕ). range_in t tables) by
+  asked_reported Op table range by tells = absurd by
+  asked_reported Copy table range by tells = absurd by
+  asked_reported Apply table range by tells = absurd by
+  asked_reported Lock table range by tells = absurd by
+  asked_reported Ren table range by tells = absurd by
+  asked_reported (Client c) table range by tells = absurd by
 
-  told_by : (request : Request) (answer : Answer) → AsksEnds plan actor request → TellsEnds tables request answer → serves_to request answer ≡ true → IsTold (ahead_of plan tables actor) answer
-  told_by (requests.Ends table) (answers.Ends range) asks tells fits = asked_told actor table range asks tells
-  told_by requests.Begin (answers.Ends range) asks tells fits = absurd cc
-  told_by requests.Commit (answers.Ends range) asks tells fits = absurd cc
-  told_by requests.Rollback (answers.Ends range) asks tells fits = absurd cc
-  told_by (requests.Do statement) (answers.Ends range) asks tells fits = absurd cc
-  told_by (requests.ChunkEnd table low top size) (answers.Ends range) asks tells fits = absurd cc
-  told_by (requests.BeginSpan table span size) (answers.Ends range) asks tells fits = absurd cc
-  told_by (requests.CopyRow from into map key) (answers.Ends range) asks tells fits = absurd cc
-  told_by (requests.LockTables names) (answers.Ends range) asks tells fits = absurd cc
-  told_by requests.Unlock (answers.Ends range) asks tells fits = absurd cc
-  told_by (requests.Create schema) (answers.Ends range) asks tells fits = absurd cc
-  told_by (requests.Drop name) (answers.Ends range) asks tells fits = absurd cc
-  told_by (requests.Rename pairs) (answers.Ends range) asks tells fits = absurd cc
-  told_by requests.LogEnd (answers.Ends range) asks tells fits = absurd cc
-  told_by (requests.ReadLog position limit tables) (answers.Ends range) asks tells fits = absurd cc
-  told_by requests.ShowTables (answers.Ends range) asks tells fits = absurd cc
-  told_by requests.ShowWaiting (answers.Ends range) asks tells fits = absurd cc
-  told_by request answer asks tells fits = tt
+  reported_by : (request : Request) (answer : Answer) → AsksEnds plan actor request → TellsEnds tables request answer → serves_to request answer ≡ true → IsReported (ahead_of plan tables actor) answer
+  reported_by (requests.Ends table) (answers.Ends range) asks tells fits = asked_reported actor table range asks tells
+  reported_by requests.Begin (answers.Ends range) asks tells fits = absurd cc
+  reported_by requests.Commit (answers.Ends range) asks tells fits = absurd cc
+  reported_by requests.Rollback (answers.Ends range) asks tells fits = absurd cc
+  reported_by (requests.Do statement) (answers.Ends range) asks tells fits = absurd cc
+  reported_by (requests.ChunkEnd table low top size) (answers.Ends range) asks tells fits = absurd cc
+  reported_by (requests.BeginSpan table span size) (answers.Ends range) asks tells fits = absurd cc
+  reported_by (requests.CopyRow from into map key) (answers.Ends range) asks tells fits = absurd cc
+  reported_by (requests.LockTables names) (answers.Ends range) asks tells fits = absurd cc
+  reported_by requests.Unlock (answers.Ends range) asks tells fits = absurd cc
+  reported_by (requests.Create schema) (answers.Ends range) asks tells fits = absurd cc
+  reported_by (requests.Drop name) (answers.Ends range) asks tells fits = absurd cc
+  reported_by (requests.Rename pairs) (answers.Ends range) asks tells fits = absurd cc
+  reported_by requests.LogEnd (answers.Ends range) asks tells fits = absurd cc
+  reported_by (requests.ReadLog position limit tables) (answers.Ends range) asks tells fits = absurd cc
+  reported_by requests.ShowTables (answers.Ends range) asks tells fits = absurd cc
+  reported_by requests.ShowWaiting (answers.Ends range) asks tells fits = absurd cc
+  reported_by request answer asks tells fits = tt
 
 module _ (plan : PlanData) (journal : List Entry) (entry : Entry) (is : AllTogether plan journal) (waits : AllWaits (AsksEnds plan) plan journal) (run : IsRun plan journal entry) where
   abbrev now : State
@@ -144,7 +144,7 @@ module _ (plan : PlanData) (journal : List Entry) (entry : Entry) (is : AllToget
   served = record { answered = run.answered; seated = record { session = run.followed.session } }
 
   abbrev TurnFacts : Answer → Type 0
-  TurnFacts answer = IsTold (ahead_of plan now.tables entry.actor) answer
+  TurnFacts answer = IsReported (ahead_of plan now.tables entry.actor) answer
 
   abbrev open_now : State
   open_now = opens entry now
@@ -162,13 +162,13 @@ module _ (plan : PlanData) (journal : List Entry) (entry : Entry) (is : AllToget
       subst (λ (d : Database). TellsEnds d request (serves open_now entry.session entry.asked).answer) tables
       (subst (λ (a : Asked). TellsEnds open_now.tables request (serves open_now entry.session a).answer) (sym same) (polled_tells open_now entry.session request waiting))
 
-  about_told : (request : Request) → IsAbout request (standing_of plan journal entry.actor) entry.asked → AsksEnds plan entry.actor request → TurnFacts entry.answer
-  about_told request about asks = by entry.side refl
+  about_reported : (request : Request) → IsAbout request (standing_of plan journal entry.actor) entry.asked → AsksEnds plan entry.actor request → TurnFacts entry.answer
+  about_reported request about asks = by entry.side refl
     where
       by : (side : Option Side) → entry.side ≡ side → TurnFacts entry.answer
       by (Some side) at_side = subst TurnFacts (sym (own_missed plan journal entry is.tool.known served side at_side)) tt
       by None no_side =
-          told_by plan entry.actor now.tables request entry.answer asks
+          reported_by plan entry.actor now.tables request entry.answer asks
           (subst (TellsEnds now.tables request) (own_given plan journal entry is.tool.known served no_side) (tells request about))
           (own_heard plan journal entry is.tool.known served request about no_side)
 
@@ -176,31 +176,31 @@ module _ (plan : PlanData) (journal : List Entry) (entry : Entry) (is : AllToget
   heard_cut None = tt
   heard_cut (Some side) = tt
 
-  command_told : (word : _) → entry.asked ≡ Command word → TurnFacts entry.answer
+  command_reported : (word : _) → entry.asked ≡ Command word → TurnFacts entry.answer
   unfolding inner_answer
-  command_told word asks = by entry.side refl
+  command_reported word asks = by entry.side refl
     where
       by : (side : Option Side) → entry.side ≡ side → TurnFacts entry.answer
       by (Some side) at_side = subst TurnFacts (sym (run.answered.answer ∙ ap (λ (s : Option Side). heard s (inner_answer now entry)) at_side)) tt
       by None no_side =
           subst TurnFacts
-          (sym (run.answered.answer ∙ ap (λ (s : Option Side). heard s (Rattle.server_model.specs.Serving.given_at s entry.asked (serves open_now entry.session entry.asked).answer)) no_side
-          ∙ ap (λ (a : Asked). heard None (Rattle.server_model.specs.Serving.given_at None a (serves open_now entry.session a).answer)) asks)) tt
+          (sym (run.answered.answer ∙ ap (λ (s : Option Side). heard s (Rattle.server_model.specs.PlainServer.given_at s entry.asked (serves open_now entry.session entry.asked).answer)) no_side
+          ∙ ap (λ (a : Asked). heard None (Rattle.server_model.specs.PlainServer.given_at None a (serves open_now entry.session a).answer)) asks)) tt
 
-  cut_told : entry.asked ≡ Cut → TurnFacts entry.answer
+  cut_reported : entry.asked ≡ Cut → TurnFacts entry.answer
   unfolding inner_answer
-  cut_told asks = subst TurnFacts (sym (run.answered.answer ∙ ap (λ (a : Asked). heard entry.side (Rattle.server_model.specs.Serving.given_at entry.side a (serves open_now entry.session a).answer)) asks)) (heard_cut entry.side)
+  cut_reported asks = subst TurnFacts (sym (run.answered.answer ∙ ap (λ (a : Asked). heard entry.side (Rattle.server_model.specs.PlainServer.given_at entry.side a (serves open_now entry.session a).answer)) asks)) (heard_cut entry.side)
 
-  pub told : TurnFacts entry.answer
-  told = by entry.asked refl run.followed.given
+  pub reported : TurnFacts entry.answer
+  reported = by entry.asked refl run.followed.given
     where
       by : (asked : Asked) → entry.asked ≡ asked → IsGiven plan journal entry asked → TurnFacts entry.answer
-      by (Command word) asks gives = command_told word asks
-      by Cut asks gives = cut_told asks
-      by (Call request) asks gives = about_told request (is_called asks (given_idle plan journal entry.actor request is gives)) (given_ends plan journal entry.actor request is gives)
+      by (Command word) asks gives = command_reported word asks
+      by Cut asks gives = cut_reported asks
+      by (Call request) asks gives = about_reported request (is_called asks (given_idle plan journal entry.actor request is gives)) (given_ends plan journal entry.actor request is gives)
       by Poll asks gives =
           let with : WaitsWith (standing_of plan journal entry.actor).waits = given_waits plan journal entry.actor is gives in
-          about_told with.request (is_polled asks with.is) (waits entry.actor with.request with.is)
+          about_reported with.request (is_polled asks with.is) (waits entry.actor with.request with.is)
 
 -- WHOLE JOURNALS
 
@@ -223,4 +223,4 @@ all_asked plan journal fit faithful follows =
 pub ranges_ahead : RangesAreAhead
 ranges_ahead plan journal entry fit faithful follows answered followed =
     let is : IsAsked plan journal = all_asked plan journal fit faithful follows in
-    told plan journal entry is.all is.waits (record { answered = answered; followed = followed })
+    reported plan journal entry is.all is.waits (record { answered = answered; followed = followed })

@@ -8,10 +8,10 @@ use Rattle.server_model.specs.declared.entry.Asked.TheVariants.{Cut}
 use Rattle.server_model.specs.Entries.{is_client}
 use Rattle.server_model.specs.declared.session.Session.{Session}
 use Rattle.server_model.specs.States.{State, session_of, is_live, is_waiting, new_session, connected}
-use Rattle.server_model.specs.Serving.{loses}
+use Rattle.server_model.specs.PlainServer.{loses}
 use Rattle.server_model.specs.Conditions.{MayLose}
 use Rattle.tool_program.specs.JournalWords.Journals.{opens_if}
-use Rattle.proof_journals.specs.Run.Counting.{numbered, IsAfter, kind_of}
+use Rattle.proof_journals.specs.Run.Counts.{numbered, IsAfter, kind_of}
 use Rattle.run_turns.specs.DueTurns.MigrationRun.Sessions.{IsSessionOf}
 use Rattle.proof_journals.proofs.Run.Numbering.{loses_numbered}
 use Rattle.proof_journals.proofs.Run.Waits.{lost_at_once}
@@ -21,28 +21,28 @@ kind_live None kind is = absurd (cc)
 kind_live (Some session) kind is = refl
 
 -- the session is live already
-pub goes_on : (told state : State) (session : ℕ) (tool : Bool) → IsAfter told state → kind_of session told.sessions ≡ Some tool → IsAfter (opens_if false tool session told) state
+pub goes_on : (reported state : State) (session : ℕ) (tool : Bool) → IsAfter reported state → kind_of session reported.sessions ≡ Some tool → IsAfter (opens_if false tool session reported) state
 unfolding opens_if
-goes_on told state session tool behind kind = rw (kind_live (session_of session told.sessions) tool kind) behind
+goes_on reported state session tool following kind = rw (kind_live (session_of session reported.sessions) tool kind) following
 
 none_live : (found : Option Session) → option_map (λ (s : Session). s.is_tool) found ≡ None → is_some found ≡ false
 none_live None is = refl
 none_live (Some session) is = absurd (cc)
 
-connected_as : (told : State) (made number : ℕ) (tool : Bool) → told.made ≤ made → number ≡ made + 1 → connected number tool (numbered made told) ≡ numbered number (connected number tool told)
-connected_as told made number tool below is =
+connected_as : (reported : State) (made number : ℕ) (tool : Bool) → reported.made ≤ made → number ≡ made + 1 → connected number tool (numbered made reported) ≡ numbered number (connected number tool reported)
+connected_as reported made number tool below is =
     let most : max made number ≡ number = omega (arith, is) in
-    ap (λ (n : ℕ). record { limits = told.limits; made = n; tables = told.tables; log = told.log; waiting = told.waiting; sessions = told.sessions ++ new_session number tool ∷ [] }) most
+    ap (λ (n : ℕ). record { limits = reported.limits; made = n; tables = reported.tables; log = reported.log; waiting = reported.waiting; sessions = reported.sessions ++ new_session number tool ∷ [] }) most
 
 -- a new one
-pub connects : (told state after : State) (number : ℕ) (tool : Bool) → IsAfter told state → ((k : ℕ) → told.made < k → kind_of k told.sessions ≡ None) → number ≡ state.made + 1 → after ≡ connected number tool state → IsAfter (opens_if false tool number told) after
+pub connects : (reported state after : State) (number : ℕ) (tool : Bool) → IsAfter reported state → ((k : ℕ) → reported.made < k → kind_of k reported.sessions ≡ None) → number ≡ state.made + 1 → after ≡ connected number tool state → IsAfter (opens_if false tool number reported) after
 unfolding opens_if
-connects told state after number tool behind fresh is made =
-    let more : told.made < number = omega (arith, behind.made, is) in
-    let dead : is_some (session_of number told.sessions) ≡ false = none_live (session_of number told.sessions) (fresh number more) in
-    let same : after ≡ numbered number (connected number tool told) = made ∙ ap (connected number tool) behind.same ∙ connected_as told state.made number tool behind.made is in
+connects reported state after number tool following fresh is made =
+    let more : reported.made < number = omega (arith, following.made, is) in
+    let dead : is_some (session_of number reported.sessions) ≡ false = none_live (session_of number reported.sessions) (fresh number more) in
+    let same : after ≡ numbered number (connected number tool reported) = made ∙ ap (connected number tool) following.same ∙ connected_as reported state.made number tool following.made is in
     let after_made : after.made ≡ number = ap (λ (s : State). s.made) same in
-    rw dead (record { made = rw after_made (omega (arith, more)); same = same ∙ ap (λ (n : ℕ). numbered n (connected number tool told)) (sym after_made) })
+    rw dead (record { made = rw after_made (omega (arith, more)); same = same ∙ ap (λ (n : ℕ). numbered n (connected number tool reported)) (sym after_made) })
 
 -- the one that is live stays the one that is opened, and a new one is the one that is opened
 pub opened_live : (state : State) (session : ℕ) (tool : Bool) → kind_of session state.sessions ≡ Some tool → state ≡ opens_if false tool session state
@@ -56,13 +56,13 @@ opened_fresh state after number tool fresh is made =
     rw (none_live (session_of number state.sessions) (fresh number more)) made
 
 -- one that is lost again
-pub closes : (told state after : State) (session : ℕ) (tool : Bool) → kind_of session told.sessions ≡ None → is_waiting told session ≡ false → IsAfter (connected session tool told) state → after ≡ loses session state → IsAfter told after
-closes told state after session tool none idle behind is =
-    let same : after ≡ numbered state.made (numbered (max told.made session) told) =
-    is ∙ ap (loses session) behind.same ∙ loses_numbered state.made (connected session tool told) session ∙ ap (numbered state.made) (lost_at_once told session tool none idle) in
+pub closes : (reported state after : State) (session : ℕ) (tool : Bool) → kind_of session reported.sessions ≡ None → is_waiting reported session ≡ false → IsAfter (connected session tool reported) state → after ≡ loses session state → IsAfter reported after
+closes reported state after session tool none idle following is =
+    let same : after ≡ numbered state.made (numbered (max reported.made session) reported) =
+    is ∙ ap (loses session) following.same ∙ loses_numbered state.made (connected session tool reported) session ∙ ap (numbered state.made) (lost_at_once reported session tool none idle) in
     let after_made : after.made ≡ state.made = ap (λ (s : State). s.made) same in
-    let most : max told.made session ≤ state.made = behind.made in
-    record { made = rw after_made (omega (arith, most)); same = same ∙ ap (λ (n : ℕ). numbered n told) (sym after_made) }
+    let most : max reported.made session ≤ state.made = following.made in
+    record { made = rw after_made (omega (arith, most)); same = same ∙ ap (λ (n : ℕ). numbered n reported) (sym after_made) }
 
 pub made_lost : (state : State) (session : ℕ) → (loses session state).made ≡ state.made
 unfolding loses
@@ -74,8 +74,8 @@ may_lose state session live = record { live = live; well = refl }
 
 -- what connecting gives
 pub opens_ok : {E : Type 0} (r : Result ℕ E) (state after : State) (actor : Actor) → IfOk r (λ number. number ≡ state.made + 1) → OnOk r (after ≡ connected (state.made + 1) (not (is_client actor)) state)
-    → IfOk r (λ number. (told : State) → IsAfter told state → IsSessionOf told actor None → IsAfter (opens_if false (not (is_client actor)) number told) after)
-opens_ok (Ok number) state after actor is made = λ told behind fresh. connects told state after number (not (is_client actor)) behind fresh is (made ∙ ap (λ (n : ℕ). connected n (not (is_client actor)) state) (sym is))
+    → IfOk r (λ number. (reported : State) → IsAfter reported state → IsSessionOf reported actor None → IsAfter (opens_if false (not (is_client actor)) number reported) after)
+opens_ok (Ok number) state after actor is made = λ reported following fresh. connects reported state after number (not (is_client actor)) following fresh is (made ∙ ap (λ (n : ℕ). connected n (not (is_client actor)) state) (sym is))
 opens_ok (Err e) state after actor is made = tt
 
 pub opened_ok : {E : Type 0} (r : Result ℕ E) (state after : State) (actor : Actor) → IfOk r (λ number. number ≡ state.made + 1) → OnOk r (after ≡ connected (state.made + 1) (not (is_client actor)) state)

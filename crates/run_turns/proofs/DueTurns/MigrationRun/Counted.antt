@@ -9,15 +9,15 @@ use Rattle.server_model.specs.declared.entry.Entry.{Entry}
 use Rattle.server_model.specs.declared.session.Session.{Session}
 use Rattle.server_model.specs.Entries.{is_client}
 use Rattle.server_model.specs.States.{State, session_of, is_waiting, is_in_transaction, holds_tables, new_session, connected, has_work, load}
-use Rattle.server_model.specs.Serving.{serves, leaves, given_at}
+use Rattle.server_model.specs.PlainServer.{serves, leaves, given_at}
 use Rattle.tool_program.specs.JournalWords.Journals.{opens_if, after_entry, heard, missed}
-use Rattle.proof_journals.specs.Run.Counting.{IsAfter, kind_of, is_open, is_busy, busy_count, weight, weigh, others}
+use Rattle.proof_journals.specs.Run.Counts.{IsAfter, kind_of, is_open, is_busy, busy_count, weight, weigh, others}
 use Rattle.proof_journals.proofs.Run.Turns.{is_lost, kind_left, Leaves, turn_leaves, opened_kind, opened, entry_turned}
 use Rattle.proof_journals.proofs.Run.Tallies.{tally, tally_is, tally_parts, load_turns, busy_turns}
 use Rattle.run_turns.specs.declared.due_turns.migration_run.turn.Turn.{Turn}
 use Rattle.run_turns.specs.declared.due_turns.migration_run.counting.Counts.{Counts}
 use Rattle.run_turns.specs.DueTurns.MigrationRun.Sessions.{IsSessionOf}
-use Rattle.run_turns.specs.DueTurns.MigrationRun.Turning.{session_for, made_for, opened_on, answer_on, entry_on, is_lost_in, counts_of, MayTurn}
+use Rattle.run_turns.specs.DueTurns.MigrationRun.ServerTurns.{session_for, made_for, opened_on, answer_on, entry_on, is_lost_in, counts_of, MayTurn}
 use Rattle.run_turns.proofs.DueTurns.MigrationRun.Connecting.{kind_live}
 
 -- a session by whose it would be
@@ -158,14 +158,14 @@ module _ (state : State) (own : Option ℕ) (turn : Turn) (may : MayTurn state o
   pub busy_part : weigh (is_busy open_now.waiting) (session_of number open_now.sessions) ≤ busy_count state
   busy_part = rw busy_still (part_of (is_busy state.waiting))
 
-  pub counts_after : (counts : Counts) (before_open after_open before_busy after_busy : Bool) (told : Counts) → counts ≡ counts_of state
+  pub counts_after : (counts : Counts) (before_open after_open before_busy after_busy : Bool) (reported : Counts) → counts ≡ counts_of state
       → weight before_open ≡ weigh is_open (session_of number open_now.sessions) → weight after_open ≡ weigh is_open (session_of number after.sessions)
       → weight before_busy ≡ weigh (is_busy open_now.waiting) (session_of number open_now.sessions) → weight after_busy ≡ weigh (is_busy after.waiting) (session_of number after.sessions)
-      → told.load + weight before_open ≡ counts.load + weight after_open → told.busy + weight before_busy ≡ counts.busy + weight after_busy → told ≡ counts_of after
+      → reported.load + weight before_open ≡ counts.load + weight after_open → reported.busy + weight before_busy ≡ counts.busy + weight after_busy → reported ≡ counts_of after
   unfolding entry_on
-  counts_after counts before_open after_open before_busy after_busy told are bo ao bb ab loads busies = both loads_is busies_is
+  counts_after counts before_open after_open before_busy after_busy reported are bo ao bb ab loads busies = both loads_is busies_is
     where
-      both : told.load ≡ load after → told.busy ≡ busy_count after → told ≡ counts_of after
+      both : reported.load ≡ load after → reported.busy ≡ busy_count after → reported ≡ counts_of after
       both one two = λ i. record { load = one i; busy = two i }
 
       turned : load after + weigh is_open (session_of number state.sessions) ≡ load state + weigh is_open (session_of number after.sessions)
@@ -176,13 +176,13 @@ module _ (state : State) (own : Option ℕ) (turn : Turn) (may : MayTurn state o
       turned_busy = subst (λ (s : State). busy_count s + weigh (is_busy state.waiting) (session_of number state.sessions) ≡ busy_count state + weigh (is_busy s.waiting) (session_of number s.sessions)) entry_leaves
           (busy_turns number state (after_entry state (entry_on state number turn)) (entry_turned state (entry_on state number turn)) may.apart)
 
-      loads_is : told.load ≡ load after
+      loads_is : reported.load ≡ load after
       loads_is =
           let kept : counts.load ≡ load state = ap (λ (c : Counts). c.load) are in
           let still : weight before_open ≡ weigh is_open (session_of number state.sessions) = bo ∙ open_still in
           omega (arith, turned, kept, still, ao, loads)
 
-      busies_is : told.busy ≡ busy_count after
+      busies_is : reported.busy ≡ busy_count after
       busies_is =
           let kept : counts.busy ≡ busy_count state = ap (λ (c : Counts). c.busy) are in
           let still : weight before_busy ≡ weigh (is_busy state.waiting) (session_of number state.sessions) = bb ∙ busy_still in
@@ -236,57 +236,57 @@ module _ (state : State) (own : Option ℕ) (turn : Turn) (may : MayTurn state o
     pub opened_now : one ≡ open_now
     opened_now = is ∙ ap (λ (n : ℕ). opens_if false tool n state) same
 
-    pub given_told : given_at turn.side turn.asked (serves one k turn.asked).answer ≡ answer_on state number turn
-    given_told =
+    pub given_reported : given_at turn.side turn.asked (serves one k turn.asked).answer ≡ answer_on state number turn
+    given_reported =
         ap (λ (s : State). given_at turn.side turn.asked (serves s k turn.asked).answer) (opened_now ∙ sym opened_is)
         ∙ ap (λ (n : ℕ). given_at turn.side turn.asked (serves (opened_on state number turn) n turn.asked).answer) same
 
     pub leaves_after : leaves turn.side one k turn.asked ≡ after
     leaves_after = ap (λ (s : State). leaves turn.side s k turn.asked) opened_now ∙ ap (λ (n : ℕ). leaves turn.side open_now n turn.asked) same
 
-    pub leaves_told : leaves turn.side one k turn.asked ≡ after_entry state (entry_on state number turn)
-    leaves_told = leaves_after ∙ sym entry_leaves
+    pub leaves_reported : leaves turn.side one k turn.asked ≡ after_entry state (entry_on state number turn)
+    leaves_reported = leaves_after ∙ sym entry_leaves
 
-    pub kind_told : kind_of k one.sessions ≡ Some tool
-    kind_told = ap (λ (s : State). kind_of k s.sessions) opened_now ∙ ap (λ (n : ℕ). kind_of n open_now.sessions) same ∙ own_kind
+    pub kind_reported : kind_of k one.sessions ≡ Some tool
+    kind_reported = ap (λ (s : State). kind_of k s.sessions) opened_now ∙ ap (λ (n : ℕ). kind_of n open_now.sessions) same ∙ own_kind
 
-    pub work_told : has_work one k ≡ has_work state number
-    work_told = ap (λ (s : State). has_work s k) opened_now ∙ ap (has_work open_now) same ∙ work_still
+    pub work_reported : has_work one k ≡ has_work state number
+    work_reported = ap (λ (s : State). has_work s k) opened_now ∙ ap (has_work open_now) same ∙ work_still
 
-    pub open_told : weigh is_open (session_of k one.sessions) ≡ weigh is_open (session_of number open_now.sessions)
-    open_told = ap (λ (s : State). weigh is_open (session_of k s.sessions)) opened_now ∙ ap (λ (n : ℕ). weigh is_open (session_of n open_now.sessions)) same
+    pub open_reported : weigh is_open (session_of k one.sessions) ≡ weigh is_open (session_of number open_now.sessions)
+    open_reported = ap (λ (s : State). weigh is_open (session_of k s.sessions)) opened_now ∙ ap (λ (n : ℕ). weigh is_open (session_of n open_now.sessions)) same
 
-    pub busy_told : weigh (is_busy one.waiting) (session_of k one.sessions) ≡ weigh (is_busy open_now.waiting) (session_of number open_now.sessions)
-    busy_told = ap (λ (s : State). weigh (is_busy s.waiting) (session_of k s.sessions)) opened_now ∙ ap (λ (n : ℕ). weigh (is_busy open_now.waiting) (session_of n open_now.sessions)) same
+    pub busy_reported : weigh (is_busy one.waiting) (session_of k one.sessions) ≡ weigh (is_busy open_now.waiting) (session_of number open_now.sessions)
+    busy_reported = ap (λ (s : State). weigh (is_busy s.waiting) (session_of k s.sessions)) opened_now ∙ ap (λ (n : ℕ). weigh (is_busy open_now.waiting) (session_of n open_now.sessions)) same
 
     -- behind a turn whose answer came
     module _ (left : State) (leaves_so : left ≡ leaves turn.side one k turn.asked) where
       left_after : left ≡ after
       left_after = leaves_so ∙ leaves_after
 
-      pub gone_told : is_lost_in turn.side turn.asked ≡ true → session_of k left.sessions ≡ None
-      gone_told lost = ap (λ (s : State). session_of k s.sessions) left_after ∙ ap (λ (n : ℕ). session_of n after.sessions) same ∙ lost_gone lost
+      pub gone_reported : is_lost_in turn.side turn.asked ≡ true → session_of k left.sessions ≡ None
+      gone_reported lost = ap (λ (s : State). session_of k s.sessions) left_after ∙ ap (λ (n : ℕ). session_of n after.sessions) same ∙ lost_gone lost
 
-      pub stays_told : is_lost_in turn.side turn.asked ≡ false → kind_of k left.sessions ≡ Some tool
-      stays_told unlost = ap (λ (s : State). kind_of k s.sessions) left_after ∙ ap (λ (n : ℕ). kind_of n after.sessions) same ∙ left_kind unlost
+      pub stays_reported : is_lost_in turn.side turn.asked ≡ false → kind_of k left.sessions ≡ Some tool
+      stays_reported unlost = ap (λ (s : State). kind_of k s.sessions) left_after ∙ ap (λ (n : ℕ). kind_of n after.sessions) same ∙ left_kind unlost
 
-      pub made_told : left.made ≤ made_for own state.made
-      made_told = subst (λ (s : State). s.made ≤ made_for own state.made) (sym left_after) made_after
+      pub made_reported : left.made ≤ made_for own state.made
+      made_reported = subst (λ (s : State). s.made ≤ made_for own state.made) (sym left_after) made_after
 
-      pub counts_told : (counts : Counts) (before_open after_open before_busy after_busy : Bool) (told : Counts) → counts ≡ counts_of state
+      pub counts_reported : (counts : Counts) (before_open after_open before_busy after_busy : Bool) (reported : Counts) → counts ≡ counts_of state
           → weight before_open ≡ weigh is_open (session_of k one.sessions) → weight after_open ≡ weigh is_open (session_of k left.sessions)
           → weight before_busy ≡ weigh (is_busy one.waiting) (session_of k one.sessions) → weight after_busy ≡ weigh (is_busy left.waiting) (session_of k left.sessions)
-          → told.load + weight before_open ≡ counts.load + weight after_open → told.busy + weight before_busy ≡ counts.busy + weight after_busy → told ≡ counts_of left
-      counts_told counts before_open after_open before_busy after_busy told are bo ao bb ab loads busies =
-          counts_after counts before_open after_open before_busy after_busy told are (bo ∙ open_told)
+          → reported.load + weight before_open ≡ counts.load + weight after_open → reported.busy + weight before_busy ≡ counts.busy + weight after_busy → reported ≡ counts_of left
+      counts_reported counts before_open after_open before_busy after_busy reported are bo ao bb ab loads busies =
+          counts_after counts before_open after_open before_busy after_busy reported are (bo ∙ open_reported)
           (ao ∙ ap (λ (s : State). weigh is_open (session_of k s.sessions)) left_after ∙ ap (λ (n : ℕ). weigh is_open (session_of n after.sessions)) same)
-          (bb ∙ busy_told)
+          (bb ∙ busy_reported)
           (ab ∙ ap (λ (s : State). weigh (is_busy s.waiting) (session_of k s.sessions)) left_after ∙ ap (λ (n : ℕ). weigh (is_busy after.waiting) (session_of n after.sessions)) same)
           loads busies
           ∙ ap counts_of (sym left_after)
 
     -- where none came
-    module _ (left : State) (still : (session : ℕ) → own ≡ Some session → left ≡ one) (gone : own ≡ None → (told : State) (kind : Bool) → kind_of k told.sessions ≡ None → is_waiting told k ≡ false → IsAfter (connected k kind told) one → IsAfter told left) (made : left.made ≡ one.made) where
+    module _ (left : State) (still : (session : ℕ) → own ≡ Some session → left ≡ one) (gone : own ≡ None → (reported : State) (kind : Bool) → kind_of k reported.sessions ≡ None → is_waiting reported k ≡ false → IsAfter (connected k kind reported) one → IsAfter reported left) (made : left.made ≡ one.made) where
       pub err_after : IsAfter state left
       err_after = by own refl
         where

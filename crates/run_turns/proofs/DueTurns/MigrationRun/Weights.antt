@@ -7,7 +7,7 @@ use Rattle.server_model.specs.Entries.{is_client}
 use Rattle.server_model.specs.declared.session.Session.{Session}
 use Rattle.server_model.specs.declared.session.Waiting.{Waiting}
 use Rattle.server_model.specs.States.{State, session_of, is_in_transaction, is_waiting}
-use Rattle.proof_journals.specs.Run.Counting.{is_open, is_busy, weight, weigh, kind_of}
+use Rattle.proof_journals.specs.Run.Counts.{is_open, is_busy, weight, weigh, kind_of}
 use Rattle.server_model.proofs.LockedRows.Tests.{are_one}
 
 not_not : (tool client : Bool) → tool ≡ not client → not tool ≡ client

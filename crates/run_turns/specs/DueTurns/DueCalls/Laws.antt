@@ -8,14 +8,14 @@ use Rattle.plan_data.specs.PlanData.{PlanData}
 use Rattle.tool_program.specs.JournalWords.Journals.{state_at, IsAnswered, IsFaithful}
 use Rattle.tool_program.specs.JournalWords.Sessions.{live_session}
 use Rattle.tool_program.specs.Programs.{IsFollowed, Follows}
-use Rattle.proof_journals.specs.Machine.Forming.{IsFitting}
+use Rattle.proof_journals.specs.Machine.FormedPlans.{IsFitting}
 use Rattle.proof_journals.specs.Machine.Runnable.{IsRunnable}
-use Rattle.proof_journals.specs.Run.Counting.{IsAfter}
+use Rattle.proof_journals.specs.Run.Counts.{IsAfter}
 use Rattle.proof_journals.specs.Run.Kept.{IsKept}
 use Rattle.run_turns.specs.declared.due_turns.migration_run.turn.Turn.{Turn}
-use Rattle.run_turns.specs.DueTurns.MigrationRun.Turning.{MayTurn}
+use Rattle.run_turns.specs.DueTurns.MigrationRun.ServerTurns.{MayTurn}
 use Rattle.run_turns.specs.DueTurns.Due.{due}
-use Rattle.run_turns.specs.DueTurns.DueCalls.Ranges.{ahead_of, IsTold}
+use Rattle.run_turns.specs.DueTurns.DueCalls.Ranges.{ahead_of, IsReported}
 
 -- *Due turns may be taken*, all but commands, of a runnable plan, while the server may make a session more
 abbrev pub DueTurnsMayBe : Type 0
@@ -25,4 +25,4 @@ DueTurnsMayBe =
 
 -- *Ranges are known ahead*: where a turn gets a range of keys, the tables before it have it
 abbrev pub RangesAreAhead : Type 0
-RangesAreAhead = (plan : PlanData) (journal : List Entry) (entry : Entry) → IsFitting plan → IsFaithful plan journal → Follows plan journal → IsAnswered (state_at plan journal) entry → IsFollowed plan journal entry → IsTold (ahead_of plan (state_at plan journal).tables entry.actor) entry.answer
+RangesAreAhead = (plan : PlanData) (journal : List Entry) (entry : Entry) → IsFitting plan → IsFaithful plan journal → Follows plan journal → IsAnswered (state_at plan journal) entry → IsFollowed plan journal entry → IsReported (ahead_of plan (state_at plan journal).tables entry.actor) entry.answer

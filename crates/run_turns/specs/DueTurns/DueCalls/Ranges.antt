@@ -35,6 +35,6 @@ ahead_of plan tables Insp = range_in plan.table tables
 ahead_of plan tables actor = None
 
 -- a range that an answer has is this one
-abbrev pub IsTold : Option KeyRange → Answer → Type 0
-IsTold ahead (answers.Ends range) = range ≡ ahead
-IsTold ahead answer = Unit {0}
+abbrev pub IsReported : Option KeyRange → Answer → Type 0
+IsReported ahead (answers.Ends range) = range ≡ ahead
+IsReported ahead answer = Unit {0}

@@ -3,8 +3,8 @@
 ghost use Rattle.std.specs.Prelude.{◌≡◌, ◌+◌, ◌<◌, ◌≤◌, ◌^◌, true, false, not, Some, None};
 ghost use Rattle.server_model.specs.Entries.{is_client};
 ghost use Rattle.server_model.specs.States.{session_of, has_work};
-ghost use Rattle.proof_journals.specs.Run.Counting.{is_open, is_busy, weight, weigh, kind_of};
-ghost use Rattle.run_turns.specs.DueTurns.MigrationRun.Turning.{is_lost_in};
+ghost use Rattle.proof_journals.specs.Run.Counts.{is_open, is_busy, weight, weigh, kind_of};
+ghost use Rattle.run_turns.specs.DueTurns.MigrationRun.ServerTurns.{is_lost_in};
 
 use crate::due_turns::migration_run::turn::Turn;
 use base_script::Actor;
@@ -101,7 +101,7 @@ pub(crate) fn share_after<V: Serve>(server: &V, turn: &Turn, session: u32) -> Sh
 
 impl Counts {
     /// The counts after a turn of a session that added this before it and adds that now.
-    pub(crate) fn behind(self, before: Share, after: Share) -> Counts
+    pub(crate) fn following(self, before: Share, after: Share) -> Counts
         requires open { weight before.open ≤ self.load }
         requires busy { weight before.busy ≤ self.busy }
         requires loads { self.load + 1 < 2 ^ 64 }

@@ -4,9 +4,9 @@ ghost use Rattle.std.specs.Prelude.{◌≡◌, ◌+◌, ◌<◌, ℕ, Bool, not,
 ghost use Rattle.server_model.specs.Entries.{is_client};
 ghost use Rattle.server_model.specs.States.{State, connected, is_live, is_waiting};
 ghost use Rattle.tool_program.specs.JournalWords.Journals.{opens_if};
-ghost use Rattle.proof_journals.specs.Run.Counting.{IsAfter, kind_of};
+ghost use Rattle.proof_journals.specs.Run.Counts.{IsAfter, kind_of};
 ghost use Rattle.run_turns.specs.DueTurns.MigrationRun.Sessions.{IsSessionOf};
-ghost use Rattle.run_turns.specs.DueTurns.MigrationRun.Turning.{session_for};
+ghost use Rattle.run_turns.specs.DueTurns.MigrationRun.ServerTurns.{session_for};
 
 use base_script::Actor;
 use run_actors::is_client;
@@ -22,7 +22,7 @@ pub fn open_session<V: Serve>(
     actor: Actor,
 ) -> Result<u32, AllocError>
     requires { (V.state server.old).made < u32.MAX }
-    ensures session { IfOk result (λ number. (told : State) → IsAfter told (V.state server.old) → IsSessionOf told actor session → IsAfter (opens_if false (not (is_client actor)) number told) (V.state server.new)) }
+    ensures session { IfOk result (λ number. (reported : State) → IsAfter reported (V.state server.old) → IsSessionOf reported actor session → IsAfter (opens_if false (not (is_client actor)) number reported) (V.state server.new)) }
     ensures number { IfOk result (λ number. session ≡ None → number ≡ (V.state server.old).made + 1) }
     ensures own { IfOk result (λ number. (own : ℕ) → session ≡ Some own → number ≡ own) }
     ensures next { IfOk result (λ number. number ≡ session_for session (V.state server.old).made) }
@@ -40,7 +40,7 @@ pub fn open_session<V: Serve>(
 pub fn close_session<V: Serve>(server: &mut V, session: u32)
     requires { is_live (V.state server.old) session ≡ true }
     ensures made { (V.state server.new).made ≡ (V.state server.old).made }
-    ensures left { (told : State) (is_tool : Bool) → kind_of session told.sessions ≡ None → is_waiting told session ≡ false → IsAfter (connected session is_tool told) (V.state server.old) → IsAfter told (V.state server.new) }
+    ensures left { (reported : State) (is_tool : Bool) → kind_of session reported.sessions ≡ None → is_waiting reported session ≡ false → IsAfter (connected session is_tool reported) (V.state server.old) → IsAfter reported (V.state server.new) }
 {
     match server.lose(session, None, &Asked::Cut) {
         Ok(_) => {}

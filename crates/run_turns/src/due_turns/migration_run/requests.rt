@@ -2,9 +2,9 @@
 
 ghost use Rattle.std.specs.Prelude.{◌≡◌, None, IfOk, OnOk, OnErr};
 ghost use Rattle.server_model.specs.declared.answer.Answer.TheVariants.{Lost};
-ghost use Rattle.server_model.specs.Serving.{serves, leaves, given_at};
+ghost use Rattle.server_model.specs.PlainServer.{serves, leaves, given_at};
 ghost use Rattle.tool_program.specs.JournalWords.Journals.{heard, missed};
-ghost use Rattle.run_turns.specs.DueTurns.MigrationRun.Asking.{MayAsk};
+ghost use Rattle.run_turns.specs.DueTurns.MigrationRun.Requests.{MayAsk};
 
 use base_script::Side;
 use server_api::Serve;
@@ -21,7 +21,7 @@ pub struct Heard {
 }
 
 /// The actor hears the answer.
-fn told(answer: Answer) -> Heard
+fn reported(answer: Answer) -> Heard
     ensures answer { result.answer ≡ answer }
     ensures missed { result.missed ≡ None }
 {
@@ -53,15 +53,15 @@ pub fn ask<V: Serve>(
     asked: &Asked,
 ) -> Result<Heard, AllocError>
     requires { MayAsk (V.state server.old) session side asked.now }
-    ensures answer { IfOk result (λ told. told.answer ≡ heard side (given_at side asked.now (serves (V.state server.old) session asked.now).answer)) }
-    ensures missed { IfOk result (λ told. told.missed ≡ missed side (given_at side asked.now (serves (V.state server.old) session asked.now).answer)) }
+    ensures answer { IfOk result (λ reported. reported.answer ≡ heard side (given_at side asked.now (serves (V.state server.old) session asked.now).answer)) }
+    ensures missed { IfOk result (λ reported. reported.missed ≡ missed side (given_at side asked.now (serves (V.state server.old) session asked.now).answer)) }
     ensures ok { OnOk result (V.state server.new ≡ leaves side (V.state server.old) session asked.now) }
     ensures err { OnErr result (V.state server.new ≡ V.state server.old) }
 {
     match (side, asked) {
-        (None, Asked::Call(request)) => Ok(told(server.call(session, request)?)),
-        (None, Asked::Poll) => Ok(told(server.poll(session)?)),
-        (None, Asked::Command(_)) => Ok(told(Answer::Ok(0))),
+        (None, Asked::Call(request)) => Ok(reported(server.call(session, request)?)),
+        (None, Asked::Poll) => Ok(reported(server.poll(session)?)),
+        (None, Asked::Command(_)) => Ok(reported(Answer::Ok(0))),
         _ => Ok(lost(side, server.lose(session, side, asked)?)),
     }
 }

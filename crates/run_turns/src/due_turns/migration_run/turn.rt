@@ -1,7 +1,7 @@
 //! What an actor asks in its turn.
 
 ghost use Rattle.std.specs.Prelude.{◌≡◌};
-ghost use Rattle.run_turns.specs.DueTurns.MigrationRun.Turning.{is_lost_in};
+ghost use Rattle.run_turns.specs.DueTurns.MigrationRun.ServerTurns.{is_lost_in};
 
 use base_script::{Actor, Side};
 use server_model::Asked;

@@ -2,11 +2,11 @@
 
 ghost use Rattle.std.specs.Prelude.{◌≡◌, ◌≤◌, ℕ, Bool, true, false, Some, None, IfOk, OnOk, OnErr};
 ghost use Rattle.server_model.specs.States.{State, connected, is_live, is_waiting, has_work};
-ghost use Rattle.server_model.specs.Serving.{serves, leaves, given_at};
+ghost use Rattle.server_model.specs.PlainServer.{serves, leaves, given_at};
 ghost use Rattle.tool_program.specs.JournalWords.Journals.{after_entry, heard, missed};
-ghost use Rattle.proof_journals.specs.Run.Counting.{IsAfter, kind_of};
-ghost use Rattle.run_turns.specs.DueTurns.MigrationRun.Asking.{MayAsk};
-ghost use Rattle.run_turns.specs.DueTurns.MigrationRun.Turning.{session_for, made_for, entry_on, counts_of, MayTurn};
+ghost use Rattle.proof_journals.specs.Run.Counts.{IsAfter, kind_of};
+ghost use Rattle.run_turns.specs.DueTurns.MigrationRun.Requests.{MayAsk};
+ghost use Rattle.run_turns.specs.DueTurns.MigrationRun.ServerTurns.{session_for, made_for, entry_on, counts_of, MayTurn};
 
 use crate::due_turns::migration_run::counting::{Counts, has_work, share_after, share_of};
 use crate::due_turns::migration_run::opening::{close_session, open_session};
@@ -56,11 +56,11 @@ fn ask_in<V: Serve>(
 ) -> Result<Heard, AllocError>
     requires may { MayAsk (V.state server.old) number turn.now.side turn.now.asked }
     requires live { is_live (V.state server.old) number ≡ true }
-    ensures answer { IfOk result (λ told. told.answer ≡ heard turn.now.side (given_at turn.now.side turn.now.asked (serves (V.state server.old) number turn.now.asked).answer)) }
-    ensures missed { IfOk result (λ told. told.missed ≡ missed turn.now.side (given_at turn.now.side turn.now.asked (serves (V.state server.old) number turn.now.asked).answer)) }
+    ensures answer { IfOk result (λ reported. reported.answer ≡ heard turn.now.side (given_at turn.now.side turn.now.asked (serves (V.state server.old) number turn.now.asked).answer)) }
+    ensures missed { IfOk result (λ reported. reported.missed ≡ missed turn.now.side (given_at turn.now.side turn.now.asked (serves (V.state server.old) number turn.now.asked).answer)) }
     ensures ok { OnOk result (V.state server.new ≡ leaves turn.now.side (V.state server.old) number turn.now.asked) }
     ensures own { OnErr result ((own : ℕ) → session ≡ Some own → V.state server.new ≡ V.state server.old) }
-    ensures new { OnErr result (session ≡ None → (told : State) (is_tool : Bool) → kind_of number told.sessions ≡ None → is_waiting told number ≡ false → IsAfter (connected number is_tool told) (V.state server.old) → IsAfter told (V.state server.new)) }
+    ensures new { OnErr result (session ≡ None → (reported : State) (is_tool : Bool) → kind_of number reported.sessions ≡ None → is_waiting reported number ≡ false → IsAfter (connected number is_tool reported) (V.state server.old) → IsAfter reported (V.state server.new)) }
     ensures made { OnErr result ((V.state server.new).made ≡ (V.state server.old).made) }
 {
     match (ask(server, number, turn.side, &turn.asked), session) {
@@ -98,6 +98,6 @@ pub fn take_turn<V: Serve>(
     Ok(Taken {
         entry: entry_of(turn, number, heard),
         had_work,
-        counts: counts.behind(before, after),
+        counts: counts.following(before, after),
     })
 }

@@ -1,6 +1,6 @@
 use Rattle.std.proofs.Common.{◌≡◌, None, Some, refl, sym, ap, ◌∙◌}
 use Rattle.server_model.specs.declared.session.Waiting.{Waiting}
-use Rattle.server_model.specs.Locking.{blocker, need}
+use Rattle.server_model.specs.Blockers.{blocker, need}
 use Rattle.server_model.specs.States.{State}
 use Rattle.server.specs.Parts.{needed, state_of}
 use Rattle.server.proofs.Steps.{waits_have}

@@ -1,5 +1,5 @@
 use Rattle.std.proofs.Common.{ap}
-use Rattle.server_model.specs.Serving.{without_waiting}
+use Rattle.server_model.specs.PlainServer.{without_waiting}
 use Rattle.server.proofs.calls.do_waiting.Goals as goal
 
 pub returns-clause-ok : goal.returns-clause-ok

@@ -1,7 +1,7 @@
 use Rattle.std.proofs.Common.{◌≡◌, None, Some, sym, ap, ◌∙◌}
 use Rattle.std.specs.Prelude.{is_some}
 use Rattle.std.proofs.lemmas.Bool.{false≢true}
-use Rattle.server_model.specs.Locking.{blocker, need}
+use Rattle.server_model.specs.Blockers.{blocker, need}
 use Rattle.server_model.specs.States.{State, waiting_of}
 use Rattle.server.specs.Parts.{needed, state_of}
 use Rattle.server.proofs.Requests.{blocker_so, freely_blocked, polls_blocked, polls_done}

@@ -1,6 +1,6 @@
 use Rattle.std.proofs.Common.{refl, sym, ap, ◌∙◌}
 use Rattle.std.proofs.lemmas.Bool.{false≢true, true≢false}
-use Rattle.server_model.specs.Serving.{is_over}
+use Rattle.server_model.specs.PlainServer.{is_over}
 use Rattle.server.specs.Parts.{state_of}
 use Rattle.server.proofs.Steps.{blocked_have}
 use Rattle.server.proofs.Polling.{not_over, over_after, over_answer, over_timed}

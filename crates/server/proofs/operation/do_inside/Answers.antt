@@ -1,7 +1,7 @@
 use Rattle.std.proofs.Common.{sym, ap}
 use Rattle.std.proofs.lemmas.Result.{IfOk-weaker}
 use Rattle.server_model.specs.Effects.{Effect}
-use Rattle.server_model.specs.Serving.{does}
+use Rattle.server_model.specs.PlainServer.{does}
 use Rattle.server_model.specs.States.{State, is_in_transaction, session_of, view}
 use Rattle.server.specs.Parts.{state_of}
 use Rattle.server.proofs.Steps.{unlocks_have}

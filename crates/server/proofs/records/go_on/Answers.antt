@@ -1,23 +1,23 @@
 use Rattle.std.proofs.Common.{List, ◌++◌, ◌∙◌, ap}
 use Rattle.base_values.specs.declared.event.RowEvent.{RowEvent}
-use Rattle.server_model.specs.Serving.{goes_on}
+use Rattle.server_model.specs.PlainServer.{goes_on}
 use Rattle.server.specs.Parts.{needed}
 use Rattle.server.proofs.Steps.{grows_have, state_so, write_leaves, write_needs}
 use Rattle.server.proofs.records.go_on.Goals as goal
 
 pub write-requires-clause-fit : goal.write-requires-clause-fit
 write-requires-clause-fit g c =
-    rw c.requires.events (write_needs (g.D.Data.committed c.args.store.now) (g.D.Data.written c.args.store.now) c.args.all_sessions.now c.args.session (needed c.args.request.now c.args.locks) c.args.told.result.events c.requires.together c.requires.grows)
+    rw c.requires.events (write_needs (g.D.Data.committed c.args.store.now) (g.D.Data.written c.args.store.now) c.args.all_sessions.now c.args.session (needed c.args.request.now c.args.locks) c.args.executed.result.events c.requires.together c.requires.grows)
 
 pub write-requires-clause-well_formed : goal.write-requires-clause-well_formed
 write-requires-clause-well_formed g c =
-    rw c.requires.events (write_leaves (g.D.Data.committed c.args.store.now) (g.D.Data.written c.args.store.now) c.args.all_sessions.now c.args.session (needed c.args.request.now c.args.locks) c.args.told.result.events c.requires.together c.requires.grows)
+    rw c.requires.events (write_leaves (g.D.Data.committed c.args.store.now) (g.D.Data.written c.args.store.now) c.args.all_sessions.now c.args.session (needed c.args.request.now c.args.locks) c.args.executed.result.events c.requires.together c.requires.grows)
 
 pub returns-clause-ok : goal.returns-clause-ok
 returns-clause-ok g c =
-    state_so (g.D.Data.committed c.args.store.now) (g.D.Data.committed c.write.new.self) (goes_on c.args.session (needed c.args.request.now c.args.locks) c.args.told.result.events c.args.all_sessions.now) c.go_on.new.self c.write.ensures.committed c.in_ok-go_on.ensures.ok
+    state_so (g.D.Data.committed c.args.store.now) (g.D.Data.committed c.write.new.self) (goes_on c.args.session (needed c.args.request.now c.args.locks) c.args.executed.result.events c.args.all_sessions.now) c.go_on.new.self c.write.ensures.committed c.in_ok-go_on.ensures.ok
 
 pub returns-clause-have : goal.returns-clause-have
 returns-clause-have g c =
-    grows_have (g.D.Data.written c.args.store.now) (g.D.Data.written c.write.new.self) (g.D.Data.committed c.args.store.now) c.args.all_sessions.now c.go_on.new.self c.args.session (needed c.args.request.now c.args.locks) c.args.told.result.events c.requires.together c.requires.live
+    grows_have (g.D.Data.written c.args.store.now) (g.D.Data.written c.write.new.self) (g.D.Data.committed c.args.store.now) c.args.all_sessions.now c.go_on.new.self c.args.session (needed c.args.request.now c.args.locks) c.args.executed.result.events c.requires.together c.requires.live
     (c.write.ensures.own ∙ ap (λ (e : List RowEvent). g.D.Data.written c.args.store.now c.args.session ++ e) c.requires.events) c.write.ensures.others c.in_ok-go_on.ensures.ok

@@ -2,7 +2,7 @@ use Rattle.std.proofs.Common.{List, sym, ◌∙◌, subst}
 use Rattle.base_values.specs.GhoSchema.Rows.{key_places}
 use Rattle.table_store.proofs.Orders.{Row}
 use Rattle.server_model.specs.Rows.{reaches}
-use Rattle.server_execute.specs.Updating.{AreMet}
+use Rattle.server_execute.specs.RowUpdates.{AreMet}
 use Rattle.server_execute.proofs.ChangedRows.{are_met}
 use Rattle.server_execute.proofs.updates.updated.Goals as goal
 

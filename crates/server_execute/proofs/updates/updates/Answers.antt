@@ -8,7 +8,7 @@ use Rattle.table_store.proofs.Orders.{Row}
 use Rattle.server_model.specs.declared.answer.Answer.{Answer}
 use Rattle.server_seen.specs.Written.{wrote}
 use Rattle.server_seen.specs.Stored.{StoredWrites}
-use Rattle.server_seen.specs.Fitting.{IsWritten}
+use Rattle.server_seen.specs.FittingChanges.{IsWritten}
 use Rattle.server_execute.proofs.UpdatedRows.{IsGoing, begins, ends, clashes, stays, becomes, going_as, next_met}
 use Rattle.server_execute.proofs.updates.updates.Goals as goal
 use Rattle.server_execute.proofs.updates.updates.Goals.{in-Same, in-Becomes+in_ok-push_change-in-Becomes}

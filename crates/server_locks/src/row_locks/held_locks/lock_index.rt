@@ -3,8 +3,8 @@
 ghost use Rattle.std.specs.Prelude.{◌≡◌, ◌<◌, ◌≤◌, ◌+◌, ◌-◌, [], true, length, OnOk};
 ghost use Rattle.std.specs.List.{list_any, slice_get};
 ghost use Rattle.base_page_list.specs.Pages.{flat};
-ghost use Rattle.server_locks.specs.RowLocks.Granting.{conflict};
-ghost use Rattle.server_locks.specs.RowLocks.Indexing.{is_point, is_point_lock, is_wide_lock, conflicts_at, ArePoints, IsIndexed, HasRoom};
+ghost use Rattle.server_locks.specs.RowLocks.Grants.{conflict};
+ghost use Rattle.server_locks.specs.RowLocks.LockIndex.{is_point, is_point_lock, is_wide_lock, conflicts_at, ArePoints, IsIndexed, HasRoom};
 
 use crate::row_locks::held_locks::lock_order::{BeforeKey, BeforeLock, is_point, lock_at};
 use crate::row_locks::lock::Lock;

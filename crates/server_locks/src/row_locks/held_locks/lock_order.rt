@@ -1,7 +1,7 @@
 //! The order of locks on one key.
 
 ghost use Rattle.std.specs.Prelude.{◌≡◌, slice_get, option_copied};
-ghost use Rattle.server_locks.specs.RowLocks.Indexing.{is_point, end_key, compare_places, compare_locks, is_after};
+ghost use Rattle.server_locks.specs.RowLocks.LockIndex.{is_point, end_key, compare_places, compare_locks, is_after};
 
 use crate::row_locks::lock::Lock;
 use base_page_list::Test;

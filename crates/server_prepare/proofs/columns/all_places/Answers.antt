@@ -1,5 +1,5 @@
 use Rattle.std.proofs.Common.{◌≡◌, ◌+◌, ◌∷◌, ◌++◌, [], drop, ap, ◌∙◌}
-use Rattle.server_model.specs.Checking.{places_from}
+use Rattle.server_model.specs.Checks.{places_from}
 use Rattle.server_prepare.proofs.Placed.{placed_more}
 use Rattle.server_prepare.proofs.columns.all_places.Goals as goal
 

@@ -1,5 +1,5 @@
 use Rattle.std.proofs.Common.{◌≡◌, ◌++◌, drop}
-use Rattle.server_model.specs.Checking.{places_from}
+use Rattle.server_model.specs.Checks.{places_from}
 use Rattle.server_prepare.proofs.columns.all_places.Given as goal
 
 -- the places so far, and those of the columns that are left, are all

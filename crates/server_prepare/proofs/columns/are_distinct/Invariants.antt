@@ -1,5 +1,5 @@
 use Rattle.std.proofs.Common.{◌≡◌, length}
-use Rattle.server_model.specs.Checking.{are_distinct}
+use Rattle.server_model.specs.Checks.{are_distinct}
 use Rattle.server_prepare.proofs.columns.are_distinct.Given as goal
 
 -- the places that are left decide

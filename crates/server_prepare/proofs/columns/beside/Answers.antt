@@ -1,6 +1,6 @@
 use Rattle.std.proofs.Common.{◌≡◌, [], drop, sym, ap, ◌∙◌}
 use Rattle.std.proofs.lemmas.List.{nil_from_length}
-use Rattle.server_model.specs.Checking.{beside}
+use Rattle.server_model.specs.Checks.{beside}
 use Rattle.server_prepare.proofs.Beside.{none_beside}
 use Rattle.server_prepare.proofs.columns.beside.Goals as goal
 

@@ -1,5 +1,5 @@
 use Rattle.std.proofs.Common.{◌≡◌, drop}
-use Rattle.server_model.specs.Checking.{beside}
+use Rattle.server_model.specs.Checks.{beside}
 use Rattle.server_prepare.proofs.columns.beside.Given as goal
 
 -- the places and values that are left decide

@@ -1,5 +1,5 @@
 use Rattle.std.proofs.Common.{◌≡◌, drop}
-use Rattle.server_model.specs.Checking.{places_named}
+use Rattle.server_model.specs.Checks.{places_named}
 use Rattle.server_prepare.proofs.Fronts.{with_front}
 use Rattle.server_prepare.proofs.columns.places_named.Given as goal
 

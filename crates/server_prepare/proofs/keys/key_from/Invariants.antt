@@ -1,5 +1,5 @@
 use Rattle.std.proofs.Common.{◌≡◌, ◌++◌, drop}
-use Rattle.server_model.specs.Checking.{key_from}
+use Rattle.server_model.specs.Checks.{key_from}
 use Rattle.server_prepare.proofs.keys.key_from.Given as goal
 
 -- the values so far, and those of the places that are left, are the key

@@ -1,6 +1,6 @@
 use Rattle.std.proofs.Common.{◌≡◌, [], drop}
 use Rattle.std.proofs.lemmas.List.{nil_from_length}
-use Rattle.server_model.specs.Checking.{wanted_each}
+use Rattle.server_model.specs.Checks.{wanted_each}
 use Rattle.server_prepare.proofs.Beside.{wanted_all}
 use Rattle.server_prepare.proofs.keys.wanted_each.Goals as goal
 

@@ -1,5 +1,5 @@
 use Rattle.std.proofs.Common.{◌≡◌, drop}
-use Rattle.server_model.specs.Checking.{wanted_each}
+use Rattle.server_model.specs.Checks.{wanted_each}
 use Rattle.server_prepare.proofs.Fronts.{with_front}
 use Rattle.server_prepare.proofs.keys.wanted_each.Given as goal
 

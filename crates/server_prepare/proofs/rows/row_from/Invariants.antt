@@ -1,5 +1,5 @@
 use Rattle.std.proofs.Common.{◌≡◌, drop}
-use Rattle.server_model.specs.Checking.{row_from}
+use Rattle.server_model.specs.Checks.{row_from}
 use Rattle.server_prepare.proofs.Fronts.{with_front}
 use Rattle.server_prepare.proofs.rows.row_from.Given as goal
 

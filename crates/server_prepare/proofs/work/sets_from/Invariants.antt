@@ -1,5 +1,5 @@
 use Rattle.std.proofs.Common.{◌≡◌, drop}
-use Rattle.server_model.specs.Checking.{sets_from}
+use Rattle.server_model.specs.Checks.{sets_from}
 use Rattle.server_prepare.proofs.Fronts.{with_front}
 use Rattle.server_prepare.proofs.work.sets_from.Given as goal
 

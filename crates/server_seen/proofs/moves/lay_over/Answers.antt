@@ -8,7 +8,7 @@ use Rattle.base_values.specs.GhoSchema.Tables.{Ascends}
 use Rattle.table_store.specs.RowLists.{without_key}
 use Rattle.table_store.proofs.Orders.{Row}
 use Rattle.server_seen.specs.Written.{seen, with_keys}
-use Rattle.server_seen.specs.Fitting.{IsWritten}
+use Rattle.server_seen.specs.FittingChanges.{IsWritten}
 use Rattle.server_seen.proofs.MergedRows.{next_is, none_left}
 use Rattle.server_seen.proofs.MovedRows.{moved_in, Moved, moved_row, all_moved}
 use Rattle.server_seen.proofs.moves.lay_over.Goals as goal

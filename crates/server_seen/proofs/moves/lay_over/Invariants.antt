@@ -3,7 +3,7 @@ use Rattle.std.specs.List.{AllByRecursion}
 use Rattle.base_values.specs.GhoSchema.Rows.{key_places}
 use Rattle.base_values.specs.GhoSchema.Tables.{Ascends}
 use Rattle.server_seen.specs.Written.{seen, with_keys}
-use Rattle.server_seen.specs.Fitting.{IsWritten}
+use Rattle.server_seen.specs.FittingChanges.{IsWritten}
 use Rattle.server_seen.proofs.moves.lay_over.Given as goal
 
 -- what is left to be laid over is seen as all was at first, and its keys make of those so far what all make of the first

@@ -7,7 +7,7 @@ use Rattle.base_values.specs.declared.event.RowEvent.{RowEvent}
 use Rattle.server_model.specs.declared.answer.Answer.{Answer}
 use Rattle.server_model.specs.declared.answer.Answer.TheVariants as answers
 use Rattle.server_model.specs.States.{is_of}
-use Rattle.server_model.specs.Showing.{ReadEvent, read_from, after_last, events_read}
+use Rattle.server_model.specs.Listings.{ReadEvent, read_from, after_last, events_read}
 
 -- what is read where these events were read, so many more are asked for, and these stand behind
 abbrev pub going_on : ℕ → ℕ → List RowEvent → List ReadEvent → Answer
@@ -26,7 +26,7 @@ one_more k end events read [] =
     let one : (0 == suc k) ≡ false = ne_eqb 0 (suc k) (λ e. omega (arith, e)) in
     let two : (1 == suc (suc k)) ≡ false = ne_eqb 1 (suc (suc k)) (λ e. omega (arith, e)) in
     events_same _ _ _ _ (append-nil (events ++ read.event ∷ []))
-    (cond-false (0 == suc k) 0 end one ∙ sym (cond-false (1 == suc (suc k)) read.behind end two))
+    (cond-false (0 == suc k) 0 end one ∙ sym (cond-false (1 == suc (suc k)) read.following end two))
 one_more k end events read (next ∷ others) =
     events_same _ _ _ _ (append_assoc events (read.event ∷ []) (map (λ read. read.event) (take (suc k) (next ∷ others))))
     (ap (λ t. cond t (after_last 0 (take (suc k) (next ∷ others))) end) (sym (eqb-suc-suc (length (take (suc k) (next ∷ others))) (suc k))))
@@ -50,7 +50,7 @@ takes_one : (k place : ℕ) (tables : List (List ℕ)) (log events : List RowEve
     → reads_on (suc k) tables log (place + 1) (events ++ event ∷ []) ≡ reads_on (suc (suc k)) tables log place events
 unfolding read_from
 takes_one k place tables log events event within is passes =
-    one_more k (length log) events (record { event = event; behind = place + 1 }) (read_from tables (place + 1) (drop (place + 1) log)) ∙ rw (rest_at log place event within is, passes) refl
+    one_more k (length log) events (record { event = event; following = place + 1 }) (read_from tables (place + 1) (drop (place + 1) log)) ∙ rw (rest_at log place event within is, passes) refl
 
 pub takes : (more less place : ℕ) (tables : List (List ℕ)) (log events : List RowEvent) (event : RowEvent) → more ≡ suc less → 1 ≤ less → place < length log → event ≡ get_or log place event → is_of tables event ≡ true
     → reads_on less tables log (place + 1) (events ++ event ∷ []) ≡ reads_on more tables log place events

@@ -1,5 +1,5 @@
 use Rattle.std.proofs.Common.{sym}
-use Rattle.server_model.specs.Serving.{counting}
+use Rattle.server_model.specs.PlainServer.{counting}
 use Rattle.server_sessions.proofs.Edited.{edited, nothing_edited}
 use Rattle.server_sessions.proofs.sessions.count_polls.Goals as goal
 

@@ -1,5 +1,5 @@
 use Rattle.std.proofs.Common.{sym}
-use Rattle.server_model.specs.Serving.{holding}
+use Rattle.server_model.specs.PlainServer.{holding}
 use Rattle.server_sessions.proofs.Edited.{edited_ok, nothing_edited}
 use Rattle.server_sessions.proofs.sessions.hold.Goals as goal
 

@@ -1,5 +1,5 @@
 use Rattle.std.proofs.Common.{sym}
-use Rattle.server_model.specs.Serving.{locking}
+use Rattle.server_model.specs.PlainServer.{locking}
 use Rattle.server_sessions.proofs.Edited.{nothing_edited, locked_ok}
 use Rattle.server_sessions.proofs.sessions.lock_tables.Goals as goal
 

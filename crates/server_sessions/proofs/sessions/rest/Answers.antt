@@ -1,5 +1,5 @@
 use Rattle.std.proofs.Common.{◌∙◌, sym, ap}
-use Rattle.server_model.specs.Serving.{at_rest}
+use Rattle.server_model.specs.PlainServer.{at_rest}
 use Rattle.server_model.specs.States.{writes_of}
 use Rattle.server_sessions.proofs.Edited.{edited, nothing_edited, found_at, not_found}
 use Rattle.server_sessions.proofs.sessions.rest.Goals as goal

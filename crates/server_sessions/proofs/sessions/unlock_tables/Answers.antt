@@ -1,5 +1,5 @@
 use Rattle.std.proofs.Common.{sym}
-use Rattle.server_model.specs.Serving.{unlocking}
+use Rattle.server_model.specs.PlainServer.{unlocking}
 use Rattle.server_sessions.proofs.Edited.{edited, nothing_edited}
 use Rattle.server_sessions.proofs.sessions.unlock_tables.Goals as goal
 

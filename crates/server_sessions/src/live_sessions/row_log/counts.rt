@@ -77,7 +77,7 @@ impl Counts {
 
     /// How many events of the watched tables are at the place or after it.
     #[tactic(auto, using(crate::proofs::LiveSessions::RowLog::WatchedCounts::steps))]
-    pub(crate) fn behind(&self, place: usize) -> u64
+    pub(crate) fn following(&self, place: usize) -> u64
         ensures { (events : List Event) → IsCounted events self.now → result ≡ count_by (is_of self.now.watched) (drop place events) }
     {
         if place < self.before.len() {

@@ -3,7 +3,7 @@
 ghost use Rattle.std.specs.Prelude.{◌≡◌, ◌≤◌, ◌+◌, [], ◌++◌, length, drop, count_by, List, IfOk, OnOk};
 ghost use Rattle.base_values.specs.declared.event.RowEvent.{RowEvent as Event};
 ghost use Rattle.server_model.specs.States.{is_of};
-ghost use Rattle.server_model.specs.Showing.{events_read};
+ghost use Rattle.server_model.specs.Listings.{events_read};
 ghost use Rattle.server_sessions.specs.LiveSessions.RowLog.Logs.{IsCounted};
 
 use crate::live_sessions::row_log::counts::Counts;
@@ -100,7 +100,7 @@ impl Log {
         ensures { result ≡ count_by (is_of tables.now) (drop position self.now.events) }
     {
         if self.counts.watches(tables) {
-            return self.counts.behind(position as usize);
+            return self.counts.following(position as usize);
         }
         count_of(from_place(self.events.as_slice(), position), tables)
     }

@@ -2,7 +2,7 @@
 
 ghost use Rattle.std.specs.Prelude.{◌≡◌, ◌≤◌, drop, count_by, IfOk};
 ghost use Rattle.server_model.specs.States.{is_of};
-ghost use Rattle.server_model.specs.Showing.{events_read};
+ghost use Rattle.server_model.specs.Listings.{events_read};
 
 use base_values::{Duplicate, Names, RowEvent, Sequence};
 use server_model::Answer;

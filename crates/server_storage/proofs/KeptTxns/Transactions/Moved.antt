@@ -9,7 +9,7 @@ use Rattle.base_values.specs.declared.event.Change.{Change}
 use Rattle.base_values.specs.declared.event.RowEvent.{RowEvent}
 use Rattle.table_store.specs.Databases.{TableRows, Database, find_table, with_change, without_table, rename_tables}
 use Rattle.table_store.specs.declared.renames.Pair.{Pair}
-use Rattle.server_model.specs.Jobs.{change_table, after_events}
+use Rattle.server_model.specs.Operations.{change_table, after_events}
 use Rattle.server_model.specs.Rows.{change_all}
 use Rattle.server_model.specs.States.{pair_names}
 use Rattle.server_model.specs.LockedRows.Covering.{IsWellFormedTable}
@@ -17,7 +17,7 @@ use Rattle.server_model.specs.LockedRows.Databases.{IsWellFormedDatabase, WhereF
 use Rattle.server_model.proofs.LockedRows.Finding.{change_if, found_after}
 use Rattle.server_model.proofs.LockedRows.Tests.{are_same}
 use Rattle.proof_journals.proofs.Moves.{Moved, create_moves, drop_moves, rename_moves, none_found}
-use Rattle.server_transaction.specs.ServerData.Fitting.{EventsFit, FitsIn, NoneOf}
+use Rattle.server_transaction.specs.ServerData.FittingEvents.{EventsFit, FitsIn, NoneOf}
 use Rattle.server_transaction.specs.Events.{changes_in}
 use Rattle.server_transaction.specs.Premises.{HasSchema, IsOf}
 use Rattle.server_transaction.specs.Stored.{StoredTxn, schemas}

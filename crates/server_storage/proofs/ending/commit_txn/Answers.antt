@@ -1,6 +1,6 @@
 use Rattle.std.proofs.Common.{List, [], sym, ap, ◌∙◌, subst}
 use Rattle.table_store.specs.Databases.{database}
-use Rattle.server_model.specs.Jobs.{after_events}
+use Rattle.server_model.specs.Operations.{after_events}
 use Rattle.server_storage.specs.declared.open_txns.txns.OpenTxn.{OpenTxn}
 use Rattle.server_storage.specs.KeptTxns.Kept.{IsKeptWith, MayBeCommitted}
 use Rattle.server_storage.proofs.KeptTxns.Each.{none_written, taken_written}

@@ -1,9 +1,9 @@
 use Rattle.std.proofs.Common.{sym, ap, ◌∙◌}
 use Rattle.std.proofs.lemmas.Result.{IfOk-weaker}
 use Rattle.base_values.specs.declared.gho_schema.schema.Schema.{Schema}
-use Rattle.base_values.specs.GhoSchema.Clustering.{clustered_place}
+use Rattle.base_values.specs.GhoSchema.ClusteredKey.{clustered_place}
 use Rattle.table_store.specs.Databases.{database}
-use Rattle.server_model.specs.Locking.{span_lock, span_needs}
+use Rattle.server_model.specs.Blockers.{span_lock, span_needs}
 use Rattle.server_storage.proofs.SpanLocks.{span_same}
 use Rattle.server_storage.proofs.lookup.span_locks.Goals as goal
 

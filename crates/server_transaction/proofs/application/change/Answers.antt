@@ -1,7 +1,7 @@
 use Rattle.std.proofs.Common.{ap, ◌∙◌}
 use Rattle.base_values.specs.declared.event.Change.TheVariants as changes
 use Rattle.table_store.specs.Databases.{Database, database, with_change}
-use Rattle.server_model.specs.Jobs.{change_table}
+use Rattle.server_model.specs.Operations.{change_table}
 use Rattle.server_transaction.proofs.DoneEvents.{update_done}
 use Rattle.server_transaction.proofs.FoundTables.{fits_in}
 use Rattle.server_transaction.proofs.application.change.Goals as goal

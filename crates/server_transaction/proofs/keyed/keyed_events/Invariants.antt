@@ -1,5 +1,5 @@
 use Rattle.std.proofs.Common.{◌≡◌, map, take}
-use Rattle.server_model.specs.Jobs.{events_of}
+use Rattle.server_model.specs.Operations.{events_of}
 use Rattle.server_transaction.specs.Events.{keyed}
 use Rattle.server_transaction.proofs.keyed.keyed_events.Given as goal
 

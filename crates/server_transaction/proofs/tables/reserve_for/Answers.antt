@@ -22,5 +22,5 @@ returns-else-place-len-clause-room c =
     let place_is : c.place_of-place.result ≡ position_or_len (named c.args.name.now) c.args.tables.now.items =
     c.place_of-place.ensures ∙ ap (λ (ts : List StoredWrites). position_or_len (named c.args.name.now) ts) c.as_slice.ensures.value in
     let many : length c.args.tables.now.items ≡ vec_len c.args.tables.now = ap length (sym c.as_slice.ensures.value) ∙ c.as_slice.ensures.len in
-    let behind : length c.args.tables.now.items ≤ c.place_of-place.result = omega (arith, many, c.len.ensures, c.if-place-len.false) in
-    room_one c.reserve_one.result c.args.name.now c.args.tables.now.items c.reserve_one.new.tables.items c.args.n (vec_capacity c.reserve_one.new.tables - vec_len c.reserve_one.new.tables) c.place_of-place.result place_is behind c.reserve_one.ensures.items c.reserve_one.ensures.room
+    let following : length c.args.tables.now.items ≤ c.place_of-place.result = omega (arith, many, c.len.ensures, c.if-place-len.false) in
+    room_one c.reserve_one.result c.args.name.now c.args.tables.now.items c.reserve_one.new.tables.items c.args.n (vec_capacity c.reserve_one.new.tables - vec_len c.reserve_one.new.tables) c.place_of-place.result place_is following c.reserve_one.ensures.items c.reserve_one.ensures.room

@@ -24,8 +24,8 @@ push_reserved-requires c =
     c.place_of-place.ensures ∙ ap (λ (ts : List StoredWrites). position_or_len (named c.schema.result.now.name) ts) c.as_slice.ensures.value
     ∙ ap (λ (s : Schema). position_or_len (named s.name) c.args.tables.now.items) c.schema.ensures.schema in
     let many : length c.args.tables.now.items ≡ vec_len c.args.tables.now = ap length (sym c.as_slice.ensures.value) ∙ c.as_slice.ensures.len in
-    let behind : length c.args.tables.now.items ≤ c.place_of-place.result = omega (arith, many, c.len.ensures, c.if-place-len.false) in
-    let room : 1 ≤ vec_capacity c.args.tables.now - vec_len c.args.tables.now = room_after (vec_capacity c.args.tables.now - vec_len c.args.tables.now) c.args.written c.args.tables.now.items c.place_of-place.result place_is behind c.requires.room in
+    let following : length c.args.tables.now.items ≤ c.place_of-place.result = omega (arith, many, c.len.ensures, c.if-place-len.false) in
+    let room : 1 ≤ vec_capacity c.args.tables.now - vec_len c.args.tables.now = room_after (vec_capacity c.args.tables.now - vec_len c.args.tables.now) c.args.written c.args.tables.now.items c.place_of-place.result place_is following c.requires.room in
     omega (arith, room)
 
 pub returns-then-place-len : goal.returns-then-place-len
@@ -46,5 +46,5 @@ returns-else-place-len c =
     c.place_of-place.ensures ∙ ap (λ (ts : List StoredWrites). position_or_len (named c.schema.result.now.name) ts) c.as_slice.ensures.value
     ∙ ap (λ (s : Schema). position_or_len (named s.name) c.args.tables.now.items) c.schema.ensures.schema in
     let many : length c.args.tables.now.items ≡ vec_len c.args.tables.now = ap length (sym c.as_slice.ensures.value) ∙ c.as_slice.ensures.len in
-    let behind : length c.args.tables.now.items ≤ c.place_of-place.result = omega (arith, many, c.len.ensures, c.if-place-len.false) in
-    rw c.push_reserved.ensures.items (laid_after c.args.written c.args.tables.now.items c.place_of-place.result place_is behind)
+    let following : length c.args.tables.now.items ≤ c.place_of-place.result = omega (arith, many, c.len.ensures, c.if-place-len.false) in
+    rw c.push_reserved.ensures.items (laid_after c.args.written c.args.tables.now.items c.place_of-place.result place_is following)

@@ -14,10 +14,10 @@ returns-in_err-clause c =
 
 pub returns-in-None : goal.returns-in-None
 unfolding list_at
-returns-in-None c = rw c.in_ok-push.ensures.ok (is_last clause_at Syntax c.loop.clauses (length c.args.words.now) c.loop.counter c.loop.rest.now _ c.in_ok-clause.clause c.in_ok-clause.behind.now c.loop-test.true c.in_ok-clause.ensures (sym c.in-None.ensures) c.loop.invariant)
+returns-in-None c = rw c.in_ok-push.ensures.ok (is_last clause_at Syntax c.loop.clauses (length c.args.words.now) c.loop.counter c.loop.rest.now _ c.in_ok-clause.clause c.in_ok-clause.following.now c.loop-test.true c.in_ok-clause.ensures (sym c.in-None.ensures) c.loop.invariant)
 
 pub loop-preserved : goal.loop-preserved
-loop-preserved c = rw c.in_ok-push.ensures.ok (goes_on clause_at Syntax c.loop.clauses (length c.args.words.now) c.loop.counter c.loop.rest.now _ c.in_ok-clause.clause c.in_ok-clause.behind.now c.in-Some.next.now c.loop-test.true c.in_ok-clause.ensures (sym c.in-Some.ensures) c.loop.invariant)
+loop-preserved c = rw c.in_ok-push.ensures.ok (goes_on clause_at Syntax c.loop.clauses (length c.args.words.now) c.loop.counter c.loop.rest.now _ c.in_ok-clause.clause c.in_ok-clause.following.now c.in-Some.next.now c.loop-test.true c.in_ok-clause.ensures (sym c.in-Some.ensures) c.loop.invariant)
 
 pub returns : goal.returns
 unfolding list_at

@@ -17,7 +17,7 @@ unfolding new_attributes_at
 returns-in-None c = no_more new_attribute_at with_attribute c.loop.attributes (length c.args.words.now) c.loop.counter c.loop.rest.now _ c.loop-test.true (rw c.in-None.is at c.in_ok-new_attribute_at.ensures) c.loop.invariant
 
 pub loop-preserved : goal.loop-preserved
-loop-preserved c = rw c.with-attributes.ensures (one_more new_attribute_at with_attribute c.loop.attributes (length c.args.words.now) c.loop.counter c.loop.rest.now _ c.in-Some.attribute c.in-Some.behind.now c.loop-test.true (rw c.in-Some.is at c.in_ok-new_attribute_at.ensures) c.loop.invariant)
+loop-preserved c = rw c.with-attributes.ensures (one_more new_attribute_at with_attribute c.loop.attributes (length c.args.words.now) c.loop.counter c.loop.rest.now _ c.in-Some.attribute c.in-Some.following.now c.loop-test.true (rw c.in-Some.is at c.in_ok-new_attribute_at.ensures) c.loop.invariant)
 
 pub returns : goal.returns
 unfolding new_attributes_at

@@ -1,5 +1,5 @@
 use Rattle.std.proofs.Common.{sym, subst}
-use Rattle.sql_change.specs.Standing.{Stands}
+use Rattle.sql_change.specs.AlteredSoFar.{Stands}
 use Rattle.sql_change.proofs.Tables.{start-stands}
 use Rattle.sql_change.proofs.alters.altered.Goals as goal
 

@@ -1,5 +1,5 @@
 use Rattle.std.proofs.Common.{◌≡◌, drop, length}
-use Rattle.sql_change.specs.Altering.{same_columns}
+use Rattle.sql_change.specs.AlteredSchema.{same_columns}
 use Rattle.sql_change.proofs.alters.same_columns.Given as goal
 
 -- what stands from here on gives the answer to all

@@ -1,6 +1,6 @@
 use Rattle.std.proofs.Common.{◌≡◌, drop}
-use Rattle.sql_change.specs.Altering.{steps}
-use Rattle.sql_change.specs.Standing.{Stands}
+use Rattle.sql_change.specs.AlteredSchema.{steps}
+use Rattle.sql_change.specs.AlteredSoFar.{Stands}
 use Rattle.sql_change.proofs.alters.steps.Given as goal
 
 -- the clauses from here on give what all give, and the table stands

@@ -1,5 +1,5 @@
 use Rattle.std.proofs.Common.{◌≡◌, ◌++◌, drop}
-use Rattle.sql_change.specs.Altering.{map_of}
+use Rattle.sql_change.specs.AlteredSchema.{map_of}
 use Rattle.sql_change.proofs.mapping.map_of.Given as goal
 
 -- the columns so far, and those from here on

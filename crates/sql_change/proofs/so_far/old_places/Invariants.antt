@@ -1,5 +1,5 @@
 use Rattle.std.proofs.Common.{◌≡◌, ◌++◌, drop}
-use Rattle.sql_change.specs.Standing.{places_from}
+use Rattle.sql_change.specs.AlteredSoFar.{places_from}
 use Rattle.sql_change.proofs.so_far.old_places.Given as goal
 
 -- the places so far, and those from here on

@@ -1,5 +1,5 @@
 use Rattle.std.proofs.Common.{◌≡◌, drop}
-use Rattle.sql_create.specs.Declaring.{declared_columns}
+use Rattle.sql_create.specs.DeclaredSchema.{declared_columns}
 use Rattle.sql_create.proofs.DeclaredColumns.{with_front}
 use Rattle.sql_create.proofs.declarations.declared_columns.Given as goal
 

@@ -1,6 +1,6 @@
 use Rattle.std.proofs.Common.{◌≡◌, ◌≤◌, length, ap, ◌∙◌, sym, arith}
 use Rattle.std.proofs.lemmas.List.{length-map}
-use Rattle.sql_create.specs.Declaring.{column_names}
+use Rattle.sql_create.specs.DeclaredSchema.{column_names}
 use Rattle.sql_create.proofs.Reasons.{few_columns}
 use Rattle.sql_create.proofs.declarations.declared_parts.Goals as goal
 

@@ -1,5 +1,5 @@
 use Rattle.std.proofs.Common.{◌≡◌, map, take}
-use Rattle.sql_create.specs.Declaring.{primary_index}
+use Rattle.sql_create.specs.DeclaredSchema.{primary_index}
 use Rattle.sql_create.proofs.declarations.primary_indexes.Given as goal
 
 -- the keys so far

@@ -1,6 +1,6 @@
 use Rattle.std.proofs.Common.{◌≡◌, ◌++◌, map, take}
 use Rattle.std.specs.Prelude.{filter}
-use Rattle.sql_create.specs.Declaring.{key_index}
+use Rattle.sql_create.specs.DeclaredSchema.{key_index}
 use Rattle.sql_create.proofs.declarations.push_uniques.Given as goal
 
 -- the keys so far

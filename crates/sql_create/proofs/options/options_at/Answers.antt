@@ -15,7 +15,7 @@ unfolding options_at
 returns-in-None c = no_more option_at with_option c.loop.comment (length c.args.words.now) c.loop.counter c.loop.rest.now _ c.loop-test.true (rw c.in-None.is at c.in_ok-option_at.ensures) c.loop.invariant
 
 pub loop-preserved : goal.loop-preserved
-loop-preserved c = rw c.with_option-comment.ensures (one_more option_at with_option c.loop.comment (length c.args.words.now) c.loop.counter c.loop.rest.now _ c.in-Some.option c.in-Some.behind.now c.loop-test.true (rw c.in-Some.is at c.in_ok-option_at.ensures) c.loop.invariant)
+loop-preserved c = rw c.with_option-comment.ensures (one_more option_at with_option c.loop.comment (length c.args.words.now) c.loop.counter c.loop.rest.now _ c.in-Some.option c.in-Some.following.now c.loop-test.true (rw c.in-Some.is at c.in_ok-option_at.ensures) c.loop.invariant)
 
 pub returns : goal.returns
 unfolding options_at

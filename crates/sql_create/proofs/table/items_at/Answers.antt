@@ -13,10 +13,10 @@ returns-in_err-item c =
 
 pub returns-in-None : goal.returns-in-None
 unfolding items_at
-returns-in-None c = rw c.in_ok-push.ensures.ok (is_last item_at Syntax c.loop.items (length c.args.words.now) c.loop.counter c.loop.rest.now _ c.in_ok-item.item c.in_ok-item.behind.now c.loop-test.true c.in_ok-item.ensures (sym c.in-None.ensures) c.loop.invariant)
+returns-in-None c = rw c.in_ok-push.ensures.ok (is_last item_at Syntax c.loop.items (length c.args.words.now) c.loop.counter c.loop.rest.now _ c.in_ok-item.item c.in_ok-item.following.now c.loop-test.true c.in_ok-item.ensures (sym c.in-None.ensures) c.loop.invariant)
 
 pub loop-preserved : goal.loop-preserved
-loop-preserved c = rw c.in_ok-push.ensures.ok (goes_on item_at Syntax c.loop.items (length c.args.words.now) c.loop.counter c.loop.rest.now _ c.in_ok-item.item c.in_ok-item.behind.now c.in-Some.next.now c.loop-test.true c.in_ok-item.ensures (sym c.in-Some.ensures) c.loop.invariant)
+loop-preserved c = rw c.in_ok-push.ensures.ok (goes_on item_at Syntax c.loop.items (length c.args.words.now) c.loop.counter c.loop.rest.now _ c.in_ok-item.item c.in_ok-item.following.now c.in-Some.next.now c.loop-test.true c.in_ok-item.ensures (sym c.in-Some.ensures) c.loop.invariant)
 
 pub returns : goal.returns
 unfolding items_at

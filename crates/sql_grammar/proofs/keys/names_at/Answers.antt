@@ -14,10 +14,10 @@ returns-in_err-name c =
 
 pub returns-in-None : goal.returns-in-None
 unfolding names_at
-returns-in-None c = rw c.in_ok-push.ensures.ok (is_last name_at Syntax c.loop.names (length c.args.words.now) c.loop.counter c.loop.rest.now _ c.in_ok-name.name c.in_ok-name.behind.now c.loop-test.true c.in_ok-name.ensures (sym c.in-None.ensures) c.loop.invariant)
+returns-in-None c = rw c.in_ok-push.ensures.ok (is_last name_at Syntax c.loop.names (length c.args.words.now) c.loop.counter c.loop.rest.now _ c.in_ok-name.name c.in_ok-name.following.now c.loop-test.true c.in_ok-name.ensures (sym c.in-None.ensures) c.loop.invariant)
 
 pub loop-preserved : goal.loop-preserved
-loop-preserved c = rw c.in_ok-push.ensures.ok (goes_on name_at Syntax c.loop.names (length c.args.words.now) c.loop.counter c.loop.rest.now _ c.in_ok-name.name c.in_ok-name.behind.now c.in-Some.next.now c.loop-test.true c.in_ok-name.ensures (sym c.in-Some.ensures) c.loop.invariant)
+loop-preserved c = rw c.in_ok-push.ensures.ok (goes_on name_at Syntax c.loop.names (length c.args.words.now) c.loop.counter c.loop.rest.now _ c.in_ok-name.name c.in_ok-name.following.now c.in-Some.next.now c.loop-test.true c.in_ok-name.ensures (sym c.in-Some.ensures) c.loop.invariant)
 
 pub returns : goal.returns
 unfolding names_at

@@ -1,5 +1,5 @@
 use Rattle.std.proofs.Common.{◌≡◌, map, take}
-use Rattle.sql_words.specs.Reading.{views}
+use Rattle.sql_words.specs.Readings.{views}
 use Rattle.sql_grammar.specs.Tokens.{token_of}
 use Rattle.sql_grammar.proofs.tokens.tokens_of.Given as goal
 

@@ -1,5 +1,5 @@
 use Rattle.std.proofs.Common.{◌≡◌, map, take}
-use Rattle.sql_show.specs.Printing.{column_line}
+use Rattle.sql_show.specs.SchemaText.{column_line}
 use Rattle.sql_show.proofs.printer.column_lines.Given as goal
 
 -- the lines so far

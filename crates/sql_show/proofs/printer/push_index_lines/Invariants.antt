@@ -1,5 +1,5 @@
 use Rattle.std.proofs.Common.{◌≡◌, ◌++◌, map, take}
-use Rattle.sql_show.specs.Printing.{index_line}
+use Rattle.sql_show.specs.SchemaText.{index_line}
 use Rattle.sql_show.proofs.printer.push_index_lines.Given as goal
 
 -- the lines so far

@@ -1,6 +1,6 @@
 use Rattle.std.proofs.Common.{◌≡◌, ◌++◌, codes, take}
 use Rattle.std.specs.List.{flat_map}
-use Rattle.sql_show.specs.Printing.{quoted, column_name}
+use Rattle.sql_show.specs.SchemaText.{quoted, column_name}
 use Rattle.sql_show.proofs.printer.push_key_names.Given as goal
 
 -- the first name and those so far are written

@@ -16,7 +16,7 @@ unfolding more_equalities_at
 returns-in-None c = no_more and_equality_at with_set c.loop.all (length c.args.words.now) c.loop.counter c.loop.rest.now _ c.loop-test.true (rw c.in-None.is at c.in_ok-and_equality_at.ensures) c.loop.invariant
 
 pub loop-preserved : goal.loop-preserved
-loop-preserved c = rw c.in_ok-push-in-Some.ensures.ok (one_more and_equality_at with_set c.loop.all (length c.args.words.now) c.loop.counter c.loop.rest.now _ c.in-Some.set c.in-Some.behind.now c.loop-test.true (rw c.in-Some.is at c.in_ok-and_equality_at.ensures) c.loop.invariant)
+loop-preserved c = rw c.in_ok-push-in-Some.ensures.ok (one_more and_equality_at with_set c.loop.all (length c.args.words.now) c.loop.counter c.loop.rest.now _ c.in-Some.set c.in-Some.following.now c.loop-test.true (rw c.in-Some.is at c.in_ok-and_equality_at.ensures) c.loop.invariant)
 
 pub returns : goal.returns
 unfolding more_equalities_at

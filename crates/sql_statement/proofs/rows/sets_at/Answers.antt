@@ -14,10 +14,10 @@ returns-in_err-set c =
 
 pub returns-in-None : goal.returns-in-None
 unfolding sets_at
-returns-in-None c = rw c.in_ok-push.ensures.ok (is_last set_at Syntax c.loop.sets (length c.args.words.now) c.loop.counter c.loop.rest.now _ c.in_ok-set.set c.in_ok-set.behind.now c.loop-test.true c.in_ok-set.ensures (sym c.in-None.ensures) c.loop.invariant)
+returns-in-None c = rw c.in_ok-push.ensures.ok (is_last set_at Syntax c.loop.sets (length c.args.words.now) c.loop.counter c.loop.rest.now _ c.in_ok-set.set c.in_ok-set.following.now c.loop-test.true c.in_ok-set.ensures (sym c.in-None.ensures) c.loop.invariant)
 
 pub loop-preserved : goal.loop-preserved
-loop-preserved c = rw c.in_ok-push.ensures.ok (goes_on set_at Syntax c.loop.sets (length c.args.words.now) c.loop.counter c.loop.rest.now _ c.in_ok-set.set c.in_ok-set.behind.now c.in-Some.next.now c.loop-test.true c.in_ok-set.ensures (sym c.in-Some.ensures) c.loop.invariant)
+loop-preserved c = rw c.in_ok-push.ensures.ok (goes_on set_at Syntax c.loop.sets (length c.args.words.now) c.loop.counter c.loop.rest.now _ c.in_ok-set.set c.in_ok-set.following.now c.in-Some.next.now c.loop-test.true c.in_ok-set.ensures (sym c.in-Some.ensures) c.loop.invariant)
 
 pub returns : goal.returns
 unfolding sets_at

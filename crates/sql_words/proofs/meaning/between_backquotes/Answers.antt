@@ -1,6 +1,6 @@
 use Rattle.std.proofs.Common.{◌≡◌, true, ◌-◌, length, take, drop, Some, ap, sym, ◌∙◌, arith}
 use Rattle.std.proofs.lemmas.Str.{IsCharBoundary-after_ascii, IsCharBoundary-before_ascii}
-use Rattle.sql_words.specs.Meaning.{is_quoted_name, quoted_name}
+use Rattle.sql_words.specs.Meanings.{is_quoted_name, quoted_name}
 use Rattle.sql_words.proofs.Ends.{quoted_name_is}
 use Rattle.sql_words.proofs.meaning.between_backquotes.Goals as goal
 

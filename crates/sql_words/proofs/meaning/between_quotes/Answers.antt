@@ -1,6 +1,6 @@
 use Rattle.std.proofs.Common.{◌≡◌, true, ◌-◌, length, take, drop, Some, ap, sym, ◌∙◌, arith, refl}
 use Rattle.std.proofs.lemmas.Str.{IsCharBoundary-after_ascii, IsCharBoundary-before_ascii}
-use Rattle.sql_words.specs.Meaning.{is_text, written_text}
+use Rattle.sql_words.specs.Meanings.{is_text, written_text}
 use Rattle.sql_words.proofs.Ends.{text_between}
 use Rattle.sql_words.proofs.meaning.between_quotes.Goals as goal
 

@@ -1,6 +1,6 @@
 use Rattle.std.proofs.Common.{◌≡◌, true, ◌-◌, length, take, drop, Some, ap, sym, ◌∙◌, arith, refl}
 use Rattle.std.proofs.lemmas.Str.{IsCharBoundary-after_ascii, IsCharBoundary-before_ascii}
-use Rattle.sql_words.specs.Meaning.{is_bytes, written_bytes}
+use Rattle.sql_words.specs.Meanings.{is_bytes, written_bytes}
 use Rattle.sql_words.proofs.Ends.{bytes_between}
 use Rattle.sql_words.proofs.meaning.digits_between_quotes.Goals as goal
 

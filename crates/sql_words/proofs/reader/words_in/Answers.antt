@@ -3,9 +3,9 @@ use Rattle.std.specs.Str.{IsCharBoundary}
 use Rattle.std.proofs.lemmas.Result.{err_from_is_err_and}
 use Rattle.std.proofs.lemmas.List.{map_push}
 use Rattle.sql_words.specs.Front.{front_at}
-use Rattle.sql_words.specs.Reading.{view, views, words_of}
+use Rattle.sql_words.specs.Readings.{view, views, words_of}
 use Rattle.sql_words.proofs.Ends.{front_cuts}
-use Rattle.sql_words.proofs.Behind.{Along, Along-past_gap, Along-past_found, Along-fault, Along-end, Stepped, Stepped-smaller, IsFaultOf-met}
+use Rattle.sql_words.proofs.Following.{Along, Along-past_gap, Along-past_found, Along-fault, Along-end, Stepped, Stepped-smaller, IsFaultOf-met}
 use Rattle.sql_words.proofs.reader.words_in.Goals as goal
 use Rattle.sql_words.proofs.reader.words_in.Goals.{After-split_at}
 

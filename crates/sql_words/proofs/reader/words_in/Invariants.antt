@@ -1,6 +1,6 @@
 use Rattle.std.proofs.Common.{length}
-use Rattle.sql_words.specs.Reading.{views}
-use Rattle.sql_words.proofs.Behind.{Along}
+use Rattle.sql_words.specs.Readings.{views}
+use Rattle.sql_words.proofs.Following.{Along}
 use Rattle.sql_words.proofs.reader.words_in.Given as goal
 
 abbrev pub invariant-loop-rest : goal.invariant-loop-rest

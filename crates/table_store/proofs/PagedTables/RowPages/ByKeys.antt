@@ -8,7 +8,7 @@ use Rattle.base_values.specs.declared.span.Span.{Span}
 use Rattle.base_values.specs.Spans.{has}
 use Rattle.base_values.specs.declared.gho_schema.schema.Schema.{Schema}
 use Rattle.base_values.specs.declared.gho_schema.schema.Index.{Index}
-use Rattle.base_values.specs.GhoSchema.Clustering.{clustered_place, unique_at}
+use Rattle.base_values.specs.GhoSchema.ClusteredKey.{clustered_place, unique_at}
 use Rattle.base_values.specs.GhoSchema.Rows.{key_of, key_places, places_of, places_at}
 use Rattle.base_page_list.specs.Pages.{InPages, flat}
 use Rattle.table_store.proofs.Orders.{Row}

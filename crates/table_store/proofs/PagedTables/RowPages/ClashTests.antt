@@ -4,7 +4,7 @@ use Rattle.base_values.specs.GhoSchema.Rows.{key_of}
 use Rattle.base_values.specs.GhoSchema.Tables.{no_null}
 use Rattle.table_store.proofs.Orders.{Row}
 use Rattle.table_store.specs.RowLists.{is_at, is_besides}
-use Rattle.table_store.specs.PagedTables.RowPages.Clashing.{clashes_at, besides_test}
+use Rattle.table_store.specs.PagedTables.RowPages.Clashes.{clashes_at, besides_test}
 
 pub find_same : (p q : Row → Bool) → ((row : Row) → p row ≡ q row) → (rows : List Row) → find p rows ≡ find q rows
 find_same p q same [] = refl

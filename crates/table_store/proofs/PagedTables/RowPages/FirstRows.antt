@@ -3,14 +3,14 @@ use Rattle.std.proofs.Common.{◌≡◌, ◌⊎◌, inl, inr, ◌∙◌, ℕ, Bo
 use Rattle.std.specs.Ordering.{is_eq, is_gt, ordering_reverse, ordering_then}
 use Rattle.std.specs.List.{AllByRecursion, prefix_len, slice_get}
 use Rattle.std.specs.Option.{option_and_then}
-use Rattle.base_values.specs.Comparing.{compare_keys}
+use Rattle.base_values.specs.KeyOrder.{compare_keys}
 use Rattle.base_values.proofs.Orders.{keys_total, tied_keys}
 use Rattle.base_values.specs.GhoSchema.Rows.{key_of}
 use Rattle.table_store.specs.RowLists.{is_at, comes_before}
 use Rattle.table_store.proofs.Orders.{Row}
 use Rattle.base_page_list.specs.Pages.{flat}
 use Rattle.table_store.specs.PagedTables.RowPages.Indexes.{IsIndexed}
-use Rattle.table_store.specs.PagedTables.RowPages.Clashing.{besides_test, earlier}
+use Rattle.table_store.specs.PagedTables.RowPages.Clashes.{besides_test, earlier}
 use Rattle.table_store.specs.declared.paged_tables.row_pages.indexes.KeyIndex.{KeyIndex}
 use Rattle.table_store.specs.PagedTables.RowPages.RowOrders.{row_of, rows_of, compare_by, Ascending, Has}
 use Rattle.table_store.proofs.PagedTables.RowPages.Ordered.{has_all}
@@ -19,9 +19,9 @@ use Rattle.table_store.proofs.PagedTables.RowPages.RowPlaces.{Rows, all_rows, ke
 -- an entry whose row passes is found
 some_by : (test : Row → Bool) (slab : Rows) (entry e : ℕ) (entries : List ℕ) (b : Bool) → test (row_of slab e) ≡ b → Has (e ∷ entries) entry → test (row_of slab entry) ≡ true → cond b (Some (row_of slab e)) (find test (rows_of slab entries)) ≡ None
     → (Has entries entry → find test (rows_of slab entries) ≡ None → ⊥) → ⊥
-some_by test slab entry e entries true is has passes none behind = absurd (cc)
-some_by test slab entry e entries false is (inl same) passes none behind = let not_so : test (row_of slab entry) ≡ false = subst (λ (n : ℕ). test (row_of slab n) ≡ false) same is in absurd (cc)
-some_by test slab entry e entries false is (inr has) passes none behind = behind has none
+some_by test slab entry e entries true is has passes none following = absurd (cc)
+some_by test slab entry e entries false is (inl same) passes none following = let not_so : test (row_of slab entry) ≡ false = subst (λ (n : ℕ). test (row_of slab n) ≡ false) same is in absurd (cc)
+some_by test slab entry e entries false is (inr has) passes none following = following has none
 
 some_found : (test : Row → Bool) (slab : Rows) (entry : ℕ) (entries : List ℕ) → Has entries entry → test (row_of slab entry) ≡ true → find test (rows_of slab entries) ≡ None → ⊥
 some_found test slab entry [] has passes none = has
@@ -36,11 +36,11 @@ pub record IsRowFound (test : Row → Bool) (slab : Rows) (entries : List ℕ) (
 
 row_found_by : (test : Row → Bool) (slab : Rows) (e : ℕ) (entries : List ℕ) (row : Row) (b : Bool) → test (row_of slab e) ≡ b → cond b (Some (row_of slab e)) (find test (rows_of slab entries)) ≡ Some row → (find test (rows_of slab entries) ≡ Some row → IsRowFound test slab entries row)
     → IsRowFound test slab (e ∷ entries) row
-row_found_by test slab e entries row true is here behind =
+row_found_by test slab e entries row true is here following =
     let same : row_of slab e ≡ row = cc in
     record { entry = e; has = inl refl; row_is = same; passes = subst (λ (r : Row). test r ≡ true) same is }
-row_found_by test slab e entries row false is here behind =
-    let found = behind here in
+row_found_by test slab e entries row false is here following =
+    let found = following here in
     record { entry = found.entry; has = inr found.has; row_is = found.row_is; passes = found.passes }
 
 pub row_found : (test : Row → Bool) (slab : Rows) (entries : List ℕ) (row : Row) → find test (rows_of slab entries) ≡ Some row → IsRowFound test slab entries row
@@ -51,14 +51,14 @@ row_found test slab (e ∷ entries) row here = row_found_by test slab e entries 
 first_by : (cmp : Row → Row → Ordering) (test : Row → Bool) (slab : Rows) (entry e : ℕ) (entries : List ℕ) (row : Row) (b : Bool) → test (row_of slab e) ≡ b → cond b (Some (row_of slab e)) (find test (rows_of slab entries)) ≡ Some row
     → AllByRecursion (λ r. cmp (row_of slab e) r ≡ Less) (rows_of slab entries) → Has (e ∷ entries) entry → test (row_of slab entry) ≡ true
     → (find test (rows_of slab entries) ≡ Some row → Has entries entry → (row ≡ row_of slab entry) ⊎ (cmp row (row_of slab entry) ≡ Less)) → (row ≡ row_of slab entry) ⊎ (cmp row (row_of slab entry) ≡ Less)
-first_by cmp test slab entry e entries row true is here less (inl same) passes behind = let row_is : row_of slab e ≡ row = cc in inl (sym row_is ∙ ap (row_of slab) same)
-first_by cmp test slab entry e entries row true is here less (inr has) passes behind =
+first_by cmp test slab entry e entries row true is here less (inl same) passes following = let row_is : row_of slab e ≡ row = cc in inl (sym row_is ∙ ap (row_of slab) same)
+first_by cmp test slab entry e entries row true is here less (inr has) passes following =
     let row_is : row_of slab e ≡ row = cc in
     inr (subst (λ (r : Row). cmp r (row_of slab entry) ≡ Less) row_is (has_all (λ o. cmp (row_of slab e) (row_of slab o) ≡ Less) entry entries (all_rows (λ (r : Row). cmp (row_of slab e) r ≡ Less) slab entries less) has))
-first_by cmp test slab entry e entries row false is here less (inl same) passes behind =
+first_by cmp test slab entry e entries row false is here less (inl same) passes following =
     let not_so : test (row_of slab entry) ≡ false = subst (λ (n : ℕ). test (row_of slab n) ≡ false) same is in
     absurd (cc)
-first_by cmp test slab entry e entries row false is here less (inr has) passes behind = behind here has
+first_by cmp test slab entry e entries row false is here less (inr has) passes following = following here has
 
 first_found : (cmp : Row → Row → Ordering) (test : Row → Bool) (slab : Rows) (entry : ℕ) (entries : List ℕ) (row : Row) → Ascending cmp (rows_of slab entries) → find test (rows_of slab entries) ≡ Some row → Has entries entry → test (row_of slab entry) ≡ true
     → (row ≡ row_of slab entry) ⊎ (cmp row (row_of slab entry) ≡ Less)
@@ -109,8 +109,8 @@ pub found_by_test : (clustered : List ℕ) (slab : Rows) (order : List ℕ) (ind
 found_by_test clustered slab order index key test only asc is = found_in_both clustered slab order index key test (find test (rows_of slab order)) (find test (rows_of slab (flat index.entries.pages))) only asc is refl refl
 
 none_besides_by : (b c : Bool) (row : Row) (found other : Option Row) → cond b (Some row) found ≡ None → (found ≡ None → other ≡ None) → cond (b && not c) (Some row) other ≡ None
-none_besides_by true c row found other none behind = absurd (cc)
-none_besides_by false c row found other none behind = behind none
+none_besides_by true c row found other none following = absurd (cc)
+none_besides_by false c row found other none following = following none
 
 second_less : (o p : Ordering) → ordering_then o p ≡ Less → o ≡ Equal → p ≡ Less
 second_less Less p less same = absurd (cc)
@@ -129,8 +129,8 @@ not_named first second key named row next at is_named less at_next =
     let key_next = key_equal key (key_of first next) at_next in
     let named_row = tied_keys named (key_of second row) (key_equal named (key_of second row) is_named) in
     let same : compare_keys (key_of first row) (key_of first next) ≡ Equal = ap (λ (k : Row). compare_keys k (key_of first next)) (sym key_row) ∙ key_next in
-    let behind = second_less (compare_keys (key_of first row) (key_of first next)) (compare_keys (key_of second row) (key_of second next)) less same in
-    rw (named_row, behind) refl
+    let following = second_less (compare_keys (key_of first row) (key_of first next)) (compare_keys (key_of second row) (key_of second next)) less same in
+    rw (named_row, following) refl
 
 -- a row behind one of the key that hasn't the key is beyond it
 beyond_by : (o p : Ordering) → ordering_then o p ≡ Less → is_eq o ≡ false → o ≡ Less
@@ -145,8 +145,8 @@ beyond first second key row next at less not_at =
 
 next_case : (first second : List ℕ) (key named next : Row) (rows : List Row) (b : Bool) → is_at first key next ≡ b → (is_at first key next ≡ true → is_at second named next ≡ false) → (is_at first key next ≡ false → find (besides_test first key second named) rows ≡ None)
     → cond (is_at first key next && not (is_at second named next)) (Some next) (find (besides_test first key second named) rows) ≡ cond (is_at first key next) (Some next) None
-next_case first second key named next rows true is other behind = rw (is, other is) refl
-next_case first second key named next rows false is other behind = rw is (behind is)
+next_case first second key named next rows true is other following = rw (is, other is) refl
+next_case first second key named next rows false is other following = rw is (following is)
 
 next_by : (first second : List ℕ) (key named row : Row) (rows : List Row) → is_at first key row ≡ true → is_at second named row ≡ true → AllByRecursion (λ other. compare_by first second row other ≡ Less) rows → Ascending (compare_by first second) rows
     → find (besides_test first key second named) rows ≡ option_and_then (if_at first key) (slice_get rows 0)
@@ -160,22 +160,22 @@ besides_by : (first second : List ℕ) (key named r row : Row) (rows : List Row)
     → (slice_get rows (prefix_len (comes_before first key) rows) ≡ Some r → find (besides_test first key second named) rows ≡ option_and_then (if_at first key) (slice_get rows (prefix_len (comes_before first key) rows + 1)))
     → cond (is_at first key row && not (is_at second named row)) (Some row) (find (besides_test first key second named) rows)
     ≡ option_and_then (if_at first key) (slice_get (row ∷ rows) (cond (is_gt (compare_keys key (key_of first row))) (1 + prefix_len (comes_before first key) rows) 0 + 1))
-besides_by first second key named r row rows Less is asc here at is_named behind =
+besides_by first second key named r row rows Less is asc here at is_named following =
     let first_one : Some row ≡ Some r = rw is at here in
     let same : row ≡ r = cc in
     let not_at : is_at first key row ≡ false = rw is refl in
     let yes_at : is_at first key row ≡ true = ap (λ (x : Row). is_at first key x) same ∙ at in
     absurd (cc)
-besides_by first second key named r row rows Equal is asc here at is_named behind =
+besides_by first second key named r row rows Equal is asc here at is_named following =
     let first_one : Some row ≡ Some r = rw is at here in
     let same : row ≡ r = cc in
     let yes_at : is_at first key row ≡ true = rw is refl in
     let yes_named : is_at second named row ≡ true = ap (λ (x : Row). is_at second named x) same ∙ is_named in
     rw (is, yes_named) (next_by first second key named row rows yes_at yes_named asc.0 asc.1)
-besides_by first second key named r row rows Greater is asc here at is_named behind =
+besides_by first second key named r row rows Greater is asc here at is_named following =
     let later : slice_get rows (prefix_len (comes_before first key) rows) ≡ Some r = rw (is, one-add) at here in
     let place : 1 + prefix_len (comes_before first key) rows + 1 ≡ suc (prefix_len (comes_before first key) rows + 1) = omega arith in
-    rw (is, place) (behind later)
+    rw (is, place) (following later)
 
 pub besides_at : (first second : List ℕ) (key named r : Row) (rows : List Row) → Ascending (compare_by first second) rows → slice_get rows (prefix_len (comes_before first key) rows) ≡ Some r → is_at first key r ≡ true → is_at second named r ≡ true
     → find (besides_test first key second named) rows ≡ option_and_then (if_at first key) (slice_get rows (prefix_len (comes_before first key) rows + 1))
@@ -184,9 +184,9 @@ besides_at first second key named r (row ∷ rows) asc here at is_named =
     besides_by first second key named r row rows (compare_keys key (key_of first row)) refl asc here at is_named (λ later. besides_at first second key named r rows asc.1 later at is_named)
 
 first_besides_by : (b c : Bool) (row r : Row) (found other : Option Row) → cond b (Some row) found ≡ Some r → (row ≡ r → c ≡ false) → (found ≡ Some r → other ≡ Some r) → cond (b && not c) (Some row) other ≡ Some r
-first_besides_by true true row r found other here not_named behind = let same : row ≡ r = cc in let no_name = not_named same in absurd (cc)
-first_besides_by true false row r found other here not_named behind = here
-first_besides_by false c row r found other here not_named behind = behind here
+first_besides_by true true row r found other here not_named following = let same : row ≡ r = cc in let no_name = not_named same in absurd (cc)
+first_besides_by true false row r found other here not_named following = here
+first_besides_by false c row r found other here not_named following = following here
 
 -- the first of the key, where it isn't the one that is named
 pub first_besides : (first : List ℕ) (key : Row) (second : List ℕ) (named r : Row) (rows : List Row) → find (is_at first key) rows ≡ Some r → is_at second named r ≡ false → find (besides_test first key second named) rows ≡ Some r
@@ -223,18 +223,18 @@ here_first_by cmp row r (inl same) tied = let tied_too : cmp row r ≡ Equal = a
 here_first_by cmp row r (inr less) tied = rw less refl
 
 here_first : (cmp : Row → Row → Ordering) (row : Row) (b : Option Row) → ((r : Row) → b ≡ Some r → (row ≡ r) ⊎ (cmp row r ≡ Less)) → cmp row row ≡ Equal → earlier cmp (Some row) b ≡ Some row
-here_first cmp row None behind tied = refl
-here_first cmp row (Some r) behind tied = here_first_by cmp row r (behind r refl) tied
+here_first cmp row None following tied = refl
+here_first cmp row (Some r) following tied = here_first_by cmp row r (following r refl) tied
 
 there_first : (cmp : Row → Row → Ordering) (row : Row) (a : Option Row) → ((r : Row) → a ≡ Some r → cmp row r ≡ Less) → ((x y : Row) → cmp x y ≡ ordering_reverse (cmp y x)) → earlier cmp a (Some row) ≡ Some row
-there_first cmp row None behind turned = refl
-there_first cmp row (Some r) behind turned =
-    let more : cmp r row ≡ Greater = turned r row ∙ ap ordering_reverse (behind r refl) in
+there_first cmp row None following turned = refl
+there_first cmp row (Some r) following turned =
+    let more : cmp r row ≡ Greater = turned r row ∙ ap ordering_reverse (following r refl) in
     rw more refl
 
 less_found_by : (cmp : Row → Row → Ordering) (row r x : Row) (found : Option Row) (b : Bool) → cmp row x ≡ Less → cond b (Some x) found ≡ Some r → (found ≡ Some r → cmp row r ≡ Less) → cmp row r ≡ Less
-less_found_by cmp row r x found true less here behind = let same : x ≡ r = cc in subst (λ (y : Row). cmp row y ≡ Less) same less
-less_found_by cmp row r x found false less here behind = behind here
+less_found_by cmp row r x found true less here following = let same : x ≡ r = cc in subst (λ (y : Row). cmp row y ≡ Less) same less
+less_found_by cmp row r x found false less here following = following here
 
 less_found : (cmp : Row → Row → Ordering) (test : Row → Bool) (row r : Row) (rows : List Row) → AllByRecursion (λ x. cmp row x ≡ Less) rows → find test rows ≡ Some r → cmp row r ≡ Less
 less_found cmp test row r [] less here = absurd (cc)

@@ -29,14 +29,14 @@ module _ {X : Type 0} where
   ascending_remove cmp zero (y ∷ ys) asc = asc.1
   ascending_remove cmp (suc k) (y ∷ ys) asc = (all_remove (λ z. cmp y z ≡ Less) k ys asc.0, ascending_remove cmp k ys asc.1)
 
-  behind : (cmp : X → X → Ordering) → IsTotalOrder cmp → (x y z : X) (o : Ordering) → cmp x y ≡ o → is_gt o ≡ false → cmp y z ≡ Less → cmp x z ≡ Less
-  behind cmp total x y z Less is not less = total.trans x y z is less
-  behind cmp total x y z Equal is not less = total.congr x y z is ∙ less
-  behind cmp total x y z Greater is not less = absurd (cc)
+  following : (cmp : X → X → Ordering) → IsTotalOrder cmp → (x y z : X) (o : Ordering) → cmp x y ≡ o → is_gt o ≡ false → cmp y z ≡ Less → cmp x z ≡ Less
+  following cmp total x y z Less is not less = total.trans x y z is less
+  following cmp total x y z Equal is not less = total.congr x y z is ∙ less
+  following cmp total x y z Greater is not less = absurd (cc)
 
   all_after : (cmp : X → X → Ordering) → IsTotalOrder cmp → (x y : X) (ys : List X) → is_gt (cmp x y) ≡ false → AllByRecursion (λ z. cmp y z ≡ Less) ys → AllByRecursion (λ z. cmp x z ≡ Less) ys
   all_after cmp total x y [] not less = tt
-  all_after cmp total x y (z ∷ ys) not less = (behind cmp total x y z (cmp x y) refl not less.0, all_after cmp total x y ys not less.1)
+  all_after cmp total x y (z ∷ ys) not less = (following cmp total x y z (cmp x y) refl not less.0, all_after cmp total x y ys not less.1)
 
   none_gt : (cmp : X → X → Ordering) (x : X) (ys : List X) → AllByRecursion (λ z. cmp x z ≡ Less) ys → AllByRecursion (λ z. is_gt (cmp x z) ≡ false) ys
   none_gt cmp x [] less = tt
@@ -78,8 +78,8 @@ module _ {X : Type 0} where
   stands_by cmp total (suc k) x (y ∷ ys) asc at =
       let less = all_at (λ z. cmp y z ≡ Less) k x ys asc.0 at in
       let more : cmp x y ≡ Greater = total.antisymm x y ∙ ap ordering_reverse less in
-      let behind = stands_by cmp total k x ys asc.1 at in
-      rw more (one-add (prefix_len (λ z. is_gt (cmp x z)) ys) ∙ ap (λ (n : ℕ). suc n) behind)
+      let following = stands_by cmp total k x ys asc.1 at in
+      rw more (one-add (prefix_len (λ z. is_gt (cmp x z)) ys) ∙ ap (λ (n : ℕ). suc n) following)
 
 -- Entries of lists.
 pub has_new : (k x : ℕ) (ys : List ℕ) → Has (insert ys k x) x

@@ -11,11 +11,11 @@ use Rattle.std.proofs.lemmas.Option.{slice_get-map, slice_get_within, slice_get_
 use Rattle.std.specs.Option.{option_and_then, option_map}
 use Rattle.slab.specs.Slab.{Slab, get, slab_len, Updates}
 use Rattle.base_values.specs.declared.value.Value.{Value}
-use Rattle.base_values.specs.Comparing.{compare_keys}
+use Rattle.base_values.specs.KeyOrder.{compare_keys}
 use Rattle.base_values.proofs.Orders.{keys_total, tied_keys}
 use Rattle.base_values.specs.GhoSchema.Rows.{key_of, with_row}
 use Rattle.base_page_list.specs.Pages.{FailsOn, flat, StandsAt}
-use Rattle.table_store.specs.PagedTables.RowPages.Seeking.{IsFound}
+use Rattle.table_store.specs.PagedTables.RowPages.KeyLookup.{IsFound}
 use Rattle.table_store.proofs.NameMap.Entries.{map-insert, map-remove}
 use Rattle.table_store.proofs.Orders.{Row, FailsAbove, before_fails}
 use Rattle.table_store.specs.RowLists.{comes_before, is_at, without_key}

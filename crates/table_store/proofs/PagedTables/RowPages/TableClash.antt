@@ -5,18 +5,18 @@ use Rattle.std.specs.Option.{option_map}
 use Rattle.table_store.specs.PagedTables.RowPages.StoredRows.{IsStored}
 use Rattle.std.specs.List.{AllByRecursion, list_any, slice_get}
 use Rattle.slab.specs.Slab.{slab_len}
-use Rattle.base_values.specs.Comparing.{compare_keys}
+use Rattle.base_values.specs.KeyOrder.{compare_keys}
 use Rattle.base_values.proofs.Orders.{keys_total}
 use Rattle.base_values.specs.declared.gho_schema.schema.Schema.{Schema}
 use Rattle.base_values.specs.declared.gho_schema.schema.Index.{Index}
-use Rattle.base_values.specs.GhoSchema.Clustering.{clustered_place, clustered_key, unique_at}
+use Rattle.base_values.specs.GhoSchema.ClusteredKey.{clustered_place, clustered_key, unique_at}
 use Rattle.base_values.specs.GhoSchema.Rows.{key_of, key_places, places_of}
 use Rattle.base_values.specs.GhoSchema.Tables.{no_null, clash}
 use Rattle.table_store.proofs.Orders.{Row}
 use Rattle.table_store.specs.RowLists.{is_at, is_besides}
 use Rattle.table_store.specs.PagedTables.RowPages.RowOrders.{rows_of, compare_by, Ascending, IsListed}
 use Rattle.table_store.specs.PagedTables.RowPages.Indexes.{all_but, other_keys, keys_of, IsIndexed}
-use Rattle.table_store.specs.PagedTables.RowPages.Clashing.{clashes_at, by_key, earlier, earliest}
+use Rattle.table_store.specs.PagedTables.RowPages.Clashes.{clashes_at, by_key, earlier, earliest}
 use Rattle.table_store.specs.declared.paged_tables.row_pages.indexes.KeyIndex.{KeyIndex}
 use Rattle.table_store.proofs.PagedTables.RowPages.Ordered.{self_tied}
 use Rattle.table_store.proofs.PagedTables.RowPages.RowPlaces.{Rows}

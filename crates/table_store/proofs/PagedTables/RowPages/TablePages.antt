@@ -3,7 +3,7 @@ use Rattle.std.proofs.Common.{◌≡◌, ◌∙◌, ℕ, zero, suc, ◌-◌, Boo
 use Rattle.std.specs.Ordering.{is_gt, ordering_then}
 use Rattle.std.specs.List.{AllByRecursion, concat, flat_map, prefix_len}
 use Rattle.std.proofs.lemmas.List.{length-map, map-append}
-use Rattle.base_values.specs.Comparing.{compare_keys}
+use Rattle.base_values.specs.KeyOrder.{compare_keys}
 use Rattle.base_values.specs.GhoSchema.Rows.{key_of}
 use Rattle.base_values.specs.GhoSchema.Tables.{Ascends}
 use Rattle.base_page_list.specs.Pages.{Dense, ArePages, flat, pages_made, first_passes, last_page}

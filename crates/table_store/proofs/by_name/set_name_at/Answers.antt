@@ -9,7 +9,7 @@ rename-key-requires-clause-new c = is_free (string_bytes c.args.name.key) c.args
 pub returns-clause-name : goal.returns-clause-name
 returns-clause-name c =
     let done : Renames c.args.tables.now (with_value c.rename-key.new.self c.args.place c.set_name.new.self) c.args.place c.args.name.name c.set_name.result (string_bytes c.rename-key.result) = renames c.args.tables.now c.rename-key.new.self c.args.place c.at_mut-table.result.now c.set_name.new.self (string_bytes c.args.name.key) c.args.name.name c.set_name.result (string_bytes c.rename-key.result) c.requires.named c.requires.same c.rename-key.ensures.name c.rename-key.ensures.names c.rename-key.ensures.values c.at_mut-table.ensures.value c.set_name.ensures.table c.set_name.ensures.spare c.set_name.ensures.name in
-    done.told
+    done.reported
 
 pub returns-clause-same : goal.returns-clause-same
 returns-clause-same c =

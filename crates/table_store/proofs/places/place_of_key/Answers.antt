@@ -2,7 +2,7 @@ use Rattle.std.proofs.Common.{rules, List}
 use Rattle.std.specs.Ordering.{is_gt}
 use Rattle.std.proofs.lemmas.List.Sorted.{IsPartitionPoint-from_clause}
 use Rattle.base_values.specs.declared.value.Value.{Value}
-use Rattle.base_values.specs.Comparing.{compare_keys}
+use Rattle.base_values.specs.KeyOrder.{compare_keys}
 use Rattle.base_values.specs.GhoSchema.Rows.{key_of}
 use Rattle.table_store.proofs.Orders.{Row, fails_on, before_fails}
 use Rattle.table_store.proofs.Partitions.{partitioned, point_is}

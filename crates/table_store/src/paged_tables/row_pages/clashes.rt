@@ -5,7 +5,7 @@ ghost use Rattle.std.specs.List.{AllByRecursion};
 ghost use Rattle.base_page_list.specs.Pages.{flat};
 ghost use Rattle.table_store.specs.PagedTables.RowPages.RowOrders.{rows_of, IsListed};
 ghost use Rattle.table_store.specs.PagedTables.RowPages.Indexes.{IsOwnListed};
-ghost use Rattle.table_store.specs.PagedTables.RowPages.Clashing.{clashes_at, by_key, earlier, earliest};
+ghost use Rattle.table_store.specs.PagedTables.RowPages.Clashes.{clashes_at, by_key, earlier, earliest};
 
 use crate::has_no_null;
 use crate::paged_tables::row_pages::comparison::compare_rows;
@@ -76,6 +76,6 @@ pub fn first_clash<'a>(
     };
     let places = index.places.as_slice();
     let here = clash_in(rows, &index.entries, places, clustered, new, besides);
-    let behind = first_clash(rows, clustered, others, new, besides);
-    earlier(clustered, here, behind)
+    let following = first_clash(rows, clustered, others, new, besides);
+    earlier(clustered, here, following)
 }

@@ -1,7 +1,7 @@
 //! How rows and keys compare.
 
 ghost use Rattle.std.specs.Prelude.{◌≡◌};
-ghost use Rattle.base_values.specs.Comparing.{compare_keys};
+ghost use Rattle.base_values.specs.KeyOrder.{compare_keys};
 ghost use Rattle.base_values.specs.GhoSchema.Rows.{key_of};
 ghost use Rattle.table_store.specs.RowLists.{is_at};
 ghost use Rattle.table_store.specs.PagedTables.RowPages.RowOrders.{compare_by};

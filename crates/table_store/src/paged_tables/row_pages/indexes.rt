@@ -7,7 +7,7 @@ ghost use Rattle.table_store.specs.PagedTables.RowPages.RowOrders.{row_of, rows_
 ghost use Rattle.table_store.specs.PagedTables.RowPages.Indexes.{other_keys, keys_of, IsReady, IsAdded, IsHolding, IsTaken, IsSame, IsWide, IsEmptyIndex};
 
 use crate::paged_tables::row_pages::places::{place_of_row, row_of};
-use base_page_list::{PagedList, Place};
+use base_page_list::{PagePlace, PagedList};
 use base_values::gho_schema::{Index, Places, Schema, clustered_place};
 use base_values::{Duplicate, Row};
 use slab::Slab;
@@ -24,7 +24,7 @@ pub struct KeyIndex {
 
 impl KeyIndex {
     /// The place of an entry by its row.
-    fn place_of(&self, rows: &Slab<Row>, clustered: &[usize], entry: usize) -> Place
+    fn place_of(&self, rows: &Slab<Row>, clustered: &[usize], entry: usize) -> PagePlace
         requires { Ascending (compare_by self.now.places clustered.now) (rows_of rows.now (flat self.now.entries.pages)) }
         ensures gap { IsGap self.now.entries.pages result.page result.at }
         ensures place { place_in self.now.entries.pages result.page result.at ≡ place_by self.now.places clustered.now (row_of rows.now entry) (rows_of rows.now (flat self.now.entries.pages)) }

@@ -4,16 +4,16 @@ ghost use Rattle.std.specs.Prelude.{◌≡◌, ◌<◌, [], length, slice_get, o
 ghost use Rattle.std.specs.List.{prefix_len};
 ghost use Rattle.std.specs.Ordering.{is_gt};
 ghost use Rattle.slab.specs.Slab.{get};
-ghost use Rattle.base_values.specs.Comparing.{compare_keys};
+ghost use Rattle.base_values.specs.KeyOrder.{compare_keys};
 ghost use Rattle.base_values.specs.GhoSchema.Rows.{key_of};
 ghost use Rattle.base_page_list.specs.Pages.{flat, place_in, IsGap, FailsOn, last_page};
 ghost use Rattle.table_store.specs.RowLists.{comes_before, is_at};
 ghost use Rattle.table_store.specs.PagedTables.RowPages.RowOrders.{row_of, rows_of, compare_by, is_before, Ascending, place_by, IsListed};
-ghost use Rattle.table_store.specs.PagedTables.RowPages.Seeking.{wanted_key, IsFound, IsFirst};
-ghost use Rattle.table_store.specs.PagedTables.RowPages.Clashing.{besides_test};
+ghost use Rattle.table_store.specs.PagedTables.RowPages.KeyLookup.{wanted_key, IsFound, IsFirst};
+ghost use Rattle.table_store.specs.PagedTables.RowPages.Clashes.{besides_test};
 
 use crate::paged_tables::row_pages::comparison::{compare_by, compare_key, compare_rows, is_at};
-use base_page_list::{PagedList, Place, Test};
+use base_page_list::{PagePlace, PagedList, Test};
 use base_values::{Row, Value};
 use slab::Slab;
 use std::cmp::Ordering;
@@ -85,7 +85,7 @@ pub fn place_of_row(
     first: &[usize],
     second: &[usize],
     row: &[Value],
-) -> Place
+) -> PagePlace
     requires { FailsOn (is_before first.now second.now row.now) (rows_of rows.now (flat order.now.pages)) }
     ensures gap { IsGap order.now.pages result.page result.at }
     ensures page { result.page ≡ last_page (is_before first.now second.now row.now) (map (rows_of rows.now) order.now.pages) }
@@ -100,7 +100,12 @@ pub fn place_of_row(
 }
 
 /// The place of a key by the first places alone.
-fn place_of_key(rows: &Slab<Row>, order: &PagedList, places: &[usize], sought: Wanted<'_>) -> Place
+fn place_of_key(
+    rows: &Slab<Row>,
+    order: &PagedList,
+    places: &[usize],
+    sought: Wanted<'_>,
+) -> PagePlace
     requires { FailsOn (comes_before places.now (wanted_key places.now sought)) (rows_of rows.now (flat order.now.pages)) }
     ensures gap { IsGap order.now.pages result.page result.at }
     ensures place { place_in order.now.pages result.page result.at ≡ prefix_len (comes_before places.now (wanted_key places.now sought.entry)) (rows_of rows.now (flat order.now.pages)) }
@@ -118,7 +123,7 @@ pub fn found(
     order: &PagedList,
     places: &[usize],
     sought: Wanted<'_>,
-) -> Option<(Place, usize)>
+) -> Option<(PagePlace, usize)>
     requires { (second : List ℕ) × Ascending (compare_by places.now second) (rows_of rows.now (flat order.now.pages)) }
     ensures { MatchOption result (find (is_at places.now (wanted_key places.now sought.entry)) (rows_of rows.now (flat order.now.pages)) ≡ None)
         (λ found. IsFound places.now (wanted_key places.now sought.entry) rows.now order.now.pages found.0.page found.0.at found.1) }

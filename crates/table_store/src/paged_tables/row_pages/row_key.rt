@@ -42,8 +42,8 @@ impl<'a> Iterator for RowKey<'a> {
 
     #[tactic(auto, unfolding(base_values::specs::GhoSchema::Rows::key_of))]
     fn next(&mut self) -> Option<&'a Value> {
-        while let Some((column, behind)) = self.columns.split_first() {
-            self.columns = behind;
+        while let Some((column, following)) = self.columns.split_first() {
+            self.columns = following;
             if let Some(value) = self.values.get(*column) {
                 return Some(value);
             }

@@ -1,6 +1,6 @@
 use Rattle.std.proofs.Common.{◌≡◌, ◌++◌, drop}
 use Rattle.table_store.specs.Databases.{with_change}
-use Rattle.server_model.specs.Jobs.{change_table}
+use Rattle.server_model.specs.Operations.{change_table}
 use Rattle.test_histories.proofs.changes.after_event.Given as goal
 
 -- the other tables follow

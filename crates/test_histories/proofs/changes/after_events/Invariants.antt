@@ -1,5 +1,5 @@
 use Rattle.std.proofs.Common.{◌≡◌, drop}
-use Rattle.server_model.specs.Jobs.{after_events}
+use Rattle.server_model.specs.Operations.{after_events}
 use Rattle.test_histories.proofs.changes.after_events.Given as goal
 
 -- the events that are left lead from the tables so far to those behind all

@@ -4,7 +4,7 @@ use Rattle.std.specs.Option.{option_map}
 use Rattle.table_store.specs.Databases.{Database}
 use Rattle.server_model.specs.Alone.{alone}
 use Rattle.tool_program.specs.JournalWords.Serials.{altered_database}
-use Rattle.test_histories.specs.Histories.{AreValid, IfValid, alone_in_order, goes_on, with_replies}
+use Rattle.test_histories.specs.Histories.{AreValid, IfValid, serial_run, goes_on, with_replies}
 use Rattle.test_histories.specs.declared.histories.HistoryStep.{HistoryStep}
 use Rattle.test_histories.specs.declared.histories.HistoryStep.TheVariants.{Alter}
 use Rattle.test_histories.specs.declared.histories.InOrder.{InOrder}
@@ -23,7 +23,7 @@ pub returns-in-Alter-clause-goes : goal.returns-in-Alter-clause-goes
 returns-in-Alter-clause-goes c =
     let plan = c.args.plan.now in
     IfOk-weaker c.with_alter.result (λ (next : Option InOrder). next ≡ option_map (λ (after : Database). record c.args.so_far { tables = after }) (altered_database plan c.args.so_far.tables))
-    (λ (next : Option InOrder). (rest : List HistoryStep) → goes_on plan rest next ≡ with_replies c.args.so_far.replies (alone_in_order plan c.args.so_far.tables (c.args.history_step.now ∷ rest)))
+    (λ (next : Option InOrder). (rest : List HistoryStep) → goes_on plan rest next ≡ with_replies c.args.so_far.replies (serial_run plan c.args.so_far.tables (c.args.history_step.now ∷ rest)))
     (λ next is rest. ap (goes_on plan rest) is ∙ (rw c.in-Alter.is (alter_goes plan c.args.so_far rest))) c.with_alter.ensures
 
 pub returns-in-Alter-clause-valid : goal.returns-in-Alter-clause-valid

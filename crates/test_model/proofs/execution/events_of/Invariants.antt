@@ -1,5 +1,5 @@
 use Rattle.std.proofs.Common.{◌≡◌, ◌++◌, length, drop}
-use Rattle.server_model.specs.Jobs.{events_of}
+use Rattle.server_model.specs.Operations.{events_of}
 use Rattle.test_model.proofs.execution.events_of.Given as goal
 
 -- the events so far, and those of the changes that are left

@@ -1,7 +1,7 @@
 use Rattle.std.proofs.Common.{◌++◌, sym, ap, ◌∙◌, append-nil}
 use Rattle.std.proofs.lemmas.List.{at_drop_all}
 use Rattle.table_store.proofs.Orders.{Row}
-use Rattle.server_model.specs.Saying.{with_sets}
+use Rattle.server_model.specs.StatementResults.{with_sets}
 use Rattle.server_model.proofs.LockedRows.Sets.{with_sets_none}
 use Rattle.test_model.proofs.updates.push_with_sets.Goals as goal
 

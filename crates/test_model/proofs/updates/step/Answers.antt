@@ -5,8 +5,8 @@ use Rattle.base_values.specs.declared.event.Change.{Change}
 use Rattle.base_values.specs.declared.event.Change.TheVariants as changes
 use Rattle.server_model.specs.declared.answer.Answer.{Answer}
 use Rattle.server_model.specs.Rows.{same_row, change_rows}
-use Rattle.server_model.specs.Saying.{with_sets, clashes_besides, updates}
-use Rattle.test_model.specs.Updating.{changes_after}
+use Rattle.server_model.specs.StatementResults.{with_sets, clashes_besides, updates}
+use Rattle.test_model.specs.RowUpdates.{changes_after}
 use Rattle.test_model.proofs.UpdateFacts.{stays, clashing, changed}
 use Rattle.test_model.proofs.updates.step.Goals as goal
 

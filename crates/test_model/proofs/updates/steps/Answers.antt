@@ -1,8 +1,8 @@
 use Rattle.std.proofs.Common.{◌≡◌, drop, List, [], subst}
 use Rattle.std.proofs.lemmas.List.{at_drop_all}
 use Rattle.table_store.proofs.Orders.{Row}
-use Rattle.server_model.specs.Saying.{updates}
-use Rattle.test_model.specs.Updating.{changes_after}
+use Rattle.server_model.specs.StatementResults.{updates}
+use Rattle.test_model.specs.RowUpdates.{changes_after}
 use Rattle.test_model.proofs.updates.steps.Goals as goal
 
 pub returns : goal.returns

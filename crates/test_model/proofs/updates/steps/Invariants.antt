@@ -1,6 +1,6 @@
 use Rattle.std.proofs.Common.{◌≡◌, drop}
-use Rattle.server_model.specs.Saying.{updates}
-use Rattle.test_model.specs.Updating.{changes_after}
+use Rattle.server_model.specs.StatementResults.{updates}
+use Rattle.test_model.specs.RowUpdates.{changes_after}
 use Rattle.test_model.proofs.updates.steps.Given as goal
 
 -- the rows that are left make of the changes so far what all make

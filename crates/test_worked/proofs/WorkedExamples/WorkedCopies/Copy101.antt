@@ -9,13 +9,13 @@ use Rattle.base_values.specs.declared.value.Value.TheVariants.{Null, Num, Text}
 use Rattle.base_values.specs.Laws.{StoresAgain}
 use Rattle.base_values.proofs.StoredValues.{keeps}
 use Rattle.base_values.specs.declared.gho_schema.schema.Schema.{Schema}
-use Rattle.base_values.specs.GhoSchema.Clustering.{clustered_place}
+use Rattle.base_values.specs.GhoSchema.ClusteredKey.{clustered_place}
 use Rattle.base_values.specs.GhoSchema.Tables.{IsTable}
 use Rattle.base_values.specs.declared.row_conversion.clause.Clause.{Clause}
 use Rattle.base_values.specs.declared.row_conversion.clause.Clause.TheVariants as clauses
 use Rattle.base_values.specs.declared.row_conversion.clause.ColumnPosition.TheVariants.{First, Unsaid}
 use Rattle.base_values.specs.declared.row_conversion.map.Origin.TheVariants as from
-use Rattle.sql_change.specs.Altering.{altered}
+use Rattle.sql_change.specs.AlteredSchema.{altered}
 use Rattle.base_values.specs.SchemaRules.Valid.{IsValid}
 use Rattle.base_values.specs.declared.event.Change.TheVariants as changes
 use Rattle.table_store.specs.declared.renames.Pair.{Pair}
@@ -55,10 +55,10 @@ use Rattle.proof_migration.proofs.Migration.Planning.Planned.{alters_planned}
 use Rattle.proof_journals.specs.Ghost.Rows.Moments.{Row}
 use Rattle.proof_journals.specs.Ghost.Rows.Timelines.{IsPlanned, Migration}
 use Rattle.proof_journals.specs.Ghost.Copies.{IsAltered}
-use Rattle.proof_journals.specs.Ghost.Holding.{Clustered}
+use Rattle.proof_journals.specs.Ghost.HeldKeys.{Clustered}
 use Rattle.proof_journals.specs.Ghost.Invariant.{NotOf}
 use Rattle.proof_journals.proofs.Ghost.Turns.{run_front}
-use Rattle.proof_migration.specs.Migration.Applier.Finding.{FindsRows}
+use Rattle.proof_migration.specs.Migration.Applier.FoundColumns.{FindsRows}
 use Rattle.proof_migration.proofs.Migration.Applier.Stated.{alters_find_rows}
 use Rattle.proof_migration.specs.Migration.Away.{KeepsAway, OthersAway}
 use Rattle.proof_migration.specs.Migration.Machines.{IsMigrationEnd, IsMigrationStart, Machines, MigrationRun, MigrationTurn, Step, hold_at, journal_after, machines_after}
@@ -173,8 +173,8 @@ place_101 = refl
 -- ---- the machines
 
 abbrev copying : CopyStep → ℕ → Option ℕ → Bool → Copier
-copying step number behind copied =
-    record { table = codes "t"; map = map_101; range = Some (record { low = Closed ((Num (pos 5)) ∷ []); top = ((Num (pos 7)) ∷ []) }); size = 1; number = number; behind = behind; is_copied = copied; step = step }
+copying step number following copied =
+    record { table = codes "t"; map = map_101; range = Some (record { low = Closed ((Num (pos 5)) ∷ []); top = ((Num (pos 7)) ∷ []) }); size = 1; number = number; following = following; is_copied = copied; step = step }
 
 abbrev applying : ℕ → ℕ → ApplyStep → Applier
 applying position hint step = record { table = codes "t"; new_schema = record made_101 { name = codes "_t_gho" }; map = map_101; batch = 3; position = position; hint = hint; step = step }
@@ -190,8 +190,8 @@ over place number e = cc
 none_asked : (request : Request) → (let none : Option Request = None in none) ≡ Some request → ⊥
 none_asked request e = cc
 
-away_of : (told : Option Answer) (asks : Request) → KeepsAway m_101 told asks → (request : Request) → Some asks ≡ Some request → KeepsAway m_101 told request
-away_of told asks away request is = let same : asks ≡ request = cc in subst (KeepsAway m_101 told) same away
+away_of : (reported : Option Answer) (asks : Request) → KeepsAway m_101 reported asks → (request : Request) → Some asks ≡ Some request → KeepsAway m_101 reported request
+away_of reported asks away request is = let same : asks ≡ request = cc in subst (KeepsAway m_101 reported) same away
 
 waits_on : {A : Type 0} (by : ℕ) → Some (answers.Waits by) ≡ Some ok → A
 waits_on by is = absurd (let no : ⊥ = cc in no)
@@ -455,10 +455,10 @@ abbrev copier_19 : Copier
 copier_19 = copying (Spanning 19 1) 1 None false
 
 abbrev copier_24 : Copier
-copier_24 = copying (Copying (record { told = 24; keys = 1; is_last = false }) 0) 1 None false
+copier_24 = copying (Copying (record { reported = 24; keys = 1; is_last = false }) 0) 1 None false
 
 abbrev copier_29 : Copier
-copier_29 = copying (copies.Committing (record { told = 24; keys = 1; is_last = false })) 1 None false
+copier_29 = copying (copies.Committing (record { reported = 24; keys = 1; is_last = false })) 1 None false
 
 abbrev copier_30 : Copier
 copier_30 = copying Choosing 2 (Some 24) false
@@ -467,10 +467,10 @@ abbrev copier_31 : Copier
 copier_31 = copying (Spanning 31 1) 2 (Some 24) false
 
 abbrev copier_32 : Copier
-copier_32 = copying (Copying (record { told = 32; keys = 1; is_last = true }) 0) 2 (Some 24) false
+copier_32 = copying (Copying (record { reported = 32; keys = 1; is_last = true }) 0) 2 (Some 24) false
 
 abbrev copier_33 : Copier
-copier_33 = copying (copies.Committing (record { told = 32; keys = 1; is_last = true })) 2 (Some 24) false
+copier_33 = copying (copies.Committing (record { reported = 32; keys = 1; is_last = true })) 2 (Some 24) false
 
 abbrev copier_34 : Copier
 copier_34 = copying Choosing 3 (Some 32) true
@@ -753,7 +753,7 @@ start_101 =
         two = refl;
       };
       named = refl;
-      behind = refl;
+      following = refl;
       choosing = refl;
       sized = grind (arith);
       reading = refl;

@@ -10,7 +10,7 @@ use Rattle.base_values.specs.declared.row_conversion.clause.Clause.{Clause}
 use Rattle.base_values.specs.declared.row_conversion.clause.Clause.TheVariants as clauses
 use Rattle.base_values.specs.declared.row_conversion.clause.ColumnPosition.TheVariants.{Unsaid}
 use Rattle.base_values.specs.declared.row_conversion.map.Origin.TheVariants as from
-use Rattle.sql_change.specs.Altering.{altered}
+use Rattle.sql_change.specs.AlteredSchema.{altered}
 use Rattle.proof_schemas.proofs.Alters.ConvertedRowTables.{clustered_keys_kept}
 use Rattle.proof_schemas.proofs.Alters.KeepingKeys.{stay_apart}
 use Rattle.proof_schemas.proofs.Alters.TableNames.{keep_names}
@@ -18,16 +18,16 @@ use Rattle.table_store.specs.Databases.{TableRows}
 use Rattle.server_model.specs.declared.entry.Entry.{Entry}
 use Rattle.plan_data.specs.PlanData.{Altered}
 use Rattle.tool_program.specs.JournalWords.Journals.{IsFaithful, state_at}
-use Rattle.tool_program.specs.JournalWords.Keeping.{KeepsPlan}
+use Rattle.tool_program.specs.JournalWords.KeptPlans.{KeepsPlan}
 use Rattle.tool_program.specs.JournalWords.Sessions.{KeepsSessions}
 use Rattle.tool_program.specs.Programs.{Follows}
-use Rattle.tool_program.specs.Tools.{Course, Migrating, Work, moment, new_work}
+use Rattle.tool_program.specs.Tools.{ToolPhase, Migrating, Work, moment, new_work}
 use Rattle.proof_journals.specs.Plans as plans
 use Rattle.proof_journals.specs.Plans.{IsSerialPlan}
 use Rattle.proof_journals.specs.Ghost.Copies.{IsAltered}
 use Rattle.proof_migration.specs.Migration.Planning.{migration_of}
 use Rattle.proof_journals.specs.Run.Kept.{IsKept}
-use Rattle.proof_migration.specs.Course.Runnable.{IsAlterable, IsWorded}
+use Rattle.proof_migration.specs.ToolPhase.Runnable.{IsAlterable, IsWorded}
 use Rattle.proof_migration.specs.Program.Turns.Laws.{IsMark}
 use Rattle.proof_migration.specs.Program.Laws.{FollowersAlter}
 use Rattle.test_worked.proofs.Computing.{computing}
@@ -240,15 +240,15 @@ kept = record { faithful = faithful; planned = planned; follows = follows; sessi
 
 -- THE MARK
 
-abbrev work_of : Course → Work
+abbrev work_of : ToolPhase → Work
 work_of (Migrating work) = work
-work_of course = new_work plan_after_chunk 0 0 None
+work_of tool_phase = new_work plan_after_chunk 0 0 None
 
 mark : IsMark plan_after_chunk journal_to_mark
 unfolding computing
 mark = record {
-  work = work_of (moment plan_after_chunk journal_to_mark).tool.course;
-  course = refl;
+  work = work_of (moment plan_after_chunk journal_to_mark).tool.tool_phase;
+  tool_phase = refl;
   going = refl;
   unaltered = refl;
   copied = refl;

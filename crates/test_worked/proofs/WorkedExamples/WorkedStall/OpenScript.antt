@@ -19,7 +19,7 @@ use Rattle.tool_program.specs.Orders.{actors, is_ready}
 use Rattle.tool_program.specs.Programs.{Follows}
 use Rattle.tool_program.specs.Tools.{moment}
 use Rattle.tool_program.specs.Verdicts.{has_ended}
-use Rattle.proof_migration.specs.Course.Ready.{IsStuck}
+use Rattle.proof_migration.specs.ToolPhase.Ready.{IsStuck}
 use Rattle.test_worked.proofs.Computing.{computing}
 
 abbrev plan_open_script : PlanData
@@ -72,6 +72,6 @@ goes_on : has_ended plan_open_script journal_open_script ≡ false
 unfolding computing
 goes_on = refl
 
-not_stuck : IsStuck plan_open_script (moment plan_open_script journal_open_script) (moment plan_open_script journal_open_script).tool.course → ⊥
+not_stuck : IsStuck plan_open_script (moment plan_open_script journal_open_script) (moment plan_open_script journal_open_script).tool.tool_phase → ⊥
 unfolding computing
 not_stuck stuck = stuck

@@ -5,4 +5,4 @@ use Rattle.top_call.proofs.Words.{allowed}
 use Rattle.top_call.proofs.top.come_to.Goals as goal
 
 pub come_under-requires-after_bounds : goal.come_under-requires-after_bounds
-come_under-requires-after_bounds g c κs within = subst (λ (told : Option Command). IfSome told HasWorkers) (sym c.in-Ok.ensures) (allowed c.args.line.now)
+come_under-requires-after_bounds g c κs within = subst (λ (chosen : Option Command). IfSome chosen HasWorkers) (sym c.in-Ok.ensures) (allowed c.args.line.now)

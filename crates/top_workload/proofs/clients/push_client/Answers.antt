@@ -2,7 +2,7 @@ use Rattle.std.proofs.Common.{◌≡◌, ◌+◌, ◌*◌, ◌++◌, codes, refl
 use Rattle.std.proofs.lemmas.Result.{on_ok_weaker}
 use Rattle.top_workload.specs.Draws.{state_after}
 use Rattle.top_workload.specs.Workloads.{statement_text, client_line}
-use Rattle.top_workload.proofs.States.{behind}
+use Rattle.top_workload.proofs.States.{following}
 use Rattle.top_workload.proofs.Lines.{text_more, client_all}
 use Rattle.top_workload.proofs.clients.push_client.Goals as goal
 
@@ -16,7 +16,7 @@ loop-line-preserved c =
     record {
       text_is = text_more (client_line c.args.rows c.args.draws.now.state) (c.args.into.now ++ codes "\"\"\"\n") c.loop-line.into c.push_drawn.new.into c.loop-line._line c.loop-line.invariant.text_is
           (c.in_ok-push_drawn.ensures.text ∙ ap (λ s. c.loop-line.into ++ statement_text c.args.rows s) c.loop-line.invariant.state_is);
-      state_is = c.in_ok-push_drawn.ensures.state ∙ ap (λ s. state_after s 2) c.loop-line.invariant.state_is ∙ behind c.args.draws.now.state (2 * c.loop-line._line) 2 ∙ ap (λ n. state_after c.args.draws.now.state n) next;
+      state_is = c.in_ok-push_drawn.ensures.state ∙ ap (λ s. state_after s 2) c.loop-line.invariant.state_is ∙ following c.args.draws.now.state (2 * c.loop-line._line) 2 ∙ ap (λ n. state_after c.args.draws.now.state n) next;
     }
 
 pub returns-clause-text : goal.returns-clause-text

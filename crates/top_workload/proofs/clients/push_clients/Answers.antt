@@ -2,7 +2,7 @@ use Rattle.std.proofs.Common.{◌≡◌, ◌+◌, ◌*◌, ◌++◌, ap, ◌∙�
 use Rattle.std.specs.List.{flat_map, range_with_len}
 use Rattle.top_workload.specs.Draws.{state_after}
 use Rattle.top_workload.specs.Workloads.{row_count, client_count, client_text, client_at, clients_text}
-use Rattle.top_workload.proofs.States.{behind}
+use Rattle.top_workload.proofs.States.{following}
 use Rattle.top_workload.proofs.Lines.{text_more}
 use Rattle.top_workload.proofs.clients.push_clients.Goals as goal
 
@@ -14,7 +14,7 @@ loop-client-preserved c =
           (c.in_ok-push_client.ensures.text ∙ ap (λ r. c.loop-client.into ++ client_text r c.loop-client.draws.state) c.row_count-rows.ensures
           ∙ ap (λ s. c.loop-client.into ++ client_text (row_count c.args.number) s) c.loop-client.invariant.state_is);
       state_is = c.in_ok-push_client.ensures.state ∙ ap (λ s. state_after s 60) c.loop-client.invariant.state_is
-          ∙ behind c.args.number (row_count c.args.number + 60 * c.loop-client._client) 60 ∙ ap (λ n. state_after c.args.number n) next;
+          ∙ following c.args.number (row_count c.args.number + 60 * c.loop-client._client) 60 ∙ ap (λ n. state_after c.args.number n) next;
     }
 
 pub returns : goal.returns

@@ -1,5 +1,5 @@
 use Rattle.std.proofs.Common.{◌∙◌, ap, arith}
-use Rattle.extra_event_codec.specs.TxnCosts.Fitting.{is_event_name}
+use Rattle.extra_event_codec.specs.TxnCosts.Encodable.{is_event_name}
 use Rattle.extra_event_codec.proofs.TxnCosts.Fits.{name_short}
 use Rattle.extra_event_codec.proofs.txn_costs.fit.is_event_name.Goals as goal
 

@@ -1,5 +1,5 @@
 use Rattle.std.proofs.Common.{◌≡◌, ◌+◌, drop, length}
-use Rattle.extra_event_codec.specs.Encoding.{values_bytes}
+use Rattle.extra_event_codec.specs.Encodings.{values_bytes}
 use Rattle.extra_event_codec.proofs.txn_costs.fit.size_after.Given as goal
 
 -- the size so far, with that of the rest, is that of all

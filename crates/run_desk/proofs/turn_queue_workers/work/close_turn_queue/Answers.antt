@@ -15,7 +15,7 @@ close-requires-clause-passes g c =
 
 pub returns-clause-members : goal.returns-clause-members
 returns-clause-members g c =
-    subst (All (IsMember c.args.turn_queue)) (sym (ap (λ passes. passes.items) c.of-told.ensures ∙ c.passes_of-passes.ensures))
+    subst (All (IsMember c.args.turn_queue)) (sym (ap (λ passes. passes.items) c.of-reported.ensures ∙ c.passes_of-passes.ensures))
     (All-map (IsMember c.args.turn_queue) (λ (worker : Worker g.row.B.Denot g.row.B-Opening.Denot g.row.B-Event.Denot). worker.pass) c.args.workers.items c.requires.members)
 
 pub returns-clause-over : goal.returns-clause-over

@@ -13,7 +13,7 @@ loop-turn-init g c = record {
 
 pub returns-clause-over : goal.returns-clause-over
 returns-clause-over g c =
-    let told : c.options-limit.result.turn_limit ≡ c.plan.result.now.options.turn_limit = ap (λ (o : Options). o.turn_limit) c.options-limit.ensures in
+    let reported : c.options-limit.result.turn_limit ≡ c.plan.result.now.options.turn_limit = ap (λ (o : Options). o.turn_limit) c.options-limit.ensures in
     let limit : c.plan.result.now.options.turn_limit ≡ c.loop-turn.run.plan.options.turn_limit = ap (λ (p : PlanData). p.options.turn_limit) (c.plan.ensures ∙ sym c.loop-turn.invariant.plan) in
-    let full : c.loop-turn.run.plan.options.turn_limit ≤ length c.loop-turn.run.journal = omega (arith, told, limit, c.loop-turn.invariant.count, c.loop-turn-test.false) in
+    let full : c.loop-turn.run.plan.options.turn_limit ≤ length c.loop-turn.run.journal = omega (arith, reported, limit, c.loop-turn.invariant.count, c.loop-turn-test.false) in
     λ same. full_over c.loop-turn.run.plan c.loop-turn.run.journal full

@@ -1,10 +1,10 @@
 use Rattle.std.proofs.Common.{◌≡◌, ℕ, ◌≤◌, length}
 use Rattle.run_turns.specs.Runs.{RunView}
-use Rattle.run_replay.specs.declared.whole_replay.place.Place.{Place}
+use Rattle.run_replay.specs.declared.whole_replay.place.OrderPlace.{OrderPlace}
 use Rattle.run_replay.specs.WholeReplay.Replays.{IsReplaying}
 use Rattle.run_replay.proofs.whole_replay.replays.replay.Given as goal
 
-pub record Replaying (before now : RunView) (place : Place) (turn : ℕ) : Type 0 where
+pub record Replaying (before now : RunView) (place : OrderPlace) (turn : ℕ) : Type 0 where
   pub replaying : IsReplaying now place
   pub plan : now.plan ≡ before.plan
   pub count : turn ≤ length now.journal

@@ -1,5 +1,5 @@
 use Rattle.std.proofs.Common.{◌≡◌, drop}
-use Rattle.tool_program.specs.JournalWords.Keeping.{cut_among, cut_due}
+use Rattle.tool_program.specs.JournalWords.KeptPlans.{cut_among, cut_due}
 use Rattle.run_state.proofs.run_state.RunState.cut_due.Given as goal
 
 -- none of the losses so far can be taken

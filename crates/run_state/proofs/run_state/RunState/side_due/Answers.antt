@@ -1,7 +1,7 @@
 use Rattle.std.proofs.Common.{rules, ◌≡◌, ◌≤◌, ℕ, ◌+◌, ◌∙◌, ap, length, List, arith}
 use Rattle.run_actors.specs.declared.actor_state.ActorState.{ActorState}
 use Rattle.tool_program.specs.JournalWords.Journals.{turns_of}
-use Rattle.tool_program.specs.JournalWords.Keeping.{struck_among}
+use Rattle.tool_program.specs.JournalWords.KeptPlans.{struck_among}
 use Rattle.run_state.specs.Books.{actor_state_in, turns_in}
 use Rattle.run_state.proofs.ActorStates.{planned_actor_state, turns_few}
 use Rattle.run_state.proofs.run_state.RunState.side_due.Goals as goal

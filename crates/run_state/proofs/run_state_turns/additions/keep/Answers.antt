@@ -34,5 +34,5 @@ returns-clause-run_state c =
       clients = search rules;
       load = search rules;
       busy = search rules;
-      altered = let told : c.is_alter_turn-alters.result ≡ list_any is_alter (entry_adds c.args.run_state.now.plan.now c.args.run_state.now.journal.items c.args.entry.now) = c.is_alter_turn-alters.ensures c.args.run_state.now.plan.now c.args.run_state.now.journal.items (search rules) (search (rules, renames_is)) in search rules;
+      altered = let facts : c.is_alter_turn-alters.result ≡ list_any is_alter (entry_adds c.args.run_state.now.plan.now c.args.run_state.now.journal.items c.args.entry.now) = c.is_alter_turn-alters.ensures c.args.run_state.now.plan.now c.args.run_state.now.journal.items (search rules) (search (rules, renames_is)) in search rules;
     })

@@ -1,7 +1,7 @@
 use Rattle.std.proofs.Common.{List, sym, subst}
 use Rattle.server_model.specs.declared.entry.Entry.{Entry}
 use Rattle.plan_data.specs.PlanData.{PlanData}
-use Rattle.run_turns.specs.RunTurns.Running.{IsRun}
+use Rattle.run_turns.specs.RunTurns.Invariants.{IsRun}
 use Rattle.run_turns.proofs.RunTurns.Served.{run_begin}
 use Rattle.run_turns.proofs.run.Run.open.Goals as goal
 

@@ -5,7 +5,7 @@ use Rattle.server_model.specs.States.{has_work}
 use Rattle.tool_program.specs.JournalWords.Journals.{after_entry}
 use Rattle.tool_program.specs.JournalWords.Sessions.{live_session}
 use Rattle.run_turns.specs.declared.due_turns.migration_run.turns.Taken.{Taken}
-use Rattle.run_turns.specs.DueTurns.MigrationRun.Turning.{session_for, entry_on}
+use Rattle.run_turns.specs.DueTurns.MigrationRun.ServerTurns.{session_for, entry_on}
 use Rattle.run_turns.specs.DueTurns.Due.{session_at, next_entry}
 use Rattle.run_turns.proofs.RunTurns.Served.{session_is, command_session, command_still, command_side, run_state_counts, may_turn, entry_of_command, entry_of_session, session_of_entry}
 use Rattle.run_turns.proofs.run_turns.answers.serve_turn.Goals as goal

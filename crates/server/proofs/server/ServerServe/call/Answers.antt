@@ -1,4 +1,4 @@
-use Rattle.server_model.specs.Serving.{calls}
+use Rattle.server_model.specs.PlainServer.{calls}
 use Rattle.proof_journals.proofs.ServerFacts.Calls.{calls_serve}
 use Rattle.server.specs.Parts.{state_of}
 use Rattle.server.proofs.Polling.{served_together}

@@ -1,4 +1,4 @@
-use Rattle.server_model.specs.Serving.{leaves}
+use Rattle.server_model.specs.PlainServer.{leaves}
 use Rattle.proof_journals.proofs.ServerFacts.Calls.{losses_serve}
 use Rattle.server.specs.Parts.{state_of}
 use Rattle.server.proofs.Polling.{served_together}

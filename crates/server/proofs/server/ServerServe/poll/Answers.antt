@@ -1,4 +1,4 @@
-use Rattle.server_model.specs.Serving.{polls}
+use Rattle.server_model.specs.PlainServer.{polls}
 use Rattle.proof_journals.proofs.ServerFacts.Calls.{polls_serve}
 use Rattle.server.specs.Parts.{state_of}
 use Rattle.server.proofs.Polling.{served_together}

@@ -1,5 +1,5 @@
 use Rattle.std.proofs.Common.{◌≡◌, ◌++◌, drop}
-use Rattle.server_model.specs.Needing.{points_from}
+use Rattle.server_model.specs.Needs.{points_from}
 use Rattle.server_execute.proofs.statement_work.locks.push_each.Given as goal
 
 -- the locks so far, and those of the keys that are left

@@ -1,5 +1,5 @@
 use Rattle.std.proofs.Common.{◌≡◌, ◌++◌, drop}
-use Rattle.server_model.specs.Needing.{points_of}
+use Rattle.server_model.specs.Needs.{points_of}
 use Rattle.server_execute.proofs.statement_work.locks.push_points_of.Given as goal
 
 -- the locks so far, and those of the rows that are left

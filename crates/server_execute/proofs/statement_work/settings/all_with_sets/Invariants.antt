@@ -1,5 +1,5 @@
 use Rattle.std.proofs.Common.{◌≡◌, map, take}
-use Rattle.server_model.specs.Saying.{with_sets}
+use Rattle.server_model.specs.StatementResults.{with_sets}
 use Rattle.server_execute.proofs.statement_work.settings.all_with_sets.Given as goal
 
 -- the new rows so far

@@ -1,5 +1,5 @@
 use Rattle.std.proofs.Common.{◌≡◌, not, false, filter, take}
-use Rattle.server_locks.specs.MetadataLocks.Granting.{holds}
+use Rattle.server_locks.specs.MetadataLocks.Grants.{holds}
 use Rattle.server_locks.specs.MetadataLocks.Requests.{all_locks}
 use Rattle.server_locks.proofs.metadata_locks.grants.lacked.Given as goal
 

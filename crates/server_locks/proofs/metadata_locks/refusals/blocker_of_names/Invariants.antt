@@ -1,5 +1,5 @@
 use Rattle.std.proofs.Common.{◌≡◌, drop}
-use Rattle.server_locks.specs.MetadataLocks.Granting.{blocker_of_names}
+use Rattle.server_locks.specs.MetadataLocks.Grants.{blocker_of_names}
 use Rattle.server_locks.specs.LeastSession.Least.{least}
 use Rattle.server_locks.specs.MetadataLocks.Requests.{all_locks}
 use Rattle.server_locks.proofs.metadata_locks.refusals.blocker_of_names.Given as goal

@@ -1,5 +1,5 @@
 use Rattle.std.proofs.Common.{◌≡◌, drop}
-use Rattle.server_locks.specs.MetadataLocks.Granting.{holder_of}
+use Rattle.server_locks.specs.MetadataLocks.Grants.{holder_of}
 use Rattle.server_locks.specs.MetadataLocks.Requests.{all_locks}
 use Rattle.server_locks.proofs.metadata_locks.refusals.holder_of.Given as goal
 

@@ -1,5 +1,5 @@
 use Rattle.std.proofs.Common.{◌≡◌, drop}
-use Rattle.server_locks.specs.MetadataLocks.Granting.{least_waiter}
+use Rattle.server_locks.specs.MetadataLocks.Grants.{least_waiter}
 use Rattle.server_locks.specs.LeastSession.Least.{least}
 use Rattle.server_locks.proofs.metadata_locks.refusals.least_waiter.Given as goal
 

@@ -1,5 +1,5 @@
 use Rattle.std.proofs.Common.{[], ap, sym}
-use Rattle.server_locks.specs.MetadataLocks.Granting.{before}
+use Rattle.server_locks.specs.MetadataLocks.Grants.{before}
 use Rattle.server_locks.proofs.metadata_locks.waits.ahead_of.Goals as goal
 
 pub returns-in-Some : goal.returns-in-Some

@@ -1,5 +1,5 @@
 use Rattle.std.proofs.Common.{◌≡◌, take, map}
-use Rattle.server_locks.specs.RowLocks.Holding.{held_by}
+use Rattle.server_locks.specs.RowLocks.LockTable.{held_by}
 use Rattle.server_locks.proofs.row_locks.lock.held_by.Given as goal
 
 -- the locks so far are copied

@@ -1,5 +1,5 @@
 use Rattle.std.proofs.Common.{◌≡◌, drop}
-use Rattle.server_locks.specs.RowLocks.Granting.{blocker_of_set}
+use Rattle.server_locks.specs.RowLocks.Grants.{blocker_of_set}
 use Rattle.server_locks.specs.LeastSession.Least.{least}
 use Rattle.server_locks.proofs.row_locks.refusals.blocker_of_set.Given as goal
 

@@ -1,5 +1,5 @@
 use Rattle.std.proofs.Common.{◌≡◌, drop}
-use Rattle.server_locks.specs.MetadataLocks.Granting.{blocker_of_names}
+use Rattle.server_locks.specs.MetadataLocks.Grants.{blocker_of_names}
 use Rattle.server_model.specs.States.{names_held, waiters}
 use Rattle.server_sessions.proofs.session_locks.blockers.blocker_of_names.Given as goal
 use Rattle.server_locks.specs.LeastSession.Least.{least}

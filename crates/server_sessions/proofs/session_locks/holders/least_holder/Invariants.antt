@@ -1,5 +1,5 @@
 use Rattle.std.proofs.Common.{◌≡◌, drop}
-use Rattle.server_locks.specs.MetadataLocks.Granting.{least_holder}
+use Rattle.server_locks.specs.MetadataLocks.Grants.{least_holder}
 use Rattle.server_model.specs.States.{names_held}
 use Rattle.server_sessions.proofs.session_locks.holders.least_holder.Given as goal
 use Rattle.server_locks.specs.LeastSession.Least.{least}

@@ -1,6 +1,6 @@
 use Rattle.std.proofs.Common.{◌≡◌, true, false, sym, ◌∙◌}
 use Rattle.std.specs.List.{list_any}
-use Rattle.server_locks.specs.RowLocks.Granting.{conflict}
+use Rattle.server_locks.specs.RowLocks.Grants.{conflict}
 use Rattle.server_sessions.proofs.SessionLocks.RowHolders.{blocker_own, blocker_other, blocker_free}
 use Rattle.server_sessions.proofs.session_locks.rows.blocker.Goals as goal
 

@@ -1,5 +1,5 @@
 use Rattle.std.proofs.Common.{◌≡◌, drop}
-use Rattle.server_locks.specs.RowLocks.Granting.{blocker_of_lock}
+use Rattle.server_locks.specs.RowLocks.Grants.{blocker_of_lock}
 use Rattle.server_model.specs.States.{locks_held}
 use Rattle.server_sessions.proofs.session_locks.rows.blocker_of_lock.Given as goal
 use Rattle.server_locks.specs.LeastSession.Least.{least}

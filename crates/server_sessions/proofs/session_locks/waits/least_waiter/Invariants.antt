@@ -1,5 +1,5 @@
 use Rattle.std.proofs.Common.{◌≡◌, drop}
-use Rattle.server_locks.specs.MetadataLocks.Granting.{least_waiter}
+use Rattle.server_locks.specs.MetadataLocks.Grants.{least_waiter}
 use Rattle.server_model.specs.States.{waiters}
 use Rattle.server_sessions.proofs.session_locks.waits.least_waiter.Given as goal
 use Rattle.server_locks.specs.LeastSession.Least.{least}

@@ -23,6 +23,6 @@ returns-else-place-len c =
     let txns = c.args.txns.now.items in
     let place_is : c.place_of-place.result ≡ position_or_len (is_of c.args.session) c.args.txns.now.items = c.place_of-place.ensures ∙ ap (λ (ts : List OpenTxn). position_or_len (is_of c.args.session) ts) c.as_slice.ensures.value in
     let many : length c.args.txns.now.items ≡ vec_len c.args.txns.now = ap length (sym c.as_slice.ensures.value) ∙ c.as_slice.ensures.len in
-    let behind : length c.args.txns.now.items ≤ c.place_of-place.result = omega (arith, many, c.len.ensures, c.if-place-len.false) in
-    let none : txn_of c.args.session c.args.txns.now.items ≡ None = none_there c.args.session txns c.place_of-place.result place_is behind in
+    let following : length c.args.txns.now.items ≤ c.place_of-place.result = omega (arith, many, c.len.ensures, c.if-place-len.false) in
+    let none : txn_of c.args.session c.args.txns.now.items ≡ None = none_there c.args.session txns c.place_of-place.result place_is following in
     record { txn = sym (ap (option_map (λ (o : OpenTxn). o.txn)) none); others = sym (all_others c.args.session txns none) }

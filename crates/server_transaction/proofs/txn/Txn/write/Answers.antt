@@ -3,7 +3,7 @@ use Rattle.std.specs.Prelude.{vec_len, vec_capacity}
 use Rattle.std.proofs.lemmas.List.{map-append, length-map}
 use Rattle.base_values.specs.GhoSchema.Rows.{key_places}
 use Rattle.base_values.specs.declared.event.RowEvent.{RowEvent}
-use Rattle.server_model.specs.Jobs.{events_of}
+use Rattle.server_model.specs.Operations.{events_of}
 use Rattle.server_seen.specs.Written.{Written}
 use Rattle.server_transaction.specs.declared.keyed.KeyedEvent.{KeyedEvent}
 use Rattle.server_transaction.specs.Shown.{find_writes}

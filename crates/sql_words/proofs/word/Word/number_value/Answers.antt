@@ -1,6 +1,6 @@
 use Rattle.std.proofs.Common.{◌≡◌, refl, true, Some, ap, sym, ◌∙◌}
 use Rattle.std.specs.Result.{result_ok}
-use Rattle.sql_words.specs.Meaning.{is_number, signed, number_value}
+use Rattle.sql_words.specs.Meanings.{is_number, signed, number_value}
 use Rattle.sql_words.proofs.Numbers.{number_parsed}
 use Rattle.sql_words.proofs.word.Word.number_value.Goals as goal
 

@@ -1,5 +1,5 @@
 use Rattle.std.proofs.Common.{◌≡◌, ◌++◌, drop}
-use Rattle.tool_program.specs.EventApplier.Planning.{key_sets}
+use Rattle.tool_program.specs.EventApplier.BatchPlans.{key_sets}
 use Rattle.tool_program.proofs.event_applier.statements.by_key.Given as goal
 
 -- the columns so far, and those at the places that are left

@@ -4,7 +4,7 @@ use Rattle.server_model.specs.declared.outcome.Verdict.{Verdict}
 use Rattle.run_turns.specs.Runs.{RunView}
 use Rattle.top_call.specs.WholeReplays.Replays.{IsEnd}
 use Rattle.top_call.proofs.WholeReplays.WholeRuns.{with_end}
-use Rattle.top_call.proofs.PlanWorks.WholeWorks.{whole_of, told_end}
+use Rattle.top_call.proofs.PlanWorks.WholeWorks.{whole_of, reported_end}
 use Rattle.top_call.proofs.plan_works.work.work_plan.Goals as goal
 
 pub open-requires-clause-runs : goal.open-requires-clause-runs
@@ -19,6 +19,6 @@ returns-clause-run g c =
 pub returns-clause-end : goal.returns-clause-end
 returns-clause-end g c =
     with_end c.end_with.result (λ end. end.verdict) (λ end. g.V.Serve.state end.server) c.verdict_after-verdict.result (g.V.Serve.state c.stop-server.result.0) (λ (verdict : Verdict) (state : State). IsEnd c.args.plan.now c.stop-server.result.1 verdict state) c.end_with.ensures.end
-    (told_end c.args.plan.now c.in_ok-opened.opened.plan c.in_ok-ran.ran.run c.stop-server.result.1 (ap (λ (run : RunView). run.plan) c.in_ok-opened.ensures) c.in_ok-ran.ensures.plan c.stop-server.ensures.turns
+    (reported_end c.args.plan.now c.in_ok-opened.opened.plan c.in_ok-ran.ran.run c.stop-server.result.1 (ap (λ (run : RunView). run.plan) c.in_ok-opened.ensures) c.in_ok-ran.ensures.plan c.stop-server.ensures.turns
     c.in_ok-ran.ran.ending c.verdict_after-verdict.result (g.V.Serve.state c.stop-server.result.0) c.verdict_after-verdict.ensures.verdict c.verdict_after-verdict.ensures.over c.in_ok-ran.ensures.over c.in_ok-ran.ensures.server
     c.stop-server.ensures.server)

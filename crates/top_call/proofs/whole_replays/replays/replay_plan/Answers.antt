@@ -3,7 +3,7 @@ use Rattle.server_model.specs.States.{State}
 use Rattle.server_model.specs.declared.outcome.Verdict.{Verdict}
 use Rattle.run_turns.specs.Runs.{RunView}
 use Rattle.top_call.specs.WholeReplays.Replays.{IsEnd}
-use Rattle.top_call.proofs.WholeReplays.WholeRuns.{told_end, whole_of, with_end}
+use Rattle.top_call.proofs.WholeReplays.WholeRuns.{reported_end, whole_of, with_end}
 use Rattle.top_call.proofs.whole_replays.replays.replay_plan.Goals as goal
 
 pub open-requires-clause-runs : goal.open-requires-clause-runs
@@ -17,6 +17,6 @@ returns-clause-replay g c =
 pub returns-clause-end : goal.returns-clause-end
 returns-clause-end g c =
     with_end c.end_with.result (λ end. end.verdict) (λ end. g.V.Serve.state end.server) c.verdict_after-verdict.result (g.V.Serve.state c.stop-server.result.0) (λ (verdict : Verdict) (state : State). IsEnd c.args.plan.now c.stop-server.result.1 verdict state) c.end_with.ensures.end
-    (told_end c.accepted_runs_go_on.ensures.going c.args.plan.now c.replay-replayed.new.run c.stop-server.result.1 c.replay-replayed.result c.verdict_after-verdict.result (g.V.Serve.state c.stop-server.result.0)
+    (reported_end c.accepted_runs_go_on.ensures.going c.args.plan.now c.replay-replayed.new.run c.stop-server.result.1 c.replay-replayed.result c.verdict_after-verdict.result (g.V.Serve.state c.stop-server.result.0)
     (c.replay-replayed.ensures.plan ∙ ap (λ (run : RunView). run.plan) c.in_ok-run.ensures) c.stop-server.ensures.turns c.requires.read c.replay-replayed.ensures.replay c.journal-in_sessions.ensures.sessions
     c.verdict_after-verdict.ensures.memory c.replay-replayed.ensures.over c.replay-replayed.ensures.stalled c.verdict_after-verdict.ensures.verdict c.stop-server.ensures.server c.replay-replayed.ensures.server)

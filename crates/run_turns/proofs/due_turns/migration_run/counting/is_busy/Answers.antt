@@ -1,7 +1,7 @@
 use Rattle.std.proofs.Common.{rules, ◌≡◌, true, false, not, sym, ap, ◌∙◌}
 use Rattle.server_model.specs.Entries.{is_client}
 use Rattle.server_model.specs.States.{session_of, is_in_transaction, is_waiting}
-use Rattle.proof_journals.specs.Run.Counting.{weight}
+use Rattle.proof_journals.specs.Run.Counts.{weight}
 use Rattle.run_turns.proofs.DueTurns.MigrationRun.Weights.{busies, busy_at}
 use Rattle.run_turns.proofs.due_turns.migration_run.counting.is_busy.Goals as goal
 

@@ -1,13 +1,13 @@
 use Rattle.std.proofs.Common.{◌≡◌}
-use Rattle.server_model.specs.Serving.{loses}
+use Rattle.server_model.specs.PlainServer.{loses}
 use Rattle.std.proofs.Common.{ap, ◌∙◌}
 use Rattle.server_model.specs.States.{State}
 use Rattle.run_turns.proofs.DueTurns.MigrationRun.Connecting.{closes, made_lost, on_ok}
 use Rattle.run_turns.proofs.due_turns.migration_run.opening.close_session.Goals as goal
 
 pub returns-clause-left : goal.returns-clause-left
-returns-clause-left g c = λ told tool none idle behind.
-    closes told (g.V.Serve.state c.args.server.now) (g.V.Serve.state c.lose.new.self) c.args.session tool none idle behind
+returns-clause-left g c = λ reported tool none idle following.
+    closes reported (g.V.Serve.state c.args.server.now) (g.V.Serve.state c.lose.new.self) c.args.session tool none idle following
     (on_ok c.lose.result (g.V.Serve.state c.lose.new.self ≡ loses c.args.session (g.V.Serve.state c.args.server.now)) c.lose.ensures.ok (c.lose.ensures.free (λ e. cc)))
 
 pub returns-clause-made : goal.returns-clause-made

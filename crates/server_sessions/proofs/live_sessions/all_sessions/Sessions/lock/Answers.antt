@@ -1,5 +1,5 @@
 use Rattle.std.proofs.Common.{refl}
-use Rattle.server_model.specs.Serving.{locking}
+use Rattle.server_model.specs.PlainServer.{locking}
 use Rattle.server_model.specs.States.{with_session}
 use Rattle.server_sessions.proofs.LiveSessions.Ready.{ready_either, ready_same}
 use Rattle.server_sessions.proofs.live_sessions.all_sessions.Sessions.lock.Goals as goal

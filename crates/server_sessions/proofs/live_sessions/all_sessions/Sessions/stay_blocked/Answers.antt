@@ -1,5 +1,5 @@
 use Rattle.std.proofs.Common.{◌+◌, ◌<◌, arith}
-use Rattle.server_model.specs.Serving.{limit_if}
+use Rattle.server_model.specs.PlainServer.{limit_if}
 use Rattle.server_model.specs.States.{is_of_tool, session_of}
 use Rattle.server_sessions.proofs.LiveSessions.Polls.{polls_under}
 use Rattle.server_sessions.proofs.LiveSessions.Ready.{ready_counts, ready_forgets}

@@ -1,5 +1,5 @@
 use Rattle.std.proofs.Common.{refl}
-use Rattle.server_model.specs.Serving.{unlocking}
+use Rattle.server_model.specs.PlainServer.{unlocking}
 use Rattle.server_sessions.proofs.LiveSessions.Ready.{ready_same}
 use Rattle.server_sessions.proofs.live_sessions.all_sessions.Sessions.unlock.Goals as goal
 

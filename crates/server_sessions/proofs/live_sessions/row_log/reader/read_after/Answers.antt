@@ -2,7 +2,7 @@ use Rattle.std.proofs.Common.{◌≡◌, ℕ, ◌+◌, ◌-◌, ◌<◌, ◌≤�
 use Rattle.std.proofs.lemmas.List.{length_push}
 use Rattle.server_model.specs.declared.answer.Answer.TheVariants as answers
 use Rattle.server_model.specs.States.{is_of}
-use Rattle.server_model.specs.Showing.{events_read}
+use Rattle.server_model.specs.Listings.{events_read}
 use Rattle.server_sessions.proofs.LiveSessions.RowLog.ReadEvents.{reads_on, starts, skips, takes, fills, ends}
 use Rattle.server_sessions.proofs.live_sessions.row_log.reader.read_after.Goals as goal
 

@@ -1,5 +1,5 @@
 use Rattle.std.proofs.Common.{◌≡◌, ◌<◌, ◌-◌, length}
-use Rattle.server_model.specs.Showing.{events_read}
+use Rattle.server_model.specs.Listings.{events_read}
 use Rattle.server_sessions.proofs.LiveSessions.RowLog.ReadEvents.{reads_on}
 use Rattle.server_sessions.proofs.live_sessions.row_log.reader.read_after.Given as goal
 

@@ -2,7 +2,7 @@ use Rattle.std.proofs.Common.{◌≡◌, refl}
 use Rattle.std.proofs.lemmas.Iterator.{YieldsList-from_slice}
 use Rattle.std.proofs.lemmas.Iterator.Consumers.{YieldsList-from_first}
 use Rattle.std.proofs.lemmas.Iterator.Search.{cmp_from_yields_List}
-use Rattle.base_values.specs.Comparing.{compare_values}
+use Rattle.base_values.specs.KeyOrder.{compare_values}
 use Rattle.table_store.proofs.paged_tables.row_pages.comparison.compare_key.Goals as goal
 
 pub returns : goal.returns

@@ -2,7 +2,7 @@ use Rattle.std.proofs.Common.{◌≡◌, true, false}
 use Rattle.base_page_list.specs.Pages.{flat}
 use Rattle.table_store.specs.RowLists.{is_at}
 use Rattle.table_store.specs.PagedTables.RowPages.RowOrders.{row_of, rows_of}
-use Rattle.table_store.specs.PagedTables.RowPages.Seeking.{wanted_key}
+use Rattle.table_store.specs.PagedTables.RowPages.KeyLookup.{wanted_key}
 use Rattle.table_store.proofs.PagedTables.RowPages.RowPlaces.{key_fails_on, found_yes, found_no, found_none}
 use Rattle.table_store.proofs.paged_tables.row_pages.places.found.Goals as goal
 

@@ -5,7 +5,7 @@ use Rattle.std.proofs.lemmas.Option.{slice_get_past}
 use Rattle.base_page_list.specs.Pages.{flat, place_in}
 use Rattle.table_store.specs.RowLists.{is_at}
 use Rattle.table_store.specs.PagedTables.RowPages.RowOrders.{row_of, rows_of}
-use Rattle.table_store.specs.PagedTables.RowPages.Seeking.{wanted_key}
+use Rattle.table_store.specs.PagedTables.RowPages.KeyLookup.{wanted_key}
 use Rattle.table_store.proofs.PagedTables.RowPages.Ordered.{has_at}
 use Rattle.table_store.proofs.PagedTables.RowPages.RowPlaces.{Rows, row_at}
 use Rattle.table_store.proofs.PagedTables.RowPages.FirstRows.{none_besides, first_besides, next_yes, next_no, next_none}

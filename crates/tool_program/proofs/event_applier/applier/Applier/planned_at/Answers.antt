@@ -1,7 +1,7 @@
 use Rattle.std.proofs.Common.{ap, ◌∙◌, ◌≤◌, ◌-◌, ◌+◌, length, arith, drop}
 use Rattle.std.specs.List.{slice_get}
 use Rattle.tool_program.specs.EventApplier.Appliers.{planned}
-use Rattle.tool_program.specs.EventApplier.Planning.{event_doings}
+use Rattle.tool_program.specs.EventApplier.BatchPlans.{event_doings}
 use Rattle.tool_program.proofs.EventApplier.Walks.{found, passed, not_found}
 use Rattle.tool_program.proofs.event_applier.applier.Applier.planned_at.Goals as goal
 

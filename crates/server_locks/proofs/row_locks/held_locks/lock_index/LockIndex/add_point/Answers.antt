@@ -2,7 +2,7 @@ use Rattle.std.proofs.Common.{◌≡◌, true, Some, refl}
 use Rattle.std.specs.List.{slice_get}
 use Rattle.std.proofs.lemmas.Option.{slice_get_read}
 use Rattle.base_page_list.specs.Pages.{flat, place_in}
-use Rattle.server_locks.specs.RowLocks.Indexing.{is_point}
+use Rattle.server_locks.specs.RowLocks.LockIndex.{is_point}
 use Rattle.server_locks.proofs.RowLocks.LockIndex.{lock_fails_on, point_added}
 use Rattle.server_locks.proofs.row_locks.held_locks.lock_index.LockIndex.add_point.Goals as goal
 

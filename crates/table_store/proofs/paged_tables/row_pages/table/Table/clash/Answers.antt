@@ -3,7 +3,7 @@ use Rattle.std.specs.Option.{option_copied}
 use Rattle.base_values.specs.GhoSchema.Rows.{key_places}
 use Rattle.base_page_list.specs.Pages.{flat}
 use Rattle.table_store.specs.PagedTables.RowPages.RowOrders.{rows_of}
-use Rattle.table_store.specs.PagedTables.RowPages.Clashing.{by_key, earlier, clashes_at}
+use Rattle.table_store.specs.PagedTables.RowPages.Clashes.{by_key, earlier, clashes_at}
 use Rattle.table_store.proofs.Orders.{Row}
 use Rattle.table_store.proofs.PagedTables.RowPages.Indexing.{own_all}
 use Rattle.table_store.proofs.PagedTables.RowPages.TableClash.{clash_by_others, clash_by_both, listed_twice, none_by, some_by}

@@ -1,2 +1,0 @@
--- What a session of the tool's waits for, as its actor's answers tell it.
-pub mod Told

@@ -1,0 +1,11 @@
+-- Whose the server's sessions are, and how the tool's course goes on turn by turn.
+pub mod CopyAnswers
+pub mod ToolPhaseTurns
+pub mod Hearing
+pub mod Owners
+pub mod Runnable
+pub mod Unaltered
+pub mod Waits
+pub mod Marked
+pub mod Ready
+pub mod Chunks

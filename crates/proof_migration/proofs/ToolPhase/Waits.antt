@@ -1,0 +1,2 @@
+-- What a session of the tool's waits for, as its actor's answers tell it.
+pub mod Reported
