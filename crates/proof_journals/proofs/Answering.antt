@@ -24,7 +24,7 @@ use Rattle.std.specs.Prelude.{option_to_list}
 use Rattle.server_model.specs.Alone.{reply_of}
 use Rattle.proof_journals.specs.Scenes.{PlainItem, Stored, Scene, NamesTable, EventsMine, SessionHold, Going, no_hold, not_going, IsSteady, IsFine, Besides}
 use Rattle.server_model.specs.Alone.{stays, commit_was_done, is_commit, is_done, is_statement, line_says, line_events, line_replies}
-use Rattle.server_model.specs.LockedRows.Covering.{Apart}
+use Rattle.server_model.specs.LockedRows.Coverage.{Apart}
 use Rattle.proof_journals.proofs.Held.{hold_in, holding_face, rests_face, said_mine, mine_both}
 use Rattle.server_model.specs.Operations.{operation_of, statement_result, after_events}
 use Rattle.proof_journals.specs.Turns.{Adds, Ends, Breaks, line_outcome_answered}

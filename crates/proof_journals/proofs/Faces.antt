@@ -10,8 +10,8 @@ use Rattle.server_locks.specs.RowLocks.Grants.{conflict, refusal, blocker_of_loc
 use Rattle.server_locks.proofs.LeastSession.Sessions.{none_of, not_refused}
 use Rattle.server_locks.proofs.RowLocks.HeldLocks.{conflict_both_ways}
 use Rattle.server_model.specs.declared.session.Session.{Session}
-use Rattle.server_model.specs.LockedRows.Agreeing.{Among}
-use Rattle.server_model.specs.LockedRows.Covering.{Apart}
+use Rattle.server_model.specs.LockedRows.Agreement.{Among}
+use Rattle.server_model.specs.LockedRows.Coverage.{Apart}
 use Rattle.proof_journals.specs.Scenes.{Besides}
 use Rattle.proof_journals.specs.Holdings.{no_face, face_in, face_of}
 use Rattle.std.specs.Prelude.{is_some}

@@ -12,8 +12,8 @@ use Rattle.server_locks.proofs.RowLocks.HeldLocks.{conflict_both_ways}
 use Rattle.table_store.specs.Databases.{TableRows, Database, find_table, with_change}
 use Rattle.server_model.specs.declared.transaction.TxnEnd.{TxnEnd}
 use Rattle.server_model.specs.Alone.{stays, lines_run, nothing_ran, outcome_if, alone}
-use Rattle.server_model.specs.LockedRows.Agreeing.{Agree}
-use Rattle.server_model.specs.LockedRows.Covering.{Apart}
+use Rattle.server_model.specs.LockedRows.Agreement.{Agree}
+use Rattle.server_model.specs.LockedRows.Coverage.{Apart}
 use Rattle.server_model.specs.LockedRows.Databases.{IsWellFormedDatabase}
 use Rattle.server_model.specs.Operations.{after_events, change_table}
 use Rattle.server_model.specs.LockedRows.Stability.{RunSo}

@@ -8,7 +8,7 @@ use Rattle.table_store.specs.Databases.{TableRows, Database, find_table, has_tab
 use Rattle.table_store.specs.declared.renames.Pair.{Pair}
 use Rattle.table_store.specs.declared.renames.NotRenamed.TheVariants as reasons
 use Rattle.table_store.specs.declared.renames.NotRenamed.{NotRenamed}
-use Rattle.server_model.specs.LockedRows.Covering.{IsWellFormedTable}
+use Rattle.server_model.specs.LockedRows.Coverage.{IsWellFormedTable}
 use Rattle.server_model.specs.LockedRows.Databases.{WhereFound, IsWellFormedDatabase}
 use Rattle.server_model.specs.States.{pair_names}
 use Rattle.server_model.specs.Effects.{renamed_or}

@@ -2,7 +2,7 @@
 use Rattle.std.proofs.Common.{ℕ, Bool, true, false, List, [], ◌∷◌, cond, Some}
 use Rattle.std.specs.List.{AllByRecursion}
 use Rattle.table_store.specs.Databases.{TableRows, Database, find_table, is_named}
-use Rattle.server_model.specs.LockedRows.Covering.{IsWellFormedTable}
+use Rattle.server_model.specs.LockedRows.Coverage.{IsWellFormedTable}
 use Rattle.server_model.specs.LockedRows.Databases.{WhereFound, IsWellFormedDatabase}
 
 where_found : (P : TableRows → Type 0) (name : List ℕ) (tables : Database) → AllByRecursion P tables → WhereFound P (find_table name tables)

@@ -41,7 +41,7 @@ use Rattle.base_script.specs.declared.actor.Actor.TheVariants.{Insp, Client}
 use Rattle.std.proofs.lemmas.Bool.{false≢true, true≢false}
 use Rattle.std.specs.Str.{bytes_eq}
 use Rattle.server_model.specs.Along.{Along}
-use Rattle.server_model.specs.LockedRows.Covering.{IsWellFormedTable}
+use Rattle.server_model.specs.LockedRows.Coverage.{IsWellFormedTable}
 use Rattle.proof_journals.specs.Turns.{IsExchange, RenamesSo, IsAllowed, Turn, journal_of, kept_from, scene_state, goings_from, history}
 use Rattle.proof_journals.proofs.Exchanging.{exchange_alters}
 use Rattle.server_model.specs.declared.entry.Asked.{Asked}

@@ -16,7 +16,7 @@ use Rattle.base_script.specs.declared.script.ScriptWord.{ScriptWord}
 use Rattle.base_script.specs.declared.script.ScriptWord.TheVariants as words
 use Rattle.server_model.specs.declared.answer.Answer.{Answer}
 use Rattle.server_model.specs.declared.session.Session.{Session}
-use Rattle.server_model.specs.LockedRows.Covering.{Apart}
+use Rattle.server_model.specs.LockedRows.Coverage.{Apart}
 use Rattle.server_model.specs.Operations.{statement_result, operation_result, after_events, copy_operation}
 use Rattle.proof_journals.specs.Scenes.{PlainItem, Alter, Scene, seen, is_mine, AltersTo, NamesTable, Going, not_going, IsFine}
 use Rattle.proof_journals.specs.Turns.{LineOutcome, Still, Alters, ClientAsks, ToolAsks, AllOther, RenamesSo, DefinesSo, line_outcome_renamed, word_given, mark_lost, was_given, happens, is_busy}

@@ -20,8 +20,8 @@ use Rattle.base_script.specs.declared.statement.Statement.{Statement}
 use Rattle.server_model.specs.declared.session.Session.{Session}
 use Rattle.server_model.specs.declared.work.Work.TheVariants.{Copy}
 use Rattle.server_model.specs.Checks.{new_row}
-use Rattle.server_model.specs.LockedRows.Agreeing.{Within}
-use Rattle.server_model.specs.LockedRows.Covering.{Apart, IsWellFormedTable, IsSound}
+use Rattle.server_model.specs.LockedRows.Agreement.{Within}
+use Rattle.server_model.specs.LockedRows.Coverage.{Apart, IsWellFormedTable, IsSound}
 use Rattle.server_model.specs.LockedRows.Databases.{WhereFound, IsWellFormedDatabase, TaskSound}
 use Rattle.server_model.specs.Operations.{Operation, table_of, operation_of, statement_result, operation_result, operation_needs, row_needs, after_events, copy_from, copy_operation, copy_work}
 use Rattle.proof_journals.specs.Scenes.{PlainItem, Scene, seen, is_mine, Serial, SessionHold, Going, no_hold, not_going, IsFine, Besides}

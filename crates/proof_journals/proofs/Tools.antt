@@ -5,8 +5,8 @@ use Rattle.std.specs.Str.{bytes_eq}
 use Rattle.base_values.specs.declared.event.RowEvent.{RowEvent}
 use Rattle.server_locks.specs.declared.row_locks.lock.Lock.{Lock}
 use Rattle.table_store.specs.Databases.{TableRows, Database, find_table}
-use Rattle.server_model.specs.LockedRows.Agreeing.{TablesAgree, Agree, Within}
-use Rattle.server_model.specs.LockedRows.Covering.{IsSound}
+use Rattle.server_model.specs.LockedRows.Agreement.{TablesAgree, Agree, Within}
+use Rattle.server_model.specs.LockedRows.Coverage.{IsSound}
 use Rattle.server_model.specs.LockedRows.Databases.{TaskSound, IsWellFormedDatabase, WhereFound}
 use Rattle.server_model.specs.Operations.{Operation, operation_result, operation_needs, after_events}
 use Rattle.proof_journals.specs.Scenes.{IsSafe}

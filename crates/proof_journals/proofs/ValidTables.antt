@@ -4,7 +4,7 @@ use Rattle.std.specs.List.{AllByRecursion}
 use Rattle.base_values.specs.declared.gho_schema.schema.Column.{Column}
 use Rattle.base_values.specs.declared.gho_schema.schema.Schema.{Schema}
 use Rattle.base_values.specs.SchemaRules.Valid.{StoresDefault, IsColumn, IsValid}
-use Rattle.server_model.specs.LockedRows.Covering.{IsWellFormedTable}
+use Rattle.server_model.specs.LockedRows.Coverage.{IsWellFormedTable}
 use Rattle.plan_data.proofs.KeyedSchemas.{valid_keyed}
 
 defaults_fit : (columns : List Column) → AllByRecursion IsColumn columns → AllByRecursion (λ column. StoresDefault column column.default) columns

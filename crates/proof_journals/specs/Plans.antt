@@ -22,7 +22,7 @@ use Rattle.tool_program.specs.JournalWords.Sessions.{KeepsSessions}
 use Rattle.server_model.specs.declared.session.Limits.{Limits}
 use Rattle.server_model.specs.Along.{Along}
 use Rattle.tool_program.specs.JournalWords.Histories.{about, answer_in}
-use Rattle.server_model.specs.LockedRows.Covering.{IsWellFormedTable}
+use Rattle.server_model.specs.LockedRows.Coverage.{IsWellFormedTable}
 use Rattle.proof_journals.specs.Scenes.{Scene}
 use Rattle.proof_journals.specs.Turns.{ToolAsks, AtRest, RenamesSo}
 

@@ -11,8 +11,8 @@ use Rattle.base_script.specs.declared.script.ScriptWord.TheVariants as words
 use Rattle.server_model.specs.declared.transaction.EndedTxn.{EndedTxn}
 use Rattle.server_model.specs.declared.transaction.TxnLine.{TxnLine}
 use Rattle.server_model.specs.declared.transaction.Reply.{Reply}
-use Rattle.server_model.specs.LockedRows.Agreeing.{Agree}
-use Rattle.server_model.specs.LockedRows.Covering.{Apart}
+use Rattle.server_model.specs.LockedRows.Agreement.{Agree}
+use Rattle.server_model.specs.LockedRows.Coverage.{Apart}
 use Rattle.server_model.specs.LockedRows.Databases.{IsWellFormedDatabase, EventsCovered}
 use Rattle.server_model.specs.Operations.{table_of, after_events}
 use Rattle.server_model.specs.Alone.{alone}

@@ -19,7 +19,7 @@ use Rattle.server_model.specs.declared.transaction.Reply.TheVariants as replies
 use Rattle.server_model.specs.declared.session.Limits.{Limits}
 use Rattle.proof_journals.specs.Scenes.{Scene, is_mine, AltersTo, NamesTable, PlainItem, Txn, Alter, Going, not_going}
 use Rattle.server_model.specs.Along.{Along, gathered}
-use Rattle.server_model.specs.LockedRows.Covering.{IsWellFormedTable}
+use Rattle.server_model.specs.LockedRows.Coverage.{IsWellFormedTable}
 use Rattle.server_model.specs.LockedRows.Databases.{IsWellFormedDatabase}
 use Rattle.server_model.specs.Operations.{table_of}
 use Rattle.server_model.specs.declared.request.Request.TheVariants as requests

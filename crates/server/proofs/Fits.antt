@@ -16,7 +16,7 @@ use Rattle.table_store.proofs.TableLaws.{put_keeps, remove_keeps}
 use Rattle.server_model.specs.declared.need.Need.{Need}
 use Rattle.server_model.specs.Operations.{after_events, change_table}
 use Rattle.server_model.specs.Rows.{without_row}
-use Rattle.server_model.specs.LockedRows.Covering.{IsWellFormedTable}
+use Rattle.server_model.specs.LockedRows.Coverage.{IsWellFormedTable}
 use Rattle.server_model.specs.LockedRows.Databases.{IsWellFormedDatabase, WhereFound}
 use Rattle.server_model.proofs.LockedRows.OneRow.{same_removal}
 use Rattle.server_model.proofs.LockedRows.WellFormed.{nulls}

@@ -15,7 +15,7 @@ use Rattle.table_store.proofs.Ascending.{all-filter, ascends-filter}
 use Rattle.table_store.proofs.TableLaws.{some_rows}
 use Rattle.server_model.specs.Rows.{same_row, stands, without_row, change_rows}
 use Rattle.server_model.specs.StatementResults.{with_sets, clashes_besides}
-use Rattle.server_model.specs.LockedRows.Covering.{SetsFit}
+use Rattle.server_model.specs.LockedRows.Coverage.{SetsFit}
 use Rattle.server_model.proofs.LockedRows.Standing.{one_row, same_itself, stands-put, stands-filter, other_row}
 use Rattle.server_model.proofs.LockedRows.WellFormed.{well_formed_put, with_sets_row, none_besides}
 use Rattle.server_seen.specs.FittingChanges.{FitsRows}

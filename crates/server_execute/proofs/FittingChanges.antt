@@ -18,7 +18,7 @@ use Rattle.server_model.specs.declared.work.Work.TheVariants.{Refuse, Insert, Co
 use Rattle.server_model.specs.Answers.{refuses}
 use Rattle.server_model.specs.Rows.{reaches, rows_met, same_row, without_row, change_rows, change_all}
 use Rattle.server_model.specs.StatementResults.{only, displaced, with_sets, clashes_besides, change_first, updates, updated, result_or_refusal, tells}
-use Rattle.server_model.specs.LockedRows.Covering.{SetsFit, IsSound}
+use Rattle.server_model.specs.LockedRows.Coverage.{SetsFit, IsSound}
 use Rattle.server_model.proofs.LockedRows.WellFormed.{well_formed_put, tells_well_formed, change_all-append}
 use Rattle.server_seen.specs.FittingChanges.{AllFit}
 use Rattle.server_execute.specs.RowUpdates.{AreMet}

@@ -13,7 +13,7 @@ use Rattle.server_model.specs.declared.answer.Answer.{Answer}
 use Rattle.server_model.specs.Answers.{refuses}
 use Rattle.server_model.specs.Rows.{same_row, change_rows}
 use Rattle.server_model.specs.StatementResults.{with_sets, clashes_besides, change_first, updates}
-use Rattle.server_model.specs.LockedRows.Covering.{SetsFit}
+use Rattle.server_model.specs.LockedRows.Coverage.{SetsFit}
 use Rattle.server_seen.specs.Written.{Written, nothing, seen, wrote}
 use Rattle.server_seen.specs.FittingChanges.{IsWritten}
 use Rattle.server_seen.proofs.SeenRows.{seen-nothing}

@@ -3,7 +3,7 @@ use Rattle.base_values.specs.GhoSchema.Rows.{key_places}
 use Rattle.table_store.specs.Databases.{TableRows}
 use Rattle.server_model.specs.declared.work.Work.{Work}
 use Rattle.server_model.specs.StatementResults.{tells}
-use Rattle.server_model.specs.LockedRows.Covering.{IsWellFormedTable, IsSound}
+use Rattle.server_model.specs.LockedRows.Coverage.{IsWellFormedTable, IsSound}
 use Rattle.server_seen.specs.FittingChanges.{AllFit}
 
 -- *Told changes fit*: each change that a statement makes fits the rows of its table as they then are.

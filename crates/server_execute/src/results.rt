@@ -7,7 +7,7 @@ ghost use Rattle.base_values.specs.declared.event.Change.TheVariants as changes;
 ghost use Rattle.server_model.specs.declared.answer.Answer.TheVariants as answers;
 ghost use Rattle.server_model.specs.declared.work.Work.TheVariants as works;
 ghost use Rattle.server_model.specs.StatementResults.{tells};
-ghost use Rattle.server_model.specs.LockedRows.Covering.{IsWellFormedTable, IsSound};
+ghost use Rattle.server_model.specs.LockedRows.Coverage.{IsWellFormedTable, IsSound};
 ghost use Rattle.server_execute.specs.ReadyResult.{as_result};
 
 use crate::change_lists::{ReadyResult, deletes, only};

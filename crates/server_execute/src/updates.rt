@@ -7,7 +7,7 @@ ghost use Rattle.base_values.specs.declared.event.Change.TheVariants as changes;
 ghost use Rattle.server_model.specs.declared.work.Work.TheVariants as works;
 ghost use Rattle.server_model.specs.Rows.{rows_met, same_row};
 ghost use Rattle.server_model.specs.StatementResults.{clashes_besides, updates, result_or_refusal, updated};
-ghost use Rattle.server_model.specs.LockedRows.Covering.{IsWellFormedTable, IsSound, SetsFit};
+ghost use Rattle.server_model.specs.LockedRows.Coverage.{IsWellFormedTable, IsSound, SetsFit};
 ghost use Rattle.server_execute.specs.ReadyResult.{as_result};
 ghost use Rattle.server_execute.specs.RowUpdates.{row_update, AreMet};
 ghost use Rattle.server_seen.specs.Written.{wrote};

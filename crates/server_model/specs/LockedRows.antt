@@ -1,6 +1,6 @@
 -- What holds of every statement: what it says depends on what its locks cover, and what it writes is covered by them.
-pub mod Agreeing
-pub mod Covering
+pub mod Agreement
+pub mod Coverage
 pub mod Databases
 pub mod Stability
 pub mod Laws

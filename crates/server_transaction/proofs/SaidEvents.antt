@@ -7,7 +7,7 @@ use Rattle.table_store.specs.Databases.{TableRows, Database, find_table, with_ch
 use Rattle.table_store.proofs.ChangedTables.{change_found}
 use Rattle.server_model.specs.Operations.{Operation, events_of, result_in, operation_result, operation_of, change_table}
 use Rattle.server_model.specs.StatementResults.{tells}
-use Rattle.server_model.specs.LockedRows.Covering.{IsWellFormedTable, IsSound}
+use Rattle.server_model.specs.LockedRows.Coverage.{IsWellFormedTable, IsSound}
 use Rattle.server_model.specs.LockedRows.Databases.{WhereFound}
 use Rattle.server_model.proofs.LockedRows.Stables.{statement_sound}
 use Rattle.server_seen.specs.FittingChanges.{AllFit}

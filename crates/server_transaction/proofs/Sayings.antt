@@ -16,7 +16,7 @@ use Rattle.server_model.specs.Checks.{work_of}
 use Rattle.server_model.specs.Needs.{needs}
 use Rattle.server_model.specs.StatementResults.{tells}
 use Rattle.server_model.specs.Operations.{table_of, operation_of, result_of, result_in, needs_in, operation_result, operation_needs, statement_result, row_needs, after_events}
-use Rattle.server_model.specs.LockedRows.Covering.{IsWellFormedTable}
+use Rattle.server_model.specs.LockedRows.Coverage.{IsWellFormedTable}
 use Rattle.server_seen.specs.Written.{Written, nothing, wrote_all}
 use Rattle.server_seen.specs.Stored.{StoredWrites}
 use Rattle.server_transaction.specs.Events.{changes_in}

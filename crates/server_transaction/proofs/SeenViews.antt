@@ -7,7 +7,7 @@ use Rattle.base_values.specs.declared.event.RowEvent.{RowEvent}
 use Rattle.table_store.specs.Databases.{TableRows, Database, find_table, is_named}
 use Rattle.table_store.proofs.Orders.{Row}
 use Rattle.server_model.specs.Operations.{after_events}
-use Rattle.server_model.specs.LockedRows.Covering.{IsWellFormedTable}
+use Rattle.server_model.specs.LockedRows.Coverage.{IsWellFormedTable}
 use Rattle.server_model.specs.LockedRows.Databases.{IsWellFormedDatabase, WhereFound}
 use Rattle.server_model.proofs.LockedRows.Tests.{are_same}
 use Rattle.server_seen.specs.Written.{Written, seen}

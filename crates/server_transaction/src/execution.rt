@@ -8,7 +8,7 @@ ghost use Rattle.server_model.specs.Checks.{work_of};
 ghost use Rattle.server_model.specs.Needs.{needs};
 ghost use Rattle.server_model.specs.Operations.{table_of, events_of, result_of, statement_result, row_needs, after_events};
 ghost use Rattle.server_model.specs.StatementResults.{tells};
-ghost use Rattle.server_model.specs.LockedRows.Covering.{IsWellFormedTable, IsSound};
+ghost use Rattle.server_model.specs.LockedRows.Coverage.{IsWellFormedTable, IsSound};
 ghost use Rattle.server_transaction.specs.Premises.{HasSchema, IsOf, events_ready};
 ghost use Rattle.server_seen.specs.Written.{seen};
 

@@ -22,7 +22,7 @@ use Rattle.tool_program.specs.Orders.{ReplayOrder, IsReplay}
 use Rattle.tool_program.specs.JournalWords.Histories.{history, is_alter}
 use Rattle.tool_program.specs.JournalWords.Serials.{IsSerial}
 use Rattle.base_values.specs.SchemaRules.Valid.{StoresDefault}
-use Rattle.server_model.specs.LockedRows.Covering.{IsWellFormedTable}
+use Rattle.server_model.specs.LockedRows.Coverage.{IsWellFormedTable}
 use Rattle.proof_journals.specs.Plans as plans
 use Rattle.proof_journals.specs.Plans.{scene_of, KeepsAway, IsSerialPlan, IsPlanRun}
 use Rattle.proof_journals.proofs.PlanJournals.{journals_are_serial}

@@ -31,8 +31,8 @@ use Rattle.server_model.specs.Rows.{reaches, rows_met, same_row}
 use Rattle.server_model.specs.StatementResults.{TableResult, change_first, clashes_besides, only, result_or_refusal, tells, updated, updates, with_sets}
 use Rattle.server_model.proofs.LockedRows.Points2.{one_met, under_point}
 use Rattle.server_model.proofs.LockedRows.Standing.{one_row}
-use Rattle.server_model.specs.LockedRows.Agreeing.{Within}
-use Rattle.server_model.specs.LockedRows.Covering.{SetsFit}
+use Rattle.server_model.specs.LockedRows.Agreement.{Within}
+use Rattle.server_model.specs.LockedRows.Coverage.{SetsFit}
 
 -- one key of the table's clustered key
 abbrev pub at_key : (schema : Schema) → Clustered schema → Row → Reach

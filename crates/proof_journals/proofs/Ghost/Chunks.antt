@@ -36,7 +36,7 @@ use Rattle.server_model.specs.Needs.{lock_on}
 use Rattle.server_model.specs.Rows.{lies_under}
 use Rattle.server_model.proofs.LockedRows.Standing.{same-filter, same-within}
 use Rattle.server_model.proofs.LockedRows.Tests.{same_bytes}
-use Rattle.server_model.specs.LockedRows.Agreeing.{Among, SameWhere, covers, is_under}
+use Rattle.server_model.specs.LockedRows.Agreement.{Among, SameWhere, covers, is_under}
 
 -- whether a row's key isn't above a key
 abbrev pub up_to : List ℕ → Row → Row → Bool

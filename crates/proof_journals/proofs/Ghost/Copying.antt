@@ -46,8 +46,8 @@ use Rattle.server_model.specs.Chunks.{keys_of}
 use Rattle.server_model.specs.Operations.{Operation, after_events}
 use Rattle.server_model.specs.StatementResults.{tells}
 use Rattle.server_model.proofs.LockedRows.Stables.{others_agree}
-use Rattle.server_model.specs.LockedRows.Agreeing.{Agree, SameWhere, TablesAgree, Within, is_under}
-use Rattle.server_model.specs.LockedRows.Covering.{Apart}
+use Rattle.server_model.specs.LockedRows.Agreement.{Agree, SameWhere, TablesAgree, Within, is_under}
+use Rattle.server_model.specs.LockedRows.Coverage.{Apart}
 use Rattle.server_model.proofs.LockedRows.Tests.{or_swapped}
 
 -- the keys that were taken may be listed in any order

@@ -23,8 +23,8 @@ use Rattle.proof_journals.proofs.Kept.{apart-turn}
 use Rattle.server_model.specs.Needs.{points}
 use Rattle.server_model.proofs.LockedRows.Covers.{not_under}
 use Rattle.server_model.proofs.LockedRows.Points.{clash_under, under-within}
-use Rattle.server_model.specs.LockedRows.Agreeing.{Within}
-use Rattle.server_model.specs.LockedRows.Covering.{rows_of, RowsCovered, Apart, Covered}
+use Rattle.server_model.specs.LockedRows.Agreement.{Within}
+use Rattle.server_model.specs.LockedRows.Coverage.{rows_of, RowsCovered, Apart, Covered}
 
 -- rows whose points two sessions hold don't clash
 no_clash : (schema : Schema) (own others : List Lock) (row other : Row) → Apart own others → Within (points schema row) own → Within (points schema other) others → clash schema.uniques other row ≡ false

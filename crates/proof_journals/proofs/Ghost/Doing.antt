@@ -35,7 +35,7 @@ use Rattle.server_model.specs.Operations.{Operation}
 use Rattle.server_model.specs.Needs.{needs, points, points_of}
 use Rattle.server_model.specs.StatementResults.{displaced, only, tells}
 use Rattle.server_model.proofs.LockedRows.Points.{within-parts}
-use Rattle.server_model.specs.LockedRows.Agreeing.{Within}
+use Rattle.server_model.specs.LockedRows.Agreement.{Within}
 
 -- ---- what is planned first
 

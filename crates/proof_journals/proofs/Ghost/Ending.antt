@@ -28,8 +28,8 @@ use Rattle.proof_journals.specs.Ghost.Rows.UnderWay.{IsUnderWay}
 use Rattle.proof_journals.specs.Ghost.Rows.Views.{GhostRows, is_among, is_done, is_done_in}
 use Rattle.proof_journals.proofs.Kept.{apart-turn, none_apart}
 use Rattle.server_model.proofs.LockedRows.Finding.{covered_more}
-use Rattle.server_model.specs.LockedRows.Agreeing.{Within}
-use Rattle.server_model.specs.LockedRows.Covering.{Apart}
+use Rattle.server_model.specs.LockedRows.Agreement.{Within}
+use Rattle.server_model.specs.LockedRows.Coverage.{Apart}
 
 -- what is granted doesn't depend on the progress of the log
 pub regranted : (m : Migration) (own others : List Lock) (taken : List Row) (progress after : Progress Row) (ghost : GhostRows) → after.copier_holds ≡ progress.copier_holds → after.applier_holds ≡ progress.applier_holds → AreGranted m own others taken progress ghost → AreGranted m own others taken after ghost

@@ -20,8 +20,8 @@ use Rattle.server_model.specs.Rows.{change_rows}
 use Rattle.server_model.specs.StatementResults.{tells}
 use Rattle.server_model.proofs.LockedRows.Finding.{NamesWithin, agree_events, agree_itself, agree_then, agree_within, change_if, found_after, says_alike}
 use Rattle.server_model.proofs.LockedRows.Tests.{are_same, same_bytes}
-use Rattle.server_model.specs.LockedRows.Agreeing.{Agree, Within}
-use Rattle.server_model.specs.LockedRows.Covering.{IsWellFormedTable, IsSound}
+use Rattle.server_model.specs.LockedRows.Agreement.{Agree, Within}
+use Rattle.server_model.specs.LockedRows.Coverage.{IsWellFormedTable, IsSound}
 use Rattle.server_model.specs.LockedRows.Databases.{IsWellFormedDatabase, TaskSound, WhereFound}
 use Rattle.server_model.specs.LockedRows.Laws.{SaysAlike}
 

@@ -48,8 +48,8 @@ use Rattle.server_model.specs.StatementResults.{TableResult, displaced, only, te
 use Rattle.server_model.proofs.LockedRows.Covers.{tells_covered}
 use Rattle.server_model.proofs.LockedRows.Finding.{covered_more}
 use Rattle.server_model.proofs.LockedRows.Points.{within-parts}
-use Rattle.server_model.specs.LockedRows.Agreeing.{Within}
-use Rattle.server_model.specs.LockedRows.Covering.{rows_of, RowsCovered, Apart, Covered, IsSound}
+use Rattle.server_model.specs.LockedRows.Agreement.{Within}
+use Rattle.server_model.specs.LockedRows.Coverage.{rows_of, RowsCovered, Apart, Covered, IsSound}
 use Rattle.server_locks.proofs.LeastSession.Kept.{both}
 
 pub none_locked : (schema : Schema) → is_locked schema [] ≡ (λ _. false)

@@ -22,8 +22,8 @@ use Rattle.server_model.specs.Needs.{lock_on, points}
 use Rattle.server_model.proofs.LockedRows.WellFormed.{nulls}
 use Rattle.server_model.proofs.LockedRows.Points.{among-within, point_of}
 use Rattle.server_model.proofs.LockedRows.Tests.{are_one, are_same, same_bytes, same_number}
-use Rattle.server_model.specs.LockedRows.Agreeing.{Among, Within}
-use Rattle.server_model.specs.LockedRows.Covering.{Apart}
+use Rattle.server_model.specs.LockedRows.Agreement.{Among, Within}
+use Rattle.server_model.specs.LockedRows.Coverage.{Apart}
 
 -- the clustered key of a row has no null
 pub full_key : (schema : Schema) → HasClusteredKey schema → (row : Row) → IsRow schema.columns row → no_null (key_of (key_places schema) row) ≡ true

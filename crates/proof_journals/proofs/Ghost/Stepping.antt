@@ -30,8 +30,8 @@ use Rattle.proof_journals.specs.Scenes.{Besides, SessionHold, Stored}
 use Rattle.server_model.specs.Answers.{refuses}
 use Rattle.server_model.specs.Operations.{Operation, after_events, events_of}
 use Rattle.server_model.specs.StatementResults.{only, tells}
-use Rattle.server_model.specs.LockedRows.Agreeing.{Within}
-use Rattle.server_model.specs.LockedRows.Covering.{Apart, IsSound}
+use Rattle.server_model.specs.LockedRows.Agreement.{Within}
+use Rattle.server_model.specs.LockedRows.Coverage.{Apart, IsSound}
 
 pub given_grant : (m : Migration) (rows : List Row) (done half : Row → Bool) (taken : List Row) (progress : Progress Row) (ghost : GhostRows) (copier applier : ℕ) (now : Stored) (hold : ℕ → SessionHold) (own : SessionHold) (task : Operation) (work : Work) → IsServed now hold → GhostInvariant m rows done half taken progress ghost copier applier now hold
     → (copier == applier) ≡ false → DoesWork m task work → IsGiven now hold applier task own → IsSound m.new.columns work → IsGrant m (hold applier).locks own.locks (hold copier).locks ghost work

@@ -31,7 +31,7 @@ use Rattle.server_model.specs.Rows.{change_rows, reaches, rows_met, same_row, st
 use Rattle.server_model.specs.StatementResults.{change_first, clashes_besides, only, result_or_refusal, tells, updated, updates, with_sets}
 use Rattle.server_model.proofs.LockedRows.WellFormed.{none_besides, with_sets_row}
 use Rattle.server_model.proofs.LockedRows.Standing.{stands-filter, stands-put, other_row}
-use Rattle.server_model.specs.LockedRows.Covering.{IsSound, SetsFit}
+use Rattle.server_model.specs.LockedRows.Coverage.{IsSound, SetsFit}
 
 -- no row clashes where none is found to
 none_of : (test : Row → Bool) (row : Row) (rows : List Row) (b : Bool) → test row ≡ b → (b || list_any test rows) ≡ false → (list_any test rows ≡ false → AllByRecursion (λ other. test other ≡ false) rows) → AllByRecursion (λ other. test other ≡ false) (row ∷ rows)

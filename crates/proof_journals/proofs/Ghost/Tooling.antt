@@ -48,8 +48,8 @@ use Rattle.server_model.specs.Operations.{Operation, after_events}
 use Rattle.server_model.specs.StatementResults.{only, tells}
 use Rattle.server_model.proofs.LockedRows.Finding.{NamesWithin}
 use Rattle.server_model.proofs.LockedRows.Points.{among-within}
-use Rattle.server_model.specs.LockedRows.Agreeing.{Within}
-use Rattle.server_model.specs.LockedRows.Covering.{Apart}
+use Rattle.server_model.specs.LockedRows.Agreement.{Within}
+use Rattle.server_model.specs.LockedRows.Coverage.{Apart}
 
 -- ---- what grows with the log
 

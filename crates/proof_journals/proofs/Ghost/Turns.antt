@@ -263,7 +263,7 @@ turn_fits limits scene journal entry run allowed all n = rw (state_more (opened 
     at false differ =
         subst (FaceFits (after_entry (scene_state limits scene journal) entry).tables) (sym (entry_faces limits scene journal entry (journal_holds limits scene journal run) n differ))
         (fitting_others (face_of (scene_state limits scene journal).sessions n).hold.names (face_of (scene_state limits scene journal).sessions n).hold.locks (face_of (scene_state limits scene journal).sessions n).hold.writes (scene_state limits scene journal).tables (after_entry (scene_state limits scene journal) entry).tables
-        (subst (λ (s : State). Rattle.server_model.specs.LockedRows.Agreeing.Agree (face_of (scene_state limits scene journal).sessions n).hold.names (face_of (scene_state limits scene journal).sessions n).hold.locks (scene_state limits scene journal).tables s.tables) (state_more (opened limits scene.opening) journal entry)
+        (subst (λ (s : State). Rattle.server_model.specs.LockedRows.Agreement.Agree (face_of (scene_state limits scene journal).sessions n).hold.names (face_of (scene_state limits scene journal).sessions n).hold.locks (scene_state limits scene journal).tables s.tables) (state_more (opened limits scene.opening) journal entry)
         (others_agree_law limits scene journal entry n run differ)) (all n))
     at true same = subst (OwnFits (after_entry (scene_state limits scene journal) entry)) (sym (are_one n entry.session same)) (own_entry limits scene journal entry run allowed (all entry.session))
 

@@ -25,7 +25,7 @@ use Rattle.server_model.specs.States.{State, session_of, is_in_transaction, view
 use Rattle.server_model.specs.Blockers.{need, need_within, blocker}
 use Rattle.server_model.specs.Effects.{of_table, begins, effect_within, effect_unless, is_outside}
 use Rattle.server_model.specs.PlainServer.{does, done, called_unless, calls, is_over, polled_over, polled_unless, polled_of, polls, serves, without_waiting}
-use Rattle.server_model.specs.LockedRows.Covering.{IsWellFormedTable}
+use Rattle.server_model.specs.LockedRows.Coverage.{IsWellFormedTable}
 use Rattle.server_model.specs.LockedRows.Databases.{WhereFound, IsWellFormedDatabase}
 use Rattle.plan_data.specs.PlanData.{PlanData, old_schema}
 use Rattle.tool_program.specs.JournalWords.Journals.{opens, state_at}

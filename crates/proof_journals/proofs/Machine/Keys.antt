@@ -23,7 +23,7 @@ use Rattle.table_store.specs.Databases.{TableRows, rows_in}
 use Rattle.table_store.proofs.Ascending.{all-filter}
 use Rattle.server_model.specs.Chunks.{keys_of, keys_in, last_of, chunk_end, end_key}
 use Rattle.server_model.specs.Conditions.{kind_in, key_kinds}
-use Rattle.server_model.specs.LockedRows.Covering.{IsWellFormedTable}
+use Rattle.server_model.specs.LockedRows.Coverage.{IsWellFormedTable}
 
 -- A VALUE
 

@@ -20,7 +20,7 @@ use Rattle.proof_journals.specs.Holdings.{Face, OneHolder, face_in, face_of, no_
 use Rattle.proof_journals.proofs.Faces.{faces_with, faces_without, joined}
 use Rattle.proof_journals.proofs.Names.{held_joined, one_counts, one_less, one_rests}
 use Rattle.proof_journals.proofs.Serves.{IsFree, done_one, granted}
-use Rattle.server_model.specs.LockedRows.Agreeing.{Among}
+use Rattle.server_model.specs.LockedRows.Agreement.{Among}
 use Rattle.server_model.proofs.LockedRows.Tests.{are_one}
 use Rattle.proof_journals.specs.ServerFacts.Invariants.{IsServing, WaitsWell}
 use Rattle.proof_journals.specs.ServerFacts.Laws.{OpenedServes, ConnectedServes, CallsServe, PollsServe, LossesServe}

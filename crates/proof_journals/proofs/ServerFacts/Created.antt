@@ -10,8 +10,8 @@ use Rattle.base_values.specs.declared.gho_schema.schema.Schema.{Schema}
 use Rattle.server_locks.specs.declared.row_locks.lock.Lock.{Lock}
 use Rattle.table_store.specs.Databases.{TableRows, Database, find_table, has_table, with_change, without_table}
 use Rattle.server_model.specs.Operations.{change_table}
-use Rattle.server_model.specs.LockedRows.Agreeing.{Agree, TablesAgree}
-use Rattle.server_model.specs.LockedRows.Covering.{IsWellFormedTable}
+use Rattle.server_model.specs.LockedRows.Agreement.{Agree, TablesAgree}
+use Rattle.server_model.specs.LockedRows.Coverage.{IsWellFormedTable}
 use Rattle.server_model.specs.LockedRows.Databases.{ChangeCovered, WhereFound, EventsCovered}
 use Rattle.server_model.proofs.LockedRows.Finding.{change_if, found_after}
 use Rattle.server_model.proofs.LockedRows.Tests.{are_same}

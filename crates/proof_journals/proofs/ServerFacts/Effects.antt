@@ -17,7 +17,7 @@ use Rattle.server_model.specs.Operations.{after_events, copy_operation, operatio
 use Rattle.server_model.specs.Blockers.{need, need_within}
 use Rattle.server_model.specs.PlainServer.{at_rest, does, exclusive, holding, locking, unlocking}
 use Rattle.server_model.specs.States.{State, holds_tables, is_in_transaction, names_held, pair_names, session_of, view, with_session, writes_of}
-use Rattle.server_model.specs.LockedRows.Covering.{Apart}
+use Rattle.server_model.specs.LockedRows.Coverage.{Apart}
 use Rattle.server_model.specs.LockedRows.Databases.{IsWellFormedDatabase}
 use Rattle.server_model.proofs.LockedRows.Tests.{are_one, turned}
 use Rattle.proof_journals.specs.Scenes.{no_hold, Besides}

@@ -15,7 +15,7 @@ use Rattle.base_script.specs.declared.statement.Statement.{Statement}
 use Rattle.server_model.specs.declared.need.Need.{Need}
 use Rattle.server_model.specs.Operations.{Operation, table_of, operation_of, statement_result, operation_result, operation_needs, row_needs, result_in, events_of, after_events, change_table, copy_operation}
 use Rattle.server_model.specs.StatementResults.{tells}
-use Rattle.server_model.specs.LockedRows.Agreeing.{Within}
+use Rattle.server_model.specs.LockedRows.Agreement.{Within}
 use Rattle.server_model.specs.LockedRows.Databases.{IsWellFormedDatabase, TaskSound}
 use Rattle.server_model.proofs.LockedRows.Points.{within-left, within-right, within-itself}
 use Rattle.server_model.proofs.LockedRows.Finding.{agree_within, found_after, says_covered}

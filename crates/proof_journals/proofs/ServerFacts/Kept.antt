@@ -8,8 +8,8 @@ use Rattle.base_values.specs.declared.event.RowEvent.{RowEvent}
 use Rattle.server_locks.specs.declared.row_locks.lock.Lock.{Lock}
 use Rattle.table_store.specs.Databases.{TableRows, Database, find_table}
 use Rattle.server_model.specs.Operations.{after_events}
-use Rattle.server_model.specs.LockedRows.Agreeing.{Agree, TablesAgree}
-use Rattle.server_model.specs.LockedRows.Covering.{Apart}
+use Rattle.server_model.specs.LockedRows.Agreement.{Agree, TablesAgree}
+use Rattle.server_model.specs.LockedRows.Coverage.{Apart}
 use Rattle.server_model.specs.LockedRows.Databases.{IsWellFormedDatabase, EventsCovered}
 use Rattle.server_model.proofs.LockedRows.Finding.{tables_itself}
 use Rattle.server_model.proofs.LockedRows.Stables.{covered_others, others_agree}

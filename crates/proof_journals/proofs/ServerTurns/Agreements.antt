@@ -14,8 +14,8 @@ use Rattle.base_script.specs.declared.actor.Side.TheVariants.{Before, After}
 use Rattle.server_model.specs.declared.session.Session.{Session}
 use Rattle.server_model.specs.Rows.{reaches}
 use Rattle.server_model.specs.Needs.{lock_on}
-use Rattle.server_model.specs.LockedRows.Agreeing.{Agree, Among, Within, TablesAgree, covers, is_under}
-use Rattle.server_model.specs.LockedRows.Covering.{Apart, IsWellFormedTable}
+use Rattle.server_model.specs.LockedRows.Agreement.{Agree, Among, Within, TablesAgree, covers, is_under}
+use Rattle.server_model.specs.LockedRows.Coverage.{Apart, IsWellFormedTable}
 use Rattle.server_model.specs.LockedRows.Databases.{EventsCovered, WhereFound}
 use Rattle.server_model.specs.Operations.{Operation, table_of, operation_of, statement_result, operation_result, operation_needs, after_events, copy_operation}
 use Rattle.proof_journals.specs.Scenes.{Stored, SessionHold}

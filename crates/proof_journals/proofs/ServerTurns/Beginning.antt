@@ -16,7 +16,7 @@ use Rattle.base_script.specs.declared.actor.Side.{Side}
 use Rattle.server_model.specs.declared.answer.Answer.TheVariants as answers
 use Rattle.server_model.specs.declared.session.Session.{Session}
 use Rattle.server_model.specs.Needs.{lock_on}
-use Rattle.server_model.specs.LockedRows.Agreeing.{Among}
+use Rattle.server_model.specs.LockedRows.Agreement.{Among}
 use Rattle.server_model.specs.Operations.{after_events, change_table}
 use Rattle.proof_journals.specs.Scenes.{Stored}
 use Rattle.server_model.specs.declared.answer.Answer.{Answer}

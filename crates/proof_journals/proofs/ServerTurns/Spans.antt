@@ -13,7 +13,7 @@ use Rattle.base_values.specs.GhoSchema.Tables.{IsRow, no_null}
 use Rattle.table_store.specs.Databases.{TableRows, rows_in}
 use Rattle.table_store.proofs.TableLaws.{key_no_null}
 use Rattle.server_model.specs.Rows.{reaches, rows_met, lies_under}
-use Rattle.server_model.specs.LockedRows.Covering.{IsWellFormedTable}
+use Rattle.server_model.specs.LockedRows.Coverage.{IsWellFormedTable}
 use Rattle.server_model.specs.LockedRows.Databases.{WhereFound}
 use Rattle.proof_journals.specs.ServerTurns.Others.{SpanStays}
 use Rattle.server_model.proofs.LockedRows.WellFormed.{nulls}

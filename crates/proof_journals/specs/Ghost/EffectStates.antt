@@ -12,7 +12,7 @@ use Rattle.server_model.specs.Effects.Effect.{Rests, Grows, Writes, Forgets, Mov
 use Rattle.server_model.specs.Operations.{after_events}
 use Rattle.server_model.specs.PlainServer.{without_waiting}
 use Rattle.server_model.specs.States.{State}
-use Rattle.server_model.specs.LockedRows.Covering.{Apart}
+use Rattle.server_model.specs.LockedRows.Coverage.{Apart}
 use Rattle.proof_journals.specs.Scenes.{Besides, SessionHold, Stored, no_hold}
 
 -- with what was granted, and what it wrote with it

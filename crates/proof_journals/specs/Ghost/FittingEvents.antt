@@ -5,7 +5,7 @@ use Rattle.server_locks.specs.declared.row_locks.lock.Lock.{Lock}
 use Rattle.table_store.specs.Databases.{Database, find_table, with_change}
 use Rattle.proof_journals.specs.Ghost.Rows.Moments.{Fits}
 use Rattle.server_model.specs.Operations.{change_table}
-use Rattle.server_model.specs.LockedRows.Agreeing.{Agree}
+use Rattle.server_model.specs.LockedRows.Agreement.{Agree}
 use Rattle.server_model.specs.LockedRows.Databases.{IsWellFormedDatabase, WhereFound}
 
 -- *Each event fits the tables as they then are*: what it takes out is there, and what it writes is a row that clashes with

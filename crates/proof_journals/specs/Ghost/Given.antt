@@ -2,8 +2,8 @@
 use Rattle.std.specs.Prelude.{◌≡◌, ℕ, ◌==◌, false, ◌++◌}
 use Rattle.proof_journals.specs.Scenes.{SessionHold, Stored}
 use Rattle.server_model.specs.Operations.{Operation, after_events, operation_needs, operation_result}
-use Rattle.server_model.specs.LockedRows.Agreeing.{Within}
-use Rattle.server_model.specs.LockedRows.Covering.{Apart}
+use Rattle.server_model.specs.LockedRows.Agreement.{Within}
+use Rattle.server_model.specs.LockedRows.Coverage.{Apart}
 
 -- *Granted*: the session keeps its locks, has those that the job needs, none of which conflicts with another session's, and
 -- wrote what the job says of the tables as it sees them.

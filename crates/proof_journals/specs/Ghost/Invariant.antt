@@ -13,7 +13,7 @@ use Rattle.proof_journals.specs.Ghost.Rows.Timelines.{Migration}
 use Rattle.proof_journals.specs.Ghost.Rows.Views.{GhostRows}
 use Rattle.proof_journals.specs.Scenes.{SessionHold, Stored}
 use Rattle.server_model.specs.Operations.{events_of}
-use Rattle.server_model.specs.LockedRows.Covering.{Apart}
+use Rattle.server_model.specs.LockedRows.Coverage.{Apart}
 use Rattle.server_model.specs.LockedRows.Databases.{EventsCovered, IsWellFormedDatabase}
 
 -- *What the server keeps*: well-formed tables, which each session's own writes fit, event by event; writes that are covered by

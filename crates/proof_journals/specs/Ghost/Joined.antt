@@ -8,7 +8,7 @@ use Rattle.proof_journals.specs.Ghost.Rows.Moments.{Row}
 use Rattle.proof_journals.specs.Ghost.Rows.Timelines.{Migration}
 use Rattle.proof_journals.specs.Ghost.Rows.UnderWay.{IsUnderWay}
 use Rattle.proof_journals.specs.Ghost.Rows.Views.{GhostRows, is_among}
-use Rattle.server_model.specs.LockedRows.Covering.{Apart, Covered}
+use Rattle.server_model.specs.LockedRows.Coverage.{Apart, Covered}
 
 -- *Granted*: the applier holds the first locks, the copier the others, and none of them conflicts. The applier's keys are
 -- those that its locks hold, the copier's those of the rows that it took; all points of all rows that either changed are

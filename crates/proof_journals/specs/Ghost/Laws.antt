@@ -32,8 +32,8 @@ use Rattle.server_model.specs.Rows.{change_rows}
 use Rattle.server_model.specs.StatementResults.{only, tells}
 use Rattle.tool_program.specs.EventApplier.Appliers.{Doing}
 use Rattle.tool_program.specs.EventApplier.Appliers.Doing.{Putting, Removing, Changing}
-use Rattle.server_model.specs.LockedRows.Agreeing.{Within}
-use Rattle.server_model.specs.LockedRows.Covering.{Apart}
+use Rattle.server_model.specs.LockedRows.Agreement.{Within}
+use Rattle.server_model.specs.LockedRows.Coverage.{Apart}
 use Rattle.server_model.specs.LockedRows.Databases.{IsWellFormedDatabase}
 use Rattle.proof_journals.specs.Scenes.{Scene, Stored, SessionHold, no_hold, Besides}
 use Rattle.proof_journals.specs.Holdings.{face_of, stored}

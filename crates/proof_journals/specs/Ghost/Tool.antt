@@ -23,7 +23,7 @@ use Rattle.proof_journals.specs.Ghost.Rows.Views.{is_key, GhostRows, is_done, is
 use Rattle.proof_journals.specs.Scenes.{SessionHold, Stored, no_hold}
 use Rattle.server_model.specs.Chunks.{keys_of}
 use Rattle.server_model.specs.Needs.{lock_on}
-use Rattle.server_model.specs.LockedRows.Agreeing.{Among}
+use Rattle.server_model.specs.LockedRows.Agreement.{Among}
 
 -- *The copier*: between chunks, with what is left; or in a chunk: its low end and its end, the greatest key of the range, the
 -- keys read, and how many of them are copied

@@ -16,8 +16,8 @@ use Rattle.server_model.specs.Answers.{refuses}
 use Rattle.server_model.specs.Operations.{Operation, after_events, operation_result}
 use Rattle.tool_program.specs.EventApplier.Appliers.{Doing}
 use Rattle.tool_program.specs.EventApplier.Appliers.Doing.{Putting, Removing, Changing}
-use Rattle.server_model.specs.LockedRows.Agreeing.{Within}
-use Rattle.server_model.specs.LockedRows.Covering.{Apart}
+use Rattle.server_model.specs.LockedRows.Agreement.{Within}
+use Rattle.server_model.specs.LockedRows.Coverage.{Apart}
 use Rattle.server_model.specs.LockedRows.Databases.{TaskSound}
 use Rattle.proof_journals.specs.Scenes.{Stored, SessionHold, no_hold, Besides}
 use Rattle.proof_journals.specs.Ghost.Relation.Views.{Progress}

@@ -12,7 +12,7 @@ use Rattle.server_model.specs.declared.request.Request.TheVariants as requests
 use Rattle.server_model.specs.Conditions.{ComesWell, MayCall, MayPoll, MayLose}
 use Rattle.server_model.specs.Entries.{same_actor}
 use Rattle.server_model.specs.States.{State, session_of, is_live, is_in_transaction, holds_tables, is_waiting}
-use Rattle.server_model.specs.LockedRows.Covering.{IsWellFormedTable}
+use Rattle.server_model.specs.LockedRows.Coverage.{IsWellFormedTable}
 use Rattle.plan_data.specs.PlanData.{PlanData}
 use Rattle.tool_program.specs.JournalWords.Histories.{history, is_alter}
 use Rattle.tool_program.specs.JournalWords.Journals.{state_at, IsAnswered, IsFaithful}

@@ -1,7 +1,7 @@
 -- What is asked of a plan, so that all that its program asks may be asked.
 use Rattle.std.specs.List.{AllByRecursion}
 use Rattle.plan_data.specs.PlanData.{PlanData}
-use Rattle.server_model.specs.LockedRows.Covering.{IsWellFormedTable}
+use Rattle.server_model.specs.LockedRows.Coverage.{IsWellFormedTable}
 use Rattle.proof_journals.specs.Machine.FormedPlans.{IsFitting}
 use Rattle.proof_journals.specs.Machine.MigrationTables.{TableExists}
 use Rattle.proof_journals.specs.Machine.TableKeys.{IsMapped}

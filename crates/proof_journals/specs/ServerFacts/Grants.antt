@@ -3,7 +3,7 @@ use Rattle.std.specs.Prelude.{◌≡◌, ℕ, ◌==◌, true, false, List, ◌++
 use Rattle.base_values.specs.declared.event.RowEvent.{RowEvent}
 use Rattle.table_store.specs.Databases.{Database}
 use Rattle.server_model.specs.declared.need.Need.{Need}
-use Rattle.server_model.specs.LockedRows.Covering.{Apart}
+use Rattle.server_model.specs.LockedRows.Coverage.{Apart}
 use Rattle.proof_journals.specs.Holdings.{Face}
 use Rattle.proof_journals.specs.ServerFacts.Invariants.{OwnFits}
 

@@ -8,7 +8,7 @@ use Rattle.server_model.specs.declared.session.Session.{Session}
 use Rattle.server_model.specs.declared.session.Waiting.{Waiting}
 use Rattle.server_model.specs.Conditions.{ComesWell}
 use Rattle.server_model.specs.States.{State, session_of, is_in_transaction, holds_tables, names_held, names_in}
-use Rattle.server_model.specs.LockedRows.Covering.{Apart}
+use Rattle.server_model.specs.LockedRows.Coverage.{Apart}
 use Rattle.server_model.specs.LockedRows.Databases.{IsWellFormedDatabase, EventsCovered}
 use Rattle.proof_journals.specs.Scenes.{no_hold}
 use Rattle.proof_journals.specs.Holdings.{Face, face_of, OneHolder}

@@ -16,9 +16,9 @@ use Rattle.server_locks.specs.declared.row_locks.lock.Lock.{Lock}
 use Rattle.server_model.specs.declared.work.Reach.{Reach}
 use Rattle.server_model.specs.Rows.{rows_met}
 use Rattle.server_model.specs.Needs.{lock_on}
-use Rattle.server_model.specs.LockedRows.Agreeing.{Agree, Among}
+use Rattle.server_model.specs.LockedRows.Agreement.{Agree, Among}
 use Rattle.proof_journals.specs.Holdings.{face_of, OneHolder}
-use Rattle.server_model.specs.LockedRows.Covering.{Apart}
+use Rattle.server_model.specs.LockedRows.Coverage.{Apart}
 use Rattle.server_model.specs.LockedRows.Databases.{IsWellFormedDatabase, EventsCovered}
 use Rattle.proof_journals.specs.Scenes.{Scene}
 use Rattle.std.specs.Str.{bytes_eq}

@@ -26,7 +26,7 @@ use Rattle.proof_journals.proofs.Journals.{journal_holds, state_more, stored_ope
 use Rattle.proof_journals.proofs.Names.{OneIn, opened_one}
 use Rattle.proof_journals.proofs.Serves.{granted}
 use Rattle.proof_journals.proofs.Tooling.{AreApart}
-use Rattle.server_model.specs.LockedRows.Covering.{Apart}
+use Rattle.server_model.specs.LockedRows.Coverage.{Apart}
 use Rattle.proof_journals.specs.Ghost.EffectStates.{is_lost, unless_lost, was_done}
 use Rattle.proof_journals.proofs.Ghost.Leaving.{holds_of, same_so, stored_final}
 use Rattle.proof_migration.proofs.Migration.Copier.Served.{seen_of}

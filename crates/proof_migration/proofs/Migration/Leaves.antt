@@ -27,8 +27,8 @@ use Rattle.server_model.specs.Blockers.{need_within}
 use Rattle.server_model.specs.StatementResults.{tells}
 use Rattle.server_model.specs.States.{State}
 use Rattle.tool_program.specs.JournalWords.Journals.{may_lose, opens}
-use Rattle.server_model.specs.LockedRows.Agreeing.{Within}
-use Rattle.server_model.specs.LockedRows.Covering.{Apart}
+use Rattle.server_model.specs.LockedRows.Agreement.{Within}
+use Rattle.server_model.specs.LockedRows.Coverage.{Apart}
 use Rattle.server_model.specs.LockedRows.Databases.{IsWellFormedDatabase, TaskSound}
 use Rattle.server_model.proofs.LockedRows.Points.{within-itself, within-left, within-right}
 use Rattle.server_model.proofs.LockedRows.Stables.{statement_sound}

@@ -5,7 +5,7 @@ use Rattle.base_values.specs.GhoSchema.Tables.{IsTable}
 use Rattle.proof_schemas.specs.Alters.Laws.{IsClause}
 use Rattle.table_store.specs.Databases.{TableRows, find_table}
 use Rattle.base_values.specs.SchemaRules.Valid.{IsValid}
-use Rattle.server_model.specs.LockedRows.Covering.{IsWellFormedTable}
+use Rattle.server_model.specs.LockedRows.Coverage.{IsWellFormedTable}
 use Rattle.server_model.specs.Conditions.{IsTableName}
 use Rattle.plan_data.specs.PlanData.{PlanData, Altered, altered_by}
 use Rattle.plan_data.specs.KeptRows.{KeepsRows}

@@ -18,7 +18,7 @@ use Rattle.plan_reader.specs.PlanTables.Rows.{next_number, put_texts}
 use Rattle.plan_reader.specs.PlanTables.Tables.{of_schema, newly_named, table_at, tables_from, tables_of, IsSound}
 use Rattle.plan_reader.proofs.PlanTables.Sound as sound
 use Rattle.plan_reader.proofs.PlanTables.Sound.{schema_was, texts_kept, rows_were}
-use Rattle.server_model.specs.LockedRows.Covering.{IsWellFormedTable}
+use Rattle.server_model.specs.LockedRows.Coverage.{IsWellFormedTable}
 use Rattle.server_model.proofs.LockedRows.Tests.{are_same}
 use Rattle.plan_data.proofs.KeyedSchemas.{valid_keyed}
 use Rattle.proof_journals.proofs.ValidTables.{valid_table}

@@ -25,8 +25,8 @@ use Rattle.server_model.specs.declared.work.Work.{Work}
 use Rattle.server_model.specs.declared.work.Work.TheVariants.{Refuse, Insert, Copy, Replace, Delete, Update, Select}
 use Rattle.server_model.specs.StatementResults.{only, displaced, with_sets, clashes_besides, change_first, updates, updated, tells, result_or_refusal}
 use Rattle.server_model.specs.Needs.{lock_on, points, points_of, needs}
-use Rattle.server_model.specs.LockedRows.Agreeing.{covers, is_under, SameWhere, Among, Within}
-use Rattle.server_model.specs.LockedRows.Covering.{rows_of, RowsCovered, Covered, Apart}
+use Rattle.server_model.specs.LockedRows.Agreement.{covers, is_under, SameWhere, Among, Within}
+use Rattle.server_model.specs.LockedRows.Coverage.{rows_of, RowsCovered, Covered, Apart}
 use Rattle.server_model.proofs.LockedRows.Standing.{one_row, stands-put, stands-filter}
 use Rattle.server_model.proofs.LockedRows.Points.{within-left, within-right, within-itself, within-parts, among-within, point_of}
 use Rattle.server_model.proofs.LockedRows.Tests.{same_number, same_bytes, are_same}

@@ -17,8 +17,8 @@ use Rattle.server_model.specs.Rows.{change_rows, change_all}
 use Rattle.server_model.specs.declared.work.Work.{Work}
 use Rattle.server_model.specs.StatementResults.{TableResult, tells}
 use Rattle.server_model.specs.Needs.{needs}
-use Rattle.server_model.specs.LockedRows.Agreeing.{is_under, SameWhere, TablesAgree, Agree, Within}
-use Rattle.server_model.specs.LockedRows.Covering.{IsWellFormedTable, IsSound, RowsCovered, Covered, rows_of}
+use Rattle.server_model.specs.LockedRows.Agreement.{is_under, SameWhere, TablesAgree, Agree, Within}
+use Rattle.server_model.specs.LockedRows.Coverage.{IsWellFormedTable, IsSound, RowsCovered, Covered, rows_of}
 use Rattle.server_model.specs.LockedRows.Databases.{TaskSound, WhereFound, IsWellFormedDatabase, EventsCovered}
 use Rattle.server_model.specs.LockedRows.Laws.{SaysAlike}
 use Rattle.server_model.specs.Operations.{Operation, events_of, result_in, operation_result, needs_in, operation_needs, change_table, after_events}

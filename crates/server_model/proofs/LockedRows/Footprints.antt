@@ -17,7 +17,7 @@ use Rattle.server_model.specs.declared.work.Work.{Work}
 use Rattle.server_model.specs.declared.work.Work.TheVariants.{Refuse, Insert, Copy, Replace, Delete, Update, Select}
 use Rattle.server_model.specs.StatementResults.{displaced, with_sets, clashes_besides, updates, updated, tells, result_or_refusal}
 use Rattle.server_model.specs.Needs.{lock_on, points, points_of, needs}
-use Rattle.server_model.specs.LockedRows.Agreeing.{is_under, SameWhere}
+use Rattle.server_model.specs.LockedRows.Agreement.{is_under, SameWhere}
 use Rattle.server_model.proofs.LockedRows.Standing.{same-filter, same-any, same-within, same-changed}
 use Rattle.server_model.proofs.LockedRows.Points.{under-append, clash_under}
 use Rattle.server_model.proofs.LockedRows.Tests.{same_bytes}

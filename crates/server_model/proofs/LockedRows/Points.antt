@@ -17,7 +17,7 @@ use Rattle.server_locks.specs.declared.row_locks.lock.Lock.{Lock}
 use Rattle.table_store.proofs.Orders.{Row, is_Equal}
 use Rattle.server_model.specs.Rows.{lies_under}
 use Rattle.server_model.specs.Needs.{lock_on, point_lock, points_from, points}
-use Rattle.server_model.specs.LockedRows.Agreeing.{covers, is_under, Among, Within}
+use Rattle.server_model.specs.LockedRows.Agreement.{covers, is_under, Among, Within}
 use Rattle.server_model.proofs.LockedRows.Tests.{same_bytes}
 
 pub under-append : (schema : Schema) (a b : List Lock) (row : Row) → is_under schema (a ++ b) row ≡ (is_under schema a row || is_under schema b row)

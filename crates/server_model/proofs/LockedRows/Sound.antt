@@ -20,7 +20,7 @@ use Rattle.server_model.specs.declared.work.Work.{Work}
 use Rattle.server_model.specs.declared.work.Work.TheVariants.{Insert, Replace, Delete, Update}
 use Rattle.server_model.specs.Checks.{◌>>=◌, value_at, given_or, beside, row_from, new_row, places_listed, unless, places_named, are_distinct, reach_of, selection_of, set_first, stored_set, sets_from, or_refused, update_of, select_of, work_of}
 use Rattle.base_values.specs.SchemaRules.Valid.{StoresDefault}
-use Rattle.server_model.specs.LockedRows.Covering.{SetsFit, IsSound}
+use Rattle.server_model.specs.LockedRows.Coverage.{SetsFit, IsSound}
 
 -- what is not refused passes
 abbrev pub OkIs : {A E : Type 0} → (A → Type 0) → Result A E → Type 0

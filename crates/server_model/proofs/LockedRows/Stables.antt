@@ -18,8 +18,8 @@ use Rattle.server_model.specs.declared.work.StatementResult.{StatementResult}
 use Rattle.std.specs.Option.{option_to_list}
 use Rattle.server_model.specs.Alone.{reply_of}
 use Rattle.server_model.specs.Rows.{change_all}
-use Rattle.server_model.specs.LockedRows.Agreeing.{TablesAgree, Agree, Within}
-use Rattle.server_model.specs.LockedRows.Covering.{IsWellFormedTable, IsSound, RowsCovered, rows_of, Apart}
+use Rattle.server_model.specs.LockedRows.Agreement.{TablesAgree, Agree, Within}
+use Rattle.server_model.specs.LockedRows.Coverage.{IsWellFormedTable, IsSound, RowsCovered, rows_of, Apart}
 use Rattle.server_model.specs.LockedRows.Databases.{TaskSound, WhereFound, IsWellFormedDatabase, ChangeCovered, EventCovered, EventsCovered}
 use Rattle.server_model.specs.Operations.{table_of, operation_of, statement_result, row_needs, change_table, after_events}
 use Rattle.server_model.specs.Alone.{line_says, line_events, line_replies, Ran, lines_run, nothing_ran}

@@ -15,7 +15,7 @@ use Rattle.base_values.specs.declared.event.Change.TheVariants.{Write, Update, D
 use Rattle.table_store.proofs.Orders.{Row, turned, is_Equal}
 use Rattle.table_store.proofs.Ascending.{ascends-filter, before_all}
 use Rattle.server_model.specs.Rows.{same_row, stands, without_row, change_rows}
-use Rattle.server_model.specs.LockedRows.Agreeing.{SameWhere}
+use Rattle.server_model.specs.LockedRows.Agreement.{SameWhere}
 use Rattle.server_model.proofs.LockedRows.Tests.{or_swapped}
 
 -- rows that compare equal are one row

@@ -17,7 +17,7 @@ use Rattle.server_model.specs.Rows.{reaches, rows_met, same_row, stands, without
 use Rattle.server_model.specs.declared.work.Work.{Work}
 use Rattle.server_model.specs.declared.work.Work.TheVariants.{Refuse, Insert, Copy, Replace, Delete, Update, Select}
 use Rattle.server_model.specs.StatementResults.{only, displaced, with_sets, clashes_besides, change_first, updates, updated, tells, result_or_refusal}
-use Rattle.server_model.specs.LockedRows.Covering.{SetsFit, IsSound}
+use Rattle.server_model.specs.LockedRows.Coverage.{SetsFit, IsSound}
 use Rattle.base_values.specs.Laws.{StoresNullWhereNullable}
 use Rattle.base_values.specs.declared.gho_schema.schema.Column.{Column}
 use Rattle.table_store.specs.ClusteredKeys.{HasClusteredKey}

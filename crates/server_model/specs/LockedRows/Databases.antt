@@ -7,7 +7,7 @@ use Rattle.base_values.specs.declared.event.Change.{Change}
 use Rattle.server_locks.specs.declared.row_locks.lock.Lock.{Lock}
 use Rattle.table_store.specs.Databases.{TableRows, Database, find_table}
 use Rattle.server_model.specs.Operations.{Operation}
-use Rattle.server_model.specs.LockedRows.Covering.{IsWellFormedTable, IsSound, RowsCovered, rows_of}
+use Rattle.server_model.specs.LockedRows.Coverage.{IsWellFormedTable, IsSound, RowsCovered, rows_of}
 
 abbrev pub WhereFound : (TableRows → Type 0) → Option TableRows → Type 0
 WhereFound P None = Unit {0}

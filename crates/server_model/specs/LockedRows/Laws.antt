@@ -16,9 +16,9 @@ use Rattle.server_model.specs.Rows.{change_all}
 use Rattle.server_model.specs.Checks.{work_of}
 use Rattle.server_model.specs.StatementResults.{tells}
 use Rattle.server_model.specs.Operations.{Operation, statement_result, operation_result, operation_needs, after_events}
-use Rattle.server_model.specs.LockedRows.Agreeing.{Agree, Within}
+use Rattle.server_model.specs.LockedRows.Agreement.{Agree, Within}
 use Rattle.base_values.specs.SchemaRules.Valid.{StoresDefault}
-use Rattle.server_model.specs.LockedRows.Covering.{Apart, IsSound}
+use Rattle.server_model.specs.LockedRows.Coverage.{Apart, IsSound}
 use Rattle.server_model.specs.LockedRows.Databases.{IsWellFormedDatabase, EventsCovered}
 
 -- the two databases let the job say and need the same

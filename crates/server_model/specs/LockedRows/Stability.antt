@@ -6,7 +6,7 @@ use Rattle.table_store.specs.Databases.{Database}
 use Rattle.server_model.specs.declared.transaction.TxnLine.{TxnLine}
 use Rattle.server_model.specs.Operations.{after_events}
 use Rattle.server_model.specs.Alone.{Ran, lines_run, nothing_ran}
-use Rattle.server_model.specs.LockedRows.Agreeing.{Agree}
+use Rattle.server_model.specs.LockedRows.Agreement.{Agree}
 use Rattle.server_model.specs.LockedRows.Databases.{IsWellFormedDatabase}
 
 -- the lines run so on this database, which they leave well formed

@@ -12,7 +12,7 @@ use Rattle.table_store.specs.Databases.{TableRows, StoredTable, Database, databa
 use Rattle.table_store.specs.declared.renames.Pair.{Pair}
 use Rattle.table_store.specs.declared.renames.NotRenamed.TheVariants as reasons
 use Rattle.server_model.specs.States.{pair_names}
-use Rattle.server_model.specs.LockedRows.Covering.{IsWellFormedTable}
+use Rattle.server_model.specs.LockedRows.Coverage.{IsWellFormedTable}
 use Rattle.server_model.specs.LockedRows.Databases.{IsWellFormedDatabase}
 use Rattle.server_model.proofs.LockedRows.Tests.{are_same, turned_bytes, nor_left, nor_right}
 use Rattle.proof_journals.proofs.Moves.{create_moves, drop_moves, rename_moves}

@@ -6,7 +6,7 @@ use Rattle.table_store.specs.Databases.{StoredTable, database, spare_in, spares,
 use Rattle.table_store.specs.declared.renames.Pair.{Pair}
 use Rattle.server_model.specs.Operations.{after_events}
 use Rattle.server_model.specs.States.{pair_names}
-use Rattle.server_model.specs.LockedRows.Covering.{IsWellFormedTable}
+use Rattle.server_model.specs.LockedRows.Coverage.{IsWellFormedTable}
 use Rattle.server_model.specs.LockedRows.Databases.{IsWellFormedDatabase}
 use Rattle.server_transaction.specs.ServerData.FittingEvents.{EventsFit, NoneOf}
 use Rattle.server_transaction.specs.Premises.{HasSchema}

@@ -17,7 +17,7 @@ use Rattle.server_model.specs.Answers.{refuses}
 use Rattle.server_model.specs.Needs.{needs}
 use Rattle.server_model.specs.StatementResults.{tells}
 use Rattle.server_model.specs.Operations.{after_events, copy_from, copy_operation, operation_needs, operation_result, needs_in, result_in, result_of}
-use Rattle.server_model.specs.LockedRows.Covering.{IsWellFormedTable, IsSound}
+use Rattle.server_model.specs.LockedRows.Coverage.{IsWellFormedTable, IsSound}
 use Rattle.server_model.specs.LockedRows.Databases.{WhereFound}
 use Rattle.proof_journals.proofs.Tooling.{copies_sound}
 use Rattle.server_seen.specs.Written.{Written, nothing}

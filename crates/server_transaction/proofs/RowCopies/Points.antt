@@ -14,7 +14,7 @@ use Rattle.base_values.specs.GhoSchema.Rows.{key_of, key_places}
 use Rattle.table_store.specs.Databases.{TableRows, row_at_key}
 use Rattle.table_store.specs.RowLists.{is_at}
 use Rattle.server_model.specs.Rows.{rows_met}
-use Rattle.server_model.specs.LockedRows.Covering.{IsWellFormedTable}
+use Rattle.server_model.specs.LockedRows.Coverage.{IsWellFormedTable}
 use Rattle.proof_journals.proofs.ServerTurns.Spans.{rows_of_span}
 
 has_point : (key other : List Value) → has (point key) other ≡ is_eq (compare_keys key other)

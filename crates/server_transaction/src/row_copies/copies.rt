@@ -6,7 +6,7 @@ ghost use Rattle.table_store.specs.Databases.{database};
 ghost use Rattle.server_model.specs.Operations.{after_events, copy_operation, operation_needs, operation_result, result_of};
 ghost use Rattle.server_model.specs.Needs.{needs};
 ghost use Rattle.server_model.specs.StatementResults.{tells};
-ghost use Rattle.server_model.specs.LockedRows.Covering.{IsWellFormedTable, IsSound};
+ghost use Rattle.server_model.specs.LockedRows.Coverage.{IsWellFormedTable, IsSound};
 ghost use Rattle.server_transaction.specs.Premises.{HasSchema, IsOf, events_ready};
 ghost use Rattle.server_seen.specs.Written.{nothing, seen};
 

@@ -11,7 +11,7 @@ ghost use Rattle.server_model.specs.declared.work.Work.TheVariants as works;
 ghost use Rattle.server_model.specs.Checks.{new_row, or_refused};
 ghost use Rattle.server_model.specs.Operations.{after_events, copy_from, copy_work};
 ghost use Rattle.server_model.specs.Rows.{rows_met};
-ghost use Rattle.server_model.specs.LockedRows.Covering.{IsWellFormedTable};
+ghost use Rattle.server_model.specs.LockedRows.Coverage.{IsWellFormedTable};
 ghost use Rattle.server_transaction.specs.Premises.{IsOf};
 ghost use Rattle.server_seen.specs.Written.{nothing, seen};
 

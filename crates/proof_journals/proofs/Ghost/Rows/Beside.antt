@@ -19,7 +19,7 @@ use Rattle.proof_journals.proofs.Ghost.Rows.TimelineLaws.{change_keeps}
 use Rattle.proof_journals.specs.Ghost.Rows.Changes.{new_key, old_key}
 use Rattle.proof_journals.specs.Ghost.Rows.Disjoint.{AllDisjoint, AreDisjoint, Disjoint}
 use Rattle.proof_journals.specs.Ghost.Rows.Moments.{Fits, FitsAll, Row, rows_after, rows_after_all}
-use Rattle.server_model.specs.LockedRows.Covering.{rows_of}
+use Rattle.server_model.specs.LockedRows.Coverage.{rows_of}
 
 -- ---- what holds of all rows behind a change
 

@@ -17,7 +17,7 @@ use Rattle.proof_journals.specs.Ghost.Rows.Moments.{FitsAll, LogFits, Row, rows_
 use Rattle.proof_journals.specs.Ghost.Rows.Timelines.{KeepsUniques, Migration, timeline_of}
 use Rattle.proof_journals.specs.Ghost.Rows.UnderWay.{IsUnderWay}
 use Rattle.proof_journals.specs.Ghost.Rows.Views.{GhostRows, views_of}
-use Rattle.server_model.specs.LockedRows.Covering.{rows_of}
+use Rattle.server_model.specs.LockedRows.Coverage.{rows_of}
 
 -- strangers the other way about
 heads : (schema : Schema) (change : Change) (others : List Change) (changes : List Change) → AllByRecursion (λ c. AllByRecursion (Disjoint schema c) (change ∷ others)) changes → AllByRecursion (Disjoint schema change) changes × AllByRecursion (λ c. AllByRecursion (Disjoint schema c) others) changes

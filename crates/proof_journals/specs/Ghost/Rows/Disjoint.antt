@@ -5,7 +5,7 @@ use Rattle.base_values.specs.declared.gho_schema.schema.Schema.{Schema}
 use Rattle.base_values.specs.GhoSchema.Rows.{key_of, key_places}
 use Rattle.base_values.specs.GhoSchema.Tables.{clash}
 use Rattle.base_values.specs.declared.event.Change.{Change}
-use Rattle.server_model.specs.LockedRows.Covering.{rows_of}
+use Rattle.server_model.specs.LockedRows.Coverage.{rows_of}
 use Rattle.proof_journals.specs.Ghost.Rows.Moments.{Row}
 
 -- *Disjoint rows*: they don't clash, and have different clustered keys.

@@ -17,7 +17,7 @@ use Rattle.server_model.specs.Operations.{Operation, operation_result}
 use Rattle.server_model.specs.Rows.{rows_met}
 use Rattle.server_model.specs.StatementResults.{TableResult, tells, updated}
 use Rattle.server_model.specs.LockedRows.Databases.{IsWellFormedDatabase, WhereFound}
-use Rattle.server_model.specs.LockedRows.Covering.{IsWellFormedTable}
+use Rattle.server_model.specs.LockedRows.Coverage.{IsWellFormedTable}
 use Rattle.proof_journals.specs.Ghost.Rows.Moments.{Row}
 use Rattle.proof_journals.specs.Ghost.Rows.Timelines.{Migration}
 use Rattle.proof_journals.specs.Ghost.HeldKeys.{Clustered}

@@ -49,7 +49,7 @@ use Rattle.tool_program.specs.declared.event_applier.applier.Part.TheVariants.{W
 use Rattle.tool_program.specs.EventApplier.Appliers.{Doing, after_statements, batch_of, call_at, doing_in, in_part, moved, progress, read_batch, statement_result, took}
 use Rattle.tool_program.specs.EventApplier.Appliers.Doing.{Putting, Removing, Changing}
 use Rattle.tool_program.specs.EventApplier.Appliers as appliers
-use Rattle.server_model.specs.LockedRows.Covering.{Apart}
+use Rattle.server_model.specs.LockedRows.Coverage.{Apart}
 use Rattle.server_model.proofs.LockedRows.Points.{within-itself, within-left, within-right}
 use Rattle.server_model.proofs.LockedRows.Tests.{are_one, same_bytes}
 use Rattle.proof_journals.proofs.Answering.{apart_both}

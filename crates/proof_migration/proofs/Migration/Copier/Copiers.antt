@@ -51,8 +51,8 @@ use Rattle.tool_program.specs.declared.chunk_copier.copier.CopyRange.{CopyRange}
 use Rattle.tool_program.specs.declared.chunk_copier.copier.CopyStep.{CopyStep}
 use Rattle.tool_program.specs.declared.chunk_copier.copier.CopyStep.TheVariants.{Choosing, Spanning, Copying, Committing}
 use Rattle.tool_program.specs.ChunkCopier.Copiers.{call_at, copies, is_top, low_end, progress, took}
-use Rattle.server_model.specs.LockedRows.Agreeing.{Among}
-use Rattle.server_model.specs.LockedRows.Covering.{Apart}
+use Rattle.server_model.specs.LockedRows.Agreement.{Among}
+use Rattle.server_model.specs.LockedRows.Coverage.{Apart}
 use Rattle.server_model.proofs.LockedRows.Points.{among-right, within-itself, within-left, within-right}
 use Rattle.server_model.proofs.LockedRows.Tests.{are_one}
 use Rattle.proof_journals.proofs.Answering.{apart_both}

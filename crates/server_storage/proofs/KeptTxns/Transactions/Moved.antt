@@ -12,7 +12,7 @@ use Rattle.table_store.specs.declared.renames.Pair.{Pair}
 use Rattle.server_model.specs.Operations.{change_table, after_events}
 use Rattle.server_model.specs.Rows.{change_all}
 use Rattle.server_model.specs.States.{pair_names}
-use Rattle.server_model.specs.LockedRows.Covering.{IsWellFormedTable}
+use Rattle.server_model.specs.LockedRows.Coverage.{IsWellFormedTable}
 use Rattle.server_model.specs.LockedRows.Databases.{IsWellFormedDatabase, WhereFound}
 use Rattle.server_model.proofs.LockedRows.Finding.{change_if, found_after}
 use Rattle.server_model.proofs.LockedRows.Tests.{are_same}

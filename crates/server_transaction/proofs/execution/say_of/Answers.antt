@@ -2,7 +2,7 @@ use Rattle.std.proofs.Common.{sym, ap, ◌∙◌, subst}
 use Rattle.base_values.specs.declared.gho_schema.schema.Schema.{Schema}
 use Rattle.server_model.specs.declared.work.Work.{Work}
 use Rattle.server_model.specs.Checks.{work_of}
-use Rattle.server_model.specs.LockedRows.Covering.{IsSound}
+use Rattle.server_model.specs.LockedRows.Coverage.{IsSound}
 use Rattle.server_model.proofs.LockedRows.Sound.{work_sound}
 use Rattle.server_transaction.proofs.execution.say_of.Goals as goal
 

@@ -16,7 +16,7 @@ use Rattle.server_locks.specs.RowLocks.Grants.{conflict}
 use Rattle.server_model.specs.declared.work.Work.{Work}
 use Rattle.server_model.specs.declared.work.Work.TheVariants as works
 use Rattle.server_model.specs.Needs.{points}
-use Rattle.server_model.specs.LockedRows.Agreeing.{Among, Within}
+use Rattle.server_model.specs.LockedRows.Agreement.{Among, Within}
 
 -- the rows that a change puts or removes
 abbrev pub rows_of : Change → List (List Value)
