@@ -1,5 +1,5 @@
-mod Putting
-mod Reading
-mod RowFits
-mod RowValues
+pub mod Putting
+pub mod Reading
+pub mod RowFits
+pub mod RowValues
 pub mod Sound

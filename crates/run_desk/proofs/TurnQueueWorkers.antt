@@ -1,1 +1,1 @@
-mod Members
+pub mod Members

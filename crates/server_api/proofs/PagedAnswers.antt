@@ -1,4 +1,4 @@
-mod Cuts
-mod LastRows
-mod Lists
-mod Shown
+pub mod Cuts
+pub mod LastRows
+pub mod Lists
+pub mod Shown
