@@ -1,4 +1,5 @@
 -- What a statement is to do makes rows of its table's columns.
+use Rattle.base_values.specs.declared.mysql_errors.TheConstants.{ER_FIELD_SPECIFIED_TWICE, ER_WRONG_VALUE_COUNT_ON_ROW}
 use Rattle.std.proofs.Common.{◌≡◌, ℕ, ◌+◌, Bool, List, [], ◌∷◌, map, Option, Some, None, Result, Ok, Err, refl}
 use Rattle.std.specs.List.{AllByRecursion}
 use Rattle.base_values.specs.declared.value.Value.{Value}

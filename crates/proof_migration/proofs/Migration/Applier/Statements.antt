@@ -1,4 +1,5 @@
 -- What the applier's statements are to do.
+use Rattle.base_values.specs.declared.mysql_errors.TheConstants.{ER_NOT_SUPPORTED_YET}
 use Rattle.std.proofs.Common.{◌≡◌, ℕ, suc, true, false, List, [], ◌∷◌, length, Some, None, Result, Ok, Err, refl, sym, ap, ◌∙◌}
 use Rattle.base_values.specs.declared.gho_schema.schema.Column.{Column}
 use Rattle.base_values.specs.declared.gho_schema.schema.Schema.{Schema}

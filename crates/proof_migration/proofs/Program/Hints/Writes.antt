@@ -1,4 +1,5 @@
 -- What the INSERT of an attempt's hint row writes: one row at most, whose number is the attempt's.
+use Rattle.base_values.specs.declared.mysql_errors.TheConstants.{ER_DUP_ENTRY, ER_WRONG_VALUE_COUNT_ON_ROW}
 use Rattle.std.proofs.Common.{◌≡◌, ◌≤◌, ◌==◌, ℕ, zero, suc, pos, Bool, true, false, cond, List, [], ◌∷◌, ◌++◌, length, take, Option, Some, None, Result, Ok, Err, refl, sym, ap, ◌∙◌, subst, arith}
 use Rattle.std.specs.Prelude.{int_le, nat_lt, codes, ◌&&◌}
 use Rattle.std.specs.Fmt.{signed_decimal}
