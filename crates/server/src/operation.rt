@@ -16,6 +16,7 @@ use server_api::paged_answers::{end_of_chunk, ends, refuses, tables_shown};
 use server_locks::row_locks::LockSet;
 use server_model::{Answer, Request};
 use server_sessions::live_sessions::Sessions;
+use server_transaction::row_copies::RowCopy;
 use server_transaction::server_data::Data;
 use std::alloc::AllocError;
 
@@ -94,17 +95,15 @@ fn do_inside<D: Data>(
             into,
             map,
             key,
-        } => copy_row(
-            store,
-            all_sessions,
-            session,
-            request,
-            from,
-            into,
-            map,
-            key,
-            locks,
-        ),
+        } => {
+            let copy = RowCopy {
+                from,
+                into,
+                map,
+                key,
+            };
+            copy_row(store, all_sessions, session, request, &copy, locks)
+        }
         Request::LockTables(names) => lock_tables(store, all_sessions, session, names),
         Request::Unlock => {
             all_sessions.unlock(session);

@@ -13,12 +13,12 @@ ghost use Rattle.server.specs.Parts.{needed, state_of, GoTogether, HaveWritten, 
 use crate::records::keep;
 use base_script::Statement;
 use base_values::mysql_errors::ER_NO_SUCH_TABLE;
-use base_values::row_conversion::ColumnMap;
-use base_values::{Key, Name, Sequence, Span};
+use base_values::{Name, Sequence, Span};
 use server_api::paged_answers::{keys_of_span, refuses};
 use server_locks::row_locks::LockSet;
 use server_model::{Answer, Request};
 use server_sessions::live_sessions::Sessions;
+use server_transaction::row_copies::RowCopy;
 use server_transaction::server_data::Data;
 use std::alloc::AllocError;
 
@@ -49,21 +49,18 @@ pub fn copy_row<D: Data>(
     all_sessions: &mut Sessions,
     session: u32,
     request: &Request,
-    from: &Name,
-    into: &Name,
-    map: &ColumnMap,
-    key: &Key,
+    copy: &RowCopy<'_>,
     locks: LockSet,
 ) -> Result<Answer, AllocError>
     requires together { GoTogether (D.committed store.old) (D.written store.old) all_sessions.old }
     requires may { MayDo (state_of (D.committed store.old) all_sessions.old) session request.now locks }
-    requires request { request.now ≡ requests.CopyRow from.now into.now map.now key.now }
-    ensures answer { IfOk result (λ answer. answer ≡ (operation_result (view session (state_of (D.committed store.old) all_sessions.old)) (copy_operation (view session (state_of (D.committed store.old) all_sessions.old)) from.now into.now map.now key.now)).answer) }
-    ensures ok { OnOk result (state_of (D.committed store.new) all_sessions.new ≡ (does (result_effect (is_in_transaction (session_of session all_sessions.old.sessions)) (needed request.now locks) (operation_result (view session (state_of (D.committed store.old) all_sessions.old)) (copy_operation (view session (state_of (D.committed store.old) all_sessions.old)) from.now into.now map.now key.now))) (state_of (D.committed store.old) all_sessions.old) session).after) }
+    requires request { request.now ≡ requests.CopyRow copy.now.from.now copy.now.into.now copy.now.map.now copy.now.key.now }
+    ensures answer { IfOk result (λ answer. answer ≡ (operation_result (view session (state_of (D.committed store.old) all_sessions.old)) (copy_operation (view session (state_of (D.committed store.old) all_sessions.old)) copy.now.from.now copy.now.into.now copy.now.map.now copy.now.key.now)).answer) }
+    ensures ok { OnOk result (state_of (D.committed store.new) all_sessions.new ≡ (does (result_effect (is_in_transaction (session_of session all_sessions.old.sessions)) (needed request.now locks) (operation_result (view session (state_of (D.committed store.old) all_sessions.old)) (copy_operation (view session (state_of (D.committed store.old) all_sessions.old)) copy.now.from.now copy.now.into.now copy.now.map.now copy.now.key.now))) (state_of (D.committed store.old) all_sessions.old) session).after) }
     ensures err { OnErr result (state_of (D.committed store.new) all_sessions.new ≡ state_of (D.committed store.old) all_sessions.old) }
     ensures have { HaveWritten (D.written store.new) all_sessions.new }
 {
-    let executed = store.copy_row(session, from, into, map, key)?;
+    let executed = store.copy_row(session, copy)?;
     keep(store, all_sessions, session, request, locks, executed)
 }
 

@@ -10,11 +10,10 @@ ghost use Rattle.server_storage.specs.KeptTxns.Kept.{IsKept};
 
 use crate::open_txns::OpenTxn;
 use crate::{span_locks, statement_locks, txn_seen};
-use base_values::row_conversion::ColumnMap;
-use base_values::{Key, Name, Sequence};
+use base_values::Sequence;
 use server_locks::row_locks::LockSet;
 use server_model::Request;
-use server_transaction::row_copies::{copy_needs, execute_copy};
+use server_transaction::row_copies::{RowCopy, copy_needs, execute_copy};
 use server_transaction::server_data::ReadyResult;
 use server_transaction::{Txn, Writes};
 use std::alloc::{AllocError, Global};
@@ -26,19 +25,16 @@ pub fn execute_copied(
     tables: &Tables,
     txns: &[OpenTxn],
     session: u32,
-    from: &Name,
-    into: &Name,
-    map: &ColumnMap,
-    key: &Key,
+    copy: &RowCopy<'_>,
 ) -> Result<ReadyResult<Option<Writes>>, AllocError>
     requires { IsKept tables.now txns.now }
-    ensures statement_result { IfOk result (λ executed. executed.result ≡ operation_result (after_events (database tables.now) (written_of session txns.now)) (copy_operation (after_events (database tables.now) (written_of session txns.now)) from.now into.now map.now key.now)) }
+    ensures statement_result { IfOk result (λ executed. executed.result ≡ operation_result (after_events (database tables.now) (written_of session txns.now)) (copy_operation (after_events (database tables.now) (written_of session txns.now)) copy.now.from.now copy.now.into.now copy.now.map.now copy.now.key.now)) }
     ensures events { IfOk result (λ executed. events_ready executed.writes ≡ executed.result.events) }
     ensures schema { IfOk result (λ executed. IfSome executed.writes (λ one. HasSchema (database tables.now) one.schema)) }
 {
     let unwritten = Txn::new(alloc);
     let txn = txn_seen(txns, session, &unwritten);
-    execute_copy(alloc, tables, txn, from, into, map, key)
+    execute_copy(alloc, tables, txn, copy)
 }
 
 /// The row locks that the session's copy of a row needs.
@@ -47,17 +43,14 @@ fn copy_locks(
     tables: &Tables,
     txns: &[OpenTxn],
     session: u32,
-    from: &Name,
-    into: &Name,
-    map: &ColumnMap,
-    key: &Key,
+    copy: &RowCopy<'_>,
 ) -> Result<LockSet, AllocError>
     requires { IsKept tables.now txns.now }
-    ensures { IfOk result (λ locks. locks ≡ operation_needs (after_events (database tables.now) (written_of session txns.now)) (copy_operation (after_events (database tables.now) (written_of session txns.now)) from.now into.now map.now key.now)) }
+    ensures { IfOk result (λ locks. locks ≡ operation_needs (after_events (database tables.now) (written_of session txns.now)) (copy_operation (after_events (database tables.now) (written_of session txns.now)) copy.now.from.now copy.now.into.now copy.now.map.now copy.now.key.now)) }
 {
     let unwritten = Txn::new(alloc);
     let txn = txn_seen(txns, session, &unwritten);
-    copy_needs(alloc, tables, txn, from, into, map, key)
+    copy_needs(alloc, tables, txn, copy)
 }
 
 /// The row locks that the session's request needs.
@@ -79,7 +72,15 @@ pub fn row_locks(
             into,
             map,
             key,
-        } => copy_locks(alloc, tables, txns, session, from, into, map, key),
+        } => {
+            let copy = RowCopy {
+                from,
+                into,
+                map,
+                key,
+            };
+            copy_locks(alloc, tables, txns, session, &copy)
+        }
         _ => Ok(Sequence::new(alloc)),
     }
 }

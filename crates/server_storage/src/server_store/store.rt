@@ -13,12 +13,12 @@ use crate::{
     commit_txn, create_table, drop_table, execute_seen, make_ready, rename_tables, roll_back_txn,
 };
 use base_script::Statement;
+use base_values::Name;
 use base_values::gho_schema::Schema;
-use base_values::row_conversion::ColumnMap;
-use base_values::{Key, Name};
 use server_locks::row_locks::LockSet;
 use server_model::Request;
 use server_transaction::Writes;
+use server_transaction::row_copies::RowCopy;
 use server_transaction::server_data::{Data, ReadyResult};
 use std::alloc::{AllocError, Global};
 use std::marker::Model;
@@ -121,20 +121,14 @@ impl Data for Store {
     fn copy_row(
         &mut self,
         session: u32,
-        from: &Name,
-        into: &Name,
-        map: &ColumnMap,
-        key: &Key,
+        copy: &RowCopy<'_>,
     ) -> Result<ReadyResult<Option<Writes>>, AllocError> {
         let executed = execute_copied(
             self.alloc,
             &self.tables,
             self.txns.as_slice(),
             session,
-            from,
-            into,
-            map,
-            key,
+            copy,
         )?;
         make_ready(
             self.alloc,

@@ -10,11 +10,11 @@ ghost use Rattle.server_model.specs.LockedRows.Coverage.{IsWellFormedTable, IsSo
 ghost use Rattle.server_transaction.specs.Premises.{HasSchema, IsOf, events_ready};
 ghost use Rattle.server_seen.specs.Written.{nothing, seen};
 
+use crate::row_copies::RowCopy;
 use crate::row_copies::work::work_of_copy;
 use crate::server_data::ReadyResult;
 use crate::{Txn, Writes, missing, tell};
-use base_values::row_conversion::ColumnMap;
-use base_values::{Key, Name, Sequence};
+use base_values::Sequence;
 use server_execute::statement_work::needs;
 use server_locks::row_locks::LockSet;
 use server_model::Work;
@@ -83,22 +83,19 @@ pub fn execute_copy(
     alloc: Global,
     tables: &Tables,
     txn: &Txn,
-    from: &Name,
-    into: &Name,
-    map: &ColumnMap,
-    key: &Key,
+    copy: &RowCopy<'_>,
 ) -> Result<ReadyResult<Option<Writes>>, AllocError>
     requires { IsOf (database tables.now) txn.now }
-    ensures statement_result { IfOk result (λ executed. executed.result ≡ operation_result (after_events (database tables.now) txn.now.events) (copy_operation (after_events (database tables.now) txn.now.events) from.now into.now map.now key.now)) }
+    ensures statement_result { IfOk result (λ executed. executed.result ≡ operation_result (after_events (database tables.now) txn.now.events) (copy_operation (after_events (database tables.now) txn.now.events) copy.now.from.now copy.now.into.now copy.now.map.now copy.now.key.now)) }
     ensures events { IfOk result (λ executed. events_ready executed.writes ≡ executed.result.events) }
     ensures schema { IfOk result (λ executed. IfSome executed.writes (λ one. HasSchema (database tables.now) one.schema)) }
 {
-    let Some(table) = tables.find(into) else {
+    let Some(table) = tables.find(copy.into) else {
         return Ok(missing(alloc));
     };
     let schema = table.schema();
-    let work = work_of_copy(alloc, tables, txn, from, map, key, schema)?;
-    match txn.written_to(into) {
+    let work = work_of_copy(alloc, tables, txn, copy, schema)?;
+    match txn.written_to(copy.into) {
         Some(written) => tell_of(alloc, table, written, &work),
         None => tell_of_unwritten(alloc, table, &work),
     }
@@ -109,20 +106,17 @@ pub fn copy_needs(
     alloc: Global,
     tables: &Tables,
     txn: &Txn,
-    from: &Name,
-    into: &Name,
-    map: &ColumnMap,
-    key: &Key,
+    copy: &RowCopy<'_>,
 ) -> Result<LockSet, AllocError>
     requires { IsOf (database tables.now) txn.now }
-    ensures { IfOk result (λ locks. locks ≡ operation_needs (after_events (database tables.now) txn.now.events) (copy_operation (after_events (database tables.now) txn.now.events) from.now into.now map.now key.now)) }
+    ensures { IfOk result (λ locks. locks ≡ operation_needs (after_events (database tables.now) txn.now.events) (copy_operation (after_events (database tables.now) txn.now.events) copy.now.from.now copy.now.into.now copy.now.map.now copy.now.key.now)) }
 {
-    let Some(table) = tables.find(into) else {
+    let Some(table) = tables.find(copy.into) else {
         return Ok(Sequence::new(alloc));
     };
     let schema = table.schema();
-    let work = work_of_copy(alloc, tables, txn, from, map, key, schema)?;
-    match txn.written_to(into) {
+    let work = work_of_copy(alloc, tables, txn, copy, schema)?;
+    match txn.written_to(copy.into) {
         Some(written) => needs_of(alloc, table, written, &work),
         None => needs_of_unwritten(alloc, table, &work),
     }

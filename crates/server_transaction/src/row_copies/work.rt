@@ -16,10 +16,11 @@ ghost use Rattle.server_transaction.specs.Premises.{IsOf};
 ghost use Rattle.server_seen.specs.Written.{nothing, seen};
 
 use crate::Txn;
+use crate::row_copies::RowCopy;
 use base_values::gho_schema::{Schema, clustered_place};
 use base_values::mysql_errors::ER_NO_SUCH_TABLE;
 use base_values::row_conversion::{ColumnMap, ConversionFault, converted_row};
-use base_values::{Duplicate, Key, Name, Row, Rows, Span};
+use base_values::{Duplicate, Key, Row, Rows, Span};
 use server_model::{Answer, Reach, Work};
 use server_prepare::{new_row, refuses, refuses_value};
 use server_seen::{SeenTable, WrittenRows};
@@ -121,21 +122,19 @@ pub fn work_of_copy(
     alloc: Global,
     tables: &Tables,
     txn: &Txn,
-    from: &Name,
-    map: &ColumnMap,
-    key: &Key,
+    copy: &RowCopy<'_>,
     into: &Schema,
 ) -> Result<Work, AllocError>
     requires { IsOf (database tables.now) txn.now }
-    ensures { IfOk result (λ work. work ≡ copy_from (find_table from.now (after_events (database tables.now) txn.now.events)) map.now key.now into.now) }
+    ensures { IfOk result (λ work. work ≡ copy_from (find_table copy.now.from.now (after_events (database tables.now) txn.now.events)) copy.now.map.now copy.now.key.now into.now) }
 {
-    let Some(table) = tables.find(from) else {
+    let Some(table) = tables.find(copy.from) else {
         return Ok(Work::Refuse(refuses(ER_NO_SUCH_TABLE)));
     };
     // For the prover: `schema` says that the rows are in order of the clustered key.
     let _schema = table.schema();
-    match txn.written_to(from) {
-        Some(written) => work_from(alloc, table, written, map, key, into),
-        None => work_from_unwritten(alloc, table, map, key, into),
+    match txn.written_to(copy.from) {
+        Some(written) => work_from(alloc, table, written, copy.map, copy.key, into),
+        None => work_from_unwritten(alloc, table, copy.map, copy.key, into),
     }
 }

@@ -12,10 +12,10 @@ ghost use Rattle.server_model.specs.Conditions.{IsWellFormed};
 ghost use Rattle.server_model.specs.LockedRows.Databases.{IsWellFormedDatabase};
 ghost use Rattle.server_transaction.specs.ServerData.FittingEvents.{EventsFit, NoneOf};
 
+use crate::row_copies::RowCopy;
 use base_script::Statement;
+use base_values::Name;
 use base_values::gho_schema::Schema;
-use base_values::row_conversion::ColumnMap;
-use base_values::{Key, Name};
 use server_locks::row_locks::LockSet;
 use server_model::{Request, StatementResult};
 use std::alloc::AllocError;
@@ -76,13 +76,10 @@ pub trait Data: Drop {
     fn copy_row(
         &mut self,
         session: u32,
-        from: &Name,
-        into: &Name,
-        map: &ColumnMap,
-        key: &Key,
+        copy: &RowCopy<'_>,
     ) -> Result<ReadyResult<Self::Writes>, AllocError>
-        requires { IsWellFormed (committed self.old) (CopyRow from.now into.now map.now key.now) }
-        ensures statement_result { IfOk result (λ executed. executed.result ≡ operation_result (after_events (committed self.old) (written self.old session)) (copy_operation (after_events (committed self.old) (written self.old session)) from.now into.now map.now key.now)) }
+        requires { IsWellFormed (committed self.old) (CopyRow copy.now.from.now copy.now.into.now copy.now.map.now copy.now.key.now) }
+        ensures statement_result { IfOk result (λ executed. executed.result ≡ operation_result (after_events (committed self.old) (written self.old session)) (copy_operation (after_events (committed self.old) (written self.old session)) copy.now.from.now copy.now.into.now copy.now.map.now copy.now.key.now)) }
         ensures events { IfOk result (λ executed. events executed.writes ≡ executed.result.events) }
         ensures ready { IfOk result (λ executed. is_ready self.new session executed.writes) }
         ensures committed { committed self.new ≡ committed self.old }
