@@ -23,7 +23,7 @@ pub record Both (old kept ghost : List ℕ) (tables after : Database) : Type 0 w
 both_renamed : (old kept ghost : List ℕ) (tables after : Database) → rename_tables (record { old = old; new = kept } ∷ record { old = ghost; new = old } ∷ []) tables ≡ Ok after → Both old kept ghost tables after
 unfolding rename_tables
 both_renamed old kept ghost tables after is = at (has_table kept tables) (has_table old tables) (has_table old (with_name old kept tables)) (has_table ghost (with_name old kept tables)) refl refl is where
-  at : (a b c d : Bool) → has_table kept tables ≡ a → has_table old (with_name old kept tables) ≡ c → cond a (Err reasons.Stands) (cond b (cond c (Err reasons.Stands) (cond d (Ok (with_name ghost old (with_name old kept tables))) (Err reasons.Missing))) (Err reasons.Missing)) ≡ Ok after → Both old kept ghost tables after
+  at : (a b c d : Bool) → has_table kept tables ≡ a → has_table old (with_name old kept tables) ≡ c → cond a (Err reasons.Exists) (cond b (cond c (Err reasons.Exists) (cond d (Ok (with_name ghost old (with_name old kept tables))) (Err reasons.Missing))) (Err reasons.Missing)) ≡ Ok after → Both old kept ghost tables after
   at false true false true one two is = record { first = one; second = two; is = cc }
   at true b c d one two is = absurd (cc)
   at false false c d one two is = absurd (cc)

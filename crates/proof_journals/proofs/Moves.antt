@@ -113,7 +113,7 @@ pub rename_moves : (pairs : List Pair) (tables after : Database) → rename_tabl
 unfolding rename_tables
 rename_moves [] tables after is = let same : tables ≡ after = cc in record { others = λ name off. ap (find_table name) (sym same); well_formed = λ all. subst IsWellFormedDatabase same all }
 rename_moves (pair ∷ pairs) tables after is = at (has_table pair.new tables) (has_table pair.old tables) refl is (rename_moves pairs (with_name pair.old pair.new tables) after) where
-  at : (b c : Bool) → has_table pair.new tables ≡ b → cond b (Err reasons.Stands) (cond c (rename_tables pairs (with_name pair.old pair.new tables)) (Err reasons.Missing)) ≡ Ok after → (rename_tables pairs (with_name pair.old pair.new tables) ≡ Ok after → Moved (pair_names pairs) (with_name pair.old pair.new tables) after) → Moved (pair_names (pair ∷ pairs)) tables after
+  at : (b c : Bool) → has_table pair.new tables ≡ b → cond b (Err reasons.Exists) (cond c (rename_tables pairs (with_name pair.old pair.new tables)) (Err reasons.Missing)) ≡ Ok after → (rename_tables pairs (with_name pair.old pair.new tables) ≡ Ok after → Moved (pair_names pairs) (with_name pair.old pair.new tables) after) → Moved (pair_names (pair ∷ pairs)) tables after
   at true c none is rest = absurd (cc)
   at false false none is rest = absurd (cc)
   at false true none is rest =

@@ -9,7 +9,7 @@ use Rattle.base_values.specs.declared.event.RowEvent.{RowEvent}
 use Rattle.server_locks.specs.MetadataLocks.Grants.{holds, blocker_of_name}
 use Rattle.table_store.specs.Databases.{Database, has_table, without_table, rename_tables}
 use Rattle.table_store.specs.declared.renames.Pair.{Pair}
-use Rattle.table_store.specs.declared.renames.NotRenamed.TheVariants.{Stands}
+use Rattle.table_store.specs.declared.renames.NotRenamed.TheVariants.{Exists}
 use Rattle.proof_journals.specs.Sentry.Sentries.{scene, OthersHold, OthersTurn, RenameWaits, FreesLock, OnlyFreesLock, TakesLock, DropsSentry}
 use Rattle.proof_journals.specs.Sentry.TurnResults.{IsRenamed}
 use Rattle.proof_journals.specs.ServerTurns.Others.{TurnOf, IsGrantedName, MayWrite, IsAlone, held_at}
@@ -98,7 +98,7 @@ exchange_free t pairs pair tables after e = false_from_ne_true (has_table pair.n
     never : has_table pair.new tables ≡ true → rename_tables (pair ∷ pairs) tables ≡ Ok after → ⊥
     never is e = by (rw is at e)
       where
-        by : Err Stands ≡ Ok after → ⊥
+        by : Err Exists ≡ Ok after → ⊥
         by e = cc
 
 abbrev pub exchanged : List ℕ → List Pair

@@ -172,7 +172,7 @@ exchange_needs t tables after none is = by (has_table (old_name t) tables) (has_
   free : has_table (ghost_name t) moved ≡ false
   free = found_has (ghost_name t) moved (renamed_other t (old_name t) (ghost_name t) tables (turned_bytes t (ghost_name t) (not_ghost t)) (ghost_not_old t) ∙ none)
 
-  by : (a b c d : Bool) → d ≡ false → cond a (Err reasons.Stands) (cond b (cond c (Err reasons.Stands) (cond d (Ok (with_name (ghost_name t) t moved)) (Err reasons.Missing))) (Err reasons.Missing)) ≡ Ok after → ⊥
+  by : (a b c d : Bool) → d ≡ false → cond a (Err reasons.Exists) (cond b (cond c (Err reasons.Exists) (cond d (Ok (with_name (ghost_name t) t moved)) (Err reasons.Missing))) (Err reasons.Missing)) ≡ Ok after → ⊥
   by true b c d off is = cc
   by false false c d off is = cc
   by false true true d off is = cc
@@ -186,7 +186,7 @@ exchange_frees t tables after is = by (has_table (old_name t) tables) (has_table
   moved : Database
   moved = with_name t (old_name t) tables
 
-  by : (a b c d : Bool) → cond a (Err reasons.Stands) (cond b (cond c (Err reasons.Stands) (cond d (Ok (with_name (ghost_name t) t moved)) (Err reasons.Missing))) (Err reasons.Missing)) ≡ Ok after → schema_of (ghost_name t) after ≡ None
+  by : (a b c d : Bool) → cond a (Err reasons.Exists) (cond b (cond c (Err reasons.Exists) (cond d (Ok (with_name (ghost_name t) t moved)) (Err reasons.Missing))) (Err reasons.Missing)) ≡ Ok after → schema_of (ghost_name t) after ≡ None
   by true b c d is = absurd cc
   by false false c d is = absurd cc
   by false true true d is = absurd cc

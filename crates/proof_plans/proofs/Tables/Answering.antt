@@ -115,7 +115,7 @@ module _ (name : List ℕ) where
     taken : has_table pair.new state.tables ≡ true
     taken = ap (λ (n : List ℕ). has_table n state.tables) (sym two) ∙ has_it state.tables stands
 
-    by : (a b : Bool) → a ≡ true → IsOther (does (defined (renamed_or (cond a (Err reasons.Stands) (cond b (rename_tables pairs (with_name pair.old pair.new state.tables)) (Err reasons.Missing))))) state number).answer
+    by : (a b : Bool) → a ≡ true → IsOther (does (defined (renamed_or (cond a (Err reasons.Exists) (cond b (rename_tables pairs (with_name pair.old pair.new state.tables)) (Err reasons.Missing))))) state number).answer
     by true b is = refl
     by false b is = absurd (false≢true is)
 

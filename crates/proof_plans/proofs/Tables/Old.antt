@@ -81,7 +81,7 @@ exchange_moves t tables after was is found = by (has_table (old_name t) tables) 
   moved : Database
   moved = with_name t (old_name t) tables
 
-  by : (a b c d : Bool) → has_table (old_name t) tables ≡ a → cond a (Err reasons.Stands) (cond b (cond c (Err reasons.Stands) (cond d (Ok (with_name (ghost_name t) t moved)) (Err reasons.Missing))) (Err reasons.Missing)) ≡ Ok after → find_table (old_name t) after ≡ Some (name_table (old_name t) was)
+  by : (a b c d : Bool) → has_table (old_name t) tables ≡ a → cond a (Err reasons.Exists) (cond b (cond c (Err reasons.Exists) (cond d (Ok (with_name (ghost_name t) t moved)) (Err reasons.Missing))) (Err reasons.Missing)) ≡ Ok after → find_table (old_name t) after ≡ Some (name_table (old_name t) was)
   by true b c d none is = absurd cc
   by false false c d none is = absurd cc
   by false true true d none is = absurd cc

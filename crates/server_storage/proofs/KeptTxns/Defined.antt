@@ -149,7 +149,7 @@ rooms_renamed : (name : List ℕ) (pairs : List Pair) (tables after : Database) 
 unfolding rename_tables
 rooms_renamed name [] tables after rooms is off = let same : tables ≡ after = cc in ap (λ (ts : Database). room_at name ts rooms) (sym same)
 rooms_renamed name (pair ∷ pairs) tables after rooms is off = at (has_table pair.new tables) (has_table pair.old tables) is (λ done off. rooms_renamed name pairs (with_name pair.old pair.new tables) after rooms done off) where
-  at : (b c : Bool) → cond b (Err reasons.Stands) (cond c (rename_tables pairs (with_name pair.old pair.new tables)) (Err reasons.Missing)) ≡ Ok after
+  at : (b c : Bool) → cond b (Err reasons.Exists) (cond c (rename_tables pairs (with_name pair.old pair.new tables)) (Err reasons.Missing)) ≡ Ok after
       → (rename_tables pairs (with_name pair.old pair.new tables) ≡ Ok after → list_any (bytes_eq name) (pair_names pairs) ≡ false → room_at name after rooms ≡ room_at name (with_name pair.old pair.new tables) rooms) → room_at name after rooms ≡ room_at name tables rooms
   at true c is rest = absurd (cc)
   at false false is rest = absurd (cc)
