@@ -19,12 +19,13 @@ PLAIN_NAME = re.compile(r"[A-Za-z_$][A-Za-z0-9_$]*")
 
 
 class Word:
-    """A word of a text. `gap` is whether something stands between it and the word before, `line` where it begins."""
+    """A word of a text. `gap` is whether something stands between it and the word before; it begins in this line, at this
+    character of the whole text."""
 
-    __slots__ = ("kind", "text", "gap", "line")
+    __slots__ = ("kind", "text", "gap", "line", "at")
 
-    def __init__(self, kind, text, gap=True, line=0):
-        self.kind, self.text, self.gap, self.line = kind, text, gap, line
+    def __init__(self, kind, text, gap=True, line=0, at=0):
+        self.kind, self.text, self.gap, self.line, self.at = kind, text, gap, line, at
 
     def __repr__(self):
         return self.text
@@ -36,6 +37,9 @@ class Word:
     def is_sign(self, *signs):
         return self.kind == "sign" and self.text in signs
 
+    def end(self):
+        return self.at + len(self.text)
+
     def is_name(self):
         return self.kind in ("name", "quoted")
 
@@ -44,15 +48,18 @@ class Word:
         return self.text[1:-1].replace("``", "`") if self.kind == "quoted" else self.text
 
 
-def words_in(text, line=1):
-    """The words of a text whose first line has this number, one after the other."""
+def words_in(text, line=1, comments=False):
+    """The words of a text whose first line has this number, one after the other; those of comments too, where they are asked for."""
     gap = True
     for match in WORD.finditer(text):
         kind = match.lastgroup
-        if kind == "gap":
+        if kind == "gap" and comments and match[0].startswith(("/*", "*/")):
+            yield Word("comment", match[0], gap, line, match.start())
+            gap = False
+        elif kind == "gap":
             gap = True
         else:
-            yield Word(kind, match[0], gap, line)
+            yield Word(kind, match[0], gap, line, match.start())
             gap = False
         line += match[0].count("\n")
 
