@@ -5,7 +5,7 @@ import re
 import tomllib
 
 from asking import value
-from faults import Search, nearest, short, words_of
+from faults import Fault, Search, nearest, short, words_of
 from sql import closing
 
 CREATE_WORDS = (10, 11)
@@ -260,7 +260,7 @@ class Explanation:
         if code is None:
             return part
         search = Search(lambda part: self.words_code(around(part)), ends, PLAIN, ends is HEAD_ENDS)
-        faults, mended = search.faults(part) if code in CREATE_WORDS else ([], part)
+        faults, mended = self.constraint(part, around) or (search.faults(part) if code in CREATE_WORDS else ([], part))
         if faults:
             self.show(f"table {number}, ", first_line(text, at), part, faults)
         code = self.create_code(around(mended)) if mended is not None else None
@@ -281,6 +281,19 @@ class Explanation:
         if word.name() == self.table:
             self.table = name
         return head[: word.at] + name
+
+    def constraint(self, part, around):
+        """The fault of a part that begins with CONSTRAINT, which the program takes for a column, and the part without it; none
+        of another part."""
+        words = words_of(part)
+        if not words[0].is_word("CONSTRAINT") or len(words) < 3:
+            return None
+        count = 1 if words[1].is_word("UNIQUE", "PRIMARY", "FOREIGN", "CHECK") else 2
+        rest = part[words[count].at :]
+        is_read = self.words_code(around(rest)) is None
+        code = self.words_code(around(part if is_read else rest))
+        fault = Fault(code, part[: words[count - 1].end()] if is_read else part, "" if is_read else None, 1)
+        return [fault], rest if is_read else None
 
     def show(self, where, line, part, faults):
         """The place of faults, and each of them; the words of a part count their lines from 1."""

@@ -134,7 +134,8 @@ def changes(words, at, plain, keeps_last):
         yield first, size, ""
     for size in range(1, min(len(words) - at, MOST_REPLACED) + 1):
         for instead in plain:
-            if size == 1 or "{}" not in instead:
+            # (a word of the language stands for one word alone)
+            if size == 1 or not (instead.isupper() or "{}" in instead):
                 yield at, size, instead.format(words[at].text)
 
 
