@@ -32,11 +32,7 @@ LINE_ENDS = (
 )
 KEYS = ("version", "table", "alter", "tables", "clients", "operator", "faults", "turns", "options")
 TABLE_KEYS = ("create", "rows")
-OPTIONS = (
-    *("approve_renamed_columns", "chunk_size", "turn_limit", "dml_batch_size", "default_retries", "max_backlog", "drain_limit"),
-    *("client_wait", "tool_wait", "max_load", "initially_drop_ghost_table", "initially_drop_old_table", "ok_to_drop_table"),
-    *("postpone", "show_history", "show_turns", "show_tables", "show_replies"),
-)
+LEAVE_TO_DROP = ("initially_drop_ghost_table", "initially_drop_old_table")
 NUMBERS = (0, 1, 64, 1_000, 100_000, 1_000_000)
 COMMANDS = ("throttle", "no-throttle", "unpostpone", "panic", "wait 1", "chunk-size=1")
 
@@ -74,11 +70,18 @@ def advice(document, codes):
     return ["", *lines] if lines else []
 
 
-class Explanation:
-    """`asking` asks the program, `data` is the plan."""
+def options_of(document):
+    """The names of a plan's options, by the table of docs/LIMITS.md."""
+    table = re.search(r"(?m)^\| Option \|.*\n((?:\|.*\n)*)", document)
+    rows = [line.split(" | ")[0] for line in (table[1] if table else "").split("\n")]
+    return [name for cell in rows for name in re.findall(r"`(\w+)`", cell)]
 
-    def __init__(self, asking, data):
-        self.asking, self.data = asking, data
+
+class Explanation:
+    """`asking` asks the program, `data` is the plan, and `options` are the names that a plan's options may have."""
+
+    def __init__(self, asking, data, options):
+        self.asking, self.data, self.options = asking, data, options
         self.found, self.codes = [], set()
         self.is_refused, self.has_clause = False, True
 
@@ -159,7 +162,7 @@ class Explanation:
                 in_table = lambda keys: self.least(tables=[{"create": f"CREATE TABLE {NAME} ({COLUMN})", **keys}])
                 self.mend_keys(table, f"table {number}, ", TABLE_KEYS, in_table)
         if isinstance(plan.get("options"), dict):
-            self.mend_keys(plan["options"], "options, ", OPTIONS, lambda keys: self.least(options=keys))
+            self.mend_keys(plan["options"], "options, ", self.options, lambda keys: self.least(options=keys))
         self.mend_keys(plan, "", KEYS, lambda keys: self.least(**keys))
         self.count_keys(plan)
         for key in [key for key in KEYS[:4] if key not in plan]:
@@ -424,7 +427,7 @@ class Explanation:
                     return self.names({**plan, "table": name})
             self.say(56, "no table has this name")
             return None
-        for option in OPTIONS[10:12]:
+        for option in LEAVE_TO_DROP:
             options = {**plan.get("options", {}), option: True}
             if self.code({**self.without(plan, *KEYS[4:8]), "alter": CLAUSE, "options": options}) != 57:
                 self.place("tables")

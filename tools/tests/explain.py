@@ -15,11 +15,12 @@ if __name__ == "__main__":
     sys.path.insert(0, str(HERE.parent))
 
 from asking import Asking, Program, refusal_in, toml
-from explaining import Explanation, advice
+from explaining import Explanation, advice, options_of
 from faults import Search
 
 FOLDER = HERE / "explained"
 ANSWERS = FOLDER / "answers"
+OPTIONS = ("chunk_size", "postpone", "turn_limit", "show_turns")
 
 
 def key_of(data):
@@ -44,7 +45,7 @@ def cases():
 
 
 def explained(asking, data):
-    return "".join(line + "\n" for line in Explanation(asking, data).lines())
+    return "".join(line + "\n" for line in Explanation(asking, data, OPTIONS).lines())
 
 
 def read_answers():
@@ -81,6 +82,13 @@ class Explained(unittest.TestCase):
             self.assertRegex("\n".join(advice(document, [code])), rf"\A\n{code} \w+: .")
         found = advice("| 10 `a`, 11 `b` | when | do [it](X.md) |\n| 12 `c` | when |", [11, 12, 13])
         self.assertEqual(found, ["", "11 b: when.", "    do it", "12 c: when."])
+
+
+    def test_options(self):
+        """docs/LIMITS.md has the options by their names."""
+        found = options_of((HERE.parent.parent / "docs/LIMITS.md").read_text())
+        self.assertEqual(set(OPTIONS) - set(found), set())
+        self.assertGreater(len(found), 15)
 
 
 class Searching(unittest.TestCase):
