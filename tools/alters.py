@@ -8,7 +8,7 @@ PASSED = (
     *("ENGINE", "ROW_FORMAT", "CONVERT", "DEFAULT", "CHARSET", "CHARACTER", "COLLATE", "COMMENT", "AUTO_INCREMENT", "ALGORITHM"),
     *("LOCK", "FORCE", "ORDER", "KEY_BLOCK_SIZE", "STATS_PERSISTENT", "STATS_AUTO_RECALC", "STATS_SAMPLE_PAGES", "COMPRESSION"),
     *("ENCRYPTION", "CHECKSUM", "DELAY_KEY_WRITE", "MAX_ROWS", "MIN_ROWS", "AVG_ROW_LENGTH", "PACK_KEYS", "TABLESPACE", "INSERT_METHOD"),
-    *("DISABLE", "ENABLE", "WITHOUT", "WITH", "ANALYZE", "PARTITION", "REORGANIZE", "COALESCE", "REMOVE", "TRUNCATE", "DISCARD", "IMPORT"),
+    *("DISABLE", "ENABLE", "WITHOUT", "WITH"),
 )
 CONSTRAINTS = ("CONSTRAINT", "FOREIGN", "CHECK", "FULLTEXT", "SPATIAL")
 
@@ -25,10 +25,12 @@ def table_and_clauses(text):
 
 
 class Alters:
-    """Converts clauses one after the other. `tables` reads columns and keys, `table` is the table as it was declared."""
+    """Converts clauses one after the other. `tables` reads columns and keys, `table` is the table as those before leave it, and
+    `left_out` are the columns that it hasn't here."""
 
     def __init__(self, notes, tables, table):
         self.notes, self.tables, self.table = notes, tables, table
+        self.left_out = [name for name in table.all_columns if name not in table.columns]
 
     def alter(self, clauses):
         texts = [text for clause in clauses for text in self.read_clause(clause)]
@@ -37,7 +39,7 @@ class Alters:
         # gh-ost is also used to build a table anew; the program wants a clause for that.
         column = next(iter(self.table.columns.values()))
         self.notes.change(PLACE, f"nothing is left of the ALTER, so that it builds the table anew: column {column.name} is declared as it is")
-        return f"MODIFY COLUMN {quoted(column.name)} {column.kind.now}{column.text}"
+        return f"MODIFY COLUMN `{column.name}` {column.kind.now}{column.text}"
 
     def read_clause(self, words):
         try:
@@ -60,23 +62,37 @@ class Alters:
             return self.drop(words, rest)
         if first.is_word("ALTER") and rest:
             return self.alter_column(words, rest)
-        if not (first.is_word("RENAME") and rest and rest[0].is_word("COLUMN")):
-            self.notes.leave(PLACE, f"{written(words)} is no clause that the program reads")
-        elif len(rest) == 4 and rest[1].name().lower() != rest[3].name().lower():
-            self.warn_of_name(rest[1], rest[3])
+        if first.is_word("RENAME") and len(rest) == 4 and rest[0].is_word("COLUMN"):
+            self.rename(rest[1], rest[3])
+            return [written(words)]
+        return self.leave(words)
+
+    def leave(self, words):
+        self.notes.leave(PLACE, f"{written(words)} is no clause that the program reads")
         return [written(words)]
 
-    def warn_of_name(self, old, new):
+    def rename(self, old, new):
+        """A column gets another name, unless only the case of its letters changes."""
+        if old.name().lower() == new.name().lower():
+            return
+        column = self.table.columns.pop(old.name().lower(), None)
+        if column is not None:
+            self.table.columns[new.name().lower()] = column
+        for key in self.table.keys:
+            key.columns = [new.name().lower() if name == old.name().lower() else name for name in key.columns]
         self.notes.warn(PLACE, f"{old.name()} gets the name {new.name()}: the plan needs approve_renamed_columns = true (28), as gh-ost does")
 
     def add(self, words, rest):
+        if rest[0].is_word("PARTITION"):
+            return self.leave(words)
         if rest[0].is_word(*CONSTRAINTS) and not self.is_unique_constraint(rest):
-            self.tables_place(rest)
+            if not self.tables.leaves_out(rest):
+                self.notes.change(PLACE, f"{written(words)} is left out: {NO_VALUE}")
             return []
         if rest[0].is_word("UNIQUE", "PRIMARY", "KEY", "INDEX", "CONSTRAINT"):
-            _, text = self.tables.key(rest, self.with_added_columns())
-            if rest[0].is_word("UNIQUE", "CONSTRAINT"):
-                self.notes.leave(PLACE, f"{written(words)}: rows that clash would be lost without a word (25)")
+            key, text = self.tables.key(rest, self.table)
+            if key is not None and key.is_unique():
+                self.notes.leave(PLACE, f"{written(words)}: rows that clash would be lost without a word (25, 26)")
             return [f"ADD {text}"] if text else []
         at = 1 if rest[0].is_word("COLUMN") else 0
         if rest[at].is_sign("("):
@@ -86,14 +102,6 @@ class Alters:
 
     def is_unique_constraint(self, rest):
         return rest[0].is_word("CONSTRAINT") and position(rest, "UNIQUE") is not None
-
-    def tables_place(self, rest):
-        """Notes a constraint that is left out, as one of a CREATE TABLE."""
-        if not self.tables.leaves_out(rest):
-            self.notes.change(PLACE, f"ADD {written(rest)} is left out: {NO_VALUE}")
-
-    def with_added_columns(self):
-        return self.table
 
     def position_words(self, words):
         """FIRST, or AFTER and a column, at the end of a column's declaration: how many words it has."""
@@ -111,43 +119,41 @@ class Alters:
         column = self.tables.column(declared)
         if column is None:
             return []
-        self.check_change(column, words)
-        self.table.columns.setdefault(column.name.lower(), column)
-        if place and place[-1].is_name() and width == 2 and place[1].name().lower() in self.gone():
+        old = self.table.columns.get(column.name.lower())
+        if old is not None:
+            self.check_change(old, column)
+            self.keep_not_null(column)
+        self.table.columns[column.name.lower()] = column
+        if width == 2 and place[1].name().lower() in self.left_out:
             self.notes.change(PLACE, f"{written(place)} is left out: that column is")
             place = []
         where = f" {place[0].text}" if place else ""
         where += f" {name_written(place[1])}" if len(place) == 2 else ""
         return [f"{head} {name_written(declared[0])} {column.kind.now}{column.text}{where}"]
 
-    def gone(self):
-        return [name for name in self.table.all_columns if name not in self.table.columns]
+    def keep_not_null(self, column):
+        """A column of the PRIMARY KEY is NOT NULL, also where the clause doesn't say it."""
+        primary = next((key.columns for key in self.table.keys if key.sort == "PRIMARY"), [])
+        if column.is_nullable and column.name.lower() in primary:
+            column.text += " NOT NULL"
+            self.notes.change(PLACE, f"column {column.name}: NOT NULL is added: it is in the PRIMARY KEY")
 
-    def check_change(self, column, words):
+    def check_change(self, old, column):
         """Says where the values of a column stay as they are, though MySQL would write them anew, or can't go to the new kind."""
-        old = self.table.columns.get(self.old_name or column.name.lower())
-        if old is None:
-            return
         if old.kind.family != "integer" and column.kind.family == "integer":
             self.notes.leave(PLACE, f"column {column.name}: {old.kind.now} to {column.kind.now}: no text becomes a number (31)")
         elif old.kind.was.upper() != column.kind.was.upper() and (old.kind.is_respelled or column.kind.is_respelled):
             self.notes.warn(PLACE, f"column {column.name}: {old.kind.was} to {column.kind.was}: what is stored stays as it is written")
 
-    old_name = None
-
     def change(self, words):
         """MODIFY and CHANGE."""
         rest = words[2:] if words[1].is_word("COLUMN") else words[1:]
+        head = "MODIFY COLUMN"
         if words[0].is_word("CHANGE"):
             old, rest = rest[0], rest[1:]
-            self.old_name = old.name().lower()
             head = f"CHANGE COLUMN {name_written(old)}"
-            if rest and old.name().lower() != rest[0].name().lower():
-                self.warn_of_name(old, rest[0])
-        else:
-            head = "MODIFY COLUMN"
+            self.rename(old, rest[0])
         texts = self.column_clause(head, rest)
-        self.old_name = None
         if not texts:
             self.notes.leave(PLACE, f"{written(words)}: a column that is generated")
         return texts[0] if texts else written(words)
@@ -156,30 +162,29 @@ class Alters:
         if rest[0].is_word("FOREIGN", "CONSTRAINT", "CHECK"):
             self.notes.change(PLACE, f"{written(words)} is left out: {NO_VALUE}")
             return []
+        if rest[0].is_word("PRIMARY", "PARTITION"):
+            return self.leave(words)
         name = rest[-1].name().lower()
         is_key = rest[0].is_word("KEY", "INDEX")
-        if not is_key and name in self.gone():
+        if not is_key and name in self.left_out:
             self.notes.change(PLACE, f"{written(words)} is left out: the column is")
             return []
         if is_key and name not in [key.name.lower() for key in self.table.keys]:
             self.notes.change(PLACE, f"{written(words)} is left out: the table has no such key here")
             return []
+        if not is_key:
+            self.table.columns.pop(name, None)
         return [written(words)]
 
     def alter_column(self, words, rest):
         """ALTER COLUMN .. SET DEFAULT and DROP DEFAULT, as a MODIFY of the whole column."""
         at = 1 if rest[0].is_word("COLUMN") else 0
-        column = self.table.columns.get(rest[at].name().lower())
+        column = self.table.columns.get(rest[at].name().lower()) if rest[at].is_name() else None
         action = rest[at + 1 :]
         if column is None or len(action) < 2 or not action[0].is_word("SET", "DROP") or not action[1].is_word("DEFAULT"):
-            self.notes.leave(PLACE, f"{written(words)} is no clause that the program reads")
-            return [written(words)]
-        declared = [word for word in words_of(f"{quoted(column.name)} {column.kind.was}") if word]
+            return self.leave(words)
+        declared = words_of(f"`{column.name}` {column.kind.was}")
         null = words_of(" NULL" if column.is_nullable else " NOT NULL")
         default = action[1:] if action[0].is_word("SET") else []
         self.notes.change(PLACE, f"{written(words)} as a MODIFY of the whole column")
         return self.column_clause("MODIFY COLUMN", [*declared, *null, *default])
-
-
-def quoted(name):
-    return f"`{name}`"

@@ -19,10 +19,6 @@ class Column:
         self.is_nullable = True
         self.is_auto = False
         self.collation = None
-        self.longest = None
-
-    def is_default(self):
-        return self.default is not None
 
 
 class Key:
@@ -125,7 +121,6 @@ class Tables:
             return 2, "NOT NULL"
         if word.is_word("AUTO_INCREMENT"):
             column.is_auto = True
-            column.is_nullable = False
             note("AUTO_INCREMENT is left out: an INSERT without a number gets the next one here, as the scripts stand and not as they run")
             return 1, ""
         if word.is_word("ON"):
@@ -380,7 +375,7 @@ class Tables:
         """Adds the rows of an INSERT to a table."""
         at = position(words, "VALUES", "VALUE")
         if at is None:
-            self.notes.leave(self.place(words), f"{written(words[:6])}..: an INSERT without VALUES")
+            self.notes.change(self.place(words), f"{written(words[:6])} .. is left out: it has no VALUES")
             return
         names = self.listed_names(words[:at]) or table.all_columns
         for part in split(words[at + 1 :]):

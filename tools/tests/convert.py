@@ -146,6 +146,25 @@ class Files(unittest.TestCase):
         self.assertEqual(plan["alter"], "MODIFY COLUMN `id` INT NOT NULL COMMENT 'a'")
         self.assertIn("--alter: nothing is left of the ALTER, so that it builds the table anew: column id is declared as it is\n", notes)
 
+    def test_clauses_on_those_before(self):
+        text = "CREATE TABLE t (id INT AUTO_INCREMENT PRIMARY KEY, a DATE, g INT AS (id), KEY (a))"
+        clauses = "MODIFY id BIGINT AUTO_INCREMENT, CHANGE a b DATETIME, ALTER b SET DEFAULT '2024-01-01', DROP b, ADD c INT AFTER g"
+        plan, notes = self.convert(text, "--alter", clauses)
+        first = "MODIFY COLUMN id BIGINT NOT NULL, CHANGE COLUMN a b VARCHAR(19), "
+        second = "MODIFY COLUMN `b` VARCHAR(19) NULL DEFAULT '2024-01-01 00:00:00', DROP b, ADD COLUMN c INT"
+        self.assertEqual(plan["alter"], first + second)
+        self.assertIn("--alter: column id: NOT NULL is added: it is in the PRIMARY KEY\n", notes)
+        self.assertIn("--alter: a gets the name b: the plan needs approve_renamed_columns = true (28), as gh-ost does\n", notes)
+        self.assertIn("--alter: column b: DATE to DATETIME: what is stored stays as it is written\n", notes)
+        self.assertIn("--alter: AFTER g is left out: that column is\n", notes)
+
+    def test_clauses_that_are_left(self):
+        text = "CREATE TABLE t (id INT PRIMARY KEY, a INT)"
+        for clause in ("DROP PRIMARY KEY", "DROP PARTITION p", "ADD PARTITION (PARTITION p VALUES IN (1))", "TRUNCATE PARTITION p", "RENAME TO s"):
+            plan, notes = self.convert(text, "--alter", clause)
+            self.assertEqual(plan["alter"], clause)
+            self.assertTrue(notes.startswith(f"--alter: left as it is: {clause} is no clause that the program reads\n"), notes)
+
     def test_no_key(self):
         _, notes = self.convert("CREATE TABLE t (id INT, UNIQUE (id))", "--alter", "ADD a INT")
         self.assertIn("1: left as it is: table t has no PRIMARY KEY, nor a unique key without nulls, and gh-ost needs one (14)\n", notes)
