@@ -1,11 +1,13 @@
 """Clients' statements, to lines of scripts as the program reads them."""
 import itertools
+import re
 
 from kinds import Kept, Left, Text
 from sql import Word, closing, is_name_text, name_written, position, split, value_of, without_parentheses, words_of, written
 from tables import Column
 
 SETTINGS = ("SET", "USE", "SHOW", "LOCK", "UNLOCK", "SAVEPOINT", "RELEASE", "FLUSH", "ANALYZE", "EXPLAIN", "DESCRIBE", "DESC")
+AUTOCOMMIT = re.compile(r"SET (?:SESSION |@@SESSION\.|@@LOCAL\.|@@)?AUTOCOMMIT ?= ?(0|1|ON|OFF)", re.I)
 COMPARED = {"<": ">", "<=": ">=", ">": "<", ">=": "<="}
 MOST_STATEMENTS = 100
 LOCKING = "FOR", "LOCK"
@@ -63,11 +65,12 @@ class Scripts:
 
     def __init__(self, notes, tables, shorten):
         self.notes, self.tables, self.shorten = notes, tables, shorten
-        self.is_open = False
+        # Whether a transaction is open, and whether each statement outside one begins one.
+        self.is_open = self.has_no_autocommit = False
 
     def script(self, file, text):
         """The lines of a script; statements end in `;`, or where a file has none, at the end of a line."""
-        self.file, self.is_open, lines = file, False, []
+        self.file, self.is_open, self.has_no_autocommit, lines = file, False, False, []
         words = words_of(text)
         if any(word.is_sign(";") for word in words):
             statements = split(words, ";")
@@ -89,12 +92,23 @@ class Scripts:
         first = words[0]
         if first.is_word("BEGIN", "START", "COMMIT", "ROLLBACK"):
             return self.bound(words)
+        autocommit = AUTOCOMMIT.fullmatch(written(words))
+        if autocommit:
+            return self.set_autocommit(words, autocommit[1].upper() in ("0", "OFF"))
         if first.is_word("XA") or (first.is_word(*SETTINGS) and position(words, "FROM") is None):
             self.change(f"{written(words)} is left out: no session has settings, locks of its own or savepoints")
             return []
         if first.is_word("SELECT") and position(words, "FROM") is None:
             self.change(f"{written(words)} is left out: it reads no table")
             return []
+        if self.has_no_autocommit and not self.is_open:
+            self.change("BEGIN is added: autocommit is off")
+            self.is_open = True
+            return ["BEGIN", *self.statement_lines(words)]
+        return self.statement_lines(words)
+
+    def statement_lines(self, words):
+        """The same of a statement on a table; itself, where it can't be converted."""
         mark = self.notes.mark()
         try:
             return self.lines(words)
@@ -106,6 +120,13 @@ class Scripts:
         self.notes.leave(self.place, f"{written(words)}: {why}")
         return [written(words)]
 
+    def set_autocommit(self, words, is_off):
+        """SET autocommit, which commits what is open where it is switched on."""
+        is_open, self.is_open, self.has_no_autocommit = self.is_open, self.is_open and is_off, is_off
+        ends = is_open and not is_off
+        self.change(f"{written(words)} as " + ("COMMIT" if ends else "BEGIN before the next statement" if is_off else "nothing"))
+        return ["COMMIT"] if ends else []
+
     def bound(self, words):
         """BEGIN, COMMIT and ROLLBACK, without what may follow them."""
         first = words[0].text.upper()
@@ -113,6 +134,9 @@ class Scripts:
             self.notes.leave(self.place, f"{written(words)}: there are no savepoints")
             return [written(words)]
         plain = "BEGIN" if first in ("BEGIN", "START") else first
+        if plain != "BEGIN" and self.is_open and words[-1].is_word("CHAIN") and position(words, "NO") is None:
+            self.change(f"{written(words)} as {plain} and BEGIN")
+            return [plain, "BEGIN"]
         if len(words) > 1 and not (first == "START" and len(words) == 2):
             self.change(f"{written(words)} as {plain}: all transactions are SERIALIZABLE and may write")
         if plain == "BEGIN" and self.is_open:

@@ -133,6 +133,24 @@ class Files(unittest.TestCase):
         self.assertEqual(plan["clients"], ["BEGIN\nDELETE FROM t WHERE id = 1\nCOMMIT\n", "DELETE FROM t WHERE id = 2\n"])
         self.assertEqual(notes, " 0 changes\n")
 
+    def test_transactions(self):
+        scripts = {
+            "SET autocommit=0; DELETE FROM t WHERE id IN (1, 2); COMMIT; DELETE FROM t; ROLLBACK; COMMIT": (
+                "BEGIN\nDELETE FROM t WHERE id = 1\nDELETE FROM t WHERE id = 2\nCOMMIT\nBEGIN\nDELETE FROM t\nROLLBACK\n"
+            ),
+            "SET @@session.autocommit = OFF; DELETE FROM t; SET autocommit = 1; DELETE FROM t": "BEGIN\nDELETE FROM t\nCOMMIT\nDELETE FROM t\n",
+            "START TRANSACTION; DELETE FROM t; COMMIT AND CHAIN; DELETE FROM t; COMMIT AND NO CHAIN RELEASE": (
+                "BEGIN\nDELETE FROM t\nCOMMIT\nBEGIN\nDELETE FROM t\nCOMMIT\n"
+            ),
+            "BEGIN; DELETE FROM t; BEGIN; DELETE FROM t": "BEGIN\nDELETE FROM t\nCOMMIT\nBEGIN\nDELETE FROM t\nCOMMIT\n",
+            "COMMIT; SAVEPOINT a; SET NAMES utf8; SELECT 1": "\n",
+        }
+        for script, wanted in scripts.items():
+            self.write("c", script + ";")
+            plan, notes = self.convert("CREATE TABLE t (id INT PRIMARY KEY)", "--alter", "ADD a INT", "--client", "c")
+            self.assertEqual(plan["clients"], [wanted], script)
+            self.assertNotIn("left as", notes)
+
     def test_numbers_go_on_over_all_clients(self):
         self.write("c", "INSERT INTO t (a) VALUES (1)\nINSERT INTO t VALUES (20, 1)\nINSERT INTO t VALUES (NULL, 1)")
         self.write("d", "INSERT INTO t SET a = 1")
