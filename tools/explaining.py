@@ -98,10 +98,12 @@ class Explanation:
             self.explain_plan(refusal)
         return self.found
 
-    def place(self, where, text=""):
+    def point(self, where, text=""):
+        """Adds a place, with the text that stands there."""
         self.found.append(f"{where}: {short(text)}" if text else where)
 
-    def say(self, code, text):
+    def reason(self, code, text):
+        """Adds why the place before it is refused."""
         self.codes.add(code)
         self.found.append(f"    {code}: {text}")
 
@@ -116,20 +118,20 @@ class Explanation:
         for at, line in enumerate(lines if len(lines) <= 2000 else []):
             refusal = self.asking.bytes(b"\n".join([*lines[:at], b"", *lines[at + 1 :]]))
             if refusal is None or refusal.code != 50:
-                self.place(f"line {at + 1}", line.decode("utf-8", "replace"))
-                self.say(50, "the line isn't read: without it the rest is")
+                self.point(f"line {at + 1}", line.decode("utf-8", "replace"))
+                self.reason(50, "the line isn't read: without it the rest is")
         try:
             tomllib.loads(self.data.decode())
         except UnicodeDecodeError as error:
-            self.place(f"byte {error.start + 1} isn't UTF-8")
+            self.point(f"byte {error.start + 1} isn't UTF-8")
         except tomllib.TOMLDecodeError as error:
-            self.place(f"Python's reader of TOML says: {error}")
+            self.point(f"Python's reader of TOML says: {error}")
 
     def explain_plan(self, first):
         try:
             plan = tomllib.loads(self.data.decode("utf-8"))
         except (tomllib.TOMLDecodeError, UnicodeDecodeError) as error:
-            self.place(f"this script can't read the plan: {error}")
+            self.point(f"this script can't read the plan: {error}")
             return
         if 51 <= first.code <= 55:
             plan = self.mended_keys(plan)
@@ -145,7 +147,7 @@ class Explanation:
         if refusal is None or (20 <= refusal.code <= 31 and not self.has_clause):
             return
         if len(self.found) > 1:
-            self.place(f"once that is mended: {refusal.line()}")
+            self.point(f"once that is mended: {refusal.line()}")
         self.codes.add(refusal.code)
 
     # Keys
@@ -166,8 +168,8 @@ class Explanation:
         self.mend_keys(plan, "", KEYS, lambda keys: self.least(**keys))
         self.count_keys(plan)
         for key in [key for key in KEYS[:4] if key not in plan]:
-            self.place(f"key {key}")
-            self.say(52, "it isn't there")
+            self.point(f"key {key}")
+            self.reason(52, "it isn't there")
             return None
         refusal = self.asking.plan(plan)
         if refusal is not None and 51 <= refusal.code <= 55:
@@ -181,17 +183,17 @@ class Explanation:
             code = self.code(with_keys({key: keys[key]}))
             if code not in (51, 53, 54):
                 continue
-            self.place(f"{where}key {key}", value(keys[key]))
+            self.point(f"{where}key {key}", value(keys[key]))
             if code == 51:
                 names = [name for name in difflib.get_close_matches(key, known, 3) if name not in keys]
                 name = next((name for name in names if self.code(with_keys({name: keys[key]})) not in (51, 53, 54)), None)
-                self.say(code, f"`{key}` isn't read: " + (f"`{name}` in its place is" if name else "without it the rest is"))
+                self.reason(code, f"`{key}` isn't read: " + (f"`{name}` in its place is" if name else "without it the rest is"))
                 it = keys.pop(key)
                 keys.update({name: it} if name else {})
             else:
                 values = [it for it in others(keys[key]) if self.code(with_keys({key: it})) not in (51, 53, 54)]
                 instead = f": `{short(value(values[0]))}` in its place is" if values else ""
-                self.say(code, f"`{short(value(keys[key]))}` isn't read{instead}")
+                self.reason(code, f"`{short(value(keys[key]))}` isn't read{instead}")
                 if values:
                     keys[key] = values[0]
                 elif key not in KEYS[:4]:
@@ -206,8 +208,8 @@ class Explanation:
             key = next((key for key, it in fewer.items() if self.code({**plan, key: it}) != 55), None)
             if key is None:
                 return
-            self.place("rows" if key == "tables" else f"key {key}")
-            self.say(55, "they are too many: with the first alone the plan is read")
+            self.point("rows" if key == "tables" else f"key {key}")
+            self.reason(55, "they are too many: with the first alone the plan is read")
             plan[key] = fewer[key]
             refusal = self.asking.plan(plan)
 
@@ -279,8 +281,8 @@ class Explanation:
             return head
         word = words_of(head)[-1]
         name = f"{NAME}{number}"
-        self.place(f"table {number}", head)
-        self.say(code, f"`{short(word.text)}` is no name of a table: another in its place is")
+        self.point(f"table {number}", head)
+        self.reason(code, f"`{short(word.text)}` is no name of a table: another in its place is")
         if word.name() == self.table:
             self.table = name
         return head[: word.at] + name
@@ -300,24 +302,24 @@ class Explanation:
 
     def show(self, where, line, part, faults):
         """The place of faults, and each of them; the words of a part count their lines from 1."""
-        self.place(f"{where}line {line + faults[0].line - 1}", part)
+        self.point(f"{where}line {line + faults[0].line - 1}", part)
         for fault in faults:
-            self.say(fault.code, fault.text())
+            self.reason(fault.code, fault.text())
 
     def default_or_name(self, number, text, at, part, around, code):
         """A column whose DEFAULT isn't stored, or whose name is too long."""
-        self.place(f"table {number}, line {first_line(text, at)}", part)
+        self.point(f"table {number}, line {first_line(text, at)}", part)
         words = words_of(part)
         if code == 17:
-            self.say(code, f"`{short(words[0].text)}` is no name of a column: another in its place is")
+            self.reason(code, f"`{short(words[0].text)}` is no name of a column: another in its place is")
             return f"{NAME}{at}" + part[words[0].end() :]
         for before, word in zip(words, words[1:]):
             for instead in values_like(word) if before.is_word("DEFAULT") else ():
                 new = part[: word.at] + instead + part[word.end() :]
                 if self.create_code(around(new)) is None:
-                    self.say(code, f"`{word.text}` isn't stored: `{instead}` in its place is")
+                    self.reason(code, f"`{word.text}` isn't stored: `{instead}` in its place is")
                     return new
-        self.say(code, "its DEFAULT isn't stored")
+        self.reason(code, "its DEFAULT isn't stored")
         return None
 
     def mended_table(self, number, create, items):
@@ -329,15 +331,15 @@ class Explanation:
             if code == 14:
                 keys = [f"PRIMARY KEY ({words_of(item)[0].text})" for item in items]
                 key = next((key for key in keys if self.create_code(create([*items, key])) is None), None)
-                self.place(f"table {number}", create(items))
-                self.say(code, f"with `{key}` it is read" if key else "it has no key")
+                self.point(f"table {number}", create(items))
+                self.reason(code, f"with `{key}` it is read" if key else "it has no key")
                 items = [*items, key] if key else []
                 continue
             # The first part with which those before it are refused so; the columns come first, since keys name them.
             items.sort(key=self.is_key)
             last = next((last for last in range(1, len(items)) if self.create_code(create(items[:last])) == code), len(items)) - 1
-            self.place(f"table {number}", items[last])
-            self.say(code, "without it the parts before it are read" if last + 1 < len(items) else "without it the rest is read")
+            self.point(f"table {number}", items[last])
+            self.reason(code, "without it the parts before it are read" if last + 1 < len(items) else "without it the rest is read")
             items = items[:last] + items[last + 1 :]
         return None
 
@@ -363,27 +365,27 @@ class Explanation:
             if refusal is None:
                 return
             at = refusal.numbers[1] - 1
-            self.place(f"table {number}, row {numbers[at]}", rows[at])
+            self.point(f"table {number}, row {numbers[at]}", rows[at])
             if self.rows_refusal(create, [rows[at]]) is None:
                 low, high = 0, at
                 while low + 1 < high:
                     middle = (low + high) // 2
                     low, high = (low, middle) if self.rows_refusal(create, [*rows[:middle], rows[at]]) else (middle, high)
-                self.say(58, f"it clashes in a unique key with row {numbers[high - 1]}: {short(rows[high - 1])}")
+                self.reason(58, f"it clashes in a unique key with row {numbers[high - 1]}: {short(rows[high - 1])}")
             else:
                 self.row(create, rows[at])
             del rows[at], numbers[at]
-        self.place(f"table {number}: more rows may be refused")
+        self.point(f"table {number}: more rows may be refused")
 
     def row(self, create, row):
         """Says which values of a row aren't stored, each by its column alone, and what would be."""
         words = words_of(row)
         if not words or not words[0].is_sign("(") or closing(words, 0) != len(words) - 1:
-            self.say(58, "it isn't one list of values in parentheses")
+            self.reason(58, "it isn't one list of values in parentheses")
             return
         values, columns = [value for value, _ in pieces(row, words[1:-1])], self.columns(create)
         if len(values) != len(columns):
-            self.say(58, f"values: {len(values)}, columns of the table: {len(columns)}")
+            self.reason(58, f"values: {len(values)}, columns of the table: {len(columns)}")
             return
         count = len(self.found)
         for place, (value, column) in enumerate(zip(values, columns), 1):
@@ -392,9 +394,9 @@ class Explanation:
             known = ([instead] if size else []) + values_like(words_of(value)[0])
             other = next((other for other in known if refusal and self.value_code(column, other) is None), None)
             if refusal:
-                self.say(58, f"value {place}, `{short(value)}`, isn't stored" + (f": `{other}` in its place is" if other else ""))
+                self.reason(58, f"value {place}, `{short(value)}`, isn't stored" + (f": `{other}` in its place is" if other else ""))
         if len(self.found) == count:
-            self.say(58, "a column of its keys stores no NULL" if "NULL" in map(str.upper, values) else "it isn't stored as a whole")
+            self.reason(58, "a column of its keys stores no NULL" if "NULL" in map(str.upper, values) else "it isn't stored as a whole")
 
     def columns(self, create):
         """The declarations of a table's columns."""
@@ -418,23 +420,23 @@ class Explanation:
         if refusal is None or refusal.code not in (56, 57) or refusal.place:
             return plan
         if refusal.code == 56:
-            self.place("key table", plan["table"])
+            self.point("key table", plan["table"])
             for table in plan["tables"]:
                 opening = next(at for at, word in enumerate(words_of(table["create"])) if word.is_sign("("))
                 name = words_of(table["create"])[opening - 1].name()
                 if self.code({**self.without(plan, *KEYS[4:8]), "alter": CLAUSE, "table": name}) != 56:
-                    self.say(56, f"`{plan['table']}` isn't the name of a table: `{name}` is")
+                    self.reason(56, f"`{plan['table']}` isn't the name of a table: `{name}` is")
                     return self.names({**plan, "table": name})
-            self.say(56, "no table has this name")
+            self.reason(56, "no table has this name")
             return None
         for option in LEAVE_TO_DROP:
             options = {**plan.get("options", {}), option: True}
             if self.code({**self.without(plan, *KEYS[4:8]), "alter": CLAUSE, "options": options}) != 57:
-                self.place("tables")
-                self.say(57, f"with `{option} = true` among the options they are read")
+                self.point("tables")
+                self.reason(57, f"with `{option} = true` among the options they are read")
                 return {**plan, "options": options}
-        self.place("tables")
-        self.say(57, "what an earlier migration left is among them")
+        self.point("tables")
+        self.reason(57, "what an earlier migration left is among them")
         return None
 
     def without(self, plan, *keys):
@@ -454,15 +456,15 @@ class Explanation:
         words = words_of(text)
         front = words[2].end() if len(words) > 2 and words[0].is_word("ALTER") and words[1].is_word("TABLE") else 0
         if front and self.alter_code(plan, f"{text[:front]} {CLAUSE}") is not None:
-            self.place("alter", text[:front])
-            self.say(20, f"`{short(text[:front])}` isn't read: without it the clauses are")
+            self.point("alter", text[:front])
+            self.reason(20, f"`{short(text[:front])}` isn't read: without it the clauses are")
         taken, count = [], len(self.found)
         for clause, at in pieces(text, [word for word in words if word.at >= front]):
             mended = self.clause(plan, first_line(text, at), clause, taken)
             taken += [mended] if mended is not None else []
         if len(self.found) == count and not front:
-            self.place("alter", text)
-            self.say(20, "a comma has no clause on both sides" if taken else "it has no clause")
+            self.point("alter", text)
+            self.reason(20, "a comma has no clause on both sides" if taken else "it has no clause")
         self.has_clause = bool(taken)
         return {**plan, "alter": ", ".join(taken) or CLAUSE}
 
@@ -478,7 +480,7 @@ class Explanation:
             if code is None:
                 return mended
             clause = mended
-        self.place(f"alter, line {line}", clause)
+        self.point(f"alter, line {line}", clause)
         return self.mended_clause(plan, clause, taken, code)
 
     def clause_code(self, text):
@@ -492,12 +494,12 @@ class Explanation:
         if code == 28:
             options = {**plan.get("options", {}), "approve_renamed_columns": True}
             if reads(clause, {**plan, "options": options}):
-                self.say(code, "with `approve_renamed_columns = true` among the options it is done")
+                self.reason(code, "with `approve_renamed_columns = true` among the options it is done")
                 plan.setdefault("options", {})["approve_renamed_columns"] = True
                 return clause
         for default in (" DEFAULT 0", " DEFAULT ''") if code == 27 else ():
             if reads(clause + default):
-                self.say(code, f"with `{default.strip()}` it is done")
+                self.reason(code, f"with `{default.strip()}` it is done")
                 return clause + default
         names = {word.name() for table in plan["tables"] for word in words_of(table["create"]) if word.is_name()}
         known = {21: sorted(names), 22: [f"{NAME}1"]}.get(code, ())
@@ -505,9 +507,9 @@ class Explanation:
             for name in difflib.get_close_matches(word.name(), known, len(known) or 1, 0):
                 new = clause[: word.at] + f"`{name}`" + clause[word.end() :]
                 if name != word.name() and reads(new):
-                    self.say(code, f"`{word.text}` isn't there: `{name}` is" if code == 21 else f"`{word.text}` is there already")
+                    self.reason(code, f"`{word.text}` isn't there: `{name}` is" if code == 21 else f"`{word.text}` is there already")
                     return new
-        self.say(code, "it is refused as a whole" + (", after the clauses before it" if taken else ""))
+        self.reason(code, "it is refused as a whole" + (", after the clauses before it" if taken else ""))
         return None
 
     # Scripts
@@ -524,23 +526,23 @@ class Explanation:
             lines = scripts[number - 1].split("\n")
             self.line(plan, f"client {number}, line {line}", lines, line - 1, refusal.code)
             scripts[number - 1] = "\n".join(lines)
-        self.place("more lines of clients may be refused")
+        self.point("more lines of clients may be refused")
         return None
 
     def line(self, plan, where, lines, at, code):
         """Says why a line of a script is refused, and mends it or takes it out."""
         text, lines[at] = lines[at], ""
-        self.place(where, text)
+        self.point(where, text)
         if code in LINE_WORDS:
             faults, mended = Search(self.line_code, LINE_ENDS, LINE_PLAIN).faults(text.strip())
             for fault in faults:
-                self.say(fault.code, fault.text())
+                self.reason(fault.code, fault.text())
             lines[at] = mended or ""
         elif code == 45:
-            self.say(code, "with `COMMIT` after it the script is read")
+            self.reason(code, "with `COMMIT` after it the script is read")
             lines[at] = text + "\nCOMMIT" if text.strip() else "COMMIT"
         else:
-            self.say(code, "without it the rest is read" if code != 46 else "it names a table of the migration's own")
+            self.reason(code, "without it the rest is read" if code != 46 else "it names a table of the migration's own")
 
     def line_code(self, text):
         """The code by which the words of a line are refused."""
@@ -556,7 +558,7 @@ class Explanation:
             if refusal is None or refusal.code != 47:
                 return {**plan, "operator": "\n".join(lines)} if "operator" in plan else plan
             at = refusal.numbers[0] - 1
-            self.place(f"operator, line {at + 1}", lines[at])
+            self.point(f"operator, line {at + 1}", lines[at])
             reads = lambda text: self.code({**self.least(), "operator": text}) is None
             self.nearest(47, lines, at, [*number_forms(lines[at]), *COMMANDS], reads)
         return None
@@ -566,7 +568,7 @@ class Explanation:
         text = lines[at].strip()
         order = difflib.get_close_matches(text.lower(), known, len(known), 0)
         other = next((other for other in order if reads(other)), None)
-        self.say(code, f"`{short(text)}` isn't read" + (f": `{other}` in its place is" if other else ": without it the rest is"))
+        self.reason(code, f"`{short(text)}` isn't read" + (f": `{other}` in its place is" if other else ": without it the rest is"))
         lines[at] = other or ""
 
     def faults(self, plan):
@@ -576,7 +578,7 @@ class Explanation:
             if refusal is None or not refusal.place.startswith("fault"):
                 return {**plan, "faults": lines} if "faults" in plan else plan
             at = refusal.numbers[0] - 1
-            self.place(f"fault {at + 1}", lines[at])
+            self.point(f"fault {at + 1}", lines[at])
             numbers = re.findall(r"[1-9]\d{0,5}", lines[at]) or ["1"]
             actors = self.actors(plan)
             forms = [f"{actor} {number} {side}" for actor in actors for number in numbers for side in ("before", "after")]
@@ -593,7 +595,7 @@ class Explanation:
             if refusal is None or not refusal.place.startswith("turn word"):
                 return {**plan, "turns": " ".join(words)} if "turns" in plan else plan
             at = refusal.numbers[0] - 1
-            self.place(f"turns, word {at + 1}", words[at])
+            self.point(f"turns, word {at + 1}", words[at])
             times = re.search(r"\*[1-9]\d*$", words[at])
             forms = [actor + (times[0] if times else "") for actor in self.actors(plan)]
             self.nearest(refusal.code, words, at, forms, lambda text: self.code({**plan, "turns": text}) is None)

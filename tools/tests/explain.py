@@ -6,7 +6,9 @@
 import hashlib
 import pathlib
 import re
+import subprocess
 import sys
+import tempfile
 import unittest
 
 HERE = pathlib.Path(__file__).resolve().parent
@@ -89,6 +91,41 @@ class Explained(unittest.TestCase):
         found = options_of((HERE.parent.parent / "docs/LIMITS.md").read_text())
         self.assertEqual(set(OPTIONS) - set(found), set())
         self.assertGreater(len(found), 15)
+
+
+class Script(unittest.TestCase):
+    """The script, with a program that answers each plan alike."""
+
+    def call(self, *words, program="exit 0", plan=b"version = 1"):
+        with tempfile.TemporaryDirectory(prefix="test-explain-") as folder:
+            file = pathlib.Path(folder) / "program"
+            file.write_text(f"#!/bin/sh\ncat > /dev/null\n{program}\n")
+            file.chmod(0o755)
+            words = [word.replace("PROGRAM", str(file)) for word in words]
+            ran = subprocess.run([HERE.parent / "explain", *words], input=plan, capture_output=True, timeout=50)
+            return ran.returncode, ran.stdout.decode(), ran.stderr.decode().replace(folder, "")
+
+    def test_answers(self):
+        asked = "explain: the program was asked 1 times\n"
+        self.assertEqual(self.call("--program", "PROGRAM"), (0, "the plan isn't refused\n", asked))
+        status, out, err = self.call("--program", "PROGRAM", program="echo refused 59 too_long; exit 2")
+        self.assertEqual((status, out.split("\n")[:3], err), (2, ["refused 59 too_long", "", "59 too_long: more than 16,777,216 bytes."], asked))
+
+    def test_programs_that_cannot_be_asked(self):
+        self.assertEqual(self.call("--program", "/nowhere"), (125, "", "explain: /nowhere: No such file or directory\n"))
+        err = "explain: /program: the program ended with status 6\n"
+        self.assertEqual(self.call("--program", "PROGRAM", program="exit 6"), (125, "", err))
+
+    def test_words(self):
+        self.assertIn("usage: tools/explain", self.call("--help")[1])
+        status, out, err = self.call("PLAN")
+        self.assertEqual((status, out), (1, ""))
+        self.assertTrue(err.startswith("explain: unknown word PLAN\n"))
+
+    def test_plans_that_this_script_cannot_read(self):
+        status, out, _ = self.call("--program", "PROGRAM", program="echo refused 51 unknown_key; exit 2", plan=b"x = ")
+        self.assertEqual((status, out.split("\n")[0]), (2, "refused 51 unknown_key"))
+        self.assertIn("this script can't read the plan: ", out)
 
 
 class Searching(unittest.TestCase):
