@@ -1,0 +1,269 @@
+"""Tests of `tools/convert`: the files of `converted` with their plans and notes to the byte, and what a file may be."""
+import pathlib
+import subprocess
+import tempfile
+import tomllib
+import unittest
+
+from kinds import Kept, Left, kind_at
+from sql import statements_in, text_value, value_of, words_of, written
+
+TOOLS = pathlib.Path(__file__).resolve().parent.parent
+CASES = TOOLS / "tests/converted"
+
+
+def convert(*words, text=None, folder=CASES):
+    return subprocess.run([TOOLS / "convert", *words], cwd=folder, capture_output=True, input=text, timeout=50)
+
+
+class Converted(unittest.TestCase):
+    """Each NAME.sql with NAME.alter and NAME.client gives NAME.toml, and NAME.notes on standard error. The gate runs the plans."""
+
+    def test_files(self):
+        names = sorted(file.stem for file in CASES.glob("*.sql"))
+        self.assertEqual(names, sorted(file.stem for file in CASES.glob("*.toml")))
+        for name in names:
+            with self.subTest(name):
+                alter = (CASES / f"{name}.alter").read_text()
+                ran = convert(f"{name}.sql", "--alter", alter, "--client", f"{name}.client")
+                self.assertEqual(ran.stderr.decode(), (CASES / f"{name}.notes").read_text())
+                self.assertEqual(ran.stdout.decode(), (CASES / f"{name}.toml").read_text())
+                self.assertEqual(ran.returncode, 0)
+
+    def test_plans_that_are_refused(self):
+        """The plans that the program refuses are those of which something was left as it is."""
+        refused = {file.stem for file in CASES.glob("*.status")}
+        left = {file.stem for file in CASES.glob("*.notes") if "for which the program refuses the plan" in file.read_text()}
+        self.assertEqual(refused, left)
+
+
+class Files(unittest.TestCase):
+    def setUp(self):
+        folder = tempfile.TemporaryDirectory(prefix="test-convert-")
+        self.addCleanup(folder.cleanup)
+        self.folder = pathlib.Path(folder.name)
+
+    def write(self, name, text):
+        (self.folder / name).write_bytes(text.encode() if isinstance(text, str) else text)
+
+    def convert(self, text, *words, status=0):
+        """The plan and the notes of a text."""
+        self.write("t.sql", text)
+        ran = convert("t.sql", *words, folder=self.folder)
+        self.assertEqual(ran.returncode, status, ran.stderr.decode())
+        plan = tomllib.loads(ran.stdout.decode()) if ran.stdout else {}
+        return plan, ran.stderr.decode().replace("t.sql:", "")
+
+    def fails(self, status, error, *words):
+        ran = convert(*words, folder=self.folder)
+        self.assertEqual((ran.returncode, ran.stdout, ran.stderr.decode()), (status, b"", error))
+
+    def test_nothing_to_convert(self):
+        self.fails(1, "convert: none.sql: No such file or directory\n", "none.sql", "--alter", "ADD a INT")
+        self.write("t.sql", "SET NAMES utf8;")
+        self.fails(1, "t.sql: 0 changes\nconvert: t.sql has no table with columns\n", "t.sql", "--alter", "ADD a INT")
+        self.write("t.sql", "CREATE TABLE t (id INT PRIMARY KEY);\nCREATE TABLE `u` (id INT PRIMARY KEY)")
+        self.fails(1, "convert: the file has 2 tables: --table says which is altered\n", "t.sql", "--alter", "ADD a INT")
+        self.fails(1, "convert: the file has no table v, only t, u\n", "t.sql", "--alter", "ALTER TABLE v ADD a INT")
+        self.fails(1, "convert: c: No such file or directory\n", "t.sql", "--table", "t", "--alter", "ADD a INT", "--client", "c")
+        self.write("t.sql", "CREATE TABLE t LIKE u")
+        notes = "t.sql:1: left as it is: CREATE TABLE t LIKE .. has no columns in parentheses\n"
+        end = "t.sql: 0 changes, and 1 left as it is, for which the program refuses the plan\nconvert: t.sql has no table with columns\n"
+        self.fails(1, notes + end, "t.sql", "--alter", "x")
+        self.write("t.sql", "CREATE TABLE")
+        self.fails(1, "convert: t.sql:1: CREATE TABLE .. can't be read\n", "t.sql", "--alter", "x")
+
+    def test_words(self):
+        self.assertIn(b"usage: tools/convert FILE.sql --alter TEXT", convert("--help").stdout)
+        for words in ([], ["t.sql"], ["t.sql", "--alter", "x", "--rows", "many"], ["t.sql", "--alter", "x", "--frob"]):
+            ran = convert(*words, folder=self.folder)
+            self.assertEqual((ran.returncode, ran.stdout), (2, b""))
+            self.assertIn(b"tools/convert: error: ", ran.stderr)
+
+    def test_standard_input(self):
+        ran = convert("-", "--alter", "ADD a INT", text=b"CREATE TABLE t (id INT(11) PRIMARY KEY, a DATE)")
+        self.assertEqual(ran.returncode, 0)
+        self.assertIn(b"standard input:1: column a: DATE as VARCHAR(10): ", ran.stderr)
+
+    def test_several_tables(self):
+        text = "CREATE TABLE t (id INT PRIMARY KEY); CREATE TABLE u (id INT PRIMARY KEY); INSERT INTO u VALUES (1); INSERT INTO v VALUES (2)"
+        plan, notes = self.convert(text, "--table", "U", "--alter", "ADD a INT")
+        self.assertEqual(plan["table"], "u")
+        self.assertEqual([table.get("rows") for table in plan["tables"]], [None, ["(1)"]])
+        self.assertEqual(notes, "1: rows of v are left out: the file has no CREATE TABLE of it before\n 1 change\n")
+
+    def test_rows(self):
+        text = "CREATE TABLE t (id INT PRIMARY KEY, a INT DEFAULT 4);\nINSERT INTO t (a, id) VALUES (1, 2), (3, 4), (5, 6);\nINSERT INTO t (id) VALUES (7)"
+        plan, notes = self.convert(text, "--alter", "DROP a", "--rows", "2")
+        self.assertEqual(plan["tables"][0]["rows"], ["(2, 1)", "(4, 3)"])
+        self.assertIn("table t: the rows after the first 2 are left out\n", notes)
+        plan, _ = self.convert(text, "--alter", "DROP a")
+        self.assertEqual(plan["tables"][0]["rows"], ["(2, 1)", "(4, 3)", "(6, 5)", "(7, 4)"])
+
+    def test_long_values(self):
+        text = f"CREATE TABLE t (id INT PRIMARY KEY, a TEXT, b BLOB);\nINSERT INTO t VALUES (1, '{'é' * 1001}', 0x{'ff' * 1001})"
+        plan, notes = self.convert(text, "--alter", "DROP a")
+        self.assertIn("2: left as it is: column a: a value of 1,001 characters (58); --shorten cuts it\n", notes)
+        self.assertIn("2: left as it is: column b: a value of 1,001 bytes (58); --shorten cuts it\n", notes)
+        plan, notes = self.convert(text, "--alter", "DROP a", "--shorten")
+        number, first, second = plan["tables"][0]["rows"][0].strip("()").split(", ")
+        self.assertEqual(number, "1")
+        # The sums are those that sha256sum prints of the text's 2,002 bytes and of the 1,001 bytes.
+        self.assertEqual(first, f"'{'é' * 983}#8095095994e57c6a'")
+        self.assertEqual(second, f"x'{'ff' * 983}{b'#925a5b9e85deef24'.hex()}'")
+        self.assertNotIn("left as", notes)
+
+    def test_bytes_that_are_no_text(self):
+        self.write("t.sql", b"CREATE TABLE t (id INT PRIMARY KEY, b BLOB);\nINSERT INTO t VALUES (1, _binary '\xff\\0\\'')")
+        ran = convert("t.sql", "--alter", "DROP b", folder=self.folder)
+        self.assertIn(b"(1, x'ff0027')", ran.stdout)
+
+    def test_texts_of_a_plan(self):
+        texts = ["a", 'say "a"', "it's", "''", "a\\b", "'", "'x'", "tab\there"]
+        rows = ", ".join(f"({at}, '{text.replace(chr(92), chr(92) * 2).replace(chr(39), chr(39) * 2)}')" for at, text in enumerate(texts))
+        plan, _ = self.convert(f"CREATE TABLE t (id INT PRIMARY KEY, a VARCHAR(9));\nINSERT INTO t VALUES {rows}", "--alter", "DROP a")
+        for at, (row, text) in enumerate(zip(plan["tables"][0]["rows"], texts)):
+            values = [value_of(part) for part in [[word] for word in words_of(row) if word.kind in ("number", "text")]]
+            self.assertEqual([values[0].value, values[1].value], [at, text])
+
+    def test_clients_without_semicolons(self):
+        self.write("c", "BEGIN\nDELETE FROM t WHERE id = 1 -- gone\n\nCOMMIT\n")
+        self.write("d", "DELETE FROM t WHERE\n  id = 2;")
+        plan, notes = self.convert("CREATE TABLE t (id INT PRIMARY KEY)", "--alter", "ADD a INT", "--client", "c", "--client", "d")
+        self.assertEqual(plan["clients"], ["BEGIN\nDELETE FROM t WHERE id = 1\nCOMMIT\n", "DELETE FROM t WHERE id = 2\n"])
+        self.assertEqual(notes, " 0 changes\n")
+
+    def test_transactions(self):
+        scripts = {
+            "SET autocommit=0; DELETE FROM t WHERE id IN (1, 2); COMMIT; DELETE FROM t; ROLLBACK; COMMIT": (
+                "BEGIN\nDELETE FROM t WHERE id = 1\nDELETE FROM t WHERE id = 2\nCOMMIT\nBEGIN\nDELETE FROM t\nROLLBACK\n"
+            ),
+            "SET @@session.autocommit = OFF; DELETE FROM t; SET autocommit = 1; DELETE FROM t": "BEGIN\nDELETE FROM t\nCOMMIT\nDELETE FROM t\n",
+            "START TRANSACTION; DELETE FROM t; COMMIT AND CHAIN; DELETE FROM t; COMMIT AND NO CHAIN RELEASE": (
+                "BEGIN\nDELETE FROM t\nCOMMIT\nBEGIN\nDELETE FROM t\nCOMMIT\n"
+            ),
+            "BEGIN; DELETE FROM t; BEGIN; DELETE FROM t": "BEGIN\nDELETE FROM t\nCOMMIT\nBEGIN\nDELETE FROM t\nCOMMIT\n",
+            "COMMIT; SAVEPOINT a; SET NAMES utf8; SELECT 1": "\n",
+        }
+        for script, wanted in scripts.items():
+            self.write("c", script + ";")
+            plan, notes = self.convert("CREATE TABLE t (id INT PRIMARY KEY)", "--alter", "ADD a INT", "--client", "c")
+            self.assertEqual(plan["clients"], [wanted], script)
+            self.assertNotIn("left as", notes)
+
+    def test_numbers_go_on_over_all_clients(self):
+        self.write("c", "INSERT INTO t (a) VALUES (1)\nINSERT INTO t VALUES (20, 1)\nINSERT INTO t VALUES (NULL, 1)")
+        self.write("d", "INSERT INTO t SET a = 1")
+        text = "CREATE TABLE t (id INT PRIMARY KEY AUTO_INCREMENT, a INT); INSERT INTO t VALUES (4, 0)"
+        plan, _ = self.convert(text, "--alter", "ADD b INT", "--client", "c", "--client", "d")
+        first = "INSERT INTO t (id, a) VALUES (5, 1)\nINSERT INTO t VALUES (20, 1)\nINSERT INTO t VALUES (21, 1)\n"
+        self.assertEqual(plan["clients"], [first, "INSERT INTO t (id, a) VALUES (22, 1)\n"])
+
+    def test_alter_of_which_nothing_is_left(self):
+        plan, notes = self.convert("CREATE TABLE t (id INT NOT NULL COMMENT 'a', PRIMARY KEY (id))", "--alter", "ENGINE=InnoDB")
+        self.assertEqual(plan["alter"], "MODIFY COLUMN `id` INT NOT NULL COMMENT 'a'")
+        self.assertIn("--alter: nothing is left of the ALTER, so that it builds the table anew: column id is declared as it is\n", notes)
+
+    def test_clauses_on_those_before(self):
+        text = "CREATE TABLE t (id INT AUTO_INCREMENT PRIMARY KEY, a DATE, g INT AS (id), KEY (a))"
+        clauses = "MODIFY id BIGINT AUTO_INCREMENT, CHANGE a b DATETIME, ALTER b SET DEFAULT '2024-01-01', DROP b, ADD c INT AFTER g"
+        plan, notes = self.convert(text, "--alter", clauses)
+        first = "MODIFY COLUMN id BIGINT NOT NULL, CHANGE COLUMN a b VARCHAR(19), "
+        second = "MODIFY COLUMN `b` VARCHAR(19) NULL DEFAULT '2024-01-01 00:00:00', DROP b, ADD COLUMN c INT"
+        self.assertEqual(plan["alter"], first + second)
+        self.assertIn("--alter: column id: NOT NULL is added: it is in the PRIMARY KEY\n", notes)
+        self.assertIn("--alter: a gets the name b: the plan needs approve_renamed_columns = true (28), as gh-ost does\n", notes)
+        self.assertIn("--alter: column b: DATE to DATETIME: what is stored stays as it is written\n", notes)
+        self.assertIn("--alter: AFTER g is left out: that column is\n", notes)
+
+    def test_clauses_that_are_left(self):
+        text = "CREATE TABLE t (id INT PRIMARY KEY, a INT)"
+        for clause in ("DROP PRIMARY KEY", "DROP PARTITION p", "ADD PARTITION (PARTITION p VALUES IN (1))", "TRUNCATE PARTITION p", "RENAME TO s"):
+            plan, notes = self.convert(text, "--alter", clause)
+            self.assertEqual(plan["alter"], clause)
+            self.assertTrue(notes.startswith(f"--alter: left as it is: {clause} is no clause that the program reads\n"), notes)
+
+    def test_no_key(self):
+        _, notes = self.convert("CREATE TABLE t (id INT, UNIQUE (id))", "--alter", "ADD a INT")
+        self.assertIn("1: left as it is: table t has no PRIMARY KEY, nor a unique key without nulls, and gh-ost needs one (14)\n", notes)
+
+
+class Literals(unittest.TestCase):
+    """How a literal is written in a column of a kind. What MySQL stores is by its manual's chapters on data types."""
+
+    def literal(self, kind, text):
+        found, rest, _ = kind_at(words_of(kind))
+        self.assertEqual(rest, [])
+        return found.now, found.literal(value_of(words_of(text)))
+
+    def test_stored(self):
+        for kind, now, literals in (
+            ("INT", "INT", {"5": "5", "-5": "-5", "'5'": "'5'", "4.5": "5", "-4.5": "-5", "NULL": "NULL", "TRUE": "1", "0x10": "16"}),
+            ("BOOL", "TINYINT", {"FALSE": "0"}),
+            ("BIT(9)", "SMALLINT UNSIGNED", {"b'101'": "5", "7": "7", "'a'": "97", "_binary '\\0'": "0", "''": "0"}),
+            ("VARCHAR(9)", "VARCHAR(9)", {"'it\\'s'": "'it''s'", '"a"': "'a'", "5": "5", "1.50": "'1.50'", "'a' 'b'": "'ab'", "x'61'": "'a'"}),
+            ("CHAR(3)", "VARCHAR(3)", {"'a  '": "'a'", "'  a'": "'  a'"}),
+            ("BINARY(3)", "VARBINARY(3)", {"'a'": "x'610000'", "0x0102": "x'010200'"}),
+            ("BLOB", "VARBINARY(1000)", {"0xABC": "x'0abc'", "''": "''", "_binary 'a\\0'": "x'6100'"}),
+            ("DATE", "VARCHAR(10)", {"'2024-1-5'": "'2024-01-05'", "'2024-01-05 10:11:12'": "'2024-01-05'", "20240105": "'2024-01-05'"}),
+            ("DATETIME", "VARCHAR(19)", {"'2024-01-05'": "'2024-01-05 00:00:00'", "NOW()": "'2000-01-01 00:00:00'"}),
+            ("TIMESTAMP(3)", "VARCHAR(23)", {"'2024-01-05T10:11:12.5'": "'2024-01-05 10:11:12.500'", "20240105101112": "'2024-01-05 10:11:12.000'"}),
+            ("TIME", "VARCHAR(10)", {"'-838:59:59'": "'-838:59:59'"}),
+            ("YEAR", "SMALLINT UNSIGNED", {"2024": "2024", "'2024'": "'2024'"}),
+            ("DECIMAL(5,2)", "VARCHAR(7)", {"1": "'1.00'", "'1.5'": "'1.50'", "-1.005": "'-1.01'", "-0.001": "'0.00'", "1e2": "'100.00'"}),
+            ("DECIMAL(2,2) UNSIGNED", "VARCHAR(4)", {".5": "'0.50'"}),
+            ("NUMERIC", "VARCHAR(11)", {"7": "'7'", "'0'": "'0'"}),
+            ("DOUBLE", "VARCHAR(24)", {"1.0": "'1'", "0.1": "'0.1'", "1e20": "'1e20'", "-2.5e-10": "'-2.5e-10'", "'1e3'": "'1000'"}),
+            ("FLOAT", "VARCHAR(24)", {"3.14159274": "'3.14159'", "0.5": "'0.5'"}),
+            ("ENUM('a','B')", "VARCHAR(1)", {"'b'": "'B'", "1": "'a'"}),
+            ("SET('a','b','c')", "VARCHAR(5)", {"'c,a'": "'a,c'", "6": "'b,c'", "''": "''"}),
+            ("JSON", "VARCHAR(1000)", {"'{\\\"a\\\": 1}'": "'{\"a\": 1}'"}),
+        ):
+            for text, wanted in literals.items():
+                with self.subTest(kind=kind, text=text):
+                    self.assertEqual(self.literal(kind, text), (now, wanted))
+
+    def test_kept(self):
+        for kind, text, wanted in (
+            ("DATE", "'5 May'", "'5 May'"),
+            ("DATETIME(1)", "'2024-01-05 10:11:12.55'", "'2024-01-05 10:11:12.55'"),
+            ("DECIMAL(5,2)", "'many'", "'many'"),
+            ("ENUM('a')", "'b'", "'b'"),
+            ("ENUM('a')", "2", "'2'"),
+            ("SET('a')", "'a,b'", "'a,b'"),
+            ("VARCHAR(9)", "0xff", "x'ff'"),
+        ):
+            with self.subTest(kind=kind, text=text), self.assertRaises(Kept) as kept:
+                self.literal(kind, text)
+            self.assertEqual(kept.exception.text, wanted)
+
+    def test_left(self):
+        for kind, text in (("INT", "a + 1"), ("VARCHAR(9)", "UUID()"), ("INT", "NOW()"), ("DATE", "?"), ("INT", "(SELECT 1)")):
+            with self.subTest(kind=kind, text=text), self.assertRaises(Left):
+                self.literal(kind, text)
+
+    def test_kinds_that_the_program_has_nothing_like(self):
+        for kind in ("POINT", "GEOMETRY", "VECTOR(3)", "frob"):
+            self.assertIsNone(kind_at(words_of(kind))[0])
+
+
+class Words(unittest.TestCase):
+    def test_words(self):
+        text = "a.`b``c`='it''s\\'' -- x\n/* y */ /*!80000 INVISIBLE */ 1.5e-3 x'0A' 0x1F b'1' <=> 2fa # z"
+        found = [(word.kind, word.text, word.line) for word in words_of(text)]
+        first = [("name", "a", 1), ("sign", ".", 1), ("quoted", "`b``c`", 1), ("sign", "=", 1), ("text", "'it''s\\''", 1)]
+        second = [("name", "INVISIBLE", 2), ("number", "1.5e-3", 2), ("bytes", "x'0A'", 2), ("bytes", "0x1F", 2), ("bits", "b'1'", 2)]
+        self.assertEqual(found, [*first, *second, ("sign", "<=>", 2), ("name", "2fa", 2)])
+        self.assertEqual(written(words_of("a  =\n 'b\nc' ,d")), "a = 'b\\nc' ,d")
+
+    def test_text_values(self):
+        for text, value in (("'a''b'", "a'b"), ('"a\'b"', "a'b"), ("'\\''''", "''"), ("'\\n\\0\\%\\x'", "\n\0\\%x"), ("'\\\\'", "\\")):
+            self.assertEqual(text_value(text), value)
+
+    def test_statements(self):
+        text = "A;;B 'x;y';\nDELIMITER ;;\nC; D ;;\nDELIMITER ;\nE"
+        self.assertEqual([written(statement) for statement in statements_in(text)], ["A", "B 'x;y'", "DELIMITER", "E"])
+
+
+if __name__ == "__main__":
+    unittest.main()

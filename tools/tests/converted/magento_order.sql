@@ -1,0 +1,26 @@
+CREATE TABLE `sales_order` (
+  `entity_id` int unsigned NOT NULL AUTO_INCREMENT COMMENT 'Entity ID',
+  `state` varchar(32) DEFAULT NULL COMMENT 'State',
+  `status` varchar(32) DEFAULT NULL COMMENT 'Status',
+  `coupon_code` varchar(255) DEFAULT NULL COMMENT 'Coupon Code',
+  `store_id` smallint unsigned DEFAULT NULL COMMENT 'Store ID',
+  `customer_id` int unsigned DEFAULT NULL COMMENT 'Customer ID',
+  `base_discount_amount` decimal(20,4) DEFAULT NULL COMMENT 'Base Discount Amount',
+  `grand_total` decimal(20,4) DEFAULT NULL COMMENT 'Grand Total',
+  `total_qty_ordered` decimal(12,4) DEFAULT NULL COMMENT 'Total Qty Ordered',
+  `weight` decimal(12,4) DEFAULT NULL COMMENT 'Weight',
+  `customer_dob` datetime DEFAULT NULL COMMENT 'Customer Dob',
+  `increment_id` varchar(50) DEFAULT NULL COMMENT 'Increment ID',
+  `customer_note` text COMMENT 'Customer Note',
+  `created_at` timestamp NOT NULL DEFAULT CURRENT_TIMESTAMP COMMENT 'Created At',
+  `updated_at` timestamp NOT NULL DEFAULT CURRENT_TIMESTAMP ON UPDATE CURRENT_TIMESTAMP COMMENT 'Updated At',
+  `total_item_count` smallint unsigned NOT NULL DEFAULT '0' COMMENT 'Total Item Count',
+  PRIMARY KEY (`entity_id`),
+  UNIQUE KEY `SALES_ORDER_INCREMENT_ID_STORE_ID` (`increment_id`,`store_id`),
+  KEY `SALES_ORDER_STATUS` (`status`),
+  KEY `SALES_ORDER_STORE_ID` (`store_id`),
+  KEY `SALES_ORDER_CREATED_AT` (`created_at`),
+  KEY `SALES_ORDER_CUSTOMER_ID` (`customer_id`),
+  CONSTRAINT `SALES_ORDER_CUSTOMER_ID_CUSTOMER_ENTITY_ENTITY_ID` FOREIGN KEY (`customer_id`) REFERENCES `customer_entity` (`entity_id`) ON DELETE SET NULL
+) ENGINE=InnoDB AUTO_INCREMENT=3 DEFAULT CHARSET=utf8mb3 COMMENT='Sales Flat Order';
+INSERT INTO `sales_order` VALUES (1,'new','pending',NULL,1,7,0.0000,129.9000,2.0000,1.5000,NULL,'000000001',NULL,'2024-01-01 10:00:00','2024-01-01 10:00:00',2),(2,'complete','complete','SAVE10',1,8,-12.9900,116.9100,1.0000,0.5000,'1980-01-01 00:00:00','000000002','please ring','2024-01-02 10:00:00','2024-01-03 10:00:00',1);
