@@ -1,4 +1,9 @@
 """Tests of `tools/convert`: the files of `converted` with their plans and notes to the byte, and what a file may be."""
+import contextlib
+import importlib.machinery
+import importlib.util
+import io
+import os
 import pathlib
 import subprocess
 import tempfile
@@ -12,8 +17,32 @@ TOOLS = pathlib.Path(__file__).resolve().parent.parent
 CASES = TOOLS / "tests/converted"
 
 
-def convert(*words, text=None, folder=CASES):
-    return subprocess.run([TOOLS / "convert", *words], cwd=folder, capture_output=True, input=text, timeout=50)
+LOADER = importlib.machinery.SourceFileLoader("convert_script", str(TOOLS / "convert"))
+SCRIPT = importlib.util.module_from_spec(importlib.util.spec_from_loader("convert_script", LOADER))
+LOADER.exec_module(SCRIPT)
+
+
+class Output(io.StringIO):
+    """Standard output, whose bytes are kept too."""
+
+    def __init__(self):
+        super().__init__()
+        self.buffer = io.BytesIO()
+
+
+def convert(*words, folder=CASES):
+    """Runs the script in this process, in a folder."""
+    out, err, here = Output(), io.StringIO(), os.getcwd()
+    os.chdir(folder)
+    try:
+        with contextlib.redirect_stdout(out), contextlib.redirect_stderr(err):
+            SCRIPT.main([str(word) for word in words])
+            status = 0
+    except SystemExit as end:
+        status = end.code or 0
+    finally:
+        os.chdir(here)
+    return subprocess.CompletedProcess(words, status, out.buffer.getvalue() + out.getvalue().encode(), err.getvalue().encode())
 
 
 class Converted(unittest.TestCase):
@@ -81,8 +110,10 @@ class Files(unittest.TestCase):
             self.assertIn(b"tools/convert: error: ", ran.stderr)
 
     def test_standard_input(self):
-        ran = convert("-", "--alter", "ADD a INT", text=b"CREATE TABLE t (id INT(11) PRIMARY KEY, a DATE)")
+        words = [TOOLS / "convert", "-", "--alter", "ADD a INT"]
+        ran = subprocess.run(words, capture_output=True, input=b"CREATE TABLE t (id INT(11) PRIMARY KEY, a DATE)")
         self.assertEqual(ran.returncode, 0)
+        self.assertIn(b"  a VARCHAR(10)\n", ran.stdout)
         self.assertIn(b"standard input:1: column a: DATE as VARCHAR(10): ", ran.stderr)
 
     def test_several_tables(self):
