@@ -1,9 +1,10 @@
 """The comparison of many plans: runs them on both sides, explains what differs, and tells it."""
 import copy
+import dataclasses
 import re
 import sys
 
-from judge import Count, Judge
+from judge import ROWS_REFUSED, Count, Judge
 from program import Ran
 from reports import Report
 from rules import OWN, OWN_LATER, REPHRASINGS, in_other_words
@@ -70,9 +71,15 @@ def rule_of(plan, difference):
 def printed_by(program, plans):
     """Each plan with what `check` and `replay` print; a plan that is refused has no altered schema to be printed."""
     replays = program.run("replay", plans)
-    accepted = [plan for plan, replay in zip(plans, replays) if replay.status != 2 or replay.text.startswith("refused 60")]
-    checks = dict(zip((plan.name for plan in accepted), program.run("check", accepted)))
+    checked = [plan for plan, replay in zip(plans, replays) if replay.status != 2]
+    # A bad row and a statement that is left out come ahead of the ALTER's own faults, which a plan without them has.
+    checked += [bare(plan) for plan, replay in zip(plans, replays) if Report(replay).refused in ROWS_REFUSED]
+    checks = dict(zip((plan.name for plan in checked), program.run("check", checked)))
     return [(plan, checks.get(plan.name, replay), replay) for plan, replay in zip(plans, replays)]
+
+
+def bare(plan):
+    return dataclasses.replace(plan, rows=[], clients=[])
 
 
 def run_both(comparison, program, plans):

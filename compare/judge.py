@@ -18,6 +18,8 @@ SAME_NUMBERS = {
     27: (1067,),
     30: (1090,),
 }
+# A row that is bad; a statement that is left out.
+ROWS_REFUSED = (58, 42)
 
 
 @dataclasses.dataclass
@@ -83,6 +85,8 @@ class Judge:
 
     def is_refused_by_words(self, code):
         """Whether the ALTER is refused, whatever rows there are."""
+        if code in ROWS_REFUSED:
+            code = Report(self.check).refused or 0
         ours, theirs = code if 20 <= code <= 31 else 0, self.served.altered
         if ours == theirs == 0:
             return False
@@ -98,10 +102,10 @@ class Judge:
             self.differ("shape", "", *told)
 
     def are_rows_taken(self, code):
-        ours, theirs = code == 60, bool(self.served.rows_refused)
+        ours, theirs = code in ROWS_REFUSED, bool(self.served.rows_refused)
         if not self.count.add("rows", ours == theirs):
             self.differ("rows", "", code, self.served.rows_refused)
-        if code not in (0, 60):
+        if code not in (0, *ROWS_REFUSED):
             self.differ("rows", "", code, "")
         return not theirs and not code
 

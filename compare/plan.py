@@ -25,6 +25,9 @@ class Plan:
         if self.clients:
             scripts = ", ".join(quoted("\n".join(script)) for script in self.clients)
             text += f"clients = [{scripts}]\n"
+            if not self.client_wait:
+                # The tool waits until all clients are done, as the server is told the ALTER behind their lines.
+                text += f'turns = "{" ".join(f"c{number + 1}" for number, _, _ in self.turns())}"\n'
         text += f"[[tables]]\ncreate = {quoted(self.create)}\n"
         if self.rows:
             text += f"rows = [{', '.join(quoted(row) for row in self.rows)}]\n"
