@@ -8,7 +8,8 @@ from wire import Refused
 WAITS = "SELECT 1 FROM information_schema.PROCESSLIST WHERE ID = {0} AND STATE LIKE 'Waiting for%' UNION SELECT 1 FROM information_schema.INNODB_TRX WHERE trx_mysql_thread_id = {0} AND trx_state = 'LOCK WAIT'"
 LOCK = "SELECT l.lock_mode, l.lock_data FROM information_schema.INNODB_TRX t JOIN information_schema.INNODB_LOCKS l ON l.lock_id = t.trx_requested_lock_id WHERE t.trx_mysql_thread_id = {0}"
 
-# The server tells anew who waits ten times a second at most: so it is asked three times.
+# The server tells anew which transactions wait where nobody has asked for a tenth of a second: so looks are as far apart, and
+# what the first says may be old.
 APART = 0.12
 
 
@@ -23,6 +24,7 @@ class Client:
         self.session.need("SET innodb_lock_wait_timeout = 1000, lock_wait_timeout = 1000")
         self.script, self.place, self.replies = script, 0, []  # replies with their lines
         self.waiting, self.polls, self.inside = False, 0, False
+        self.seen_at = None  # of the statement that waits: how many releases of locks had come when it was last seen to wait
 
     def line(self):
         return self.script[self.place]
@@ -39,6 +41,7 @@ class Client:
         self.inside = word in ("BEGIN", "START") or self.inside and word not in ("COMMIT", "ROLLBACK")
         self.replies.append((reply, self.line()))
         self.place, self.waiting = self.place + 1, False
+        return not self.inside
 
     def time_out(self, monitor):
         """The whole transaction is rolled back, and the next one follows."""
@@ -56,14 +59,19 @@ class Beside:
     def __init__(self, server, plan):
         self.monitor, self.limit = server.session(), plan.client_wait
         self.clients = [Client(server, script) for script in plan.clients]
+        self.releases = 0  # how often locks were given free
 
     def waits(self, client):
-        """Whether its statement waits for a lock; else it is answered."""
-        seen = 0
-        while not client.session.is_answered(0.01 if seen == 0 else APART):
+        """Whether its statement waits for a lock; else it is answered. What waits goes on only once a lock is given free."""
+        if client.seen_at == self.releases:
+            return not client.session.is_answered(0)
+        seen, looks = 0, 0
+        while not client.session.is_answered(APART if looks else 0.01):
+            looks += 1
             seen = seen + 1 if self.monitor.need(WAITS.format(client.session.number)).rows else 0
-            if seen == 3:
+            if seen == 2:
                 self.look_at_lock(client)
+                client.seen_at = self.releases
                 return True
         return False
 
@@ -79,13 +87,14 @@ class Beside:
         is_poll = client.waiting
         if not is_poll:
             client.session.begin(client.said())
-            client.polls = 0
+            client.polls, client.seen_at = 0, None
         if not self.waits(client):
-            client.take_answer()
+            self.releases += client.take_answer()
             return
         client.waiting, client.polls = True, client.polls + is_poll
         if client.polls == self.limit:
             client.time_out(self.monitor)
+            self.releases += 1
 
     def follow(self, order):
         """The replies of each client, up to the turn behind which the locks differ, and why they do."""

@@ -7,7 +7,7 @@ import sys
 from judge import ROWS_REFUSED, Count, Judge
 from program import Ran
 from reports import Report
-from rules import OWN, OWN_LATER, REPHRASINGS, in_other_words
+from rules import OWN, OWN_OF_STATEMENTS, REPHRASINGS, in_other_words
 from server import Server
 from serving import Bench
 
@@ -19,7 +19,7 @@ class Comparison:
 
     def plan(self, plan, check, replay):
         """The differences of a plan, each with its rule."""
-        differences = Judge(plan, check, replay, self.bench.serve(plan, Report(replay).order), self.count).judge()
+        differences = Judge(plan, check, replay, self.bench.serve(plan, Report(replay).order), self.count, rule_of).judge()
         for difference in differences:
             difference.rule = rule_of(plan, difference)
         if any(it.rule is None for it in differences):
@@ -57,7 +57,7 @@ class Comparison:
         """The keys of the differences that these rules together leave none of; nothing where they bring a new one."""
         unexplained = {it.key() for it in differences if it.rule is None}
         for other in in_other_words(plan, rules):
-            again = Judge(plan, check, replay, self.bench.serve(other, Report(replay).order), Count()).judge()
+            again = Judge(plan, check, replay, self.bench.serve(other, Report(replay).order), Count(), rule_of).judge()
             left = {it.key() for it in again if rule_of(plan, it) is None}
             if left < unexplained:
                 return unexplained - left
@@ -65,7 +65,7 @@ class Comparison:
 
 
 def rule_of(plan, difference):
-    return next((rule.name for rule in [*OWN, *OWN_LATER] if rule.explains(plan, difference)), None)
+    return next((rule.name for rule in [*OWN, *OWN_OF_STATEMENTS] if rule.explains(plan, difference)), None)
 
 
 def printed_by(program, plans):
@@ -105,6 +105,8 @@ def tell_counts(comparison, plans, version):
     print(f"rows in those tables: {count.rows_left}")
     if count.left:
         print(f"plans followed up to where the locks differ by rule: {count.left}")
+    if count.parted:
+        print(f"plans followed up to a statement that by rule one side does and the other refuses: {count.parted}")
     differing = sum(len(found) for found in comparison.by_rule.values())
     print(f"differences: {differing} by a rule of this project's own, {len(comparison.unexplained)} unexplained")
     for rule, found in sorted(comparison.by_rule.items(), key=lambda it: -len(it[1])):
@@ -138,7 +140,7 @@ def show_rules(program, plans):
             shown |= found
             if found != {wanted}:
                 wrong.append(f"{plan.name} shows {found or 'no difference'}, and not: {wanted}")
-    wrong += [f"no example shows: {rule.name}" for rule in [*OWN, *REPHRASINGS] if rule.name not in shown]
+    wrong += [f"no example shows: {rule.name}" for rule in [*OWN, *OWN_OF_STATEMENTS, *REPHRASINGS] if rule.name not in shown]
     print("\n".join(wrong) if wrong else f"{len(plans)} plans show {len(shown)} rules")
     return 1 if wrong else 0
 

@@ -62,6 +62,10 @@ def has_word(text, *wanted):
     return any(it.is_word(*wanted) for it in words(text))
 
 
+def has_text(text):
+    return any(it.kind in ("text", "bytes") for it in words(text))
+
+
 def length_is_out(text):
     return any(not 1 <= int(it) <= 1000 for it in re.findall(r"(?i)VAR(?:CHAR|BINARY)\s*\(\s*(\d+)\s*\)", text))
 
@@ -213,12 +217,23 @@ def drops_primary_by_name(plan, _):
     return "`PRIMARY`" in plan.alter.upper()
 
 
-UNSTORED = ("error 1048", "error 1264", "error 1366", "error 1406", "error 1364", "error 1265")
+UNSTORED = ("error 1048", "error 1264", "error 1366", "error 1406", "error 1265")
+
+
+def statement_of(difference):
+    """The client's line that was answered."""
+    return difference.place.partition(": ")[2]
+
+
+def condition_of(difference):
+    statement = statement_of(difference)
+    at = statement.upper().find(" WHERE ")
+    return statement[at:] if at >= 0 else ""
 
 
 def begins(difference, *wanted):
     """Whether the statement of an answer begins with one of these words."""
-    return difference.place.partition(": ")[2].upper().startswith(wanted)
+    return statement_of(difference).upper().startswith(wanted)
 
 
 def displaces_an_equal_row(_, difference):

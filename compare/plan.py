@@ -25,9 +25,8 @@ class Plan:
         if self.clients:
             scripts = ", ".join(quoted("\n".join(script)) for script in self.clients)
             text += f"clients = [{scripts}]\n"
-            if not self.client_wait:
-                # The tool waits until all clients are done, as the server is told the ALTER behind their lines.
-                text += f'turns = "{" ".join(f"c{number + 1}" for number, _, _ in self.turns())}"\n'
+            # The tool waits until all clients are done, as the server is told the ALTER after their lines.
+            text += f'turns = "{self.order_of_clients()}"\n'
         text += f"[[tables]]\ncreate = {quoted(self.create)}\n"
         if self.rows:
             text += f"rows = [{', '.join(quoted(row) for row in self.rows)}]\n"
@@ -37,6 +36,13 @@ class Plan:
 
     def alters(self):
         return [with_front(it) for it in (self.steps if self.steps is not None else [self.alter])]
+
+    def order_of_clients(self):
+        """Whose turn it is; where clients can wait, as many rounds as they can need: a word whose client isn't ready is passed over."""
+        if not self.client_wait:
+            return " ".join(f"c{number + 1}" for number, _, _ in self.turns())
+        rounds = (self.client_wait + 1) * sum(len(script) for script in self.clients)
+        return " ".join([f"c{number + 1}" for number in range(len(self.clients))] * rounds)
 
     def turns(self):
         """The clients' lines in the order of their turns: round after round, a line of each client that has one left."""

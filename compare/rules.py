@@ -15,6 +15,7 @@ from facts import (
     begins,
     begins_otherwise,
     changes_clustered_key,
+    condition_of,
     converts_between_families,
     converts_unique_column,
     displaces_an_equal_row,
@@ -25,6 +26,7 @@ from facts import (
     has_null_in_key,
     has_odd_key_name,
     has_odd_option,
+    has_text,
     has_word,
     is_left_out_of_alter,
     is_left_out_of_create,
@@ -33,6 +35,7 @@ from facts import (
     repeats_a_name,
     repeats_in_key,
     rows_are_taken,
+    statement_of,
 )
 from rephrasing import as_copied, clause_by_clause, keys_as_texts, with_backquotes, with_two_keys, without_collation
 from words import clauses, items
@@ -87,13 +90,16 @@ OWN = [
 ]
 
 
-# Of statements that the program doesn't run yet (`FEATURES` in making.py).
-OWN_LATER = [
-    Own("what a key's column can't hold is refused in a condition", ("answer",), (1366,), lambda _, it: " WHERE " in it.place.upper()),
-    Own("a condition is on a key", ("answer",), (1235,), lambda _, it: " WHERE " in it.place.upper()),
+# Of the clients' statements.
+OWN_OF_STATEMENTS = [
+    Own("what a key's column can't hold is refused in a condition", ("answer",), (1366,), lambda _, it: has_text(condition_of(it))),
+    Own(LITERAL_RULE, ("answer",), (1366,), lambda _, it: odd_literals(statement_of(it))),
+    Own(CUT_RULE, ("answer",), (1406,), lambda _, it: ends_in_blanks(statement_of(it))),
+    Own("a condition is on a key", ("answer",), (1235,), lambda _, it: condition_of(it)),
     Own("an UPDATE sets a column once", ("answer",), (1110,), lambda _, it: begins(it, "UPDATE")),
     Own("a REPLACE counts each row that it displaces, also an equal one", ("answer",), (0,), displaces_an_equal_row),
-    Own("of several columns that don't store the first of the table is named", ("answer",), (1048, 1264, 1366, 1406, 1364), lambda _, it: it.theirs in UNSTORED),
+    Own("a value that doesn't fit is told before a column that has none", ("answer",), (1048, 1264, 1366, 1406), lambda _, it: it.theirs == "error 1364"),
+    Own("of several columns that don't store the first of the table is named", ("answer",), (1048, 1264, 1366, 1406), lambda _, it: it.theirs in UNSTORED),
 ]
 
 
