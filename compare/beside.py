@@ -14,7 +14,7 @@ APART = 0.12
 
 
 class LocksDiffer(Exception):
-    """The server waits, or goes on, by a rule that the model doesn't have: behind this turn the two have other orders."""
+    """The server waits, or goes on, by a rule that the model doesn't have: after this turn the two have other orders."""
 
 
 class Client:
@@ -70,41 +70,44 @@ class Beside:
             looks += 1
             seen = seen + 1 if self.monitor.need(WAITS.format(client.session.number)).rows else 0
             if seen == 2:
-                self.look_at_lock(client)
                 client.seen_at = self.releases
                 return True
         return False
 
-    def look_at_lock(self, client):
+    def lock_of(self, client):
         locks = self.monitor.ask(LOCK.format(client.session.number))
         for mode, row in [] if isinstance(locks, Refused) else locks.rows:
-            if "GAP" in mode or "supremum" in (row or ""):
-                raise LocksDiffer("a lock of a gap")
+            return "a gap" if "GAP" in mode or "supremum" in (row or "") else "a row that it doesn't lock in the model"
+        return "a name"
 
-    def turn(self, client):
-        if client.place >= len(client.script):
-            raise LocksDiffer("the model waited more")
+    def turn(self, client, waits):
+        """`waits` says whether the session waits in the model, at the turn's end."""
         is_poll = client.waiting
         if not is_poll:
             client.session.begin(client.said())
             client.polls, client.seen_at = 0, None
         if not self.waits(client):
+            if waits:
+                raise LocksDiffer("the server answers where the model waits")
             self.releases += client.take_answer()
             return
         client.waiting, client.polls = True, client.polls + is_poll
         if client.polls == self.limit:
             client.time_out(self.monitor)
             self.releases += 1
+        elif not waits:
+            raise LocksDiffer(f"the server waits where the model doesn't, for {self.lock_of(client)}")
 
-    def follow(self, order):
-        """The replies of each client, up to the turn behind which the locks differ, and why they do."""
+    def follow(self, turns):
+        """The replies of each client, up to the turn after which the locks differ, and why they do. A turn is a client, and whether
+        it waits in the model."""
         try:
-            for at, number in enumerate(order):
-                self.turn(self.clients[number])
+            for at, (number, waits) in enumerate(turns):
+                self.turn(self.clients[number], waits)
                 for waiter in [it for it in self.clients if it.waiting]:
-                    is_next = order[at + 1 : at + 2] == [self.clients.index(waiter)]
+                    is_next = [it for it, _ in turns[at + 1 : at + 2]] == [self.clients.index(waiter)]
                     if not is_next and not self.waits(waiter):
-                        raise LocksDiffer("a lock is taken ahead of its poll")
+                        raise LocksDiffer("a lock is taken before its poll")
         except LocksDiffer as differ:
             return [client.replies for client in self.clients], str(differ)
         return [client.replies for client in self.clients], None

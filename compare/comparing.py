@@ -16,10 +16,12 @@ class Comparison:
     def __init__(self, server):
         self.bench, self.count = Bench(server), Count()
         self.by_rule, self.unexplained = {}, []
+        self.turns = {}
 
-    def plan(self, plan, check, replay):
-        """The differences of a plan, each with its rule."""
-        differences = Judge(plan, check, replay, self.bench.serve(plan, Report(replay).order), self.count, rule_of).judge()
+    def plan(self, plan, check, replay, turns=None):
+        """The differences of a plan, each with its rule. `turns` has the clients' turns, where their transactions go beside each other."""
+        self.turns[plan.name] = turns
+        differences = Judge(plan, check, replay, self.bench.serve(plan, turns), self.count, rule_of).judge()
         for difference in differences:
             difference.rule = rule_of(plan, difference)
         if any(it.rule is None for it in differences):
@@ -57,7 +59,7 @@ class Comparison:
         """The keys of the differences that these rules together leave none of; nothing where they bring a new one."""
         unexplained = {it.key() for it in differences if it.rule is None}
         for other in in_other_words(plan, rules):
-            again = Judge(plan, check, replay, self.bench.serve(other, Report(replay).order), Count(), rule_of).judge()
+            again = Judge(plan, check, replay, self.bench.serve(other, self.turns[plan.name]), Count(), rule_of).judge()
             left = {it.key() for it in again if rule_of(plan, it) is None}
             if left < unexplained:
                 return unexplained - left
@@ -75,7 +77,24 @@ def printed_by(program, plans):
     # A bad row and a statement that is left out come ahead of the ALTER's own faults, which a plan without them has.
     checked += [bare(plan) for plan, replay in zip(plans, replays) if Report(replay).refused in ROWS_REFUSED]
     checks = dict(zip((plan.name for plan in checked), program.run("check", checked)))
-    return [(plan, checks.get(plan.name, replay), replay) for plan, replay in zip(plans, replays)]
+    turns = turns_of(program, [(plan, Report(replay)) for plan, replay in zip(plans, replays) if plan.client_wait])
+    return [(plan, checks.get(plan.name, replay), replay, turns.get(plan.name)) for plan, replay in zip(plans, replays)]
+
+
+def turns_of(program, pairs):
+    """The clients' turns of each plan: the client, and whether it waits at the turn's end. What a turn did is seen from a run that
+    ends with it."""
+    asked = [(plan, report, at) for plan, report in pairs for at in range(1, len(report.order) + 1) if has_waits(report)]
+    ran = iter(program.run("replay", [dataclasses.replace(plan, turn_limit=at) for plan, _, at in asked]))
+    turns = {}
+    for plan, report in pairs:
+        told = [[0] * len(report.replies)] + [[len(it) for it in Report(next(ran)).replies] for _ in report.order] if has_waits(report) else None
+        turns[plan.name] = [(client, told is not None and told[at + 1] == told[at]) for at, client in enumerate(report.order)]
+    return turns
+
+
+def has_waits(report):
+    return len(report.order) > sum(len(it) for it in report.replies)
 
 
 def bare(plan):
@@ -83,8 +102,8 @@ def bare(plan):
 
 
 def run_both(comparison, program, plans):
-    for number, (plan, check, replay) in enumerate(printed_by(program, plans)):
-        comparison.plan(plan, check, replay)
+    for number, (plan, check, replay, turns) in enumerate(printed_by(program, plans)):
+        comparison.plan(plan, check, replay, turns)
         if sys.stderr.isatty() and number % 50 == 0:
             print(f"\r{number} of {len(plans)} plans", end="", file=sys.stderr)
 
@@ -103,8 +122,8 @@ def tell_counts(comparison, plans, version):
     for kind, title in titles.items():
         print(f"{title}: {count.same[kind]} of {count.compared[kind]} the same")
     print(f"rows in those tables: {count.rows_left}")
-    if count.left:
-        print(f"plans followed up to where the locks differ by rule: {count.left}")
+    for why, plans_left in sorted(count.left.items()):
+        print(f"plans of several clients followed up to where {why}: {plans_left}")
     if count.parted:
         print(f"plans followed up to a statement that by rule one side does and the other refuses: {count.parted}")
     differing = sum(len(found) for found in comparison.by_rule.values())
@@ -133,7 +152,7 @@ def show_rules(program, plans):
     """Each example begins with the rule that it shows, and differs by that rule alone; and each rule has an example."""
     wrong, shown = [], set()
     with Server() as server:
-        for plan, check, replay in printed_by(program, plans):
+        for plan, check, replay, _ in printed_by(program, plans):
             with open(plan.name, encoding="utf-8") as file:
                 wanted = file.readline().removeprefix("# ").strip()
             found = {difference.rule for difference in Comparison(server).plan(plan, check, replay)}
@@ -155,13 +174,13 @@ def plant(program, plans):
     """Changes one count in a copy of an output, and wants exactly that to be told as unexplained."""
     with Server() as server:
         plans = [plan for plan in plans if plan.clients]
-        for plan, check, replay in printed_by(program, plans):
+        for plan, check, replay, turns in printed_by(program, plans):
             before = Comparison(server)
             wrong = planted(replay)
-            if wrong is None or before.plan(plan, check, replay):
+            if wrong is None or before.plan(plan, check, replay, turns):
                 continue
             after = Comparison(server)
-            after.plan(copy.copy(plan), check, wrong)
+            after.plan(copy.copy(plan), check, wrong, turns)
             if [difference.kind for _, difference in after.unexplained] == ["answer"] and not after.by_rule:
                 print("the planted difference was found:")
                 tell(*after.unexplained[0])

@@ -191,6 +191,10 @@ def has_left_out_statement(plan):
     return any(has_word(line, "JOIN", "ORDER", "LIMIT", "ON", "DEFAULT") for script in plan.clients for line in script)
 
 
+def has_null_in_condition(plan):
+    return any(re.search(r"(?i) WHERE .*\bNULL\b", line) for script in plan.clients for line in script)
+
+
 def has_odd_key_name(plan, difference):
     return difference.theirs == "1280" and re.search(r"(?i)``|`primary`|(KEY|INDEX) primary", f"{plan.create} {plan.alter}")
 

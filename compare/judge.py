@@ -18,8 +18,8 @@ SAME_NUMBERS = {
     27: (1067,),
     30: (1090,),
 }
-# A row that is bad; a statement that is left out.
-ROWS_REFUSED = (58, 42)
+# A row that is bad; a statement that is left out, or that is none.
+ROWS_REFUSED = (58, 42, 41)
 
 
 @dataclasses.dataclass
@@ -46,7 +46,7 @@ class Count:
         self.same = dict.fromkeys(self.KINDS, 0)
         self.rows_left = 0
         self.done = 0
-        self.left = 0  # plans that were followed up to where the locks differ
+        self.left = {}  # plans that were followed up to where the locks differ, by what was seen there
         self.parted = 0  # plans that were followed up to a statement that one side does and the other doesn't
 
     def add(self, kind, is_same):
@@ -133,7 +133,8 @@ class Judge:
 
     def replies(self):
         """The same of transactions beside each other: each client's replies, up to where the locks differ."""
-        self.count.left += self.served.left is not None
+        if self.served.left:
+            self.count.left[self.served.left] = self.count.left.get(self.served.left, 0) + 1
         for client, (ours, theirs) in enumerate(zip(self.report.replies, self.served.replies)):
             for place in range(len(theirs) if self.served.left else max(len(ours), len(theirs))):
                 (answer, line) = theirs[place] if place < len(theirs) else (("none", 0), "")

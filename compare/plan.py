@@ -13,6 +13,7 @@ class Plan:
     approve: bool = True
     # How often a client's wait is polled, where its clients' transactions go beside each other; the report then has the turns.
     client_wait: int = 0
+    turn_limit: int = 0  # how many turns are taken, where that is said
     # What a rule says to a server in place of the ALTER: texts, pairs of a new and an old column, and the columns of the clustered
     # key. The texts are run on an empty copy of the table, and its rows are then inserted there in order of the key. Where there
     # are no pairs, the server alters the table itself.
@@ -32,6 +33,7 @@ class Plan:
             text += f"rows = [{', '.join(quoted(row) for row in self.rows)}]\n"
         options = ["approve_renamed_columns = true"] if self.approve else []
         options += [f"client_wait = {self.client_wait}", "show_turns = true"] if self.client_wait else []
+        options += [f"turn_limit = {self.turn_limit}"] if self.turn_limit else []
         return text + "".join(f"{it}\n" for it in (["[options]"] if options else []) + options)
 
     def alters(self):

@@ -47,8 +47,8 @@ class Bench:
         for name in ("plan", "shape"):
             server.database(self.session, name)
 
-    def serve(self, plan, order=None):
-        """By an order of turns where one is given, else line by line."""
+    def serve(self, plan, turns=None):
+        """By turns of clients where they are given, else line by line."""
         served = Served()
         served.created = self.create("shape", plan)
         if served.created:
@@ -59,9 +59,9 @@ class Bench:
         for place, row in enumerate(plan.rows):
             number = number_of(self.session.ask(f"INSERT INTO t VALUES {row}"))
             served.rows_refused += [(place, number)] if number else []
-        if order:
-            served.replies, served.left = self.beside(plan, order)
-        for client, place, line in plan.turns() if not order else ():
+        if turns:
+            served.replies, served.left = self.beside(plan, turns)
+        for client, place, line in plan.turns() if not turns else ():
             served.answers[client, place] = answer_of(self.session.ask(line))
         served.copied, served.column = self.alter(plan) if plan.carried is None else self.copy(plan)
         left = self.session.ask("SELECT * FROM t")
@@ -69,10 +69,10 @@ class Bench:
             served.columns, served.rows = left.names, sorted(printed_row(row) for row in left.rows)
         return served
 
-    def beside(self, plan, order):
+    def beside(self, plan, turns):
         clients = Beside(self.server, plan)
         try:
-            return clients.follow(order)
+            return clients.follow(turns)
         finally:
             clients.close()
 
