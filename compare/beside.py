@@ -60,6 +60,7 @@ class Beside:
         self.monitor, self.limit = server.session(), plan.client_wait
         self.clients = [Client(server, script) for script in plan.clients]
         self.releases = 0  # how often locks were given free
+        self.sequence = []  # the clients by their replies
 
     def waits(self, client):
         """Whether its statement waits for a lock; else it is answered. What waits goes on only once a lock is given free."""
@@ -99,18 +100,20 @@ class Beside:
             raise LocksDiffer(f"the server waits where the model doesn't, for {self.lock_of(client)}")
 
     def follow(self, turns):
-        """The replies of each client, up to the turn after which the locks differ, and why they do. A turn is a client, and whether
-        it waits in the model."""
+        """The replies of each client, whose reply came when, up to the turn after which the locks differ, and why they do. A turn is
+        a client, and whether it waits in the model."""
+        why = None
         try:
             for at, (number, waits) in enumerate(turns):
                 self.turn(self.clients[number], waits)
+                self.sequence += [] if self.clients[number].waiting else [number]
                 for waiter in [it for it in self.clients if it.waiting]:
                     is_next = [it for it, _ in turns[at + 1 : at + 2]] == [self.clients.index(waiter)]
                     if not is_next and not self.waits(waiter):
                         raise LocksDiffer("a lock is taken before its poll")
         except LocksDiffer as differ:
-            return [client.replies for client in self.clients], str(differ)
-        return [client.replies for client in self.clients], None
+            why = str(differ)
+        return [client.replies for client in self.clients], self.sequence, why
 
     def close(self):
         for client in self.clients:

@@ -111,7 +111,8 @@ def run_both(comparison, program, plans):
 def tell(plan, difference):
     print(f"plan {plan.name}, {difference.kind} {difference.place}")
     print(f"  ghost:  {difference.ours}\n  server: {difference.theirs}")
-    print("  " + plan.toml().strip().replace("\n", "\n  "))
+    for line in plan.toml().strip().split("\n"):
+        print(f"  {line}" if len(line) < 2000 else f"  {line[:200]} ..")
 
 
 def tell_counts(comparison, plans, version):

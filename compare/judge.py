@@ -132,17 +132,20 @@ class Judge:
         return True
 
     def replies(self):
-        """The same of transactions beside each other: each client's replies, up to where the locks differ."""
+        """The same of transactions beside each other: the replies as they came, up to where the locks differ."""
         if self.served.left:
             self.count.left[self.served.left] = self.count.left.get(self.served.left, 0) + 1
-        for client, (ours, theirs) in enumerate(zip(self.report.replies, self.served.replies)):
-            for place in range(len(theirs) if self.served.left else max(len(ours), len(theirs))):
-                (answer, line) = theirs[place] if place < len(theirs) else (("none", 0), "")
-                told_by_us = ours[place] if place < len(ours) else ("none", 0)
-                if not self.count.add("answer", told_by_us == answer):
-                    self.differ("answer", f"client {client + 1} reply {place + 1}: {line}", told(told_by_us), told(answer))
-                    if self.parts():
-                        return False
+        places = [0] * len(self.served.replies)
+        for client in self.served.sequence:
+            ours, (answer, line) = self.report.replies[client], self.served.replies[client][places[client]]
+            told_by_us = ours[places[client]] if places[client] < len(ours) else ("none", 0)
+            places[client] += 1
+            if not self.count.add("answer", told_by_us == answer):
+                self.differ("answer", f"client {client + 1} reply {places[client]}: {line}", told(told_by_us), told(answer))
+                if self.parts():
+                    return False
+        if not self.served.left and places != [len(it) for it in self.report.replies]:
+            self.differ("answer", "in all", [len(it) for it in self.report.replies], places)
         return True
 
     def end(self):

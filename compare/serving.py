@@ -12,6 +12,7 @@ class Served:
         self.rows_refused = []  # (place of the row, number)
         self.answers = {}  # (client, place of the line): ("ok", N), ("error", number) or ("rows", [texts])
         self.replies, self.left = None, None  # where an order of turns was followed: each client's, and why not to its end
+        self.sequence = None  # the clients of these replies, as they came
         self.altered = None  # the number of the refusal of the ALTER on the table without rows, or 0
         self.shape = None  # the shape that the ALTER leaves
         self.copied = None  # the number of the refusal of the ALTER on the table with its rows, or 0
@@ -60,7 +61,7 @@ class Bench:
             number = number_of(self.session.ask(f"INSERT INTO t VALUES {row}"))
             served.rows_refused += [(place, number)] if number else []
         if turns:
-            served.replies, served.left = self.beside(plan, turns)
+            served.replies, served.sequence, served.left = self.beside(plan, turns)
         for client, place, line in plan.turns() if not turns else ():
             served.answers[client, place] = answer_of(self.session.ask(line))
         served.copied, served.column = self.alter(plan) if plan.carried is None else self.copy(plan)
@@ -97,7 +98,9 @@ class Bench:
         self.session.need("CREATE TABLE t LIKE old")
         refused = self.alter(plan)
         if not refused[0]:
-            into, of = (named(pair[place] for pair in plan.carried) for place in (0, 1))
+            places = {text_of(row[0]).lower(): at for at, row in enumerate(self.session.need("SHOW COLUMNS FROM t").rows)}
+            pairs = sorted(plan.carried, key=lambda pair: places.get(pair[0], 0))
+            into, of = (named(pair[place] for pair in pairs) for place in (0, 1))
             refused = refusal_of(self.session.ask(f"INSERT INTO t ({into}) SELECT {of} FROM old ORDER BY {named(plan.order)}"))
         if refused[0]:
             self.session.need("DROP TABLE IF EXISTS t")
