@@ -1,0 +1,319 @@
+"""Whole migrations beside a server, many of them: their plans, the comparison with what the program prints for the same turns, and the
+classes of what differs."""
+import dataclasses
+import json
+import os
+import random
+import re
+import tomllib
+from collections import Counter
+
+from binlog import OPTIONS as LOG_OPTIONS
+from migration import Tool
+from program import TOP
+from rehearsal import Rehearsal, Stop, Turn, in_other_order
+from server import Server
+
+CASES = f"{TOP}/crates/test_plans/data/cases"
+CLASSES = f"{os.path.dirname(os.path.realpath(__file__))}/classes"
+
+
+# ---------------------------------------------------------------------- plans
+def quoted(value):
+    if isinstance(value, bool):
+        return str(value).lower()
+    if isinstance(value, list):
+        return f"[{', '.join(map(quoted, value))}]"
+    return json.dumps(value, ensure_ascii=False).replace("\x7f", "\\u007f") if isinstance(value, str) else str(value)
+
+
+def toml(tree):
+    lines = [f"{key} = {quoted(value)}" for key, value in tree.items() if key not in ("options", "tables")]
+    lines += ["[options]", *(f"{key} = {quoted(value)}" for key, value in tree.get("options", {}).items())]
+    for table in tree["tables"]:
+        lines += ["[[tables]]", *(f"{key} = {quoted(value)}" for key, value in table.items())]
+    return "\n".join(lines) + "\n"
+
+
+def plans_of_folder(folder):
+    for name in sorted(it for it in os.listdir(folder) if it.endswith(".toml")):
+        with open(f"{folder}/{name}", "rb") as file:
+            yield name, tomllib.load(file)
+
+
+def plans_of_cases(name):
+    """The plans of a file of cases, of those that are replayed."""
+    with open(f"{CASES}/{name}.cases", encoding="utf-8") as file:
+        for text in re.split(r"^#### case ", file.read(), flags=re.M)[1:]:
+            head, _, rest = text.partition("\n")
+            title, words, _ = (it.strip() for it in head.split("|"))
+            plan = rest.partition("#### prints")[0]
+            if words == "replay" and "#### " not in plan:
+                try:
+                    yield f"{name} {title}", tomllib.loads(plan)
+                except tomllib.TOMLDecodeError:
+                    continue
+
+
+TABLES = [
+    ("id INT PRIMARY KEY, v INT", "id", ["id"]),
+    ("id INT PRIMARY KEY, v VARCHAR(8)", "id", ["id"]),
+    ("id INT PRIMARY KEY, m VARCHAR(5), v INT, UNIQUE KEY m (m)", "id", ["id", "m"]),
+    ("a INT, b INT, v INT, PRIMARY KEY (a, b)", None, []),
+    ("id VARCHAR(4) PRIMARY KEY, v INT NOT NULL", "id", ["id"]),
+    ("id BIGINT UNSIGNED NOT NULL, v VARBINARY(6), m SMALLINT, PRIMARY KEY (id), UNIQUE (m)", "id", ["id", "m"]),
+]
+ALTERS = [
+    "ADD COLUMN z INT NOT NULL DEFAULT 7",
+    "ADD COLUMN z VARCHAR(8) DEFAULT 'x' FIRST",
+    "ADD INDEX i (v)",
+    "DROP COLUMN v",
+    "CHANGE v w VARCHAR(20) NOT NULL, ADD COLUMN z INT",
+    "MODIFY v VARBINARY(3)",
+]
+
+
+class Maker:
+    """A random plan: the same for a series and a number. Values are of their columns' kinds."""
+
+    def __init__(self, series, number, losses):
+        self.r, self.losses = random.Random(f"migration {series} {number}"), losses
+
+    def chance(self, percent):
+        return self.r.randrange(100) < percent
+
+    def kinds(self):
+        found = re.findall(r"(\w+) (INT|VARCHAR|VARBINARY|BIGINT|SMALLINT)", self.columns)
+        return {name: "VAR" in kind and kind for name, kind in found if name != "KEY"}
+
+    def value(self, name, number=None):
+        kind = self.kinds()[name]
+        if number is None and name == "v" and "NOT NULL" not in self.columns.partition("v ")[2] and self.chance(15):
+            return "NULL"
+        number = self.r.randrange(1, 9) if number is None else number
+        if name == "v" and self.chance(4):
+            return "'abcde'" if kind == "VARCHAR" else "x'0102030405'" if kind == "VARBINARY" else str(100000 + number)
+        return f"'{'abcdefghij'[number]}'" if kind == "VARCHAR" else f"x'0{number}'" if kind == "VARBINARY" else str(number)
+
+    def row(self, key):
+        return [self.value(name, key + at if name in ("id", "a", "b") else None) for at, name in enumerate(self.kinds())]
+
+    def condition(self):
+        if self.keys and self.chance(75):
+            name = self.r.choice(self.keys)
+            return f" WHERE {name} = {self.value(name, self.r.randrange(1, 9))}"
+        if self.key and self.chance(60):
+            sign, number = self.r.choice(["<", "<=", ">", ">="]), self.r.randrange(1, 9)
+            return f" WHERE {self.key} {sign} {self.value(self.key, number)}"
+        if not self.key and self.chance(70):
+            return f" WHERE a = {self.r.randrange(1, 9)} AND b = {self.r.randrange(1, 9)}"
+        return ""
+
+    def statement(self):
+        names, form = list(self.kinds()), self.r.choice(["insert"] * 4 + ["update"] * 3 + ["delete"] * 2 + ["select", "replace"])
+        if form in ("insert", "replace"):
+            listed = f" ({', '.join(names)})" if self.chance(30) else ""
+            return f"{form.upper()} INTO t{listed} VALUES ({', '.join(self.row(self.r.randrange(1, 9)))})"
+        if form == "delete":
+            return f"DELETE FROM t{self.condition()}"
+        if form == "select":
+            return f"SELECT {self.r.choice(['*', 'COUNT(*)', names[-1]])} FROM t{self.condition()}"
+        name = self.r.choice(["v", "v", names[0]])
+        return f"UPDATE t SET {name} = {self.value(name, self.r.randrange(1, 9) if name != 'v' else None)}{self.condition()}"
+
+    def script(self):
+        lines = []
+        for _ in range(self.r.choice([1, 2, 2, 3])):
+            some = [self.statement() for _ in range(self.r.choice([1, 1, 2, 3]))]
+            lines += ["BEGIN", *some, self.r.choice(["COMMIT"] * 4 + ["ROLLBACK"])] if self.chance(50) else some
+        return "\n".join(lines)
+
+    def words(self, actors):
+        words = ["insp*5"] if self.chance(80) else []
+        for _ in range(self.r.choice([10, 20, 40])):
+            words.append(f"{self.r.choice(actors)}*{self.r.choice([1, 1, 2, 3])}")
+        if self.chance(40):
+            words += ["copy*60", "apply*40", "lock*2", *(f"{it}" for it in actors if it[0] == "c" and it[1:].isdigit()), "insp", "apply*3"]
+        return " ".join(words)
+
+    def faults(self, actors):
+        faults = []
+        for _ in range(self.r.choice([1, 1, 2, 3])):
+            actor = self.r.choice(actors[1:])
+            faults.append(f"turn {self.r.randrange(2, 60)} {actor}" if self.chance(30) else f"{actor} {self.r.randrange(1, 9)} {self.r.choice(['before', 'after'])}")
+        return faults
+
+    def operator(self):
+        return self.r.choice(["throttle\nwait 6\nno-throttle", "wait 4\nchunk-size=1", "wait 9\nunpostpone", "wait 30\npanic"])
+
+    def plan(self):
+        self.columns, self.key, self.keys = self.r.choice(TABLES)
+        rows, clients = [], [self.script() for _ in range(self.r.choice([1, 2, 2, 3]))]
+        for key in sorted(self.r.sample(range(1, 9), self.r.choice([0, 1, 3, 4, 6]))):
+            row = self.row(key)
+            if "m" in self.kinds():
+                row[list(self.kinds()).index("m")] = self.value("m", key) if self.chance(80) else "NULL"
+            rows.append(f"({', '.join(row)})")
+        actors = ["op", "insp", "copy", "copy", "apply", "apply", "lock", "ren", *(f"c{at + 1}" for at in range(len(clients)))]
+        options = {"chunk_size": self.r.choice([1, 2, 3]), "dml_batch_size": self.r.choice([1, 2, 10]), "default_retries": self.r.choice([1, 2, 3])}
+        options |= {"client_wait": self.r.choice([2, 4, 9]), "tool_wait": self.r.choice([3, 6, 12]), "approve_renamed_columns": True}
+        options |= {"max_backlog": self.r.choice([0, 2, 100]), "drain_limit": self.r.choice([3, 20, 2000])}
+        options |= {"ok_to_drop_table": True} if self.chance(20) else {}
+        tree = {"version": 1, "table": "t", "alter": self.r.choice(ALTERS), "clients": clients, "turns": self.words(actors)}
+        if self.chance(25):
+            tree["operator"] = self.operator()
+            options |= {"postpone": True} if "unpostpone" in tree["operator"] else {}
+        if self.losses:
+            tree["faults"] = self.faults(actors)
+        return {**tree, "options": options, "tables": [{"create": f"CREATE TABLE t ({self.columns})", "rows": rows}]}
+
+
+# ---------------------------------------------------------------------- one plan
+class Beside:
+    """A program and a server; `plants` names a planted fault."""
+
+    def __init__(self, program, server, plants=None):
+        self.program, self.server, self.plants = program, server, plants
+        self.counts, self.classes = Counter(), {}
+
+    def printed(self, tree):
+        return self.program.run_text("replay", toml(tree))
+
+    def answer_of_model(self, rehearsal, turns, actor, extra=None):
+        """The actor's reply to one turn more, in the model; none where it waits. A client more tells of the copier's lock."""
+        tree = rehearsal.ordered([*turns, Turn(actor)])
+        tree["options"] = {**tree["options"], "turn_limit": len(turns) + 1 + (extra is not None)}
+        asked = actor
+        if extra:
+            asked = f"c{len(tree.get('clients', [])) + 1}"
+            tree["clients"] = [*tree.get("clients", []), extra]
+            tree["turns"] += f" {asked}"
+        known = sum(1 for it in turns if it.reply and it.reply[0] == asked)
+        replies = replies_of(self.printed(tree).text, asked)
+        return replies[known] if len(replies) > known else None
+
+    def waits_in_model(self, rehearsal):
+        def ask(turns, actor):
+            talk = rehearsal.talks[actor]
+            if not any(rehearsal.is_open(it) for it in rehearsal.talks if it != actor):
+                return False
+            if actor in rehearsal.clients:
+                return self.answer_of_model(rehearsal, turns, actor) is None
+            if talk.call.what == "chunk" and talk.result and not hasattr(talk.result, "number") and talk.result.rows:
+                where = " AND ".join(f"`{name}` = {rehearsal_value(value)}" for name, value in zip(rehearsal.tool.key_columns(), talk.result.rows[0]))
+                # Where the copier holds its lock, the statement waits; where it waits, it holds none.
+                return self.answer_of_model(rehearsal, turns, actor, f"DELETE FROM {rehearsal.table} WHERE {where}") is not None
+            return False
+
+        return ask
+
+    def rehearse(self, name, tree):
+        """The class of a plan: `same`, or how it differs."""
+        refused = self.printed(tree)
+        if refused.status == 2:
+            return "the plan is refused", refused.text.strip(), None
+        rehearsal, kind, told = None, "same", ""
+        try:
+            rehearsal = Rehearsal(self.server, tree)
+            rehearsal.model_waits = self.waits_in_model(rehearsal)
+            if self.plants:
+                self.plants(rehearsal)
+            rehearsal.follow()
+            rehearsal.finish()
+            kind, told = self.compare(rehearsal)
+        except Stop as stop:
+            kind, told = stop.kind, stop.told
+        finally:
+            if rehearsal:
+                rehearsal.close()
+                self.counts.update(rehearsal.counts)
+                self.counts["turns"] += len(rehearsal.turns)
+        return kind, told, rehearsal
+
+    def compare(self, rehearsal):
+        """The program, given the turns, must print the report that the server's answers make."""
+        turns = rehearsal.turns
+        ours, theirs = self.report(rehearsal, turns), masked(rehearsal.report(turns))
+        if ours == theirs:
+            self.counts[f"verdict {rehearsal.verdict_kind.split()[0]}"] += 1
+            return "same", ""
+        by_row = sorted({it.wait for it in turns if it.wait and it.note == "waits"})
+        for chosen in [[it] for it in by_row] + [by_row]:
+            other = turns
+            for wait in chosen:
+                other = in_other_order(other, wait)
+            if self.report(rehearsal, other) == masked(rehearsal.report(other)):
+                self.counts["plans with a wait that the model doesn't have"] += 1
+                return "same", ""
+        return "UNEXPLAINED", f"{toml(rehearsal.ordered(turns))}--- the program\n{ours}--- the server\n{theirs}"
+
+    def report(self, rehearsal, turns):
+        return masked(sorted_rows(self.printed(rehearsal.ordered(turns)).text))
+
+
+def rehearsal_value(value):
+    from printing import printed
+
+    return printed(value)
+
+
+def replies_of(text, client):
+    found = re.search(rf"^client {client}\n((?:\d+\.\d+ .*\n|\(.*\n)*)", text, re.M)
+    return re.findall(r"^\d+\.\d+ .*$", found.group(1), re.M) if found else []
+
+
+def sorted_rows(text):
+    """A report with the rows of each list sorted."""
+    lines, rows = [], []
+    for line in text.split("\n"):
+        if line.startswith("("):
+            rows.append(line)
+        else:
+            lines += [*sorted(rows), line]
+            rows = []
+    return "\n".join(lines)
+
+
+def masked(text):
+    """A report but for the place in the log, which counts events that the comparison doesn't follow."""
+    return re.sub(r"^reverted spent batch \d+", "reverted spent batch", text)
+
+
+# ---------------------------------------------------------------------- all of them
+def plans_asked(series, first, count):
+    for number in range(first, first + count):
+        yield f"plan {number}", Maker(series, number, number % 2 == 1).plan()
+
+
+def given_plans():
+    yield from plans_of_folder(f"{TOP}/examples")
+    yield from plans_of_cases("worked")
+
+
+def run_all(beside, plans, says):
+    kinds = {}
+    for name, tree in plans:
+        kind, told, _ = beside.rehearse(name, tree)
+        kinds.setdefault(kind, []).append(name)
+        if kind != "same" and says or kind == "UNEXPLAINED" or kind.startswith("the script"):
+            print(f"{name}: {kind}: {told}", flush=True)
+    return kinds
+
+
+def compare_migrations(program, plans, says):
+    """The status: 0 where each plan is the same, or differs by a class that is told."""
+    with Server(*log_options()) as server:
+        beside = Beside(program, server)
+        kinds = run_all(beside, plans, says)
+        print(f"server: {server.version}")
+    print(f"plans: {sum(map(len, kinds.values()))}")
+    for kind, names in sorted(kinds.items(), key=lambda it: -len(it[1])):
+        print(f"{len(names):7} {kind}{'' if kind == 'same' or len(names) > 12 else ': ' + ', '.join(names)}")
+    print("of all of them:")
+    for what, number in sorted(beside.counts.items()):
+        print(f"{number:7} {what}")
+    return 1 if "UNEXPLAINED" in kinds or any(it.startswith("the script") for it in kinds) else 0
+
+
+def log_options():
+    return ("--log-bin=log", *LOG_OPTIONS)
