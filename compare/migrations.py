@@ -156,7 +156,7 @@ class Maker:
             rows.append(f"({', '.join(row)})")
         actors = ["op", "insp", "copy", "copy", "apply", "apply", "lock", "ren", *(f"c{at + 1}" for at in range(len(clients)))]
         options = {"chunk_size": self.r.choice([1, 2, 3]), "dml_batch_size": self.r.choice([1, 2, 10]), "default_retries": self.r.choice([1, 2, 3])}
-        options |= {"client_wait": self.r.choice([2, 4, 9]), "tool_wait": self.r.choice([3, 6, 12]), "approve_renamed_columns": True}
+        options |= {"client_wait": self.r.choice([3, 9, 30]), "tool_wait": self.r.choice([4, 12, 40]), "approve_renamed_columns": True}
         options |= {"max_backlog": self.r.choice([0, 2, 100]), "drain_limit": self.r.choice([3, 20, 2000])}
         options |= {"ok_to_drop_table": True} if self.chance(20) else {}
         tree = {"version": 1, "table": "t", "alter": self.r.choice(ALTERS), "clients": clients, "turns": self.words(actors)}
@@ -193,12 +193,13 @@ class Beside:
         return replies[known] if len(replies) > known else None
 
     def waits_in_model(self, rehearsal):
-        def ask(turns, actor):
+        def ask(turns, actor, always=False):
             talk = rehearsal.talks[actor]
-            if not any(rehearsal.is_open(it) for it in rehearsal.talks if it != actor):
+            if not always and not any(rehearsal.is_open(it) for it in rehearsal.talks if it != actor):
                 return False
             if actor in rehearsal.clients:
-                return self.answer_of_model(rehearsal, turns, actor) is None
+                reply = self.answer_of_model(rehearsal, turns, actor)
+                return reply is None or reply.endswith("error 1205")
             if talk.call.what == "chunk" and talk.result and not hasattr(talk.result, "number") and talk.result.rows:
                 where = " AND ".join(f"`{name}` = {rehearsal_value(value)}" for name, value in zip(rehearsal.tool.key_columns(), talk.result.rows[0]))
                 # Where the copier holds its lock, the statement waits; where it waits, it holds none.
@@ -237,15 +238,44 @@ class Beside:
         if ours == theirs:
             self.counts[f"verdict {rehearsal.verdict_kind.split()[0]}"] += 1
             return "same", ""
-        by_row = sorted({it.wait for it in turns if it.wait and it.note == "waits"})
-        for chosen in [[it] for it in by_row] + [by_row]:
+        waits = sorted({it.wait for it in turns if it.wait and it.note == "waits"})
+        for chosen, is_whole in [([it], is_whole) for it in waits for is_whole in (True, False)] + [(waits, True), (waits, False)]:
             other = turns
             for wait in chosen:
-                other = in_other_order(other, wait)
+                other = in_other_order(other, wait, is_whole)
             if self.report(rehearsal, other) == masked(rehearsal.report(other)):
                 self.counts["plans with a wait that the model doesn't have"] += 1
                 return "same", ""
-        return "UNEXPLAINED", f"{toml(rehearsal.ordered(turns))}--- the program\n{ours}--- the server\n{theirs}"
+        told = self.class_of(rehearsal) or "UNEXPLAINED"
+        return told, f"{toml(rehearsal.ordered(turns))}--- the program\n{ours}--- the server\n{theirs}"
+
+    def class_of(self, rehearsal):
+        """The class of the first turn after which the clients' replies differ; none where it is in no class."""
+        turns = rehearsal.turns
+        low, high = 0, len(turns)  # after `low` turns they are the same
+        while low + 1 < high:
+            middle = (low + high) // 2
+            low, high = (middle, high) if self.replies(rehearsal, middle) == replied(turns[:middle], rehearsal) else (low, middle)
+        ours, theirs = self.replies(rehearsal, high), replied(turns[:high], rehearsal)
+        turn = turns[high - 1]
+        if ours == theirs or turn.actor not in rehearsal.clients:
+            return None
+        model, server = (it[turn.actor][-1].split(" ") if it[turn.actor] else [] for it in (ours, theirs))
+        if len(ours[turn.actor]) != len(theirs[turn.actor]):
+            what = "the server answers where the model waits" if len(ours[turn.actor]) < len(theirs[turn.actor]) else "the server waits longer"
+            return f"{what}, and the plan goes another way" if turn.by_rows else None
+        if model[:2] == server[:2] and model[1] == "error":
+            return f"of two faults another is told: {model[2]}, and {server[2]} by the server"
+        if turn.line.upper().startswith("REPLACE") and model[1] == server[1] == "ok" and int(model[2]) == int(server[2]) + 1:
+            return "a REPLACE by an equal row counts 1 in the server, and isn't logged"
+        return None
+
+    def replies(self, rehearsal, count):
+        """The clients' replies in the model after so many turns."""
+        tree = rehearsal.ordered(rehearsal.turns[:count])
+        tree["options"] = {**tree["options"], "turn_limit": count}
+        text = sorted_rows(self.printed(tree).text)
+        return {it: replies_of(text, it) for it in rehearsal.clients}
 
     def report(self, rehearsal, turns):
         return masked(sorted_rows(self.printed(rehearsal.ordered(turns)).text))
@@ -255,6 +285,11 @@ def rehearsal_value(value):
     from printing import printed
 
     return printed(value)
+
+
+def replied(turns, rehearsal):
+    """The clients' replies from the server."""
+    return {client: [it.reply[1] for it in turns if it.reply and it.reply[0] == client] for client in rehearsal.clients}
 
 
 def replies_of(text, client):

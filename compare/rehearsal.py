@@ -41,13 +41,16 @@ class Stop(Exception):
 @dataclasses.dataclass
 class Turn:
     """`note` is what the turn's report says of it: waits, timed out, cut, lost, or none; `side` the loss at this turn. `wait` numbers
-    the wait that a call began or that a poll asks for, and `reply` is a client's line of the report."""
+    the wait that a call began or that a poll asks for, `reply` is a client's line of the report, and `line` its statement.
+    `by_rows` says whether others have transactions open, and nobody the table lock: then rows alone can make the session wait."""
 
     actor: str
     note: str = ""
     side: str = ""
     wait: int = 0
     reply: tuple = None
+    line: str = ""
+    by_rows: bool = False
 
 
 class Talk:
@@ -131,8 +134,8 @@ class Rehearsal:
         self.losses, self.cuts = self.read_faults()
         self.words = self.read_words()
         self.place, self.releases, self.waits_begun = -1, 0, 0
-        self.history, self.counts, self.last_at, self.model_waits = [], {}, 0, lambda turns, actor: False
-        self.waits_of = {}
+        self.history, self.counts, self.last_at, self.model_waits = [], {}, 0, lambda turns, actor, always=False: False
+        self.read_at = None
 
     # ------------------------------------------------------------------ the plan
     def open_tables(self):
@@ -289,7 +292,8 @@ class Rehearsal:
             for talk in list(self.talks.values()):
                 if talk.call and talk.result is None:
                     self.is_waiting(talk)
-        if not self.tool.renamed:
+        if not self.tool.renamed and self.read_at != self.releases:
+            self.read_at = self.releases
             self.log.read()
 
     # ------------------------------------------------------------------ what the server does
@@ -393,8 +397,20 @@ class Rehearsal:
             if actor == "apply":
                 self.tool.applier_turn(len(self.turns))
             return
+        if polls and side != "after" and not self.is_fair_poll(actor, talk):
+            return
         if polls or actor in self.held or self.begin(actor):
             self.take(actor, self.talks[actor], polls, side)
+
+    def is_fair_poll(self, actor, talk):
+        """False where the server lets a client's statement wait for a row, and the model doesn't any more: its turn comes with the answer."""
+        if talk.is_answered(0) or actor not in self.clients or talk.seen_at[1] != "row" or actor in self.held:
+            return True
+        if self.model_waits(self.turns, actor, True):
+            return True
+        self.held.add(actor)
+        self.count("the server waits longer: behind another that waits for the same row")
+        return False
 
     def begin(self, actor):
         """Says the next call. False where the server lets it wait by a rule that the model doesn't have: the turn comes with the answer."""
@@ -409,7 +425,6 @@ class Rehearsal:
         how = self.is_waiting(talk)
         if how == "row":
             what, by = self.lock_of(talk)
-            self.waits_of[actor] = what, by
             if what == "a gap" or self.is_beyond_chunk(what, by):
                 self.held.add(actor)
                 told = f"{'client' if actor in self.clients else actor} {call.what if actor in TOOL else call.lines[0].split()[0].upper()}"
@@ -422,10 +437,12 @@ class Rehearsal:
 
     def take(self, actor, talk, polls, side):
         """The turn of a call or a poll; with its answer, if there is one by now."""
-        call, entry = talk.call, Turn(actor, "", side or "", talk.wait)
+        call, entry = talk.call, Turn(actor, "", side or "", talk.wait, None, talk.call.lines[-1])
+        is_free = not self.is_locked() and not self.waits("lock")
+        entry.by_rows = is_free and any(self.is_open(it) for it in self.talks if it != actor)
         if actor in self.held:
             self.held.discard(actor)
-            if actor not in self.clients and (self.given(actor) is None or self.given(actor).lines != call.lines):
+            if not polls and actor not in self.clients and (self.given(actor) is None or self.given(actor).lines != call.lines):
                 raise Stop("the server waits longer, and the tool goes another way meanwhile", f"{actor}: {call.lines[-1]}")
         self.turns.append(entry)
         self.taken[actor] += 1
@@ -433,6 +450,11 @@ class Rehearsal:
         if not polls and actor not in self.clients:
             self.tool.called(call)
         is_done = talk.is_answered(0)
+        if actor not in self.early and is_done and polls and actor in self.clients and talk.seen_at and talk.seen_at[1] == "row" and self.model_waits(self.turns[:-1], actor, True):
+            if "lock" in self.talks and self.talks["lock"].call and self.talks["lock"].call.what == "lock tables":
+                raise Stop("a statement that waits for a row has its table's name meanwhile, and goes before LOCK TABLES", f"{actor}: {call.lines[-1]}")
+            self.early.add(actor)
+            self.count("the server answers where the model waits still: " + told_answer(actor, call, talk.result))
         if actor in self.early:
             if talk.polls + 1 >= self.options["client_wait" if actor in self.clients else "tool_wait"]:
                 raise Stop("the model's time-out comes where the server has answered", f"{actor}: {talk.call.lines[-1]}")
@@ -663,7 +685,8 @@ def order_of(turns):
     return [actor if times == 1 else f"{actor}*{times}" for actor, times in words]
 
 
-def in_other_order(turns, wait):
-    """The same where the model doesn't wait: the call's turn is that of its answer."""
+def in_other_order(turns, wait, is_whole):
+    """The same where the model doesn't wait, and the call's turn is that of its answer; or where it waits less, and isn't polled before."""
     of_wait = [turn for turn in turns if turn.wait == wait]
-    return [turn for turn in turns if turn.wait != wait or turn is of_wait[-1]]
+    kept = of_wait[-1:] if is_whole else [of_wait[0], of_wait[-1]]
+    return [turn for turn in turns if turn.wait != wait or any(turn is it for it in kept)]

@@ -82,12 +82,14 @@ class Server:
         else:
             words = [self.program, "--no-defaults", "--initialize-insecure", f"--datadir={data}", *self.user()]
         with open(f"{self.folder}/install.log", "wb") as log:
-            if subprocess.run(words, stdout=log, stderr=subprocess.STDOUT, check=False).returncode:
+            own = {**os.environ, "TMPDIR": self.folder}
+            if subprocess.run(words, stdout=log, stderr=subprocess.STDOUT, env=own, check=False).returncode:
                 raise RuntimeError(f"the server's folder could not be made:\n{self.tail('install.log')}")
 
     def start(self):
         words = [self.program, "--no-defaults", f"--datadir={self.folder}/data", f"--socket={self.folder}/socket"]
-        words += [f"--pid-file={self.folder}/pid", *COMMON, *self.options, *self.user()]
+        # A server that starts removes what others have in a common folder for temporary tables.
+        words += [f"--pid-file={self.folder}/pid", f"--tmpdir={self.folder}", *COMMON, *self.options, *self.user()]
         if not self.is_mariadb:
             words += ["--mysqlx=OFF"]
         with open(f"{self.folder}/server.log", "wb") as log:
