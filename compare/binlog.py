@@ -21,6 +21,7 @@ class Event:
     kind: str  # write, update or delete
     before: tuple = None
     after: tuple = None
+    statement: str = ""
 
 
 @dataclasses.dataclass
@@ -93,6 +94,8 @@ class Log:
             gone = sorted((it.before for it in self.group if it.before is not None), key=lambda row: [row[at] for at in key])
             table, new = self.group[0].table, [it.after for it in self.group if it.after is not None]
             self.group = [Event(table, "delete", row) for row in gone] + [Event(table, "write", after=row) for row in new]
+        for event in self.group:
+            event.statement = self.statement
         self.events += self.group
         self.group, self.statement = [], ""
 

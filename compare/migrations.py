@@ -1,6 +1,7 @@
 """Whole migrations beside a server, many of them: their plans, the comparison with what the program prints for the same turns, and the
 classes of what differs."""
 import dataclasses
+import itertools
 import json
 import os
 import random
@@ -208,6 +209,21 @@ class Beside:
 
         return ask
 
+    def common_order(self, rehearsal):
+        """An order of actors that the server answered at once in which the model gives the clients among them the same answers."""
+
+        def ask(found):
+            wanted = {it: rehearsal.reply_of(rehearsal.clients[it], rehearsal.told(rehearsal.talks[it].call, rehearsal.talks[it]))[0] for it in found if it in rehearsal.clients}
+            for order in itertools.permutations(found) if len(found) < 5 and wanted else ():
+                tree = rehearsal.ordered([*rehearsal.turns, *map(Turn, order)])
+                tree["options"] = {**tree["options"], "turn_limit": len(rehearsal.turns) + len(order)}
+                text = self.printed(tree).text
+                if all(replies_of(text, client)[-1:] == [reply] for client, reply in wanted.items()):
+                    return list(order)
+            return found
+
+        return ask
+
     def rehearse(self, name, tree):
         """The class of a plan: `same`, or how it differs."""
         refused = self.printed(tree)
@@ -217,6 +233,7 @@ class Beside:
         try:
             rehearsal = Rehearsal(self.server, tree)
             rehearsal.model_waits = self.waits_in_model(rehearsal)
+            rehearsal.common_order = self.common_order(rehearsal)
             if self.plants:
                 self.plants(rehearsal)
             rehearsal.follow()
@@ -258,6 +275,8 @@ class Beside:
             low, high = (middle, high) if self.replies(rehearsal, middle) == replied(turns[:middle], rehearsal) else (low, middle)
         ours, theirs = self.replies(rehearsal, high), replied(turns[:high], rehearsal)
         turn = turns[high - 1]
+        if rehearsal.early_at and high >= rehearsal.early_at:
+            return "the server answers where the model waits, and the plan goes another way"
         if ours == theirs or turn.actor not in rehearsal.clients:
             return None
         model, server = (it[turn.actor][-1].split(" ") if it[turn.actor] else [] for it in (ours, theirs))
@@ -333,6 +352,65 @@ def run_all(beside, plans, says):
         if kind != "same" and says or kind == "UNEXPLAINED" or kind.startswith("the script"):
             print(f"{name}: {kind}: {told}", flush=True)
     return kinds
+
+
+def cuts(rehearsal):
+    """gh-ost's own copy of a row."""
+    copy_of = rehearsal.tool.copy_of
+    rehearsal.tool.copy_of = lambda key: copy_of(key).replace("INSERT INTO", "INSERT IGNORE INTO").partition(" ON DUPLICATE")[0]
+
+
+def another_default(rehearsal):
+    alter = rehearsal.alter()
+    rehearsal.alter = lambda: alter.replace("DEFAULT 7", "DEFAULT 8")
+
+
+def no_removal(rehearsal):
+    rehearsal.tool.removal = lambda row: ("DO 0", rehearsal.tool.key_of(row))
+
+
+def no_lock(rehearsal):
+    """Another table in place of the migrated one."""
+    given = rehearsal.tool.given_lock
+
+    def given_lock():
+        call = given()
+        if call and call.what == "lock tables":
+            call.lines = [f"LOCK TABLES {rehearsal.tool.old} WRITE"]
+        return call
+
+    rehearsal.tool.given_lock = given_lock
+
+
+FAULTS = {"another DEFAULT in the new table": another_default, "an applier without DELETE": no_removal, "LOCK TABLES without the table": no_lock}
+
+
+def plant_faults(program):
+    """The status: 0 where each planted fault is told by some plan."""
+    plans, missed = list(plans_of_cases("worked")) + list(plans_of_folder(CLASSES)), 0
+    with Server(*log_options()) as server:
+        for fault, plants in FAULTS.items():
+            beside, plain = Beside(program, server, plants), Beside(program, server)
+            told = [name for name, tree in plans if plain.rehearse(name, tree)[0] == "same" and beside.rehearse(name, tree)[0] != "same"]
+            print(f"planted: {fault}: told by {len(told)} of {len(plans)} plans", flush=True)
+            missed += not told
+    return 1 if missed else 0
+
+
+def show_classes(program):
+    """Each plan of the folder begins with the class that it shows."""
+    wrong, shown = [], set()
+    with Server(*log_options()) as server:
+        for name, tree in plans_of_folder(CLASSES):
+            with open(f"{CLASSES}/{name}", encoding="utf-8") as file:
+                wanted, second = file.readline().removeprefix("# ").strip(), file.readline()
+            beside = Beside(program, server, cuts if second.startswith("# with INSERT IGNORE") else None)
+            kind = beside.rehearse(name, tree)[0]
+            shown.add(wanted)
+            if wanted != kind and not (kind == "same" and wanted in beside.counts):
+                wrong.append(f"{name} shows {kind}, and not: {wanted}")
+    print("\n".join(wrong) if wrong else f"{len(shown)} classes are shown")
+    return 1 if wrong else 0
 
 
 def compare_migrations(program, plans, says):

@@ -135,7 +135,9 @@ class Rehearsal:
         self.words = self.read_words()
         self.place, self.releases, self.waits_begun = -1, 0, 0
         self.history, self.counts, self.last_at, self.model_waits = [], {}, 0, lambda turns, actor, always=False: False
+        self.common_order = lambda found: found
         self.read_at = None
+        self.early_at = 0  # the turn at which a server first answered what the model lets wait
 
     # ------------------------------------------------------------------ the plan
     def open_tables(self):
@@ -255,8 +257,19 @@ class Rehearsal:
         found = [it for it, talk in self.talks.items() if talk.call and (talk.wait or it in self.held) and it not in self.early and talk.is_answered(0)]
         return sorted(found, key=lambda it: (it != "ren", self.talks[it].wait))
 
+    def as_logged(self, found):
+        """The server answered several: in the order of its log, and so that the model gives these answers."""
+        if not self.tool.renamed:
+            self.log.read()
+        logged = [it.statement for it in self.log.events]
+        lines = {it: self.talks[it].call.lines[-1] for it in found}
+        place = {it: logged.index(line) if line in logged else len(logged) for it, line in lines.items()}
+        return self.common_order(sorted(found, key=lambda it: (it != "ren", place[it], self.talks[it].wait)))
+
     def choose(self):
         found = self.answered()
+        if len(found) > 1:
+            found = self.as_logged(found)
         if found:
             return found[0]
         for actor in self.words:
@@ -423,16 +436,23 @@ class Rehearsal:
             return True
         talk.begin(call)
         how = self.is_waiting(talk)
-        if how == "row":
-            what, by = self.lock_of(talk)
-            if what == "a gap" or self.is_beyond_chunk(what, by):
-                self.held.add(actor)
-                told = f"{'client' if actor in self.clients else actor} {call.what if actor in TOOL else call.lines[0].split()[0].upper()}"
-                self.count(f"the server waits longer: {told} for {what if what == 'a gap' else 'the row after the chunk'}")
-                return False
+        if how == "row" and self.waits_longer(actor, talk, call):
+            self.held.add(actor)
+            return False
         if how is None and self.model_waits(self.turns, actor):
             self.early.add(actor)
+            self.early_at = self.early_at or len(self.turns)
             self.count("the server answers where the model waits: " + told_answer(actor, call, talk.result))
+        return True
+
+    def waits_longer(self, actor, talk, call):
+        """Whether the server lets the call wait for a row and the model doesn't; of clients the model is asked."""
+        what, by = self.lock_of(talk)
+        label = what if what == "a gap" else "the row after the chunk" if self.is_beyond_chunk(what, by) else None
+        if self.model_waits(self.turns, actor, True) if actor in self.clients else label is None:
+            return False
+        told = f"client {call.lines[0].split()[0].upper()}" if actor in self.clients else f"{actor}: {call.what}"
+        self.count(f"the server waits longer: {told} for {label or 'a row that another waits for, or that it only touches'}")
         return True
 
     def take(self, actor, talk, polls, side):
@@ -440,7 +460,8 @@ class Rehearsal:
         call, entry = talk.call, Turn(actor, "", side or "", talk.wait, None, talk.call.lines[-1])
         is_free = not self.is_locked() and not self.waits("lock")
         entry.by_rows = is_free and any(self.is_open(it) for it in self.talks if it != actor)
-        if actor in self.held:
+        was_held = actor in self.held
+        if was_held:
             self.held.discard(actor)
             if not polls and actor not in self.clients and (self.given(actor) is None or self.given(actor).lines != call.lines):
                 raise Stop("the server waits longer, and the tool goes another way meanwhile", f"{actor}: {call.lines[-1]}")
@@ -450,14 +471,14 @@ class Rehearsal:
         if not polls and actor not in self.clients:
             self.tool.called(call)
         is_done = talk.is_answered(0)
-        if actor not in self.early and is_done and polls and actor in self.clients and talk.seen_at and talk.seen_at[1] == "row" and self.model_waits(self.turns[:-1], actor, True):
+        by_row = was_held or polls and talk.seen_at and talk.seen_at[1] == "row"
+        if actor in self.clients and actor not in self.early and is_done and by_row and self.model_waits(self.turns[:-1], actor, True):
             if "lock" in self.talks and self.talks["lock"].call and self.talks["lock"].call.what == "lock tables":
                 raise Stop("a statement that waits for a row has its table's name meanwhile, and goes before LOCK TABLES", f"{actor}: {call.lines[-1]}")
             self.early.add(actor)
+            self.early_at = self.early_at or len(self.turns)
             self.count("the server answers where the model waits still: " + told_answer(actor, call, talk.result))
         if actor in self.early:
-            if talk.polls + 1 >= self.options["client_wait" if actor in self.clients else "tool_wait"]:
-                raise Stop("the model's time-out comes where the server has answered", f"{actor}: {talk.call.lines[-1]}")
             is_done = not self.model_waits(self.turns[:-1], actor)
             self.early -= {actor} if is_done else set()
         if side == "after":
@@ -489,9 +510,10 @@ class Rehearsal:
             self.time_out(actor, talk, entry)
 
     def time_out(self, actor, talk, entry):
-        if talk.result is not None:
-            raise Stop("the model's time-out comes where the server has answered", f"{actor}: {talk.call.lines[-1]}")
-        self.monitor.need(f"KILL QUERY {talk.session.number}")
+        if actor in self.early:
+            self.end_early(actor, talk)
+        else:
+            self.monitor.need(f"KILL QUERY {talk.session.number}")
         talk.left = []
         if not talk.is_answered(PATIENCE):
             raise Stop("the script: a statement that can't be ended", talk.call.lines[-1])
@@ -507,6 +529,13 @@ class Rehearsal:
             client.timed_out()
         else:
             self.tool.took(actor, call, ("timed out",), len(self.turns))
+
+    def end_early(self, actor, talk):
+        """The model's time-out of what the server has answered: the same, where that changed nothing or can be rolled back."""
+        self.early.discard(actor)
+        self.count("time-outs of what the server had answered")
+        if not self.is_open(actor) and isinstance(talk.result, Ok) and talk.result.changed:
+            raise Stop("the model's time-out comes where the server has answered", f"{actor}: {talk.call.lines[-1]}")
 
     def lost(self, actor, call):
         client, turn = self.clients.get(actor), len(self.turns)
@@ -543,15 +572,17 @@ class Rehearsal:
     def answer_client(self, actor, client, talk, entry, told):
         if told[0] == "refused" and told[1] == 1146:
             raise Stop("a client's table is missing", f"{actor}: {client.lines[client.at]}")
-        if told[0] == "rows":
-            reply = f"{client.place()} rows {len(told[1])}", *sorted(printed_row(row) for row in told[1])
-        else:
-            reply = (f"{client.place()} {'ok' if told[0] == 'ok' else 'error'} {told[1]}",)
-        entry.reply = (actor, *reply)
+        entry.reply = (actor, *self.reply_of(client, told))
         transaction = client.transaction
         if client.answered():
             self.history.append(f"{actor}.{transaction}")
         talk.is_open = client.is_inside
+
+    @staticmethod
+    def reply_of(client, told):
+        if told[0] == "rows":
+            return f"{client.place()} rows {len(told[1])}", *sorted(printed_row(row) for row in told[1])
+        return (f"{client.place()} {'ok' if told[0] == 'ok' else 'error'} {told[1]}",)
 
     def answer_tool(self, actor, call, talk, told, turn):
         if call.what in ("begin", "chunk"):
