@@ -1,6 +1,5 @@
 """Whole migrations beside a server, many of them: their plans, the comparison with what the program prints for the same turns, and the
 classes of what differs."""
-import dataclasses
 import itertools
 import json
 import os
@@ -10,10 +9,11 @@ import tomllib
 from collections import Counter
 
 from binlog import OPTIONS as LOG_OPTIONS
-from migration import Tool
+from migration import equal
 from program import TOP
 from rehearsal import Rehearsal, Stop, Turn, in_other_order
 from server import Server
+from wire import Rows
 
 CASES = f"{TOP}/crates/test_plans/data/cases"
 CLASSES = f"{os.path.dirname(os.path.realpath(__file__))}/classes"
@@ -201,13 +201,29 @@ class Beside:
             if actor in rehearsal.clients:
                 reply = self.answer_of_model(rehearsal, turns, actor)
                 return reply is None or reply.endswith("error 1205")
-            if talk.call.what == "chunk" and talk.result and not hasattr(talk.result, "number") and talk.result.rows:
-                where = " AND ".join(f"`{name}` = {rehearsal_value(value)}" for name, value in zip(rehearsal.tool.key_columns(), talk.result.rows[0]))
+            if talk.call.what != "chunk" or not isinstance(talk.result, Rows):
+                return False
+            if talk.result.rows:
                 # Where the copier holds its lock, the statement waits; where it waits, it holds none.
-                return self.answer_of_model(rehearsal, turns, actor, f"DELETE FROM {rehearsal.table} WHERE {where}") is not None
-            return False
+                return self.answer_of_model(rehearsal, turns, actor, f"DELETE FROM {rehearsal.table} WHERE {where(rehearsal, talk.result.rows[0])}") is not None
+            return self.is_span_written(rehearsal, turns)
 
         return ask
+
+    def is_span_written(self, rehearsal, turns):
+        """Whether in the model some value of an empty chunk is locked by one who writes: then a client that reads it waits."""
+        copier = rehearsal.tool.copier
+        low, end, keys = copier.low[1], copier.end, [copier.end]
+        if len(end) == 1 and isinstance(end[0], int):
+            keys = [(key,) for key in range(max(low[0], end[0] - 20), end[0] + 1)]
+        count = len(rehearsal.clients)
+        tree = rehearsal.ordered(turns)
+        tree["clients"] = [*tree.get("clients", []), *(f"SELECT * FROM {rehearsal.table} WHERE {where(rehearsal, key)}" for key in keys)]
+        asked = [f"c{count + 1 + at}" for at in range(len(keys))]
+        tree["turns"] = " ".join([tree["turns"], *asked])
+        tree["options"] = {**tree["options"], "turn_limit": len(turns) + len(keys)}
+        text = self.printed(tree).text
+        return any(not replies_of(text, client) for client in asked)
 
     def common_order(self, rehearsal):
         """An order of actors that the server answered at once in which the model gives the clients among them the same answers."""
@@ -300,10 +316,8 @@ class Beside:
         return masked(sorted_rows(self.printed(rehearsal.ordered(turns)).text))
 
 
-def rehearsal_value(value):
-    from printing import printed
-
-    return printed(value)
+def where(rehearsal, key):
+    return equal(rehearsal.tool.key_columns(), key)
 
 
 def replied(turns, rehearsal):

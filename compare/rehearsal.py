@@ -380,6 +380,8 @@ class Rehearsal:
         had = talk.is_open or talk.is_locked or talk.wait > 0
         self.turns.append(Turn(actor, "cut"))
         self.count("losses between calls")
+        if actor in self.clients and talk.wait:
+            self.turns[-1].reply = (actor, f"{self.clients[actor].place()} lost")
         if actor in self.clients and had:
             self.end_transaction(actor)
         self.kill(actor)
