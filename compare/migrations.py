@@ -160,7 +160,7 @@ class Maker:
         options |= {"client_wait": self.r.choice([3, 9, 30]), "tool_wait": self.r.choice([4, 12, 40]), "approve_renamed_columns": True}
         options |= {"max_backlog": self.r.choice([0, 2, 100]), "drain_limit": self.r.choice([3, 20, 2000])}
         options |= {"ok_to_drop_table": True} if self.chance(20) else {}
-        tree = {"version": 1, "table": "t", "alter": self.r.choice(ALTERS), "clients": clients, "turns": self.words(actors)}
+        tree = {"version": 1, "table": "t", "alter": self.r.choice([it for it in ALTERS if "w VARCHAR" not in it or "v VARBINARY" not in self.columns]), "clients": clients, "turns": self.words(actors)}
         if self.chance(25):
             tree["operator"] = self.operator()
             options |= {"postpone": True} if "unpostpone" in tree["operator"] else {}
@@ -180,50 +180,45 @@ class Beside:
     def printed(self, tree):
         return self.program.run_text("replay", toml(tree))
 
-    def answer_of_model(self, rehearsal, turns, actor, extra=None):
-        """The actor's reply to one turn more, in the model; none where it waits. A client more tells of the copier's lock."""
-        tree = rehearsal.ordered([*turns, Turn(actor)])
-        tree["options"] = {**tree["options"], "turn_limit": len(turns) + 1 + (extra is not None)}
-        asked = actor
-        if extra:
-            asked = f"c{len(tree.get('clients', [])) + 1}"
-            tree["clients"] = [*tree.get("clients", []), extra]
-            tree["turns"] += f" {asked}"
-        known = sum(1 for it in turns if it.reply and it.reply[0] == asked)
-        replies = replies_of(self.printed(tree).text, asked)
-        return replies[known] if len(replies) > known else None
+    def run_on(self, rehearsal, turns, actors, readers=()):
+        """What the program prints after some more turns; `readers` are clients more, whose turns come last."""
+        tree = rehearsal.ordered([*turns, *map(Turn, actors)])
+        first = len(rehearsal.clients) + 1
+        names = [f"c{first + at}" for at in range(len(readers))]
+        tree["clients"] = [*tree.get("clients", []), *readers]
+        tree["turns"] = " ".join([tree["turns"], *names])
+        tree["options"] = {**tree["options"], "turn_limit": len(turns) + len(actors) + len(readers)}
+        text = self.printed(tree).text
+        return {client: replies_of(text, client) for client in [*rehearsal.clients, *names]}
 
     def waits_in_model(self, rehearsal):
+        """Whether an actor's next turn waits in the model: of a client, and of the copier's chunk; none where it isn't known."""
+
         def ask(turns, actor, always=False):
-            talk = rehearsal.talks[actor]
             if not always and not any(rehearsal.is_open(it) for it in rehearsal.talks if it != actor):
                 return False
             if actor in rehearsal.clients:
-                reply = self.answer_of_model(rehearsal, turns, actor)
-                return reply is None or reply.endswith("error 1205")
-            if talk.call.what != "chunk" or not isinstance(talk.result, Rows):
-                return False
-            if talk.result.rows:
-                # Where the copier holds its lock, the statement waits; where it waits, it holds none.
-                return self.answer_of_model(rehearsal, turns, actor, f"DELETE FROM {rehearsal.table} WHERE {where(rehearsal, talk.result.rows[0])}") is not None
-            return self.is_span_written(rehearsal, turns)
+                known = sum(1 for it in turns if it.reply and it.reply[0] == actor)
+                replies = self.run_on(rehearsal, turns, [actor])[actor]
+                return len(replies) == known or replies[-1].endswith("error 1205")
+            talk = rehearsal.talks[actor]
+            return self.is_span_written(rehearsal, turns, talk) if talk.call.what == "chunk" else None
 
         return ask
 
-    def is_span_written(self, rehearsal, turns):
-        """Whether in the model some value of an empty chunk is locked by one who writes: then a client that reads it waits."""
-        copier = rehearsal.tool.copier
-        low, end, keys = copier.low[1], copier.end, [copier.end]
-        if len(end) == 1 and isinstance(end[0], int):
-            keys = [(key,) for key in range(max(low[0], end[0] - 20), end[0] + 1)]
-        count = len(rehearsal.clients)
-        tree = rehearsal.ordered(turns)
-        tree["clients"] = [*tree.get("clients", []), *(f"SELECT * FROM {rehearsal.table} WHERE {where(rehearsal, key)}" for key in keys)]
-        asked = [f"c{count + 1 + at}" for at in range(len(keys))]
-        tree["turns"] = " ".join([tree["turns"], *asked])
-        tree["options"] = {**tree["options"], "turn_limit": len(turns) + len(keys)}
-        text = self.printed(tree).text
-        return any(not replies_of(text, client) for client in asked)
+    def is_span_written(self, rehearsal, turns, talk):
+        """Whether in the model a value of the chunk is locked by one who writes: then a client that reads it waits as well. None where
+        the values can't be named."""
+        copier, keys = rehearsal.tool.copier, []
+        if len(copier.end) == 1 and isinstance(copier.end[0], int):
+            keys = [(key,) for key in range(max(copier.low[1][0] + (copier.low[0] == ">"), copier.end[0] - 20), copier.end[0] + 1)]
+        elif isinstance(talk.result, Rows):
+            keys = [*talk.result.rows, copier.end]
+        if not keys:
+            return None
+        readers = [f"SELECT * FROM {rehearsal.table} WHERE {equal(rehearsal.tool.key_columns(), key)}" for key in keys]
+        replies = self.run_on(rehearsal, turns, [], readers)
+        return any(not replies[f"c{len(rehearsal.clients) + 1 + at}"] for at in range(len(readers)))
 
     def common_order(self, rehearsal):
         """An order of actors that the server answered at once in which the model gives the clients among them the same answers."""
@@ -231,10 +226,8 @@ class Beside:
         def ask(found):
             wanted = {it: rehearsal.reply_of(rehearsal.clients[it], rehearsal.told(rehearsal.talks[it].call, rehearsal.talks[it]))[0] for it in found if it in rehearsal.clients}
             for order in itertools.permutations(found) if len(found) < 5 and wanted else ():
-                tree = rehearsal.ordered([*rehearsal.turns, *map(Turn, order)])
-                tree["options"] = {**tree["options"], "turn_limit": len(rehearsal.turns) + len(order)}
-                text = self.printed(tree).text
-                if all(replies_of(text, client)[-1:] == [reply] for client, reply in wanted.items()):
+                replies = self.run_on(rehearsal, rehearsal.turns, order)
+                if all(replies[client][-1:] == [reply] for client, reply in wanted.items()):
                     return list(order)
             return found
 
@@ -288,8 +281,8 @@ class Beside:
         low, high = 0, len(turns)  # after `low` turns they are the same
         while low + 1 < high:
             middle = (low + high) // 2
-            low, high = (middle, high) if self.replies(rehearsal, middle) == replied(turns[:middle], rehearsal) else (low, middle)
-        ours, theirs = self.replies(rehearsal, high), replied(turns[:high], rehearsal)
+            low, high = (middle, high) if self.run_on(rehearsal, turns[:middle], []) == replied(turns[:middle], rehearsal) else (low, middle)
+        ours, theirs = self.run_on(rehearsal, turns[:high], []), replied(turns[:high], rehearsal)
         turn = turns[high - 1]
         if rehearsal.early_at and high >= rehearsal.early_at:
             return "the server answers where the model waits, and the plan goes another way"
@@ -305,19 +298,8 @@ class Beside:
             return "a REPLACE by an equal row counts 1 in the server, and isn't logged"
         return None
 
-    def replies(self, rehearsal, count):
-        """The clients' replies in the model after so many turns."""
-        tree = rehearsal.ordered(rehearsal.turns[:count])
-        tree["options"] = {**tree["options"], "turn_limit": count}
-        text = sorted_rows(self.printed(tree).text)
-        return {it: replies_of(text, it) for it in rehearsal.clients}
-
     def report(self, rehearsal, turns):
         return masked(sorted_rows(self.printed(rehearsal.ordered(turns)).text))
-
-
-def where(rehearsal, key):
-    return equal(rehearsal.tool.key_columns(), key)
 
 
 def replied(turns, rehearsal):

@@ -418,10 +418,10 @@ class Rehearsal:
             self.take(actor, self.talks[actor], polls, side)
 
     def is_fair_poll(self, actor, talk):
-        """False where the server lets a client's statement wait for a row, and the model doesn't any more: its turn comes with the answer."""
-        if talk.is_answered(0) or actor not in self.clients or talk.seen_at[1] != "row" or actor in self.held:
+        """False where the server lets a call wait for a row, and the model doesn't any more: its turn comes with the answer."""
+        if talk.is_answered(0) or not talk.seen_at or talk.seen_at[1] != "row" or actor in self.held:
             return True
-        if self.model_waits(self.turns, actor, True):
+        if self.model_waits(self.turns, actor, True) is not False:
             return True
         self.held.add(actor)
         self.count("the server waits longer: behind another that waits for the same row")
@@ -448,10 +448,11 @@ class Rehearsal:
         return True
 
     def waits_longer(self, actor, talk, call):
-        """Whether the server lets the call wait for a row and the model doesn't; of clients the model is asked."""
+        """Whether the server lets the call wait for a row and the model doesn't. Where the model can't be asked, a wait for a gap is one."""
         what, by = self.lock_of(talk)
         label = what if what == "a gap" else "the row after the chunk" if self.is_beyond_chunk(what, by) else None
-        if self.model_waits(self.turns, actor, True) if actor in self.clients else label is None:
+        waits = self.model_waits(self.turns, actor, True)
+        if label is None if waits is None else waits:
             return False
         told = f"client {call.lines[0].split()[0].upper()}" if actor in self.clients else f"{actor}: {call.what}"
         self.count(f"the server waits longer: {told} for {label or 'a row that another waits for, or that it only touches'}")
@@ -474,7 +475,7 @@ class Rehearsal:
             self.tool.called(call)
         is_done = talk.is_answered(0)
         by_row = was_held or polls and talk.seen_at and talk.seen_at[1] == "row"
-        if actor in self.clients and actor not in self.early and is_done and by_row and self.model_waits(self.turns[:-1], actor, True):
+        if actor not in self.early and is_done and by_row and self.model_waits(self.turns[:-1], actor, True):
             if "lock" in self.talks and self.talks["lock"].call and self.talks["lock"].call.what == "lock tables":
                 raise Stop("a statement that waits for a row has its table's name meanwhile, and goes before LOCK TABLES", f"{actor}: {call.lines[-1]}")
             self.early.add(actor)
