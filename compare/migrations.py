@@ -13,7 +13,6 @@ from migration import equal
 from program import TOP
 from rehearsal import Rehearsal, Stop, Turn, in_other_order
 from server import Server
-from wire import Rows
 
 CASES = f"{TOP}/crates/test_plans/data/cases"
 CLASSES = f"{os.path.dirname(os.path.realpath(__file__))}/classes"
@@ -201,21 +200,17 @@ class Beside:
                 known = sum(1 for it in turns if it.reply and it.reply[0] == actor)
                 replies = self.run_on(rehearsal, turns, [actor])[actor]
                 return len(replies) == known or replies[-1].endswith("error 1205")
-            talk = rehearsal.talks[actor]
-            return self.is_span_written(rehearsal, turns, talk) if talk.call.what == "chunk" else None
+            return self.is_span_written(rehearsal, turns) if rehearsal.talks[actor].call.what == "chunk" else None
 
         return ask
 
-    def is_span_written(self, rehearsal, turns, talk):
-        """Whether in the model a value of the chunk is locked by one who writes: then a client that reads it waits as well. None where
-        the values can't be named."""
-        copier, keys = rehearsal.tool.copier, []
+    def is_span_written(self, rehearsal, turns):
+        """Whether in the model a value of the chunk is locked by one who writes: then a client that reads it waits as well."""
+        copier = rehearsal.tool.copier
         if len(copier.end) == 1 and isinstance(copier.end[0], int):
             keys = [(key,) for key in range(max(copier.low[1][0] + (copier.low[0] == ">"), copier.end[0] - 20), copier.end[0] + 1)]
-        elif isinstance(talk.result, Rows):
-            keys = [*talk.result.rows, copier.end]
-        if not keys:
-            return None
+        else:
+            keys = rehearsal.keys_within(copier.end)
         readers = [f"SELECT * FROM {rehearsal.table} WHERE {equal(rehearsal.tool.key_columns(), key)}" for key in keys]
         replies = self.run_on(rehearsal, turns, [], readers)
         return any(not replies[f"c{len(rehearsal.clients) + 1 + at}"] for at in range(len(readers)))

@@ -295,7 +295,7 @@ class Rehearsal:
                 actor = next(iter(self.answered()), None)
             if actor is None:
                 waits = [f"{it}: {talk.call.lines[-1]} for {self.lock_of(talk)}" for it, talk in self.talks.items() if talk.call and talk.result is None]
-                raise Stop("sessions wait for each other by locks of gaps", "; ".join(waits))
+                raise Stop("sessions wait for each other, and in the model they don't", "; ".join(waits))
             self.turn(actor, is_cut=cut is not None)
             self.settle()
 
@@ -342,6 +342,15 @@ class Rehearsal:
         if by != "copy" or not what.startswith("row ") or not self.tool.copier.keys:
             return False
         return what.split()[1].strip("'") not in {str(it[0]) for it in self.tool.copier.keys}
+
+    def keys_within(self, end):
+        """The keys of a chunk, read without a lock, with the rows of open transactions and without them."""
+        columns, keys = ", ".join(f"`{it}`" for it in self.tool.key_columns()), {end}
+        for level in ("READ UNCOMMITTED", "READ COMMITTED"):
+            self.monitor.need(f"SET TRANSACTION ISOLATION LEVEL {level}")
+            rows = self.monitor.need(f"SELECT {columns} FROM {self.database}.`{self.table}` WHERE {self.tool.copier.within(end)}").rows
+            keys |= {tuple(row) for row in rows}
+        return sorted(keys, key=repr)
 
     def kill(self, actor):
         talk = self.talks.pop(actor, None)
@@ -476,7 +485,7 @@ class Rehearsal:
         is_done = talk.is_answered(0)
         by_row = was_held or polls and talk.seen_at and talk.seen_at[1] == "row"
         if actor not in self.early and is_done and by_row and self.model_waits(self.turns[:-1], actor, True):
-            if "lock" in self.talks and self.talks["lock"].call and self.talks["lock"].call.what == "lock tables":
+            if self.waits("lock") and self.talks["lock"].call.what == "lock tables" and not self.has_name(actor):
                 raise Stop("a statement that waits for a row has its table's name meanwhile, and goes before LOCK TABLES", f"{actor}: {call.lines[-1]}")
             self.early.add(actor)
             self.early_at = self.early_at or len(self.turns)
@@ -499,6 +508,11 @@ class Rehearsal:
             self.answer(actor, talk, entry, turn)
         if actor == "apply":
             self.tool.applier_turn(turn)
+
+    def has_name(self, actor):
+        """Whether a client's transaction used the table in a line before."""
+        client = self.clients.get(actor)
+        return client is not None and client.is_inside and client.statement > 2
 
     def wait(self, actor, talk, entry, polls):
         if not polls:
