@@ -13,7 +13,9 @@ from migration import equal
 from program import TOP
 from rehearsal import Rehearsal, Stop, Turn, in_other_order
 from server import Server
+from words import words
 
+MOST_CLIENTS = 64
 CASES = f"{TOP}/crates/test_plans/data/cases"
 CLASSES = f"{os.path.dirname(os.path.realpath(__file__))}/classes"
 
@@ -206,11 +208,7 @@ class Beside:
 
     def is_span_written(self, rehearsal, turns):
         """Whether in the model a value of the chunk is locked by one who writes: then a client that reads it waits as well."""
-        copier = rehearsal.tool.copier
-        if len(copier.end) == 1 and isinstance(copier.end[0], int):
-            keys = [(key,) for key in range(max(copier.low[1][0] + (copier.low[0] == ">"), copier.end[0] - 20), copier.end[0] + 1)]
-        else:
-            keys = rehearsal.keys_within(copier.end)
+        keys = sorted({*rehearsal.keys_within(), *named_keys(rehearsal)}, key=repr)[:MOST_CLIENTS - len(rehearsal.clients)]
         readers = [f"SELECT * FROM {rehearsal.table} WHERE {equal(rehearsal.tool.key_columns(), key)}" for key in keys]
         replies = self.run_on(rehearsal, turns, [], readers)
         return any(not replies[f"c{len(rehearsal.clients) + 1 + at}"] for at in range(len(readers)))
@@ -295,6 +293,18 @@ class Beside:
 
     def report(self, rehearsal, turns):
         return masked(sorted_rows(self.printed(rehearsal.ordered(turns)).text))
+
+
+def named_keys(rehearsal):
+    """The keys of the copier's chunk that clients name, with a row or without."""
+    (sign, low), end, found = rehearsal.tool.copier.low, rehearsal.tool.copier.end, set()
+    for client in rehearsal.clients.values():
+        for line in client.lines:
+            listed = [it for it in words(line) if it.kind in ("number", "text")]
+            values = [int(it.text) if it.kind == "number" else it.text[1:-1] for it in listed]
+            found |= {tuple(values[at : at + len(end)]) for at in range(len(values) - len(end) + 1)}
+    fitting = [key for key in found if [type(it) for it in key] == [type(it) for it in end]]
+    return [key for key in fitting if low <= key <= end and (sign == ">=" or key != low)]
 
 
 def replied(turns, rehearsal):

@@ -343,14 +343,15 @@ class Rehearsal:
             return False
         return what.split()[1].strip("'") not in {str(it[0]) for it in self.tool.copier.keys}
 
-    def keys_within(self, end):
-        """The keys of a chunk, read without a lock, with the rows of open transactions and without them."""
+    def keys_within(self):
+        """The keys of the copier's chunk, read without a lock, with the rows of open transactions and without them."""
+        end = self.tool.copier.end
         columns, keys = ", ".join(f"`{it}`" for it in self.tool.key_columns()), {end}
         for level in ("READ UNCOMMITTED", "READ COMMITTED"):
             self.monitor.need(f"SET TRANSACTION ISOLATION LEVEL {level}")
             rows = self.monitor.need(f"SELECT {columns} FROM {self.database}.`{self.table}` WHERE {self.tool.copier.within(end)}").rows
             keys |= {tuple(row) for row in rows}
-        return sorted(keys, key=repr)
+        return keys
 
     def kill(self, actor):
         talk = self.talks.pop(actor, None)
