@@ -354,7 +354,7 @@ class Tool:
 
     def fail_batch(self, turn):
         self.applier.restart()
-        self.fail(self.applier.fails, f"batch {self.state.log_place(self.applier.position)}", turn)
+        self.fail(self.applier.fails, f"batch {self.applier.position}", turn)
 
     def fail_setup(self, turn):
         self.setup = "show"

@@ -171,7 +171,7 @@ class Maker:
 
 
 # ---------------------------------------------------------------------- one plan
-class Beside:
+class Pair:
     """A program and a server; `plants` names a planted fault."""
 
     def __init__(self, program, server, plants=None):
@@ -257,7 +257,7 @@ class Beside:
         if ours == theirs:
             self.counts[f"verdict {rehearsal.verdict_kind.split()[0]}"] += 1
             return "same", ""
-        waits = sorted({it.wait for it in turns if it.wait and it.note == "waits"})
+        waits = sorted(rehearsal.row_waits)
         for chosen, is_whole in [([it], is_whole) for it in waits for is_whole in (True, False)] + [(waits, True), (waits, False)]:
             other = turns
             for wait in chosen:
@@ -341,14 +341,15 @@ def plans_asked(series, first, count):
 
 
 def given_plans():
+    """The examples, and the plans that were worked out by hand."""
     yield from plans_of_folder(f"{TOP}/examples")
     yield from plans_of_cases("worked")
 
 
-def run_all(beside, plans, says):
+def run_all(pair, plans, says):
     kinds = {}
     for name, tree in plans:
-        kind, told, _ = beside.rehearse(name, tree)
+        kind, told, _ = pair.rehearse(name, tree)
         kinds.setdefault(kind, []).append(name)
         if kind != "same" and says or kind == "UNEXPLAINED" or kind.startswith("the script"):
             print(f"{name}: {kind}: {told}", flush=True)
@@ -391,8 +392,8 @@ def plant_faults(program):
     plans, missed = list(plans_of_cases("worked")) + list(plans_of_folder(CLASSES)), 0
     with Server(*log_options()) as server:
         for fault, plants in FAULTS.items():
-            beside, plain = Beside(program, server, plants), Beside(program, server)
-            told = [name for name, tree in plans if plain.rehearse(name, tree)[0] == "same" and beside.rehearse(name, tree)[0] != "same"]
+            planted, plain = Pair(program, server, plants), Pair(program, server)
+            told = [name for name, tree in plans if plain.rehearse(name, tree)[0] == "same" and planted.rehearse(name, tree)[0] != "same"]
             print(f"planted: {fault}: told by {len(told)} of {len(plans)} plans", flush=True)
             missed += not told
     return 1 if missed else 0
@@ -405,10 +406,10 @@ def show_classes(program):
         for name, tree in plans_of_folder(CLASSES):
             with open(f"{CLASSES}/{name}", encoding="utf-8") as file:
                 wanted, second = file.readline().removeprefix("# ").strip(), file.readline()
-            beside = Beside(program, server, cuts if second.startswith("# with INSERT IGNORE") else None)
-            kind = beside.rehearse(name, tree)[0]
+            pair = Pair(program, server, cuts if second.startswith("# with INSERT IGNORE") else None)
+            kind = pair.rehearse(name, tree)[0]
             shown.add(wanted)
-            if wanted != kind and not (kind == "same" and wanted in beside.counts):
+            if wanted != kind and not (kind == "same" and wanted in pair.counts):
                 wrong.append(f"{name} shows {kind}, and not: {wanted}")
     print("\n".join(wrong) if wrong else f"{len(shown)} classes are shown")
     return 1 if wrong else 0
@@ -417,14 +418,14 @@ def show_classes(program):
 def compare_migrations(program, plans, says):
     """The status: 0 where each plan is the same, or differs by a class that is told."""
     with Server(*log_options()) as server:
-        beside = Beside(program, server)
-        kinds = run_all(beside, plans, says)
+        pair = Pair(program, server)
+        kinds = run_all(pair, plans, says)
         print(f"server: {server.version}")
     print(f"plans: {sum(map(len, kinds.values()))}")
     for kind, names in sorted(kinds.items(), key=lambda it: -len(it[1])):
         print(f"{len(names):7} {kind}{'' if kind == 'same' or len(names) > 12 else ': ' + ', '.join(names)}")
     print("of all of them:")
-    for what, number in sorted(beside.counts.items()):
+    for what, number in sorted(pair.counts.items()):
         print(f"{number:7} {what}")
     return 1 if "UNEXPLAINED" in kinds or any(it.startswith("the script") for it in kinds) else 0
 

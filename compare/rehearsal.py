@@ -11,7 +11,7 @@ from binlog import Columns, Log
 from migration import TOOL, Bad, Call, Shape, Tool
 from printing import printed_row, refusal_of
 from rephrasing import carried
-from words import clauses
+from words import clauses, words
 from wire import Ok, Refused
 
 NAME_WAIT = "SELECT 1 FROM information_schema.PROCESSLIST WHERE ID = {0} AND STATE LIKE 'Waiting for table metadata lock%'"
@@ -62,11 +62,11 @@ class Talk:
         self.session.need("SET innodb_lock_wait_timeout = 1000, lock_wait_timeout = 1000")
         self.call, self.left, self.answers, self.result = None, [], [], None
         self.is_open = self.is_locked = False
-        self.polls, self.wait, self.seen_at = 0, 0, None
+        self.polls, self.wait, self.seen_at, self.asked_at = 0, 0, None, None
 
     def begin(self, call):
         self.call, self.left, self.answers, self.result = call, list(call.lines), [], None
-        self.polls, self.wait, self.seen_at = 0, 0, None
+        self.polls, self.wait, self.seen_at, self.asked_at = 0, 0, None, None
         self.session.begin(self.left.pop(0))
 
     def is_answered(self, seconds):
@@ -117,9 +117,8 @@ class Client:
 
 
 class Rehearsal:
-    def __init__(self, server, tree, faults=(), database="mig"):
+    def __init__(self, server, tree, database="mig"):
         self.server, self.tree, self.database = server, tree, database
-        self.faults_planted = faults
         self.options = {**OPTIONS, **tree.get("options", {})}
         self.table = tree["table"]
         self.monitor = server.session()
@@ -134,9 +133,11 @@ class Rehearsal:
         self.losses, self.cuts = self.read_faults()
         self.words = self.read_words()
         self.place, self.releases, self.waits_begun = -1, 0, 0
-        self.history, self.counts, self.last_at, self.model_waits = [], {}, 0, lambda turns, actor, always=False: False
+        self.history, self.counts = [], {}
+        # What the model is asked: whether an actor's next turn waits, and in which order several were answered.
+        self.model_waits = lambda turns, actor, always=False: False
         self.common_order = lambda found: found
-        self.read_at = None
+        self.read_at, self.row_waits = None, set()
         self.early_at = 0  # the turn at which a server first answered what the model lets wait
 
     # ------------------------------------------------------------------ the plan
@@ -149,7 +150,6 @@ class Rehearsal:
                 answer = answer if isinstance(answer, Refused) else self.monitor.ask(f"INSERT INTO {self.name_in(table['create'])} VALUES {row}")
             if isinstance(answer, Refused):
                 raise Stop("the server refuses the plan's tables", f"{answer.number} {answer.text}")
-        self.new_name = {}
         self.create = next(it["create"] for it in self.tree["tables"] if self.name_in(it["create"]).strip("`") == self.table)
         old_columns, types, key, _ = self.columns_of(self.table)
         self.shape = Shape([], old_columns, key, [])
@@ -159,8 +159,6 @@ class Rehearsal:
 
     @staticmethod
     def name_in(create):
-        from words import words
-
         return [it.text for it in words(create)][2]
 
     def columns_of(self, table):
@@ -180,7 +178,7 @@ class Rehearsal:
 
     def alter(self):
         text = self.tree["alter"]
-        front = [it for it in text.split(None, 3)]
+        front = text.split(None, 3)
         return front[3] if [it.upper() for it in front[:2]] == ["ALTER", "TABLE"] else text
 
     def read_shape(self):
@@ -225,10 +223,6 @@ class Rehearsal:
 
     def unread(self, position):
         return len(self.log.events) - position
-
-    @staticmethod
-    def log_place(position):
-        return position
 
     # ------------------------------------------------------------------ whose turn it is
     def is_over(self):
@@ -431,7 +425,7 @@ class Rehearsal:
         """False where the server lets a call wait for a row, and the model doesn't any more: its turn comes with the answer."""
         if talk.is_answered(0) or not talk.seen_at or talk.seen_at[1] != "row" or actor in self.held:
             return True
-        if self.model_waits(self.turns, actor, True) is not False:
+        if self.waits_still(self.turns, actor) is not False:
             return True
         self.held.add(actor)
         self.count("the server waits longer: behind another that waits for the same row")
@@ -456,6 +450,15 @@ class Rehearsal:
             self.early_at = self.early_at or len(self.turns)
             self.count("the server answers where the model waits: " + told_answer(actor, call, talk.result))
         return True
+
+    def waits_still(self, turns, actor):
+        """Whether it waits in the model, where too it goes on only once a lock is given free."""
+        talk = self.talks[actor]
+        if talk.asked_at == self.releases:
+            return True
+        waits = self.model_waits(turns, actor, True)
+        talk.asked_at = self.releases if waits else None
+        return waits
 
     def waits_longer(self, actor, talk, call):
         """Whether the server lets the call wait for a row and the model doesn't. Where the model can't be asked, a wait for a gap is one."""
@@ -485,14 +488,14 @@ class Rehearsal:
             self.tool.called(call)
         is_done = talk.is_answered(0)
         by_row = was_held or polls and talk.seen_at and talk.seen_at[1] == "row"
-        if actor not in self.early and is_done and by_row and self.model_waits(self.turns[:-1], actor, True):
+        if actor not in self.early and is_done and by_row and self.waits_still(self.turns[:-1], actor):
             if self.waits("lock") and self.talks["lock"].call.what == "lock tables" and not self.has_name(actor):
                 raise Stop("a statement that waits for a row has its table's name meanwhile, and goes before LOCK TABLES", f"{actor}: {call.lines[-1]}")
             self.early.add(actor)
             self.early_at = self.early_at or len(self.turns)
             self.count("the server answers where the model waits still: " + told_answer(actor, call, talk.result))
         if actor in self.early:
-            is_done = not self.model_waits(self.turns[:-1], actor)
+            is_done = not self.waits_still(self.turns[:-1], actor)
             self.early -= {actor} if is_done else set()
         if side == "after":
             entry.note = "lost"
@@ -519,6 +522,7 @@ class Rehearsal:
         if not polls:
             self.waits_begun += 1
             talk.wait = self.waits_begun
+            self.row_waits |= {talk.wait} if talk.seen_at and talk.seen_at[1] == "row" else set()
             self.count(f"waits seen, for a {talk.seen_at[1] if talk.seen_at else 'row'}")
             if talk.call.what == "rename":
                 self.tool.rename_waits()
