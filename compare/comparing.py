@@ -165,29 +165,51 @@ def show_rules(program, plans):
     return 1 if wrong else 0
 
 
-def planted(ran):
-    """The same output with one count of an answer changed; none where it has no such answer."""
-    text, changes = re.subn(r"^(\d+\.\d+ ok )(\d+)$", lambda it: f"{it.group(1)}{int(it.group(2)) + 1}", ran.text, count=1, flags=re.M)
+def changed(ran, pattern, by):
+    """The same output with one place changed; none where it has no such place."""
+    text, changes = re.subn(pattern, by, ran.text, count=1, flags=re.M)
     return Ran(text, ran.status) if changes else None
 
 
+def refused(text):
+    """Another output in place of both."""
+    return lambda check, replay: (Ran(text, 2), Ran(text, 2))
+
+
+def in_replay(pattern, by):
+    return lambda check, replay: (check, changed(replay, pattern, by))
+
+
+# For each kind of difference one in a copy of what `check` and `replay` print.
+PLANTS = {
+    "create": refused("refused 15 columns table 1\n"),
+    "rows": refused("refused 58 bad_row table 1 row 1\n"),
+    "alter": refused("refused 30 last_column\n"),
+    "answer": in_replay(r"^(\d+\.\d+ ok )(\d+)$", lambda it: f"{it.group(1)}{int(it.group(2)) + 1}"),
+    "table": in_replay(r"^(table t .*\n)\(.*\n", r"\1"),
+    "unfit": lambda check, replay: (check, Ran(re.sub(r"\Adone", "reverted unfit turn 8 key (1) column 'a' 1406", replay.text), 3)),
+    "shape": lambda check, replay: (changed(check, r" INT\b", " BIGINT"), replay),
+}
+
+
 def plant(program, plans):
-    """Changes one count in a copy of an output, and wants exactly that to be told as unexplained."""
+    """Changes a copy of an output in one place, once for each kind of difference, and wants it to be told as unexplained."""
+    missed = 0
     with Server() as server:
-        plans = [plan for plan in plans if plan.clients]
-        for plan, check, replay, turns in printed_by(program, plans):
-            before = Comparison(server)
-            wrong = planted(replay)
-            if wrong is None or before.plan(plan, check, replay, turns):
-                continue
-            after = Comparison(server)
-            after.plan(copy.copy(plan), check, wrong, turns)
-            if [difference.kind for _, difference in after.unexplained] == ["answer"] and not after.by_rule:
-                print("the planted difference was found:")
-                tell(*after.unexplained[0])
-                return 0
-            print("the planted difference was NOT found:")
-            print(wrong.text)
-            return 1
-    print("no plan was fit for planting a difference")
-    return 1
+        printed = [it for it in printed_by(program, [plan for plan in plans if plan.clients]) if it[2].status == 0]
+        plain = [it for it in printed if not Comparison(server).plan(*it)]
+        for kind, change in PLANTS.items():
+            found = next((it for it in plain if plant_one(server, it, kind, change)), None)
+            print(f"planted, {kind}: {'found' if found else 'NOT found'}")
+            missed += found is None
+    return 1 if missed else 0
+
+
+def plant_one(server, printed, kind, change):
+    plan, check, replay, turns = printed
+    wrong = change(check, replay)
+    if None in wrong or wrong == (check, replay):
+        return False
+    comparison = Comparison(server)
+    comparison.plan(copy.copy(plan), *wrong, turns)
+    return kind in [difference.kind for _, difference in comparison.unexplained]
