@@ -20,6 +20,20 @@ CASES = f"{TOP}/crates/test_plans/data/cases"
 CLASSES = f"{os.path.dirname(os.path.realpath(__file__))}/classes"
 
 
+# The classes of what differs: rules of this project's own that docs/MODEL.md tells, each with a plan in compare/classes.
+EXPLAINED = {
+    "the server answers where the model waits, and the plan goes another way",
+    "the server waits longer, and the plan goes another way",
+    "the server waits longer, and the tool goes another way meanwhile",
+    "the model's time-out comes where the server has answered",
+    "a statement that waits for a row has its table's name meanwhile, and goes before LOCK TABLES",
+    "a deadlock of names: LOCK TABLES waits for a transaction that has read, which then writes",
+    "sessions wait for each other, and in the model they don't",
+    "a REPLACE by an equal row counts 1 in the server, and isn't logged",
+}
+FAULTS_TOLD = "of two faults another is told"
+
+
 # ---------------------------------------------------------------------- plans
 def quoted(value):
     if isinstance(value, bool):
@@ -286,7 +300,7 @@ class Pair:
             what = "the server answers where the model waits" if len(ours[turn.actor]) < len(theirs[turn.actor]) else "the server waits longer"
             return f"{what}, and the plan goes another way" if turn.by_rows else None
         if model[:2] == server[:2] and model[1] == "error":
-            return f"of two faults another is told: {model[2]}, and {server[2]} by the server"
+            return f"{FAULTS_TOLD}: {model[2]}, and {server[2]} by the server"
         if turn.line.upper().startswith("REPLACE") and model[1] == server[1] == "ok" and int(model[2]) == int(server[2]) + 1:
             return "a REPLACE by an equal row counts 1 in the server, and isn't logged"
         return None
@@ -351,7 +365,7 @@ def run_all(pair, plans, says):
     for name, tree in plans:
         kind, told, _ = pair.rehearse(name, tree)
         kinds.setdefault(kind, []).append(name)
-        if kind != "same" and says or kind == "UNEXPLAINED" or kind.startswith("the script"):
+        if kind != "same" and says or not is_explained(kind):
             print(f"{name}: {kind}: {told}", flush=True)
     return kinds
 
@@ -427,7 +441,11 @@ def compare_migrations(program, plans, says):
     print("of all of them:")
     for what, number in sorted(pair.counts.items()):
         print(f"{number:7} {what}")
-    return 1 if "UNEXPLAINED" in kinds or any(it.startswith("the script") for it in kinds) else 0
+    return 0 if all(map(is_explained, kinds)) else 1
+
+
+def is_explained(kind):
+    return kind in EXPLAINED or kind in ("same", "the plan is refused") or kind.startswith(FAULTS_TOLD)
 
 
 def log_options():

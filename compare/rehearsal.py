@@ -373,12 +373,6 @@ class Rehearsal:
     def end_transaction(self, actor):
         self.history.append(f"{actor}.{self.clients[actor].transaction}")
 
-    def lose(self, actor):
-        """A client doesn't come back."""
-        client = self.clients.get(actor)
-        if client and not client.is_over:
-            client.is_over = True
-
     def cut(self, actor):
         talk = self.talks[actor]
         had = talk.is_open or talk.is_locked or talk.wait > 0
@@ -389,8 +383,9 @@ class Rehearsal:
         if actor in self.clients and had:
             self.end_transaction(actor)
         self.kill(actor)
-        self.lose(actor)
-        if actor not in self.clients:
+        if actor in self.clients:
+            self.clients[actor].is_over = True
+        else:
             self.tool.cut(actor, had, len(self.turns))
 
     def turn(self, actor, is_cut=False):
@@ -578,7 +573,7 @@ class Rehearsal:
         told = self.told(call, talk)
         self.count(f"answers of {'clients' if actor in self.clients else 'the tool'}")
         if told[0] == "refused" and told[1] == 1213:
-            raise Stop("a deadlock of names: " + self.deadlock(actor), f"{actor}: {call.lines[-1]}")
+            raise Stop(self.deadlock(actor), f"{actor}: {call.lines[-1]}")
         client = self.clients.get(actor)
         if client:
             self.answer_client(actor, client, talk, entry, told)
@@ -588,8 +583,8 @@ class Rehearsal:
             self.releases += 1
 
     def deadlock(self, actor):
-        waits = any(talk.call and talk.call.what == "lock tables" for talk in self.talks.values())
-        return "LOCK TABLES waits for a transaction that has read, which then writes" if waits else f"at {actor}"
+        is_asked = any(talk.call and talk.call.what == "lock tables" for talk in self.talks.values())
+        return "a deadlock of names: " + ("LOCK TABLES waits for a transaction that has read, which then writes" if is_asked and self.has_name(actor) else f"at {actor}")
 
     def answer_client(self, actor, client, talk, entry, told):
         if told[0] == "refused" and told[1] == 1146:
