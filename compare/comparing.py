@@ -85,7 +85,7 @@ def turns_of(program, pairs):
     """The clients' turns of each plan: the client, and whether it waits at the turn's end. What a turn did is seen from a run that
     ends with it."""
     asked = [(plan, report, at) for plan, report in pairs for at in range(1, len(report.order) + 1) if has_waits(report)]
-    ran = iter(program.run("replay", [dataclasses.replace(plan, turn_limit=at) for plan, _, at in asked]))
+    ran = iter(program.asker.run("replay", [dataclasses.replace(plan, turn_limit=at) for plan, _, at in asked]))
     turns = {}
     for plan, report in pairs:
         told = [[0] * len(report.replies)] + [[len(it) for it in Report(next(ran)).replies] for _ in report.order] if has_waits(report) else None

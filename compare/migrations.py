@@ -186,11 +186,11 @@ class Maker:
 
 # ---------------------------------------------------------------------- one plan
 class Pair:
-    """A program and a server; `plants` names a planted fault."""
+    """A program and a server; `plants` plants a fault, and `keep` is a folder for the plans with their turns."""
 
-    def __init__(self, program, server, plants=None):
-        self.program, self.server, self.plants = program, server, plants
-        self.counts, self.classes = Counter(), {}
+    def __init__(self, program, server, plants=None, keep=None):
+        self.program, self.server, self.plants, self.keep = program, server, plants, keep
+        self.counts = Counter()
 
     def printed(self, tree):
         return self.program.run_text("replay", toml(tree))
@@ -203,7 +203,7 @@ class Pair:
         tree["clients"] = [*tree.get("clients", []), *readers]
         tree["turns"] = " ".join([tree["turns"], *names])
         tree["options"] = {**tree["options"], "turn_limit": len(turns) + len(actors) + len(readers)}
-        text = self.printed(tree).text
+        text = self.program.asker.run_text("replay", toml(tree)).text
         return {client: replies_of(text, client) for client in [*rehearsal.clients, *names]}
 
     def waits_in_model(self, rehearsal):
@@ -254,7 +254,7 @@ class Pair:
                 self.plants(rehearsal)
             rehearsal.follow()
             rehearsal.finish()
-            kind, told = self.compare(rehearsal)
+            kind, told = self.compare(name, rehearsal)
         except Stop as stop:
             kind, told = stop.kind, stop.told
         finally:
@@ -264,13 +264,12 @@ class Pair:
                 self.counts["turns"] += len(rehearsal.turns)
         return kind, told, rehearsal
 
-    def compare(self, rehearsal):
+    def compare(self, name, rehearsal):
         """The program, given the turns, must print the report that the server's answers make."""
         turns = rehearsal.turns
         ours, theirs = self.report(rehearsal, turns), masked(rehearsal.report(turns))
         if ours == theirs:
-            self.counts[f"verdict {rehearsal.verdict_kind.split()[0]}"] += 1
-            return "same", ""
+            return self.same(name, rehearsal, turns)
         waits = sorted(rehearsal.row_waits)
         for chosen, is_whole in [([it], is_whole) for it in waits for is_whole in (True, False)] + [(waits, True), (waits, False)]:
             other = turns
@@ -278,9 +277,16 @@ class Pair:
                 other = in_other_order(other, wait, is_whole)
             if self.report(rehearsal, other) == masked(rehearsal.report(other)):
                 self.counts["plans with a wait that the model doesn't have"] += 1
-                return "same", ""
+                return self.same(name, rehearsal, other)
         told = self.class_of(rehearsal) or "UNEXPLAINED"
         return told, f"{toml(rehearsal.ordered(turns))}--- the program\n{ours}--- the server\n{theirs}"
+
+    def same(self, name, rehearsal, turns):
+        self.counts[f"verdict {rehearsal.verdict_kind.split()[0]}"] += 1
+        for end, text in (("toml", toml(rehearsal.ordered(turns))), ("report", masked(rehearsal.report(turns)))) if self.keep else ():
+            with open(f"{self.keep}/{name.replace(' ', '_').removesuffix('.toml')}.{end}", "w", encoding="utf-8") as file:
+                file.write(text)
+        return "same", ""
 
     def class_of(self, rehearsal):
         """The class of the first turn after which the clients' replies differ; none where it is in no class."""
@@ -360,14 +366,12 @@ def given_plans():
     yield from plans_of_cases("worked")
 
 
-def run_all(pair, plans, says):
-    kinds = {}
+def run_all(pair, plans, says, kinds):
     for name, tree in plans:
         kind, told, _ = pair.rehearse(name, tree)
         kinds.setdefault(kind, []).append(name)
         if kind != "same" and says or not is_explained(kind):
             print(f"{name}: {kind}: {told}", flush=True)
-    return kinds
 
 
 def cuts(rehearsal):
@@ -429,19 +433,38 @@ def show_classes(program):
     return 1 if wrong else 0
 
 
-def compare_migrations(program, plans, says):
-    """The status: 0 where each plan is the same, or differs by a class that is told."""
-    with Server(*log_options()) as server:
-        pair = Pair(program, server)
-        kinds = run_all(pair, plans, says)
-        print(f"server: {server.version}")
-    print(f"plans: {sum(map(len, kinds.values()))}")
+def compare_migrations(program, plans, says, keep=None):
+    """The status: 0 where each plan is the same, or differs by a class that is told. What was done is told also where it is stopped."""
+    kinds, counts, version = {}, Counter(), ""
+    try:
+        with Server(*log_options()) as server:
+            pair = Pair(program, server, keep=keep)
+            counts, version = pair.counts, server.version
+            run_all(pair, plans, says, kinds)
+    finally:
+        tell(kinds, counts, version)
+    return 0 if all(map(is_explained, kinds)) else 1
+
+
+def tell(kinds, counts, version):
+    print(f"server: {version}\nplans: {sum(map(len, kinds.values()))}")
     for kind, names in sorted(kinds.items(), key=lambda it: -len(it[1])):
         print(f"{len(names):7} {kind}{'' if kind == 'same' or len(names) > 12 else ': ' + ', '.join(names)}")
     print("of all of them:")
-    for what, number in sorted(pair.counts.items()):
+    for what, number in sorted(counts.items()):
         print(f"{number:7} {what}")
-    return 0 if all(map(is_explained, kinds)) else 1
+
+
+def replay_kept(program, folder):
+    """Replays the plans of a folder that a run kept: the program must print each report. No server is asked."""
+    names = sorted(it.removesuffix(".toml") for it in os.listdir(folder) if it.endswith(".toml"))
+    other = []
+    for name in names:
+        with open(f"{folder}/{name}.toml", encoding="utf-8") as plan, open(f"{folder}/{name}.report", encoding="utf-8") as wanted:
+            if masked(sorted_rows(program.run_text("replay", plan.read()).text)) != wanted.read():
+                other.append(name)
+    print(f"{len(names) - len(other)} of {len(names)} kept plans print their report{': not ' + ', '.join(other) if other else ''}")
+    return 1 if other or not names else 0
 
 
 def is_explained(kind):
