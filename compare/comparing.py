@@ -82,15 +82,19 @@ def printed_by(program, plans):
 
 
 def turns_of(program, pairs):
-    """The clients' turns of each plan: the client, and whether it waits at the turn's end. What a turn did is seen from a run that
+    """The clients' turns of each plan: the client, and whether it waits, up to a time-out. What a turn did is seen from a run that
     ends with it."""
     asked = [(plan, report, at) for plan, report in pairs for at in range(1, len(report.order) + 1) if has_waits(report)]
     ran = iter(program.asker.run("replay", [dataclasses.replace(plan, turn_limit=at) for plan, _, at in asked]))
     turns = {}
     for plan, report in pairs:
-        told = [[0] * len(report.replies)] + [[len(it) for it in Report(next(ran)).replies] for _ in report.order] if has_waits(report) else None
-        turns[plan.name] = [(client, told is not None and told[at + 1] == told[at]) for at, client in enumerate(report.order)]
+        told = [[[] for _ in report.replies], *(Report(next(ran)).replies for _ in report.order)] if has_waits(report) else None
+        turns[plan.name] = [(client, told is not None and is_wait(told[at][client], told[at + 1][client])) for at, client in enumerate(report.order)]
     return turns
+
+
+def is_wait(before, after):
+    return len(before) == len(after) or after[-1] == ("error", 1205)
 
 
 def has_waits(report):

@@ -140,7 +140,13 @@ def changes_clustered_key(plan, _):
     known = Known(plan.create)
     touched = [rest for old, _, _, rest in column_clauses(plan.alter) if old in known.clustered]
     loosened = [rest for rest in touched if is_loose(joined(rest).upper())]
-    return has_word(plan.alter, "PRIMARY") or "`PRIMARY`" in plan.alter or loosened or re.search(r"(?i)DROP (INDEX|KEY) clustered", plan.alter)
+    return has_word(plan.alter, "PRIMARY") or "`PRIMARY`" in plan.alter or loosened or makes_first_key(plan, known) or re.search(r"(?i)DROP (INDEX|KEY) clustered", plan.alter)
+
+
+def makes_first_key(plan, known):
+    """Without a PRIMARY KEY the first unique key without nulls is the clustered one: another one may come to be."""
+    strict = [rest for old, _, _, rest in column_clauses(plan.alter) if old in known.unique - set(known.clustered) and not is_loose(joined(rest).upper())]
+    return strict and not has_word(plan.create, "PRIMARY")
 
 
 def renames_column(plan, _):

@@ -1,4 +1,4 @@
-"""gh-ost's migration in the SQL that it sends: what each actor of the tool asks next, and what an answer means for it.
+"""The tool's migration in SQL after gh-ost's: what each actor of the tool asks next, and what an answer means for it.
 
 The order of steps is that of docs/FORMATS.md, "The turns". It is written here apart from the program, and works from a server's answers
 alone. An answer is a tuple: ("ok", count), ("refused", number, column), ("rows", rows), ("events", events, next), ("waits", bool),
