@@ -213,9 +213,11 @@ class Pair:
             if not always and not any(rehearsal.is_open(it) for it in rehearsal.talks if it != actor):
                 return False
             if actor in rehearsal.clients:
-                known = sum(1 for it in turns if it.reply and it.reply[0] == actor)
+                known = replied(turns, rehearsal)[actor]
                 replies = self.run_on(rehearsal, turns, [actor])[actor]
-                return len(replies) == known or replies[-1].endswith("error 1205")
+                if replies[: len(known)] != known:
+                    raise Stop(self.class_of(rehearsal, turns) or "UNEXPLAINED", f"the model answers {actor} otherwise before: {known} {replies}\n{toml(rehearsal.ordered(turns))}")
+                return len(replies) == len(known) or replies[-1].endswith("error 1205")
             return self.is_span_written(rehearsal, turns) if rehearsal.talks[actor].call.what == "chunk" else None
 
         return ask
@@ -278,7 +280,7 @@ class Pair:
             if self.report(rehearsal, other) == masked(rehearsal.report(other)):
                 self.counts["plans with a wait that the model doesn't have"] += 1
                 return self.same(name, rehearsal, other)
-        told = self.class_of(rehearsal) or "UNEXPLAINED"
+        told = self.class_of(rehearsal, turns) or "UNEXPLAINED"
         return told, f"{toml(rehearsal.ordered(turns))}--- the program\n{ours}--- the server\n{theirs}"
 
     def same(self, name, rehearsal, turns):
@@ -288,9 +290,8 @@ class Pair:
                 file.write(text)
         return "same", ""
 
-    def class_of(self, rehearsal):
+    def class_of(self, rehearsal, turns):
         """The class of the first turn after which the clients' replies differ; none where it is in no class."""
-        turns = rehearsal.turns
         low, high = 0, len(turns)  # after `low` turns they are the same
         while low + 1 < high:
             middle = (low + high) // 2
