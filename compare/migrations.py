@@ -23,8 +23,6 @@ CLASSES = f"{os.path.dirname(os.path.realpath(__file__))}/classes"
 # The classes of what differs: rules of this project's own that docs/MODEL.md tells, each with a plan in compare/classes.
 EXPLAINED = {
     "the server answers where the model waits, and the plan goes another way",
-    "the server waits longer, and the plan goes another way",
-    "the server waits longer, and the tool goes another way meanwhile",
     "the model's time-out comes where the server has answered",
     "a statement that waits for a row has its table's name meanwhile, and goes before LOCK TABLES",
     "a deadlock of names: LOCK TABLES waits for a transaction that has read, which then writes",
