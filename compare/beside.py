@@ -8,12 +8,13 @@ from wire import Refused
 WAITS = "SELECT 1 FROM information_schema.PROCESSLIST WHERE ID = {0} AND STATE LIKE 'Waiting for%' UNION SELECT 1 FROM information_schema.INNODB_TRX WHERE trx_mysql_thread_id = {0} AND trx_state = 'LOCK WAIT'"
 LOCK = "SELECT l.lock_mode, l.lock_data FROM information_schema.INNODB_TRX t JOIN information_schema.INNODB_LOCKS l ON l.lock_id = t.trx_requested_lock_id WHERE t.trx_mysql_thread_id = {0}"
 
-# The server tells anew who waits ten times a second at most: so it is asked three times.
+# The server tells anew which transactions wait where nobody has asked for a tenth of a second: so looks are as far apart, and
+# what the first says may be old.
 APART = 0.12
 
 
 class LocksDiffer(Exception):
-    """The server waits, or goes on, by a rule that the model doesn't have: behind this turn the two have other orders."""
+    """The server waits, or goes on, by a rule that the model doesn't have: after this turn the two have other orders."""
 
 
 class Client:
@@ -23,6 +24,7 @@ class Client:
         self.session.need("SET innodb_lock_wait_timeout = 1000, lock_wait_timeout = 1000")
         self.script, self.place, self.replies = script, 0, []  # replies with their lines
         self.waiting, self.polls, self.inside = False, 0, False
+        self.seen_at = None  # of the statement that waits: how many releases of locks had come when it was last seen to wait
 
     def line(self):
         return self.script[self.place]
@@ -39,6 +41,7 @@ class Client:
         self.inside = word in ("BEGIN", "START") or self.inside and word not in ("COMMIT", "ROLLBACK")
         self.replies.append((reply, self.line()))
         self.place, self.waiting = self.place + 1, False
+        return not self.inside
 
     def time_out(self, monitor):
         """The whole transaction is rolled back, and the next one follows."""
@@ -56,49 +59,61 @@ class Beside:
     def __init__(self, server, plan):
         self.monitor, self.limit = server.session(), plan.client_wait
         self.clients = [Client(server, script) for script in plan.clients]
+        self.releases = 0  # how often locks were given free
+        self.sequence = []  # the clients by their replies
 
     def waits(self, client):
-        """Whether its statement waits for a lock; else it is answered."""
-        seen = 0
-        while not client.session.is_answered(0.01 if seen == 0 else APART):
+        """Whether its statement waits for a lock; else it is answered. What waits goes on only once a lock is given free."""
+        if client.seen_at == self.releases:
+            return not client.session.is_answered(0)
+        seen, looks = 0, 0
+        while not client.session.is_answered(APART if looks else 0.01):
+            looks += 1
             seen = seen + 1 if self.monitor.need(WAITS.format(client.session.number)).rows else 0
-            if seen == 3:
-                self.look_at_lock(client)
+            if seen == 2:
+                client.seen_at = self.releases
                 return True
         return False
 
-    def look_at_lock(self, client):
+    def lock_of(self, client):
         locks = self.monitor.ask(LOCK.format(client.session.number))
         for mode, row in [] if isinstance(locks, Refused) else locks.rows:
-            if "GAP" in mode or "supremum" in (row or ""):
-                raise LocksDiffer("a lock of a gap")
+            return "a gap" if "GAP" in mode or "supremum" in (row or "") else "a row that it doesn't lock in the model"
+        return "a name"
 
-    def turn(self, client):
-        if client.place >= len(client.script):
-            raise LocksDiffer("the model waited more")
+    def turn(self, client, waits):
+        """`waits` says whether the session waits in the model, at the turn's end."""
         is_poll = client.waiting
         if not is_poll:
             client.session.begin(client.said())
-            client.polls = 0
+            client.polls, client.seen_at = 0, None
         if not self.waits(client):
-            client.take_answer()
+            if waits:
+                raise LocksDiffer("the server answers where the model waits")
+            self.releases += client.take_answer()
             return
         client.waiting, client.polls = True, client.polls + is_poll
         if client.polls == self.limit:
             client.time_out(self.monitor)
+            self.releases += 1
+        elif not waits:
+            raise LocksDiffer(f"the server waits where the model doesn't, for {self.lock_of(client)}")
 
-    def follow(self, order):
-        """The replies of each client, up to the turn behind which the locks differ, and why they do."""
+    def follow(self, turns):
+        """The replies of each client, whose reply came when, up to the turn after which the locks differ, and why they do. A turn is
+        a client, and whether it waits in the model."""
+        why = None
         try:
-            for at, number in enumerate(order):
-                self.turn(self.clients[number])
+            for at, (number, waits) in enumerate(turns):
+                self.turn(self.clients[number], waits)
+                self.sequence += [] if self.clients[number].waiting else [number]
                 for waiter in [it for it in self.clients if it.waiting]:
-                    is_next = order[at + 1 : at + 2] == [self.clients.index(waiter)]
+                    is_next = [it for it, _ in turns[at + 1 : at + 2]] == [self.clients.index(waiter)]
                     if not is_next and not self.waits(waiter):
-                        raise LocksDiffer("a lock is taken ahead of its poll")
+                        raise LocksDiffer("a lock is taken before its poll")
         except LocksDiffer as differ:
-            return [client.replies for client in self.clients], str(differ)
-        return [client.replies for client in self.clients], None
+            why = str(differ)
+        return [client.replies for client in self.clients], self.sequence, why
 
     def close(self):
         for client in self.clients:

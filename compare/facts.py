@@ -62,6 +62,10 @@ def has_word(text, *wanted):
     return any(it.is_word(*wanted) for it in words(text))
 
 
+def has_text(text):
+    return any(it.kind in ("text", "bytes") for it in words(text))
+
+
 def length_is_out(text):
     return any(not 1 <= int(it) <= 1000 for it in re.findall(r"(?i)VAR(?:CHAR|BINARY)\s*\(\s*(\d+)\s*\)", text))
 
@@ -136,7 +140,13 @@ def changes_clustered_key(plan, _):
     known = Known(plan.create)
     touched = [rest for old, _, _, rest in column_clauses(plan.alter) if old in known.clustered]
     loosened = [rest for rest in touched if is_loose(joined(rest).upper())]
-    return has_word(plan.alter, "PRIMARY") or "`PRIMARY`" in plan.alter or loosened or re.search(r"(?i)DROP (INDEX|KEY) clustered", plan.alter)
+    return has_word(plan.alter, "PRIMARY") or "`PRIMARY`" in plan.alter or loosened or makes_first_key(plan, known) or re.search(r"(?i)DROP (INDEX|KEY) clustered", plan.alter)
+
+
+def makes_first_key(plan, known):
+    """Without a PRIMARY KEY the first unique key without nulls is the clustered one: another one may come to be."""
+    strict = [rest for old, _, _, rest in column_clauses(plan.alter) if old in known.unique - set(known.clustered) and not is_loose(joined(rest).upper())]
+    return strict and not has_word(plan.create, "PRIMARY")
 
 
 def renames_column(plan, _):
@@ -187,6 +197,10 @@ def has_left_out_statement(plan):
     return any(has_word(line, "JOIN", "ORDER", "LIMIT", "ON", "DEFAULT") for script in plan.clients for line in script)
 
 
+def has_null_in_condition(plan):
+    return any(re.search(r"(?i) WHERE .*\bNULL\b", line) for script in plan.clients for line in script)
+
+
 def has_odd_key_name(plan, difference):
     return difference.theirs == "1280" and re.search(r"(?i)``|`primary`|(KEY|INDEX) primary", f"{plan.create} {plan.alter}")
 
@@ -213,12 +227,23 @@ def drops_primary_by_name(plan, _):
     return "`PRIMARY`" in plan.alter.upper()
 
 
-UNSTORED = ("error 1048", "error 1264", "error 1366", "error 1406", "error 1364", "error 1265")
+UNSTORED = ("error 1048", "error 1264", "error 1366", "error 1406", "error 1265")
+
+
+def statement_of(difference):
+    """The client's line that was answered."""
+    return difference.place.partition(": ")[2]
+
+
+def condition_of(difference):
+    statement = statement_of(difference)
+    at = statement.upper().find(" WHERE ")
+    return statement[at:] if at >= 0 else ""
 
 
 def begins(difference, *wanted):
     """Whether the statement of an answer begins with one of these words."""
-    return difference.place.partition(": ")[2].upper().startswith(wanted)
+    return statement_of(difference).upper().startswith(wanted)
 
 
 def displaces_an_equal_row(_, difference):

@@ -18,6 +18,8 @@ SAME_NUMBERS = {
     27: (1067,),
     30: (1090,),
 }
+# A row that is bad; a statement that is left out, or that is none.
+ROWS_REFUSED = (58, 42, 41)
 
 
 @dataclasses.dataclass
@@ -44,7 +46,8 @@ class Count:
         self.same = dict.fromkeys(self.KINDS, 0)
         self.rows_left = 0
         self.done = 0
-        self.left = 0  # plans that were followed up to where the locks differ
+        self.left = {}  # plans that were followed up to where the locks differ, by what was seen there
+        self.parted = 0  # plans that were followed up to a statement that one side does and the other doesn't
 
     def add(self, kind, is_same):
         self.compared[kind] += 1
@@ -53,10 +56,10 @@ class Count:
 
 
 class Judge:
-    """One plan's comparison: the differences, and counts of what was compared."""
+    """One plan's comparison: the differences, and counts of what was compared. `rule_of` gives a difference's own rule."""
 
-    def __init__(self, plan, check, replay, served, count):
-        self.plan, self.served, self.count = plan, served, count
+    def __init__(self, plan, check, replay, served, count, rule_of):
+        self.plan, self.served, self.count, self.rule_of = plan, served, count, rule_of
         self.report, self.check = Report(replay), check
         self.differences = []
 
@@ -66,10 +69,19 @@ class Judge:
             return self.differences
         self.shape()
         if self.are_rows_taken(code):
-            self.answers() if self.served.replies is None else self.replies()
-            if self.served.left is None:
+            is_followed = self.answers() if self.served.replies is None else self.replies()
+            if is_followed and self.served.left is None:
                 self.end()
         return self.differences
+
+    def parts(self):
+        """Whether the last difference is explained and leaves other rows on both sides: what comes after it can't be compared."""
+        last = self.differences[-1]
+        is_change = last.ours.startswith("ok") != last.theirs.startswith("ok")
+        if not is_change or self.rule_of(self.plan, last) is None:
+            return False
+        self.count.parted += 1
+        return True
 
     def differ(self, kind, place, ours, theirs):
         self.differences.append(Difference(kind, place, str(ours), str(theirs)))
@@ -83,6 +95,8 @@ class Judge:
 
     def is_refused_by_words(self, code):
         """Whether the ALTER is refused, whatever rows there are."""
+        if code in ROWS_REFUSED:
+            code = Report(self.check).refused or 0
         ours, theirs = code if 20 <= code <= 31 else 0, self.served.altered
         if ours == theirs == 0:
             return False
@@ -98,30 +112,41 @@ class Judge:
             self.differ("shape", "", *told)
 
     def are_rows_taken(self, code):
-        ours, theirs = code == 60, bool(self.served.rows_refused)
+        ours, theirs = code in ROWS_REFUSED, bool(self.served.rows_refused)
         if not self.count.add("rows", ours == theirs):
             self.differ("rows", "", code, self.served.rows_refused)
-        if code not in (0, 60):
+        if code not in (0, *ROWS_REFUSED):
             self.differ("rows", "", code, "")
         return not theirs and not code
 
     def answers(self):
+        """Whether the clients' lines could be compared to their end."""
         for client, place, line in self.plan.turns():
             replies = self.report.replies[client] if client < len(self.report.replies) else []
             ours = replies[place] if place < len(replies) else ("none", 0)
             theirs = self.served.answers[client, place]
             if not self.count.add("answer", ours == theirs):
                 self.differ("answer", f"client {client + 1} line {place + 1}: {line}", told(ours), told(theirs))
+                if self.parts():
+                    return False
+        return True
 
     def replies(self):
-        """Of transactions beside each other: each client's replies, up to where the locks differ."""
-        self.count.left += self.served.left is not None
-        for client, (ours, theirs) in enumerate(zip(self.report.replies, self.served.replies)):
-            for place in range(len(theirs) if self.served.left else max(len(ours), len(theirs))):
-                (answer, line) = theirs[place] if place < len(theirs) else (("none", 0), "")
-                told_by_us = ours[place] if place < len(ours) else ("none", 0)
-                if not self.count.add("answer", told_by_us == answer):
-                    self.differ("answer", f"client {client + 1} reply {place + 1}: {line}", told(told_by_us), told(answer))
+        """The same of transactions beside each other: the replies as they came, up to where the locks differ."""
+        if self.served.left:
+            self.count.left[self.served.left] = self.count.left.get(self.served.left, 0) + 1
+        places = [0] * len(self.served.replies)
+        for client in self.served.sequence:
+            ours, (answer, line) = self.report.replies[client], self.served.replies[client][places[client]]
+            told_by_us = ours[places[client]] if places[client] < len(ours) else ("none", 0)
+            places[client] += 1
+            if not self.count.add("answer", told_by_us == answer):
+                self.differ("answer", f"client {client + 1} reply {places[client]}: {line}", told(told_by_us), told(answer))
+                if self.parts():
+                    return False
+        if not self.served.left and places != [len(it) for it in self.report.replies]:
+            self.differ("answer", "in all", [len(it) for it in self.report.replies], places)
+        return True
 
     def end(self):
         """The ALTER of the table with its rows, and the rows that are left."""

@@ -6,19 +6,6 @@ from alters import alter_of
 from plan import Plan
 from words import words
 
-# What the program doesn't run yet is `False`, and no plan has it; docs/LIMITS.md says what that is.
-FEATURES = {
-    "transactions": False,  # BEGIN, COMMIT and ROLLBACK
-    "update": False,
-    "replace": False,
-    "insert_columns": False,  # INSERT with a list of columns
-    "insert_values": False,  # INSERT of texts, bytes, nulls and numbers out of INT's range
-    "conditions": False,  # ranges, other unique keys, keys of several columns, texts, and statements without WHERE
-    "select_columns": False,  # SELECT of columns and of COUNT(*)
-    "quoted_names": False,  # names in backquotes in scripts
-    "several_clients": True,  # which take turns; no line waits, since each is a transaction of its own
-    "transactions_beside": False,  # transactions of several clients, which wait for each other
-}
 # Of a hundred choices, how many are made so that they don't fit or are refused.
 ODD = 4
 # Names of columns, as they may be written; some only between backquotes.
@@ -261,17 +248,16 @@ def make_rows(r, table):
     return rows
 
 
-def make_plan(series, number, features=None):
+def make_plan(series, number):
     """The plan of a number."""
     r = random.Random(f"{series} {number}")
-    features = FEATURES if features is None else features
     table = Table(r)
     rows = make_rows(r, table)
-    clients = scripts.make_clients(r, table, features)
+    clients = scripts.make_clients(r, table)
     alter = alter_of(r, table)
     if chance(r, 2):
         table.text = with_mistake(r, table.text, 3)
     if chance(r, 4):
         alter = with_mistake(r, alter)
-    waits = r.choice([1, 3, 20]) if features["transactions_beside"] and len(clients) > 1 else 0
+    waits = r.choice([1, 3, 20]) if len(clients) > 1 else 0
     return Plan(f"{number}", table.text, rows, alter, clients, chance(r, 96), waits)

@@ -13,6 +13,7 @@ class Plan:
     approve: bool = True
     # How often a client's wait is polled, where its clients' transactions go beside each other; the report then has the turns.
     client_wait: int = 0
+    turn_limit: int = 0  # how many turns are taken, where that is said
     # What a rule says to a server in place of the ALTER: texts, pairs of a new and an old column, and the columns of the clustered
     # key. The texts are run on an empty copy of the table, and its rows are then inserted there in order of the key. Where there
     # are no pairs, the server alters the table itself.
@@ -25,15 +26,25 @@ class Plan:
         if self.clients:
             scripts = ", ".join(quoted("\n".join(script)) for script in self.clients)
             text += f"clients = [{scripts}]\n"
+            # The tool waits until all clients are done, as the server is told the ALTER after their lines.
+            text += f'turns = "{self.order_of_clients()}"\n'
         text += f"[[tables]]\ncreate = {quoted(self.create)}\n"
         if self.rows:
             text += f"rows = [{', '.join(quoted(row) for row in self.rows)}]\n"
         options = ["approve_renamed_columns = true"] if self.approve else []
         options += [f"client_wait = {self.client_wait}", "show_turns = true"] if self.client_wait else []
+        options += [f"turn_limit = {self.turn_limit}"] if self.turn_limit else []
         return text + "".join(f"{it}\n" for it in (["[options]"] if options else []) + options)
 
     def alters(self):
         return [with_front(it) for it in (self.steps if self.steps is not None else [self.alter])]
+
+    def order_of_clients(self):
+        """Whose turn it is; where clients can wait, as many rounds as they can need: a word whose client isn't ready is passed over."""
+        if not self.client_wait:
+            return " ".join(f"c{number + 1}" for number, _, _ in self.turns())
+        rounds = (self.client_wait + 1) * sum(len(script) for script in self.clients)
+        return " ".join([f"c{number + 1}" for number in range(len(self.clients))] * rounds)
 
     def turns(self):
         """The clients' lines in the order of their turns: round after round, a line of each client that has one left."""

@@ -3,7 +3,7 @@ import dataclasses
 import re
 
 from facts import Known
-from words import clauses, items, joined, words
+from words import clauses, items, joined, spaced, words
 
 
 def as_copied(plan):
@@ -74,7 +74,7 @@ KEYWORDS = "KEY INDEX UNIQUE PRIMARY NOT NULL DEFAULT TO ADD DROP CHANGE RENAME 
 
 
 def quoted(listed, is_name):
-    return " ".join(f"`{it.text}`" if is_name(place, it) else it.text for place, it in enumerate(listed))
+    return spaced(f"`{it.text}`" if is_name(place, it) else it.text for place, it in enumerate(listed))
 
 
 def with_backquotes(plan):

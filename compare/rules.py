@@ -15,6 +15,7 @@ from facts import (
     begins,
     begins_otherwise,
     changes_clustered_key,
+    condition_of,
     converts_between_families,
     converts_unique_column,
     displaces_an_equal_row,
@@ -22,9 +23,11 @@ from facts import (
     drops_unique_column,
     ends_in_blanks,
     has_left_out_statement,
+    has_null_in_condition,
     has_null_in_key,
     has_odd_key_name,
     has_odd_option,
+    has_text,
     has_word,
     is_left_out_of_alter,
     is_left_out_of_create,
@@ -33,6 +36,7 @@ from facts import (
     repeats_a_name,
     repeats_in_key,
     rows_are_taken,
+    statement_of,
 )
 from rephrasing import as_copied, clause_by_clause, keys_as_texts, with_backquotes, with_two_keys, without_collation
 from words import clauses, items
@@ -62,8 +66,8 @@ OWN = [
     Own(LITERAL_RULE, ("alter",), (27,), lambda plan, _: odd_literals(plan.alter)),
     Own(CUT_RULE, ("create",), (19,), lambda plan, _: ends_in_blanks(plan.create)),
     Own(CUT_RULE, ("alter",), (27,), lambda plan, _: ends_in_blanks(plan.alter)),
-    Own(LITERAL_RULE, ("rows",), (60,), lambda plan, difference: rows_are_taken(difference) and any(odd_literals(row) for row in plan.rows)),
-    Own(CUT_RULE, ("rows",), (60,), lambda plan, difference: rows_are_taken(difference) and any(ends_in_blanks(row) for row in plan.rows)),
+    Own(LITERAL_RULE, ("rows",), (58,), lambda plan, difference: rows_are_taken(difference) and any(odd_literals(row) for row in plan.rows)),
+    Own(CUT_RULE, ("rows",), (58,), lambda plan, difference: rows_are_taken(difference) and any(ends_in_blanks(row) for row in plan.rows)),
     Own("a column of a unique key isn't dropped", ("alter",), (23,), drops_unique_column),
     Own("a column of a unique key keeps its family of kinds", ("alter",), (24,), converts_unique_column),
     Own("no unique key is added", ("alter",), (25,), lambda plan, _: has_word(plan.alter, "UNIQUE")),
@@ -73,7 +77,8 @@ OWN = [
     Own("the table keeps its name", ("alter",), (29,), lambda plan, _: re.search(r"(?i)RENAME (TO|AS)", plan.alter)),
     Own("an integer may become a text, a text bytes, and nothing back", ("alter",), (31,), converts_between_families),
     Own("other clauses are left out", ("alter",), (31,), begins_otherwise),
-    Own("other clauses are left out", ("rows",), (60,), lambda plan, difference: rows_are_taken(difference) and has_left_out_statement(plan)),
+    Own("other clauses are left out", ("rows",), (42,), lambda plan, difference: rows_are_taken(difference) and has_left_out_statement(plan)),
+    Own("a condition has no NULL", ("rows",), (41,), lambda plan, difference: rows_are_taken(difference) and has_null_in_condition(plan)),
     Own("the limits are smaller", ("create",), (15, 16), lambda plan, _: len(items(plan.create)[0]) > 9),
     Own("the limits are smaller", ("alter",), (31,), lambda plan, _: len(clauses(plan.alter)) + len(items(plan.create)[0]) > 9),
     Own("the bytes of a key and of a row have no limit", ("create", "alter"), (0,), lambda plan, it: it.theirs in ("1071", "1118")),
@@ -87,13 +92,16 @@ OWN = [
 ]
 
 
-# Of statements that the program doesn't run yet (`FEATURES` in making.py).
-OWN_LATER = [
-    Own("what a key's column can't hold is refused in a condition", ("answer",), (1366,), lambda _, it: " WHERE " in it.place.upper()),
-    Own("a condition is on a key", ("answer",), (1235,), lambda _, it: " WHERE " in it.place.upper()),
+# Of the clients' statements.
+OWN_OF_STATEMENTS = [
+    Own("what a key's column can't hold is refused in a condition", ("answer",), (1366,), lambda _, it: has_text(condition_of(it))),
+    Own(LITERAL_RULE, ("answer",), (1366,), lambda _, it: odd_literals(statement_of(it))),
+    Own(CUT_RULE, ("answer",), (1406,), lambda _, it: ends_in_blanks(statement_of(it))),
+    Own("a condition is on a key", ("answer",), (1235,), lambda _, it: condition_of(it)),
     Own("an UPDATE sets a column once", ("answer",), (1110,), lambda _, it: begins(it, "UPDATE")),
     Own("a REPLACE counts each row that it displaces, also an equal one", ("answer",), (0,), displaces_an_equal_row),
-    Own("of several columns that don't store the first of the table is named", ("answer",), (1048, 1264, 1366, 1406, 1364), lambda _, it: it.theirs in UNSTORED),
+    Own("a value that doesn't fit is told before a column that has none", ("answer",), (1048, 1264, 1366, 1406), lambda _, it: it.theirs == "error 1364"),
+    Own("of several columns that don't store the first of the table is named", ("answer",), (1048, 1264, 1366, 1406), lambda _, it: it.theirs in UNSTORED),
 ]
 
 

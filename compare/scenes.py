@@ -95,11 +95,14 @@ def play(server, scene):
     return played
 
 
-def compare_scenes():
-    """The status: 0 where each step was answered as the definitions say, or as a rule of this project's own tells."""
+def compare_scenes(plants=False):
+    """The status: 0 where each step was answered as the definitions say, or as a rule of this project's own tells. Of a planted
+    answer of the first scene, where it was found."""
     same, by_rule, unexplained = 0, [], 0
     with Server() as server:
-        listed = scenes()
+        listed = scenes()[: 1 if plants else None]
+        for step in listed[0].steps[:1] if plants else ():
+            step.ours = step.seen = step.theirs = "ok 7"
         for scene in listed:
             for step, answer in play(server, scene):
                 same += answer == step.seen
@@ -112,4 +115,6 @@ def compare_scenes():
             print(f"{step.rule}\n  {step.session}: {step.text}\n  definitions: {step.ours}\n  server: {answer}")
         print(f"server: {server.version}")
         print(f"scenes: {len(listed)}; steps: {same} the same, {len(by_rule)} by a rule of this project's own, {unexplained} unexplained")
-    return 1 if unexplained else 0
+    if plants:
+        print(f"the planted answer was {'found' if unexplained else 'NOT found'}")
+    return 1 if bool(unexplained) != plants else 0

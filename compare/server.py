@@ -10,13 +10,9 @@ import time
 from wire import Session
 
 FOLDERS = ("/usr/sbin", "/usr/local/sbin", "/usr/libexec", "/usr/local/mysql/bin", "/usr/local/mariadb/bin")
-MISSING = """no MariaDB or MySQL server is installed here. Install one of these packages, and run this again:
-    apt-get install mariadb-server     (Debian, Ubuntu)
-    dnf install mariadb-server         (Fedora, RHEL)
-    apt-get install mysql-server       (for MySQL itself, where the system has it)
-The system's own server needn't run: the comparison starts one of its own, without a network."""
+MISSING = "no MariaDB or MySQL server is installed here: apt-get install --no-install-recommends mariadb-server-core mariadb-client-core, or the system's package of mysql-server; it needn't run"
 # Nothing of the comparison outlives it, so nothing needs to reach the disk.
-COMMON = ["--skip-networking", "--skip-grant-tables", "--innodb-flush-log-at-trx-commit=0", "--skip-log-bin"]
+COMMON = ["--skip-networking", "--skip-grant-tables", "--innodb-flush-log-at-trx-commit=0"]
 COMMON += ["--innodb-buffer-pool-size=64M", "--skip-name-resolve", "--lower-case-table-names=0"]
 # As in the model a time-out ends the whole transaction, and nobody looks for deadlocks.
 COMMON += ["--innodb-rollback-on-timeout=ON", "--innodb-deadlock-detect=OFF"]
@@ -40,9 +36,10 @@ def said(program, *words):
 
 
 class Server:
-    """Starts at `with`, and is stopped and removed at its end."""
+    """Starts at `with`, and is stopped and removed at its end. It keeps no binary log unless its options say so."""
 
-    def __init__(self):
+    def __init__(self, *options):
+        self.options = options if any(it.startswith("--log-bin") for it in options) else ("--skip-log-bin", *options)
         self.program = found("mariadbd", "mysqld")
         if self.program is None:
             raise Missing(MISSING)
@@ -78,19 +75,21 @@ class Server:
         data = f"{self.folder}/data"
         if self.is_mariadb:
             install = found("mariadb-install-db", "mysql_install_db")
-            if install is None:
+            if install is None or found("my_print_defaults") is None:
                 raise Missing(MISSING)
             words = [install, "--no-defaults", f"--datadir={data}", "--skip-test-db", *self.user()]
             words += ["--auth-root-authentication-method=normal"]
         else:
             words = [self.program, "--no-defaults", "--initialize-insecure", f"--datadir={data}", *self.user()]
         with open(f"{self.folder}/install.log", "wb") as log:
-            if subprocess.run(words, stdout=log, stderr=subprocess.STDOUT, check=False).returncode:
+            own = {**os.environ, "TMPDIR": self.folder}
+            if subprocess.run(words, stdout=log, stderr=subprocess.STDOUT, env=own, check=False).returncode:
                 raise RuntimeError(f"the server's folder could not be made:\n{self.tail('install.log')}")
 
     def start(self):
         words = [self.program, "--no-defaults", f"--datadir={self.folder}/data", f"--socket={self.folder}/socket"]
-        words += [f"--pid-file={self.folder}/pid", *COMMON, *self.user()]
+        # A server that starts removes what others have in a common folder for temporary tables.
+        words += [f"--pid-file={self.folder}/pid", f"--tmpdir={self.folder}", *COMMON, *self.options, *self.user()]
         if not self.is_mariadb:
             words += ["--mysqlx=OFF"]
         with open(f"{self.folder}/server.log", "wb") as log:

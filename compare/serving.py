@@ -12,6 +12,7 @@ class Served:
         self.rows_refused = []  # (place of the row, number)
         self.answers = {}  # (client, place of the line): ("ok", N), ("error", number) or ("rows", [texts])
         self.replies, self.left = None, None  # where an order of turns was followed: each client's, and why not to its end
+        self.sequence = None  # the clients of these replies, as they came
         self.altered = None  # the number of the refusal of the ALTER on the table without rows, or 0
         self.shape = None  # the shape that the ALTER leaves
         self.copied = None  # the number of the refusal of the ALTER on the table with its rows, or 0
@@ -47,8 +48,8 @@ class Bench:
         for name in ("plan", "shape"):
             server.database(self.session, name)
 
-    def serve(self, plan, order=None):
-        """By an order of turns where one is given, else line by line."""
+    def serve(self, plan, turns=None):
+        """By turns of clients where they are given, else line by line."""
         served = Served()
         served.created = self.create("shape", plan)
         if served.created:
@@ -59,9 +60,9 @@ class Bench:
         for place, row in enumerate(plan.rows):
             number = number_of(self.session.ask(f"INSERT INTO t VALUES {row}"))
             served.rows_refused += [(place, number)] if number else []
-        if order:
-            served.replies, served.left = self.beside(plan, order)
-        for client, place, line in plan.turns() if not order else ():
+        if turns:
+            served.replies, served.sequence, served.left = self.beside(plan, turns)
+        for client, place, line in plan.turns() if not turns else ():
             served.answers[client, place] = answer_of(self.session.ask(line))
         served.copied, served.column = self.alter(plan) if plan.carried is None else self.copy(plan)
         left = self.session.ask("SELECT * FROM t")
@@ -69,10 +70,10 @@ class Bench:
             served.columns, served.rows = left.names, sorted(printed_row(row) for row in left.rows)
         return served
 
-    def beside(self, plan, order):
+    def beside(self, plan, turns):
         clients = Beside(self.server, plan)
         try:
-            return clients.follow(order)
+            return clients.follow(turns)
         finally:
             clients.close()
 
@@ -97,7 +98,9 @@ class Bench:
         self.session.need("CREATE TABLE t LIKE old")
         refused = self.alter(plan)
         if not refused[0]:
-            into, of = (named(pair[place] for pair in plan.carried) for place in (0, 1))
+            places = {text_of(row[0]).lower(): at for at, row in enumerate(self.session.need("SHOW COLUMNS FROM t").rows)}
+            pairs = sorted(plan.carried, key=lambda pair: places.get(pair[0], 0))
+            into, of = (named(pair[place] for pair in pairs) for place in (0, 1))
             refused = refusal_of(self.session.ask(f"INSERT INTO t ({into}) SELECT {of} FROM old ORDER BY {named(plan.order)}"))
         if refused[0]:
             self.session.need("DROP TABLE IF EXISTS t")

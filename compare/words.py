@@ -33,7 +33,12 @@ def words(text):
 
 
 def joined(listed):
-    return " ".join(it.text for it in listed)
+    return spaced(it.text for it in listed)
+
+
+def spaced(texts):
+    """A server knows a function by the bracket right after its name."""
+    return " ".join(texts).replace("COUNT (", "COUNT(").replace("count (", "count(")
 
 
 def split_at_commas(listed):

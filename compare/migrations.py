@@ -1,0 +1,474 @@
+"""Whole migrations beside a server, many of them: their plans, the comparison with what the program prints for the same turns, and the
+classes of what differs."""
+import itertools
+import json
+import os
+import random
+import re
+import tomllib
+from collections import Counter
+
+from binlog import OPTIONS as LOG_OPTIONS
+from migration import equal
+from program import TOP
+from rehearsal import Rehearsal, Stop, Turn, in_other_order
+from server import Server
+from words import words
+
+MOST_CLIENTS = 64
+CASES = f"{TOP}/crates/test_plans/data/cases"
+CLASSES = f"{os.path.dirname(os.path.realpath(__file__))}/classes"
+
+
+# The classes of what differs: rules of this project's own that docs/MODEL.md tells, each with a plan in compare/classes.
+EXPLAINED = {
+    "the server answers where the model waits, and the plan goes another way",
+    "the model's time-out comes where the server has answered",
+    "a statement that waits for a row has its table's name meanwhile, and goes before LOCK TABLES",
+    "a deadlock of names: LOCK TABLES waits for a transaction that has read, which then writes",
+    "sessions wait for each other, and in the model they don't",
+    "a REPLACE by an equal row counts 1 in the server, and isn't logged",
+}
+FAULTS_TOLD = "of two faults another is told"
+
+
+# ---------------------------------------------------------------------- plans
+def quoted(value):
+    if isinstance(value, bool):
+        return str(value).lower()
+    if isinstance(value, list):
+        return f"[{', '.join(map(quoted, value))}]"
+    return json.dumps(value, ensure_ascii=False).replace("\x7f", "\\u007f") if isinstance(value, str) else str(value)
+
+
+def toml(tree):
+    lines = [f"{key} = {quoted(value)}" for key, value in tree.items() if key not in ("options", "tables")]
+    lines += ["[options]", *(f"{key} = {quoted(value)}" for key, value in tree.get("options", {}).items())]
+    for table in tree["tables"]:
+        lines += ["[[tables]]", *(f"{key} = {quoted(value)}" for key, value in table.items())]
+    return "\n".join(lines) + "\n"
+
+
+def plans_of_folder(folder):
+    for name in sorted(it for it in os.listdir(folder) if it.endswith(".toml")):
+        with open(f"{folder}/{name}", "rb") as file:
+            yield name, tomllib.load(file)
+
+
+def plans_of_cases(name):
+    """The plans of a file of cases, of those that are replayed."""
+    with open(f"{CASES}/{name}.cases", encoding="utf-8") as file:
+        for text in re.split(r"^#### case ", file.read(), flags=re.M)[1:]:
+            head, _, rest = text.partition("\n")
+            title, words, _ = (it.strip() for it in head.split("|"))
+            plan = rest.partition("#### prints")[0]
+            if words == "replay" and "#### " not in plan:
+                try:
+                    yield f"{name} {title}", tomllib.loads(plan)
+                except tomllib.TOMLDecodeError:
+                    continue
+
+
+TABLES = [
+    ("id INT PRIMARY KEY, v INT", "id", ["id"]),
+    ("id INT PRIMARY KEY, v VARCHAR(8)", "id", ["id"]),
+    ("id INT PRIMARY KEY, m VARCHAR(5), v INT, UNIQUE KEY m (m)", "id", ["id", "m"]),
+    ("a INT, b INT, v INT, PRIMARY KEY (a, b)", None, []),
+    ("id VARCHAR(4) PRIMARY KEY, v INT NOT NULL", "id", ["id"]),
+    ("id BIGINT UNSIGNED NOT NULL, v VARBINARY(6), m SMALLINT, PRIMARY KEY (id), UNIQUE (m)", "id", ["id", "m"]),
+]
+ALTERS = [
+    "ADD COLUMN z INT NOT NULL DEFAULT 7",
+    "ADD COLUMN z VARCHAR(8) DEFAULT 'x' FIRST",
+    "ADD INDEX i (v)",
+    "DROP COLUMN v",
+    "CHANGE v w VARCHAR(20) NOT NULL, ADD COLUMN z INT",
+    "MODIFY v VARBINARY(3)",
+]
+
+
+class Maker:
+    """A random plan: the same for a series and a number. Values are of their columns' kinds."""
+
+    def __init__(self, series, number, losses):
+        self.r, self.losses = random.Random(f"migration {series} {number}"), losses
+
+    def chance(self, percent):
+        return self.r.randrange(100) < percent
+
+    def kinds(self):
+        found = re.findall(r"(\w+) (INT|VARCHAR|VARBINARY|BIGINT|SMALLINT)", self.columns)
+        return {name: "VAR" in kind and kind for name, kind in found if name != "KEY"}
+
+    def value(self, name, number=None):
+        kind = self.kinds()[name]
+        if number is None and name == "v" and "NOT NULL" not in self.columns.partition("v ")[2] and self.chance(15):
+            return "NULL"
+        number = self.r.randrange(1, 9) if number is None else number
+        if name == "v" and self.chance(4):
+            return "'abcde'" if kind == "VARCHAR" else "x'0102030405'" if kind == "VARBINARY" else str(100000 + number)
+        return f"'{'abcdefghij'[number]}'" if kind == "VARCHAR" else f"x'0{number}'" if kind == "VARBINARY" else str(number)
+
+    def row(self, key):
+        return [self.value(name, key + at if name in ("id", "a", "b") else None) for at, name in enumerate(self.kinds())]
+
+    def condition(self):
+        if self.keys and self.chance(75):
+            name = self.r.choice(self.keys)
+            return f" WHERE {name} = {self.value(name, self.r.randrange(1, 9))}"
+        if self.key and self.chance(60):
+            sign, number = self.r.choice(["<", "<=", ">", ">="]), self.r.randrange(1, 9)
+            return f" WHERE {self.key} {sign} {self.value(self.key, number)}"
+        if not self.key and self.chance(70):
+            return f" WHERE a = {self.r.randrange(1, 9)} AND b = {self.r.randrange(1, 9)}"
+        return ""
+
+    def statement(self):
+        names, form = list(self.kinds()), self.r.choice(["insert"] * 4 + ["update"] * 3 + ["delete"] * 2 + ["select", "replace"])
+        if form in ("insert", "replace"):
+            listed = f" ({', '.join(names)})" if self.chance(30) else ""
+            return f"{form.upper()} INTO t{listed} VALUES ({', '.join(self.row(self.r.randrange(1, 9)))})"
+        if form == "delete":
+            return f"DELETE FROM t{self.condition()}"
+        if form == "select":
+            return f"SELECT {self.r.choice(['*', 'COUNT(*)', names[-1]])} FROM t{self.condition()}"
+        name = self.r.choice(["v", "v", names[0]])
+        return f"UPDATE t SET {name} = {self.value(name, self.r.randrange(1, 9) if name != 'v' else None)}{self.condition()}"
+
+    def script(self):
+        lines = []
+        for _ in range(self.r.choice([1, 2, 2, 3])):
+            some = [self.statement() for _ in range(self.r.choice([1, 1, 2, 3]))]
+            lines += ["BEGIN", *some, self.r.choice(["COMMIT"] * 4 + ["ROLLBACK"])] if self.chance(50) else some
+        return "\n".join(lines)
+
+    def words(self, actors):
+        words = ["insp*5"] if self.chance(80) else []
+        for _ in range(self.r.choice([10, 20, 40])):
+            words.append(f"{self.r.choice(actors)}*{self.r.choice([1, 1, 2, 3])}")
+        if self.chance(40):
+            words += ["copy*60", "apply*40", "lock*2", *(f"{it}" for it in actors if it[0] == "c" and it[1:].isdigit()), "insp", "apply*3"]
+        return " ".join(words)
+
+    def faults(self, actors):
+        faults = []
+        for _ in range(self.r.choice([1, 1, 2, 3])):
+            actor = self.r.choice(actors[1:])
+            faults.append(f"turn {self.r.randrange(2, 60)} {actor}" if self.chance(30) else f"{actor} {self.r.randrange(1, 9)} {self.r.choice(['before', 'after'])}")
+        return faults
+
+    def operator(self):
+        return self.r.choice(["throttle\nwait 6\nno-throttle", "wait 4\nchunk-size=1", "wait 9\nunpostpone", "wait 30\npanic"])
+
+    def plan(self):
+        self.columns, self.key, self.keys = self.r.choice(TABLES)
+        rows, clients = [], [self.script() for _ in range(self.r.choice([1, 2, 2, 3]))]
+        for key in sorted(self.r.sample(range(1, 9), self.r.choice([0, 1, 3, 4, 6]))):
+            row = self.row(key)
+            if "m" in self.kinds():
+                row[list(self.kinds()).index("m")] = self.value("m", key) if self.chance(80) else "NULL"
+            rows.append(f"({', '.join(row)})")
+        actors = ["op", "insp", "copy", "copy", "apply", "apply", "lock", "ren", *(f"c{at + 1}" for at in range(len(clients)))]
+        options = {"chunk_size": self.r.choice([1, 2, 3]), "dml_batch_size": self.r.choice([1, 2, 10]), "default_retries": self.r.choice([1, 2, 3])}
+        options |= {"client_wait": self.r.choice([3, 9, 30]), "tool_wait": self.r.choice([4, 12, 40]), "approve_renamed_columns": True}
+        options |= {"max_backlog": self.r.choice([0, 2, 100]), "drain_limit": self.r.choice([3, 20, 2000])}
+        options |= {"ok_to_drop_table": True} if self.chance(20) else {}
+        tree = {"version": 1, "table": "t", "alter": self.r.choice([it for it in ALTERS if "w VARCHAR" not in it or "v VARBINARY" not in self.columns]), "clients": clients, "turns": self.words(actors)}
+        if self.chance(25):
+            tree["operator"] = self.operator()
+            options |= {"postpone": True} if "unpostpone" in tree["operator"] else {}
+        if self.losses:
+            tree["faults"] = self.faults(actors)
+        return {**tree, "options": options, "tables": [{"create": f"CREATE TABLE t ({self.columns})", "rows": rows}]}
+
+
+# ---------------------------------------------------------------------- one plan
+class Pair:
+    """A program and a server; `plants` plants a fault, and `keep` is a folder for the plans with their turns."""
+
+    def __init__(self, program, server, plants=None, keep=None):
+        self.program, self.server, self.plants, self.keep = program, server, plants, keep
+        self.counts = Counter()
+
+    def printed(self, tree):
+        return self.program.run_text("replay", toml(tree))
+
+    def run_on(self, rehearsal, turns, actors, readers=()):
+        """What the program prints after some more turns; `readers` are clients more, whose turns come last."""
+        tree = rehearsal.ordered([*turns, *map(Turn, actors)])
+        first = len(rehearsal.clients) + 1
+        names = [f"c{first + at}" for at in range(len(readers))]
+        tree["clients"] = [*tree.get("clients", []), *readers]
+        tree["turns"] = " ".join([tree["turns"], *names])
+        tree["options"] = {**tree["options"], "turn_limit": len(turns) + len(actors) + len(readers)}
+        text = self.program.asker.run_text("replay", toml(tree)).text
+        return {client: replies_of(text, client) for client in [*rehearsal.clients, *names]}
+
+    def waits_in_model(self, rehearsal):
+        """Whether an actor's next turn waits in the model: of a client, and of the copier's chunk; none where it isn't known."""
+
+        def ask(turns, actor, always=False):
+            if not always and not any(rehearsal.is_open(it) for it in rehearsal.talks if it != actor):
+                return False
+            if actor in rehearsal.clients:
+                known = replied(turns, rehearsal)[actor]
+                replies = self.run_on(rehearsal, turns, [actor])[actor]
+                if replies[: len(known)] != known:
+                    raise Stop(self.class_of(rehearsal, turns) or "UNEXPLAINED", f"the model answers {actor} otherwise before: {known} {replies}\n{toml(rehearsal.ordered(turns))}")
+                return len(replies) == len(known) or replies[-1].endswith("error 1205")
+            return self.is_span_written(rehearsal, turns) if rehearsal.talks[actor].call.what == "chunk" else None
+
+        return ask
+
+    def is_span_written(self, rehearsal, turns):
+        """Whether in the model a value of the chunk is locked by one who writes: then a client that reads it waits as well."""
+        keys = sorted({*rehearsal.keys_within(), *named_keys(rehearsal)}, key=repr)[:MOST_CLIENTS - len(rehearsal.clients)]
+        readers = [f"SELECT * FROM {rehearsal.table} WHERE {equal(rehearsal.tool.key_columns(), key)}" for key in keys]
+        replies = self.run_on(rehearsal, turns, [], readers)
+        return any(not replies[f"c{len(rehearsal.clients) + 1 + at}"] for at in range(len(readers)))
+
+    def common_order(self, rehearsal):
+        """An order of actors that the server answered at once in which the model gives the clients among them the same answers."""
+
+        def ask(found):
+            wanted = {it: rehearsal.reply_of(rehearsal.clients[it], rehearsal.told(rehearsal.talks[it].call, rehearsal.talks[it]))[0] for it in found if it in rehearsal.clients}
+            for order in itertools.permutations(found) if len(found) < 5 and wanted else ():
+                replies = self.run_on(rehearsal, rehearsal.turns, order)
+                if all(replies[client][-1:] == [reply] for client, reply in wanted.items()):
+                    return list(order)
+            return found
+
+        return ask
+
+    def rehearse(self, name, tree):
+        """The class of a plan: `same`, or how it differs."""
+        refused = self.printed(tree)
+        if refused.status == 2:
+            return "the plan is refused", refused.text.strip(), None
+        rehearsal, kind, told = None, "same", ""
+        try:
+            rehearsal = Rehearsal(self.server, tree)
+            rehearsal.model_waits = self.waits_in_model(rehearsal)
+            rehearsal.common_order = self.common_order(rehearsal)
+            if self.plants:
+                self.plants(rehearsal)
+            rehearsal.follow()
+            rehearsal.finish()
+            kind, told = self.compare(name, rehearsal)
+        except Stop as stop:
+            kind, told = stop.kind, stop.told
+        finally:
+            if rehearsal:
+                rehearsal.close()
+                self.counts.update(rehearsal.counts)
+                self.counts["turns"] += len(rehearsal.turns)
+        return kind, told, rehearsal
+
+    def compare(self, name, rehearsal):
+        """The program, given the turns, must print the report that the server's answers make."""
+        turns = rehearsal.turns
+        ours, theirs = self.report(rehearsal, turns), masked(rehearsal.report(turns))
+        if ours == theirs:
+            return self.same(name, rehearsal, turns)
+        waits = sorted(rehearsal.row_waits)
+        for chosen, is_whole in [([it], is_whole) for it in waits for is_whole in (True, False)] + [(waits, True), (waits, False)]:
+            other = turns
+            for wait in chosen:
+                other = in_other_order(other, wait, is_whole)
+            if self.report(rehearsal, other) == masked(rehearsal.report(other)):
+                self.counts["plans with a wait that the model doesn't have"] += 1
+                return self.same(name, rehearsal, other)
+        told = self.class_of(rehearsal, turns) or "UNEXPLAINED"
+        return told, f"{toml(rehearsal.ordered(turns))}--- the program\n{ours}--- the server\n{theirs}"
+
+    def same(self, name, rehearsal, turns):
+        self.counts[f"verdict {rehearsal.verdict_kind.split()[0]}"] += 1
+        for end, text in (("toml", toml(rehearsal.ordered(turns))), ("report", masked(rehearsal.report(turns)))) if self.keep else ():
+            with open(f"{self.keep}/{name.replace(' ', '_').removesuffix('.toml')}.{end}", "w", encoding="utf-8") as file:
+                file.write(text)
+        return "same", ""
+
+    def class_of(self, rehearsal, turns):
+        """The class of the first turn after which the clients' replies differ; none where it is in no class."""
+        low, high = 0, len(turns)  # after `low` turns they are the same
+        while low + 1 < high:
+            middle = (low + high) // 2
+            low, high = (middle, high) if self.run_on(rehearsal, turns[:middle], []) == replied(turns[:middle], rehearsal) else (low, middle)
+        ours, theirs = self.run_on(rehearsal, turns[:high], []), replied(turns[:high], rehearsal)
+        turn = turns[high - 1]
+        if rehearsal.early_at and high >= rehearsal.early_at:
+            return "the server answers where the model waits, and the plan goes another way"
+        if ours == theirs or turn.actor not in rehearsal.clients:
+            return None
+        model, server = (it[turn.actor][-1].split(" ") if it[turn.actor] else [] for it in (ours, theirs))
+        if len(ours[turn.actor]) != len(theirs[turn.actor]):
+            what = "the server answers where the model waits" if len(ours[turn.actor]) < len(theirs[turn.actor]) else "the server waits longer"
+            return f"{what}, and the plan goes another way" if turn.by_rows else None
+        if model[:2] == server[:2] and model[1] == "error":
+            return f"{FAULTS_TOLD}: {model[2]}, and {server[2]} by the server"
+        if turn.line.upper().startswith("REPLACE") and model[1] == server[1] == "ok" and int(model[2]) == int(server[2]) + 1:
+            return "a REPLACE by an equal row counts 1 in the server, and isn't logged"
+        return None
+
+    def report(self, rehearsal, turns):
+        return masked(sorted_rows(self.printed(rehearsal.ordered(turns)).text))
+
+
+def named_keys(rehearsal):
+    """The keys of the copier's chunk that clients name, with a row or without."""
+    (sign, low), end, found = rehearsal.tool.copier.low, rehearsal.tool.copier.end, set()
+    for client in rehearsal.clients.values():
+        for line in client.lines:
+            listed = [it for it in words(line) if it.kind in ("number", "text")]
+            values = [int(it.text) if it.kind == "number" else it.text[1:-1] for it in listed]
+            found |= {tuple(values[at : at + len(end)]) for at in range(len(values) - len(end) + 1)}
+    fitting = [key for key in found if [type(it) for it in key] == [type(it) for it in end]]
+    return [key for key in fitting if low <= key <= end and (sign == ">=" or key != low)]
+
+
+def replied(turns, rehearsal):
+    """The clients' replies from the server."""
+    return {client: [it.reply[1] for it in turns if it.reply and it.reply[0] == client] for client in rehearsal.clients}
+
+
+def replies_of(text, client):
+    found = re.search(rf"^client {client}\n((?:\d+\.\d+ .*\n|\(.*\n)*)", text, re.M)
+    return re.findall(r"^\d+\.\d+ .*$", found.group(1), re.M) if found else []
+
+
+def sorted_rows(text):
+    """A report with the rows of each list sorted."""
+    lines, rows = [], []
+    for line in text.split("\n"):
+        if line.startswith("("):
+            rows.append(line)
+        else:
+            lines += [*sorted(rows), line]
+            rows = []
+    return "\n".join(lines)
+
+
+def masked(text):
+    """A report but for the place in the log, which counts events that the comparison doesn't follow."""
+    return re.sub(r"^reverted spent batch \d+", "reverted spent batch", text)
+
+
+# ---------------------------------------------------------------------- all of them
+def plans_asked(series, first, count):
+    for number in range(first, first + count):
+        yield f"plan {number}", Maker(series, number, number % 2 == 1).plan()
+
+
+def given_plans():
+    """The examples, and the plans that were worked out by hand."""
+    yield from plans_of_folder(f"{TOP}/examples")
+    yield from plans_of_cases("worked")
+
+
+def run_all(pair, plans, says, kinds):
+    for name, tree in plans:
+        kind, told, _ = pair.rehearse(name, tree)
+        kinds.setdefault(kind, []).append(name)
+        if kind != "same" and says or not is_explained(kind):
+            print(f"{name}: {kind}: {told}", flush=True)
+
+
+def cuts(rehearsal):
+    """gh-ost's own copy of a row."""
+    copy_of = rehearsal.tool.copy_of
+    rehearsal.tool.copy_of = lambda key: copy_of(key).replace("INSERT INTO", "INSERT IGNORE INTO").partition(" ON DUPLICATE")[0]
+
+
+def another_default(rehearsal):
+    alter = rehearsal.alter()
+    rehearsal.alter = lambda: alter.replace("DEFAULT 7", "DEFAULT 8")
+
+
+def no_removal(rehearsal):
+    rehearsal.tool.removal = lambda row: ("DO 0", rehearsal.tool.key_of(row))
+
+
+def no_lock(rehearsal):
+    """Another table in place of the migrated one."""
+    given = rehearsal.tool.given_lock
+
+    def given_lock():
+        call = given()
+        if call and call.what == "lock tables":
+            call.lines = [f"LOCK TABLES {rehearsal.tool.old} WRITE"]
+        return call
+
+    rehearsal.tool.given_lock = given_lock
+
+
+FAULTS = {"another DEFAULT in the new table": another_default, "an applier without DELETE": no_removal, "LOCK TABLES without the table": no_lock}
+
+
+def plant_faults(program):
+    """The status: 0 where each planted fault is told by some plan."""
+    plans, missed = list(plans_of_cases("worked")) + list(plans_of_folder(CLASSES)), 0
+    with Server(*log_options()) as server:
+        for fault, plants in FAULTS.items():
+            planted, plain = Pair(program, server, plants), Pair(program, server)
+            told = [name for name, tree in plans if plain.rehearse(name, tree)[0] == "same" and planted.rehearse(name, tree)[0] != "same"]
+            print(f"planted: {fault}: told by {len(told)} of {len(plans)} plans", flush=True)
+            missed += not told
+    return 1 if missed else 0
+
+
+def show_classes(program):
+    """Each plan of the folder begins with the class that it shows."""
+    wrong, shown = [], set()
+    with Server(*log_options()) as server:
+        for name, tree in plans_of_folder(CLASSES):
+            with open(f"{CLASSES}/{name}", encoding="utf-8") as file:
+                wanted, second = file.readline().removeprefix("# ").strip(), file.readline()
+            pair = Pair(program, server, cuts if second.startswith("# with INSERT IGNORE") else None)
+            kind = pair.rehearse(name, tree)[0]
+            shown.add(wanted)
+            if wanted != kind and not (kind == "same" and wanted in pair.counts):
+                wrong.append(f"{name} shows {kind}, and not: {wanted}")
+    print("\n".join(wrong) if wrong else f"{len(shown)} classes are shown")
+    return 1 if wrong else 0
+
+
+def compare_migrations(program, plans, says, keep=None):
+    """The status: 0 where each plan is the same, or differs by a class that is told. What was done is told also where it is stopped."""
+    kinds, counts, version = {}, Counter(), ""
+    try:
+        with Server(*log_options()) as server:
+            pair = Pair(program, server, keep=keep)
+            counts, version = pair.counts, server.version
+            run_all(pair, plans, says, kinds)
+    finally:
+        tell(kinds, counts, version)
+    return 0 if all(map(is_explained, kinds)) else 1
+
+
+def tell(kinds, counts, version):
+    print(f"server: {version}\nplans: {sum(map(len, kinds.values()))}")
+    for kind, names in sorted(kinds.items(), key=lambda it: -len(it[1])):
+        print(f"{len(names):7} {kind}{'' if kind == 'same' or len(names) > 12 else ': ' + ', '.join(names)}")
+    print("of all of them:")
+    for what, number in sorted(counts.items()):
+        print(f"{number:7} {what}")
+
+
+def replay_kept(program, folder):
+    """Replays the plans of a folder that a run kept: the program must print each report. No server is asked."""
+    names = sorted(it.removesuffix(".toml") for it in os.listdir(folder) if it.endswith(".toml"))
+    other = []
+    for name in names:
+        with open(f"{folder}/{name}.toml", encoding="utf-8") as plan, open(f"{folder}/{name}.report", encoding="utf-8") as wanted:
+            if masked(sorted_rows(program.run_text("replay", plan.read()).text)) != wanted.read():
+                other.append(name)
+    print(f"{len(names) - len(other)} of {len(names)} kept plans print their report{': not ' + ', '.join(other) if other else ''}")
+    return 1 if other or not names else 0
+
+
+def is_explained(kind):
+    return kind in EXPLAINED or kind in ("same", "the plan is refused") or kind.startswith(FAULTS_TOLD)
+
+
+def log_options():
+    return ("--log-bin=log", *LOG_OPTIONS)
