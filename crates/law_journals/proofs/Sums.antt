@@ -14,7 +14,7 @@ use Rattle.tool_program.specs.Orders.{actors, is_ready}
 use Rattle.tool_program.specs.Programs.{given}
 use Rattle.tool_program.specs.Verdicts.{has_ended}
 use Rattle.proof_journals.specs.Run.Kept.{IsKept}
-use Rattle.proof_plans.specs.ReadPlans.Laws.{WasRead, ReadPlansAreRunnable}
+use Rattle.proof_plans.specs.ReadPlans.Laws.{WasRead, ReadPlansAreRunnable, ReadPlansAreSerial}
 use Rattle.proof_plans.specs.ReadPlans.Options.{ReadOptionsAllow}
 use Rattle.proof_plans.specs.Complete.Laws.{SmoothRunsAreDone}
 use Rattle.proof_plans.specs.Laws.{AcceptedRunsGoOn}
@@ -27,7 +27,8 @@ use Rattle.proof_bounds.specs.Terms.{term_of}
 use Rattle.proof_bounds.specs.Parts.{OfOperator, OfClients, OfSetup, OfChunks, OfBatches, OfAttempts, OfClearing}
 use Rattle.proof_bounds.specs.Setups.{SetupTurnsAreFew}
 use Rattle.proof_bounds.specs.Clearings.{ClearingTurnsAreFew}
-use Rattle.law_journals.specs.Bounds.{GoingBoundsSetups, GoingBoundsClearings, OperatorIsBounded, ClientsAreBounded, AreBounded, PartsBoundRuns, AcceptedSmoothRunsAreDone, RoomyRunsEnd}
+use Rattle.proof_bounds.proofs.Going.{setups_go, clearings_go}
+use Rattle.law_journals.specs.Bounds.{OperatorIsBounded, ClientsAreBounded, SetupIsBounded, ClearingIsBounded, AreBounded, PartsBoundRuns, AcceptedSmoothRunsAreDone, RoomyRunsEnd}
 
 -- *The operator's part*
 pub operator_bounded : OperatorTurnsAreFew → OperatorIsBounded
@@ -39,14 +40,14 @@ clients_bounded law options runnable plan journal was kept =
     let allowed = options was.bytes plan was.is in
     law plan journal (record { client = allowed.client; tool = allowed.tool }) (runnable plan was).fitting.scripts kept.faithful kept.follows
 
--- *The setup's part, and what is cleared up*, where they go on
-pub setups_bounded : SetupTurnsAreFew → GoingBoundsSetups
-setups_bounded law goes plan journal was kept = law plan journal kept.planned (goes plan journal was kept)
+-- *The setup's part, and what is cleared up*: both go on
+pub setups_bounded : SetupTurnsAreFew → ReadPlansAreRunnable → ReadPlansAreSerial → SetupIsBounded
+setups_bounded law runnable serial plan journal was kept = law plan journal kept.planned (setups_go plan journal (runnable plan was) (serial was.bytes plan was.is) kept)
 
-pub clearings_bounded : ClearingTurnsAreFew → ReadOptionsAllow → ReadPlansAreRunnable → GoingBoundsClearings
-clearings_bounded law options runnable goes plan journal was kept =
+pub clearings_bounded : ClearingTurnsAreFew → ReadOptionsAllow → ReadPlansAreRunnable → ReadPlansAreSerial → ClearingIsBounded
+clearings_bounded law options runnable serial plan journal was kept =
     let allowed = options was.bytes plan was.is in
-    law plan journal (record { client = allowed.client; tool = allowed.tool }) (runnable plan was).fitting.scripts kept.faithful kept.planned kept.follows (goes plan journal was kept)
+    law plan journal (record { client = allowed.client; tool = allowed.tool }) (runnable plan was).fitting.scripts kept.faithful kept.planned kept.follows (clearings_go plan journal (runnable plan was) (serial was.bytes plan was.is) kept)
 
 -- THE SUM
 

@@ -1,6 +1,5 @@
 -- How many turns a run of an accepted plan takes, and what follows for its end.
-use Rattle.std.specs.Prelude.{◌≡◌, ◌≤◌, ◌<◌, ◌⊎◌, true, false, List, length, []}
-use Rattle.server_model.specs.Along.{Along}
+use Rattle.std.specs.Prelude.{◌≡◌, ◌≤◌, ◌<◌, ◌⊎◌, true, false, List, length}
 use Rattle.server_model.specs.declared.entry.Entry.{Entry}
 use Rattle.server_model.specs.declared.outcome.Verdict.TheVariants.{Done}
 use Rattle.plan_data.specs.PlanData.{PlanData}
@@ -8,8 +7,6 @@ use Rattle.tool_program.specs.Verdicts.{has_ended, verdict_of}
 use Rattle.proof_journals.specs.Run.Kept.{IsKept}
 use Rattle.proof_plans.specs.ReadPlans.Laws.{WasRead}
 use Rattle.proof_plans.specs.Complete.Laws.{IsSmoothRun}
-use Rattle.proof_bounds.specs.Setups.{SetupGoes}
-use Rattle.proof_bounds.specs.Clearings.{ClearingGoes}
 use Rattle.proof_bounds.specs.Parts.{Part, OfOperator, OfClients, OfSetup, OfChunks, OfBatches, OfAttempts, OfClearing, turns_of_part}
 use Rattle.tool_program.specs.JournalWords.Bounds.{measures, bound}
 use Rattle.proof_bounds.specs.Terms.{term_of}
@@ -23,6 +20,12 @@ OperatorIsBounded = IsBounded OfOperator
 
 abbrev pub ClientsAreBounded : Type 0
 ClientsAreBounded = IsBounded OfClients
+
+abbrev pub SetupIsBounded : Type 0
+SetupIsBounded = IsBounded OfSetup
+
+abbrev pub ClearingIsBounded : Type 0
+ClearingIsBounded = IsBounded OfClearing
 
 -- each part is
 pub record AreBounded : Type 0 where
@@ -51,17 +54,3 @@ AcceptedSmoothRunsAreDone = (plan : PlanData) (journal : List Entry) → WasRead
 abbrev pub RoomyRunsEnd : Type 0
 RoomyRunsEnd =
     RunsAreBounded → (plan : PlanData) (journal : List Entry) → WasRead plan → IsKept plan journal → bound plan ≤ plan.options.turn_limit → (has_ended plan journal ≡ true) ⊎ (length journal ≡ plan.options.turn_limit) → has_ended plan journal ≡ true
-
--- *Setups go on*, and so does what is done after the RENAME: what is still to be proved of the server's answers for these two parts
-abbrev pub SetupsGoOn : Type 0
-SetupsGoOn = (plan : PlanData) (journal : List Entry) → WasRead plan → IsKept plan journal → Along (SetupGoes plan) [] journal
-
-abbrev pub ClearingsGoOn : Type 0
-ClearingsGoOn = (plan : PlanData) (journal : List Entry) → WasRead plan → IsKept plan journal → Along (ClearingGoes plan) [] journal
-
--- *Going bounds*: where they do, the two parts are bounded
-abbrev pub GoingBoundsSetups : Type 0
-GoingBoundsSetups = SetupsGoOn → IsBounded OfSetup
-
-abbrev pub GoingBoundsClearings : Type 0
-GoingBoundsClearings = ClearingsGoOn → IsBounded OfClearing

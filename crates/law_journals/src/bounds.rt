@@ -5,10 +5,10 @@ ghost use Rattle.proof_bounds.specs.Laws.{PartsMakeJournals, LossesStrikeOnce, O
 ghost use Rattle.proof_bounds.specs.Rows.{RowsAreFew, KeysAreThose};
 ghost use Rattle.proof_bounds.specs.Setups.{SetupTurnsAreFew};
 ghost use Rattle.proof_bounds.specs.Tries.{TriesAreFew};
-ghost use Rattle.law_journals.specs.Bounds.{GoingBoundsSetups, GoingBoundsClearings, OperatorIsBounded, ClientsAreBounded, PartsBoundRuns, AcceptedSmoothRunsAreDone, RoomyRunsEnd};
+ghost use Rattle.law_journals.specs.Bounds.{OperatorIsBounded, ClientsAreBounded, SetupIsBounded, ClearingIsBounded, PartsBoundRuns, AcceptedSmoothRunsAreDone, RoomyRunsEnd};
 
 use crate::completion::smooth_runs_are_done;
-use crate::plans::{read_options_allow, read_plans_are_runnable};
+use crate::plans::{read_options_allow, read_plans_are_runnable, read_plans_are_serial};
 use crate::runs::accepted_runs_go_on;
 use run_turns::due_turns::due_turns_are_kept;
 
@@ -66,27 +66,21 @@ pub fn clearing_turns_are_few()
     ensures { ClearingTurnsAreFew }
 {}
 
-/// A run of an accepted plan has at most as many turns of the operator's, and of its clients', as their terms say.
+/// A run of an accepted plan has at most as many turns of the operator's, of its clients', of the setup, and of losses with
+/// what is cleared up, as their terms say.
 pub fn some_parts_are_bounded()
     ensures operator { OperatorIsBounded }
     ensures clients { ClientsAreBounded }
+    ensures setup { SetupIsBounded }
+    ensures clearing { ClearingIsBounded }
 {
     operator_turns_are_few();
     client_turns_are_few();
-    read_options_allow();
-    read_plans_are_runnable();
-}
-
-/// Where the setup goes on, so is its part; and where what is done after the RENAME goes on, so are losses and what is
-/// cleared up.
-pub fn going_parts_are_bounded()
-    ensures setups { GoingBoundsSetups }
-    ensures clearings { GoingBoundsClearings }
-{
     setup_turns_are_few();
     clearing_turns_are_few();
     read_options_allow();
     read_plans_are_runnable();
+    read_plans_are_serial();
 }
 
 /// Where each part is bounded, a run that hasn't ended has fewer turns than the sum of the terms.

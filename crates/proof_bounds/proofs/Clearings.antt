@@ -33,7 +33,7 @@ use Rattle.tool_program.specs.declared.cutover_core.cutover.Role.TheVariants.{In
 use Rattle.tool_program.specs.ChunkCopier.Copiers as copiers
 use Rattle.tool_program.specs.EventApplier.Appliers as appliers
 use Rattle.tool_program.specs.CutoverCore.CutOvers as cutovers
-use Rattle.tool_program.specs.CutoverCore.CutOvers.{is_done, is_bad}
+use Rattle.tool_program.specs.CutoverCore.CutOvers.{is_done}
 use Rattle.tool_program.specs.Operators.{commanded}
 use Rattle.tool_program.specs.Programs.{given, IsGiven, Follows}
 use Rattle.tool_program.specs.Tools.{ToolPhase, SettingUp, Migrating, Panicked, Tool, Moment, Work, is_reverting, is_failure, stopped, resizes, actor_took, copy_took, apply_took, cutover_took, turn_counts, drains, command_took, asked_took, took, moment}
