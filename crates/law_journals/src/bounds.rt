@@ -1,5 +1,6 @@
 //! How many turns a run takes, part by part: `proof_bounds` says which part a turn is of, and what each part's term is.
 
+ghost use Rattle.proof_bounds.specs.Attempts.{AttemptsAreFew};
 ghost use Rattle.proof_bounds.specs.Clearings.{ClearingTurnsAreFew};
 ghost use Rattle.proof_bounds.specs.Laws.{PartsMakeJournals, LossesStrikeOnce, OperatorTurnsAreFew, ClientTurnsAreFew, RollbacksAreFew};
 ghost use Rattle.proof_bounds.specs.Rows.{RowsAreFew, KeysAreThose};
@@ -52,6 +53,11 @@ pub fn rollbacks_are_few()
 /// often while nothing is reverted.
 pub fn tries_are_few()
     ensures { TriesAreFew }
+{}
+
+/// After every journal that follows the program at most as many attempts are begun as the plan lets a task be tried.
+pub fn attempts_are_few()
+    ensures { AttemptsAreFew }
 {}
 
 /// Where each turn of the setup that isn't lost goes on, a journal that keeps its plan has at most eight turns of it, and
