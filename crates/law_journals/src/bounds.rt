@@ -6,6 +6,7 @@ ghost use Rattle.proof_bounds.specs.Laws.{PartsMakeJournals, LossesStrikeOnce, O
 ghost use Rattle.proof_bounds.specs.Rows.{RowsAreFew, KeysAreThose};
 ghost use Rattle.proof_bounds.specs.Setups.{SetupTurnsAreFew};
 ghost use Rattle.proof_bounds.specs.Tries.{TriesAreFew};
+ghost use Rattle.proof_bounds.specs.Waits.{InspectorsNeverWait};
 ghost use Rattle.law_journals.specs.Bounds.{OperatorIsBounded, ClientsAreBounded, SetupIsBounded, ClearingIsBounded, PartsBoundRuns, AcceptedSmoothRunsAreDone, RoomyRunsEnd};
 
 use crate::completion::smooth_runs_are_done;
@@ -53,6 +54,11 @@ pub fn rollbacks_are_few()
 /// often while nothing is reverted.
 pub fn tries_are_few()
     ensures { TriesAreFew }
+{}
+
+/// After every journal of a runnable plan that is kept, no request of the inspector's waits.
+pub fn inspectors_never_wait()
+    ensures { InspectorsNeverWait }
 {}
 
 /// After every journal that follows the program at most as many attempts are begun as the plan lets a task be tried.

@@ -93,6 +93,7 @@ use Rattle.proof_migration.proofs.ToolPhase.ToolPhaseTurns.{Kept, UnfitKeeps, Co
 use Rattle.proof_migration.proofs.ToolPhase.Unaltered.Away.{log_is_tool, ghost_is_tool}
 use Rattle.proof_bounds.specs.Clearings.{phase_left, ClearingGoes}
 use Rattle.proof_bounds.specs.Setups.{names_left, setup_left, SetupGoes}
+use Rattle.proof_bounds.specs.Waits.{InspectorsNeverWait}
 use Rattle.proof_bounds.proofs.FreeNames.{IsAway, away_forbidden, away_free, free_name, at_once, drops_ok, creates_ok, ends_ok}
 use Rattle.proof_bounds.proofs.Holders.{along_of, each_kept, IsHeldWell, held_well_more, held_well_begins, old_not_log}
 use Rattle.proof_bounds.proofs.Leftovers.{IsLeft, SetupFits, has_stays, setup_stay, clearing_fits, old_is_tool, first_is_tool, first_exists, listed_fewer, dropped_fewer, IsLeftAtEnd, ClearingFits, PhaseFits, RestsOrLocks, WorkFits, phase_stay, work_stay, undone_fits, ends_with, lists_end, end_is_old, end_exists, end_fewer, end_listed}
@@ -1074,3 +1075,7 @@ pub clearings_go : (plan : PlanData) (journal : List Entry) → IsRunnable plan 
 clearings_go plan journal runs serial kept =
     along_of plan (ClearingGoes plan)
     (λ before entry one. clearing_goes plan runs before entry (kept_front plan before (entry ∷ []) one) (kept_run plan before entry one) (all_going plan before runs serial (kept_front plan before (entry ∷ []) one))) [] journal kept
+
+-- *Inspectors never wait*
+pub never_waits : InspectorsNeverWait
+never_waits plan journal runs serial kept = (all_going plan journal runs serial kept).idle
