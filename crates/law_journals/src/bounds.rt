@@ -2,6 +2,7 @@
 
 ghost use Rattle.proof_bounds.specs.Attempts.{AttemptsAreFew};
 ghost use Rattle.proof_bounds.specs.Clearings.{ClearingTurnsAreFew};
+ghost use Rattle.proof_bounds.specs.Guards.{SentriesAreMadeAtOnce};
 ghost use Rattle.proof_bounds.specs.Laws.{PartsMakeJournals, LossesStrikeOnce, OperatorTurnsAreFew, ClientTurnsAreFew, RollbacksAreFew};
 ghost use Rattle.proof_bounds.specs.Rows.{RowsAreFew, KeysAreThose};
 ghost use Rattle.proof_bounds.specs.Setups.{SetupTurnsAreFew};
@@ -59,6 +60,12 @@ pub fn tries_are_few()
 /// After every journal of a runnable plan that is kept, no request of the inspector's waits.
 pub fn inspectors_never_wait()
     ensures { InspectorsNeverWait }
+{}
+
+/// In every journal of a runnable plan that is kept no CREATE of a sentry waits: while no attempt is under way, nobody but
+/// its locker has the sentry's name.
+pub fn sentries_are_made_at_once()
+    ensures { SentriesAreMadeAtOnce }
 {}
 
 /// After every journal that follows the program at most as many attempts are begun as the plan lets a task be tried.

@@ -1,4 +1,4 @@
--- Which names are free for the inspector, and what its calls are answered then.
+-- Which names are free for an actor, and what its calls are answered then.
 use Rattle.std.proofs.Common.{◌≡◌, ℕ, Bool, true, false, cond, not, ◌||◌, List, [], ◌∷◌, Option, Some, None, refl, sym, ap, ◌∙◌, subst}
 use Rattle.std.specs.Prelude.{◌==◌, is_some}
 use Rattle.std.specs.List.{AllByRecursion}
@@ -6,7 +6,6 @@ use Rattle.std.specs.Option.{option_map}
 use Rattle.std.specs.Str.{bytes_eq}
 use Rattle.std.proofs.lemmas.Bool.{true≢false}
 use Rattle.base_script.specs.declared.actor.Actor.{Actor}
-use Rattle.base_script.specs.declared.actor.Actor.TheVariants.{Insp}
 use Rattle.base_values.specs.declared.gho_schema.schema.Schema.{Schema}
 use Rattle.base_values.specs.declared.value.Value.{Value}
 use Rattle.base_values.specs.GhoSchema.Rows.{key_places}
@@ -153,7 +152,7 @@ module _ (plan : PlanData) (journal : List Entry) (is : IsHeldWell plan journal)
           locks = subst (λ (locks : List RowLock). AllByRecursion (λ (one : RowLock). Off name one.table) locks) (sym (ap (λ (h : SessionHold). h.locks) hold)) tt;
         }
 
-module _ (plan : PlanData) (runs : IsRunnable plan) (journal : List Entry) (entry : Entry) (kept : IsKept plan journal) (run : IsRun plan journal entry) (is : IsHeldWell plan journal) (same : entry.actor ≡ Insp) where
+module _ (plan : PlanData) (runs : IsRunnable plan) (journal : List Entry) (entry : Entry) (kept : IsKept plan journal) (run : IsRun plan journal entry) (is : IsHeldWell plan journal) (own : Actor) (same : entry.actor ≡ own) where
   abbrev before : State
   before = state_at plan journal
 
@@ -169,9 +168,9 @@ module _ (plan : PlanData) (runs : IsRunnable plan) (journal : List Entry) (entr
   owned : AllOwned plan journal
   owned = (together_owned plan journal kept.faithful kept.follows).owned
 
-  -- its session is the inspector's
+  -- its session is this actor's
   module _ (called : is_command entry.asked ≡ false) where
-    own_session : (n : ℕ) → live_session journal Insp ≡ Some n → (n == entry.session) ≡ true
+    own_session : (n : ℕ) → live_session journal own ≡ Some n → (n == entry.session) ≡ true
     own_session n lives = by (placed journal entry served.seated) where
       some_same : (a b : ℕ) → Some a ≡ Some b → a ≡ b
       some_same a b both = cc
@@ -183,11 +182,11 @@ module _ (plan : PlanData) (runs : IsRunnable plan) (journal : List Entry) (entr
         no : None ≡ Some n → ⊥
         no both = cc
 
-    module _ (name : List ℕ) (away : (a : Actor) → same_actor a Insp ≡ false → IsAway plan journal is a name) where
+    module _ (name : List ℕ) (away : (a : Actor) → same_actor a own ≡ false → IsAway plan journal is a name) where
       owner_away : (n : ℕ) → (n == entry.session) ≡ false → IsOwned journal n → (P : Type 0) → ((a : Actor) → live_session journal a ≡ Some n → IsAway plan journal is a name → P) → P
-      owner_away n differ owner P then = by (same_actor owner.actor Insp) refl where
-        by : (b : Bool) → same_actor owner.actor Insp ≡ b → P
-        by true inspects = absurd (true≢false (sym (own_session n (ap (live_session journal) (sym (same_actor_is owner.actor Insp inspects)) ∙ owner.lives)) ∙ differ))
+      owner_away n differ owner P then = by (same_actor owner.actor own) refl where
+        by : (b : Bool) → same_actor owner.actor own ≡ b → P
+        by true is_own = absurd (true≢false (sym (own_session n (ap (live_session journal) (sym (same_actor_is owner.actor own is_own)) ∙ owner.lives)) ∙ differ))
         by false other = then owner.actor owner.lives (away owner.actor other)
 
       held_off : (n : ℕ) → (n == entry.session) ≡ false → WithinIn (Off name) (session_of n before.sessions)

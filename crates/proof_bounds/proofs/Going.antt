@@ -290,7 +290,7 @@ module _ (plan : PlanData) (runs : IsRunnable plan) (journal : List Entry) (entr
   insp_stands (SettingUp setup tries) eq = ((setup_has setup tries eq).inspector.busy, (setup_has setup tries eq).inspector.locked)
   insp_stands (Migrating work) eq = ((work_has work eq).inspector.busy, (work_has work eq).inspector.locked)
 
-  insp_free : has Insp ≡ free
+  pub insp_free : has Insp ≡ free
   insp_free = same (has Insp) (insp_stands now.tool.tool_phase refl).0 (insp_stands now.tool.tool_phase refl).1 is.idle where
     same : (one : Standing) → one.busy ≡ false → one.locked ≡ [] → one.waits ≡ None → one ≡ free
     same one busy locked waits = λ i. record { busy = busy i; locked = locked i; waits = waits i }
@@ -322,7 +322,7 @@ module _ (plan : PlanData) (runs : IsRunnable plan) (journal : List Entry) (entr
     setup_away name tool_name Ren differ = away_free plan journal is.names Ren name (setup_has setup tries eq).renamer
 
     setup_free : (called : is_command entry.asked ≡ false) (name : List ℕ) → is_tool_name plan.table name ≡ true → IsFreeName (opens entry (state_at plan journal)) entry.session name
-    setup_free called name tool_name = free_name plan runs journal entry kept run is.names same called name (setup_away name tool_name)
+    setup_free called name tool_name = free_name plan runs journal entry kept run is.names Insp same called name (setup_away name tool_name)
 
     -- what each call is answered, where its session isn't lost
     abbrev SetupAnswer : Setup → Answer → Type 0
@@ -346,15 +346,15 @@ module _ (plan : PlanData) (runs : IsRunnable plan) (journal : List Entry) (entr
       by asks answer lists fits = absurd cc
     setup_answer (Clearing left) at request asks call no_side =
         some_request (λ (r : Request). entry.asked ≡ Call r → SetupAnswer (Clearing left) entry.answer) (requests.Drop (first_name plan.table left)) request call
-        (λ asks. drops_ok plan runs journal entry kept run is.names same (ap is_command asks) (first_name plan.table left) asks no_side (insp_unlocked same) (setup_free (ap is_command asks) (first_name plan.table left) (first_is_tool plan.table left))
+        (λ asks. drops_ok plan runs journal entry kept run is.names Insp same (ap is_command asks) (first_name plan.table left) asks no_side (insp_unlocked same) (setup_free (ap is_command asks) (first_name plan.table left) (first_is_tool plan.table left))
         (first_exists plan before left (subst (SetupFits plan before) at (setup_fits setup tries eq)))) asks
     setup_answer MakingLog at request asks call no_side =
         some_request (λ (r : Request). entry.asked ≡ Call r → SetupAnswer MakingLog entry.answer) (requests.Create (log_schema plan.table)) request call
-        (λ asks. creates_ok plan runs journal entry kept run is.names same (ap is_command asks) (log_schema plan.table) asks no_side (insp_unlocked same) (setup_free (ap is_command asks) (log_name plan.table) (log_is_tool plan.table))
+        (λ asks. creates_ok plan runs journal entry kept run is.names Insp same (ap is_command asks) (log_schema plan.table) asks no_side (insp_unlocked same) (setup_free (ap is_command asks) (log_name plan.table) (log_is_tool plan.table))
         (subst (SetupFits plan before) at (setup_fits setup tries eq)).0) asks
     setup_answer MakingGhost at request asks call no_side =
         some_request (λ (r : Request). entry.asked ≡ Call r → SetupAnswer MakingGhost entry.answer) _ request call
-        (λ asks. creates_ok plan runs journal entry kept run is.names same (ap is_command asks) _ asks no_side (insp_unlocked same) (setup_free (ap is_command asks) (ghost_name plan.table) (ghost_is_tool plan.table))
+        (λ asks. creates_ok plan runs journal entry kept run is.names Insp same (ap is_command asks) _ asks no_side (insp_unlocked same) (setup_free (ap is_command asks) (ghost_name plan.table) (ghost_is_tool plan.table))
         (subst (SetupFits plan before) at (setup_fits setup tries eq))) asks
     setup_answer Marking at request asks call no_side = some_request (λ (r : Request). entry.asked ≡ Call r → SetupAnswer Marking entry.answer) requests.LogEnd request call (λ asks. by entry.answer refl (heard_fits requests.LogEnd asks no_side)) asks where
       by : (answer : Answer) → entry.answer ≡ answer → serves_to requests.LogEnd answer ≡ true → SetupAnswer Marking entry.answer
@@ -362,7 +362,7 @@ module _ (plan : PlanData) (runs : IsRunnable plan) (journal : List Entry) (entr
       by answer marks fits = absurd cc
     setup_answer (Reaching position) at request asks call no_side =
         some_request (λ (r : Request). entry.asked ≡ Call r → SetupAnswer (Reaching position) entry.answer) (requests.Ends plan.table) request call
-        (λ asks. ends_ok plan runs journal entry kept run is.names same (ap is_command asks) plan.table (old_schema plan) asks no_side (insp_unlocked same) spared tables.old) asks where
+        (λ asks. ends_ok plan runs journal entry kept run is.names Insp same (ap is_command asks) plan.table (old_schema plan) asks no_side (insp_unlocked same) spared tables.old) asks where
           tables : SetupTables plan before has setup
           tables = subst (ToolPhaseTables plan before has) eq is.standing.tabled.tables
 
@@ -516,13 +516,13 @@ module _ (plan : PlanData) (runs : IsRunnable plan) (journal : List Entry) (entr
 
     module _ (same : entry.actor ≡ Insp) where
       log_free : (called : is_command entry.asked ≡ false) → IsFreeName (opens entry (state_at plan journal)) entry.session (log_name plan.table)
-      log_free called = free_name plan runs journal entry kept run is.names same called (log_name plan.table) log_away
+      log_free called = free_name plan runs journal entry kept run is.names Insp same called (log_name plan.table) log_away
 
       old_free : work.cutover.hold ≡ Nothing → work.cutover.renamer_waits ≡ false → (called : is_command entry.asked ≡ false) → IsFreeName (opens entry (state_at plan journal)) entry.session (old_name plan.table)
-      old_free nothing off called = free_name plan runs journal entry kept run is.names same called (old_name plan.table) (old_away nothing off)
+      old_free nothing off called = free_name plan runs journal entry kept run is.names Insp same called (old_name plan.table) (old_away nothing off)
 
       done_if : (request : Request) → entry.asked ≡ Call request → entry.side ≡ None → AllByRecursion (IsFreeName (opens entry (state_at plan journal)) entry.session) (names_in request) → IsDone entry.answer
-      done_if request asks no_side all = at_once plan runs journal entry kept run is.names same (ap is_command asks) request asks no_side all
+      done_if request asks no_side all = at_once plan runs journal entry kept run is.names Insp same (ap is_command asks) request asks no_side all
 
       -- a drop at an attempt's end, and one after the RENAME
       drop_done : (left : Leftovers) → left.new_table ≡ false → work.cutover.hold ≡ Nothing → work.cutover.renamer_waits ≡ false → (called : is_command entry.asked ≡ false) → IsFreeName (opens entry (state_at plan journal)) entry.session (first_name plan.table left)
@@ -573,7 +573,7 @@ module _ (plan : PlanData) (runs : IsRunnable plan) (journal : List Entry) (entr
           some_request (λ (r : Request). entry.asked ≡ Call r → (entry.asked ≡ Call (requests.Drop (first_name plan.table left))) × (entry.side ≡ None → entry.answer ≡ ok)) (requests.Drop (first_name work.cutover.table left)) request call
           (λ asks. let one : entry.asked ≡ Call (requests.Drop (first_name plan.table left)) = asks ∙ ap (λ (n : List ℕ). Call (requests.Drop n)) (own_first left) in (
             one,
-            λ no_side. drops_ok plan runs journal entry kept run is.names same (ap is_command one) (first_name plan.table left) one no_side (insp_unlocked same)
+            λ no_side. drops_ok plan runs journal entry kept run is.names Insp same (ap is_command one) (first_name plan.table left) one no_side (insp_unlocked same)
                 (let parts = fits.done (ap is_done in_phase) in drop_done left left_fits.ghost parts.0 parts.1 (ap is_command one)) (end_exists plan before left left_fits),
           )) asks where
             left_fits : IsLeftAtEnd plan before left
