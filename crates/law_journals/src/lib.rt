@@ -5,10 +5,11 @@
 //! is what such plans have. Of every history: `histories`, `turns`, `machines`, `server_turns`, `server_states`. The ghost
 //! relation stands in `ghost_relation`, `ghost_rows` and `ghost_turns`, the sentry relation in `sentry`. Of every journal
 //! that follows the program: `migration`, `chunks`, `program`, `cut_over`, `hints`, `sessions`, `attempts`, `causes` and
-//! `progress`; and so `unaltered`, `marked` and `reverts`, by which kept journals are serial.
+//! `progress`; and so `unaltered`, `marked` and `reverts`, by which kept journals are serial. `bounds` counts turns.
 #![tactic(auto)]
 
 pub mod attempts;
+pub mod bounds;
 pub mod causes;
 pub mod chunks;
 pub mod completion;

@@ -1,0 +1,122 @@
+//! How many turns a run takes, part by part: `proof_bounds` says which part a turn is of, and what each part's term is.
+
+ghost use Rattle.proof_bounds.specs.Attempts.{AttemptsAreFew};
+ghost use Rattle.proof_bounds.specs.Clearings.{ClearingTurnsAreFew};
+ghost use Rattle.proof_bounds.specs.Guards.{SentriesAreMadeAtOnce};
+ghost use Rattle.proof_bounds.specs.Laws.{PartsMakeJournals, LossesStrikeOnce, OperatorTurnsAreFew, ClientTurnsAreFew, RollbacksAreFew};
+ghost use Rattle.proof_bounds.specs.Rows.{RowsAreFew, KeysAreThose};
+ghost use Rattle.proof_bounds.specs.Setups.{SetupTurnsAreFew};
+ghost use Rattle.proof_bounds.specs.Tries.{TriesAreFew};
+ghost use Rattle.proof_bounds.specs.Waits.{InspectorsNeverWait};
+ghost use Rattle.law_journals.specs.Bounds.{OperatorIsBounded, ClientsAreBounded, SetupIsBounded, ClearingIsBounded, PartsBoundRuns, AcceptedSmoothRunsAreDone, RoomyRunsEnd};
+
+use crate::completion::smooth_runs_are_done;
+use crate::plans::{read_options_allow, read_plans_are_runnable, read_plans_are_serial};
+use crate::runs::accepted_runs_go_on;
+use run_turns::due_turns::due_turns_are_kept;
+
+/// Each turn of a journal is of one part.
+pub fn parts_make_journals()
+    ensures { PartsMakeJournals }
+{}
+
+/// A journal that keeps its plan has at most as many turns of the operator's as the plan has commands for it.
+pub fn operator_turns_are_few()
+    ensures { OperatorTurnsAreFew }
+{}
+
+/// A journal that keeps its plan has at most as many turns in which a session is lost as the plan has losses.
+pub fn losses_strike_once()
+    ensures { LossesStrikeOnce }
+{}
+
+/// A journal that is faithful and follows the program has at most as many turns of clients as their lines may take: one
+/// each, and as many more as a client's wait is polled.
+pub fn client_turns_are_few()
+    ensures { ClientTurnsAreFew }
+{}
+
+/// After events that fit a table it has at most as many rows as at first, and one more for each WRITE.
+pub fn rows_are_few()
+    ensures { RowsAreFew }
+{}
+
+/// After any events each row's key is that of a row at first, or of one that an event put.
+pub fn keys_are_those()
+    ensures { KeysAreThose }
+{}
+
+/// The copier and the applier each roll back once at most.
+pub fn rollbacks_are_few()
+    ensures { RollbacksAreFew }
+{}
+
+/// After every journal the setup, the chunk and the batch have failed at most as often as the plan lets them, and less
+/// often while nothing is reverted.
+pub fn tries_are_few()
+    ensures { TriesAreFew }
+{}
+
+/// After every journal of a runnable plan that is kept, no request of the inspector's waits.
+pub fn inspectors_never_wait()
+    ensures { InspectorsNeverWait }
+{}
+
+/// In every journal of a runnable plan that is kept no CREATE of a sentry waits: while no attempt is under way, nobody but
+/// its locker has the sentry's name.
+pub fn sentries_are_made_at_once()
+    ensures { SentriesAreMadeAtOnce }
+{}
+
+/// After every journal that follows the program at most as many attempts are begun as the plan lets a task be tried.
+pub fn attempts_are_few()
+    ensures { AttemptsAreFew }
+{}
+
+/// Where each turn of the setup that isn't lost goes on, a journal that keeps its plan has at most eight turns of it, and
+/// eight for each loss.
+pub fn setup_turns_are_few()
+    ensures { SetupTurnsAreFew }
+{}
+
+/// Where what is done after the RENAME goes on, a journal that keeps its plan has at most five turns of what is cleared up,
+/// and six for each loss.
+pub fn clearing_turns_are_few()
+    ensures { ClearingTurnsAreFew }
+{}
+
+/// A run of an accepted plan has at most as many turns of the operator's, of its clients', of the setup, and of losses with
+/// what is cleared up, as their terms say.
+pub fn some_parts_are_bounded()
+    ensures operator { OperatorIsBounded }
+    ensures clients { ClientsAreBounded }
+    ensures setup { SetupIsBounded }
+    ensures clearing { ClearingIsBounded }
+{
+    operator_turns_are_few();
+    client_turns_are_few();
+    setup_turns_are_few();
+    clearing_turns_are_few();
+    read_options_allow();
+    read_plans_are_runnable();
+    read_plans_are_serial();
+}
+
+/// Where each part is bounded, a run that hasn't ended has fewer turns than the sum of the terms.
+pub fn parts_bound_runs()
+    ensures { PartsBoundRuns }
+{
+    parts_make_journals();
+    accepted_runs_go_on();
+    due_turns_are_kept();
+}
+
+/// A run of an accepted plan in which nothing hinders the tool, and that has ended, is done; and where runs are bounded,
+/// one that the plan allows as many turns as the bound has ended once it is over.
+pub fn smooth_runs_end()
+    ensures smooth { AcceptedSmoothRunsAreDone }
+    ensures roomy { RoomyRunsEnd }
+{
+    smooth_runs_are_done();
+    read_plans_are_runnable();
+}
