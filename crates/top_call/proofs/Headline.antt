@@ -49,12 +49,12 @@ runs_reported laws chosen source printed turns journal (inr fault) some = absurd
 -- *Where turns were taken, they are a plan's whole replay or whole run*
 runs_where_taken : Laws → (words : List (List ℕ)) (chosen : Option Command) (source : Taking) (printed : Option Printed) (turns : List Turn) (journal : List Entry) → command words ≡ chosen → ComesTo chosen source printed turns journal → (length journal == 0) ≡ false → RunsBy words source turns journal
 unfolding ComesTo
-runs_where_taken laws words None source printed turns journal is comes some = absurd (none_taken _ printed turns journal comes some)
+runs_where_taken laws words None source printed turns journal is comes some = absurd (none_taken _ printed turns journal comes.comes some)
 runs_where_taken laws words (Some Check) source printed turns journal is comes some = record { chosen = plans.Check; command_is = is; runs = runs_reported laws plans.Check source printed turns journal comes some }
 runs_where_taken laws words (Some Replay) source printed turns journal is comes some = record { chosen = plans.Replay; command_is = is; runs = runs_reported laws plans.Replay source printed turns journal comes some }
 runs_where_taken laws words (Some (Run workers)) source printed turns journal is comes some =
     record { chosen = plans.Run workers; command_is = is; runs = runs_reported laws (plans.Run workers) source printed turns journal comes some }
-runs_where_taken laws words (Some (Generate number)) source printed turns journal is comes some = absurd (none_taken _ printed turns journal comes some)
+runs_where_taken laws words (Some (Generate number)) source printed turns journal is comes some = absurd (none_taken _ printed turns journal comes.comes some)
 
 pub runs_by : Laws → (words : List (List ℕ)) (source : Taking) (sink : Giving) (turns : List Turn) (journal : List Entry) (number : ℕ) → Does words source sink turns journal number → (length journal == 0) ≡ false → RunsBy words source turns journal
 runs_by laws words source sink turns journal number does some = runs_where_taken laws words (command words) source does.printed turns journal refl does.comes some

@@ -3,6 +3,7 @@ mod Faulty
 mod Headline
 mod Numbers
 mod Taken
+mod Unread
 mod Untaken
 mod Words
 mod Worked

@@ -1,11 +1,12 @@
 //! The top call: all that the program does.
 
-ghost use Rattle.std.specs.Prelude.{◌≡◌, ◌≤◌, ◌==◌, ℕ, false, length, Some, None, IfSome};
+ghost use Rattle.std.specs.Prelude.{◌≡◌, ◌≤◌, ◌==◌, ℕ, false, [], length, Some, None, IfSome};
+ghost use Rattle.std.specs.Io.KnownBytes.{Consumes};
 ghost use Rattle.top_words.specs.Commands.{command};
 ghost use Rattle.top_words.specs.declared.command.Command.TheVariants.{Check, Generate, Replay, Run};
 ghost use Rattle.top_endings.specs.declared.command.PlanCommand.TheVariants as plans;
 ghost use Rattle.server_model.specs.declared.outcome.Verdict.TheVariants as verdicts;
-ghost use Rattle.top_endings.specs.Endings.{asked, gave, HasWorkers, IsUsageOrLost, took};
+ghost use Rattle.top_endings.specs.Endings.{asked, gave, HasWorkers, IsUsageOrLost, reads_plan, took};
 ghost use Rattle.top_call.specs.Comings.{ComesTo, Does, TellsPlan};
 ghost use Rattle.top_call.specs.Promises.{Ends, RunsBy, PrintsReport, PrintsSchema, PrintsWorkload, PrintsRevert, PrintsUnfinished, PrintsRefusal, PrintsUsage, PrintsReadFault, PrintsPrefix, PrintsNone};
 ghost use Rattle.top_call.specs.TopLaws.{Laws};
@@ -143,6 +144,7 @@ fn ending<R: Threads + Wait + Sync, S: Source, K: Sink, G: Gate + Sync>(
 ) -> Ended
     ensures ends { Ends line.now (took S.left S.faults source.old source.new) (gave K.held K.faults sink.old sink.new) result.turns result.journal result.status }
     ensures runs { (length result.journal == 0) ≡ false → RunsBy line.now (took S.left S.faults source.old source.new) result.turns result.journal }
+    ensures unread { reads_plan (command line.now) ≡ false → Consumes (S.left source.old) (S.left source.new) [] }
     ensures source_never_falls { S.faults source.old ≤ S.faults source.new }
     ensures sink_never_falls { K.faults sink.old ≤ K.faults sink.new }
 {
@@ -169,6 +171,9 @@ pub fn ghost_<R: Threads + Wait + Sync, S: Source, K: Sink, G: Gate + Sync>(
 
     // The headline: whatever the status, where turns were taken.
     ensures runs { (length result.journal == 0) ≡ false → RunsBy line.now (took S.left S.faults source.old source.new) result.turns result.journal }
+
+    // Under `generate` and faulty words nothing is taken from the source: whatever the status.
+    ensures unread { reads_plan (command line.now) ≡ false → Consumes (S.left source.old) (S.left source.new) [] }
 
     ensures done { result.status ≡ 0 → command line.now ≡ Some Replay → PrintsReport plans.Replay verdicts.Done (took S.left S.faults source.old source.new) (gave K.held K.faults sink.old sink.new) result.turns result.journal }
     ensures done_by_workers { (workers : ℕ) → result.status ≡ 0 → command line.now ≡ Some (Run workers) → PrintsReport (plans.Run workers) verdicts.Done (took S.left S.faults source.old source.new) (gave K.held K.faults sink.old sink.new) result.turns result.journal }
