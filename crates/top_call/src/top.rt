@@ -13,7 +13,7 @@ ghost use Rattle.top_call.specs.TopLaws.{Laws};
 
 use crate::outcome::{Outcome, outcome_of, untaken};
 use base_edges::{Gate, ReadFault, Sink, Source, read_whole};
-use law_journals::completion::quiet_runs_are_done;
+use law_journals::completion::{quiet_runs_are_done, smooth_runs_are_done};
 use law_journals::machines::verdicts_tell_the_alter;
 use law_journals::plans::{read_options_allow, read_plans_are_runnable, read_plans_are_serial};
 use plan_reader::PLAN_LIMIT;
@@ -130,6 +130,7 @@ fn laws_stand()
     read_plans_are_runnable();
     read_plans_are_serial();
     quiet_runs_are_done();
+    smooth_runs_are_done();
     read_options_allow();
 }
 
