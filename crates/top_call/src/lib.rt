@@ -10,6 +10,7 @@ mod turns;
 pub mod whole_replays;
 pub mod workers;
 
-pub use top::{Ended, ghost_};
-pub use top_endings::{PlanCommand, Status, Turn, Turns};
+pub use outcome::Outcome;
+pub use top::{Ended, ghost_, outcome_without_workers};
+pub use top_endings::{PlanCommand, Printed, Status, Turn, Turns};
 pub use top_words::{Command, Line};
