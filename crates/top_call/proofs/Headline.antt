@@ -1,4 +1,4 @@
--- Where turns were taken, they are a plan's whole replay or whole run.
+-- Where turns were taken, they are those of a plan's sound replay or sound run by workers.
 use Rattle.std.proofs.Common.{◌≡◌, ℕ, ◌==◌, false, List, length, Option, Some, None, Result, Ok, Err, inl, inr, refl, sym, ap, ◌∙◌}
 use Rattle.std.proofs.lemmas.Bool.{true≢false}
 use Rattle.server_model.specs.declared.entry.Entry.{Entry}
@@ -47,7 +47,7 @@ runs_reported : Laws → (chosen : PlanCommand) (source : Taking) (printed : Opt
 runs_reported laws chosen source printed turns journal (inl was) some = runs_said laws chosen source printed turns journal was (read was.bytes) refl was.comes some
 runs_reported laws chosen source printed turns journal (inr fault) some = absurd (none_taken _ printed turns journal fault some)
 
--- *Where turns were taken, they are a plan's whole replay or whole run*
+-- *Where turns were taken, they are a plan's*
 runs_where_taken : Laws → (words : List (List ℕ)) (chosen : Option Command) (source : Taking) (printed : Option Printed) (turns : List Turn) (journal : List Entry) → command words ≡ chosen → ComesTo chosen source printed turns journal → (length journal == 0) ≡ false → RunsBy words source turns journal
 unfolding ComesTo
 runs_where_taken laws words None source printed turns journal is comes some = absurd (none_taken _ printed turns journal comes.comes some)

@@ -45,7 +45,7 @@ abbrev pub IsDoneWhereSmooth : PlanData → List Entry → Type 0
 IsDoneWhereSmooth plan journal = IsSmoothRun plan journal → has_ended plan journal ≡ true → verdict_of plan journal ≡ verdicts.Done
 
 -- *The headline*, of the turns that a call leaves: the source was read whole, its bytes are an accepted plan, and the turns are
--- those of the plan's whole replay, or of its whole run by this many workers, as the command says.
+-- those of a sound replay of the plan, or of a sound run of it by this many workers, as the command says.
 pub record Runs (chosen : PlanCommand) (source : Taking) (turns : List Turn) (journal : List Entry) : Type 0 where
   pub bytes : List ℕ
   pub whole : ReadsWhole PLAN_LIMIT source.before source.after bytes
