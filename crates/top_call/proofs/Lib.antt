@@ -8,4 +8,5 @@ mod Unread
 mod Words
 mod Worked
 mod PlanWorks
+mod PrintedOrders
 pub mod WholeReplays

@@ -1,9 +1,11 @@
 //! The whole program from end to end: a plan's bytes in, a report's bytes out. In `whole_replays` the replay of a plan, in
-//! `plan_works` its run by workers, and in `workers` that every plan that was read may be run so.
+//! `plan_works` its run by workers; in `workers` that every plan that was read may be run so, and in `printed_orders` that an order
+//! which a report printed is replayed.
 #![tactic(auto)]
 
 mod outcome;
 pub mod plan_works;
+pub mod printed_orders;
 mod status;
 mod top;
 mod turns;
