@@ -1,6 +1,6 @@
 -- *Printed orders replay*: what the replay of a plan with an order that a report printed has to do with the run that the report is
 -- of. (This project's rule.)
-use Rattle.std.specs.Prelude.{◌≡◌, true, List, [], length}
+use Rattle.std.specs.Prelude.{◌≡◌, true, List}
 use Rattle.table_store.specs.Databases.{Database}
 use Rattle.server_model.specs.declared.entry.Entry.{Entry}
 use Rattle.server_model.specs.declared.outcome.Verdict.{Verdict}
@@ -23,11 +23,11 @@ ordered plan runs = record plan { turns = runs }
 -- tables and its report.
 pub record IsReplayed (plan : PlanData) (runs : List ActorRun) (journal : List Entry) : Type 0 where
   pub replay : IsReplay (ordered plan runs) journal
-  pub over : is_over (ordered plan runs) journal ≡ is_over plan journal
+  pub over_is : is_over (ordered plan runs) journal ≡ is_over plan journal
   pub stops : Stops plan journal → Stops (ordered plan runs) journal
-  pub verdict : verdict_of (ordered plan runs) journal ≡ verdict_of plan journal
-  pub tables : (state_at (ordered plan runs) journal).tables ≡ (state_at plan journal).tables
-  pub report : (verdict : Verdict) (tables : Database) → report (ordered plan runs) journal verdict tables ≡ report plan journal verdict tables
+  pub verdict_is : verdict_of (ordered plan runs) journal ≡ verdict_of plan journal
+  pub tables_are : (state_at (ordered plan runs) journal).tables ≡ (state_at plan journal).tables
+  pub report_is : (verdict : Verdict) (tables : Database) → report (ordered plan runs) journal verdict tables ≡ report plan journal verdict tables
 
 -- *Printed orders replay*: where sessions are numbered one by one, a journal that is kept is replayed in an order that has its turns,
 -- losses between calls aside, as the order that its report prints has.

@@ -112,11 +112,11 @@ replayed plan journal runs kept numbered are = record {
     order = replay_order plan runs journal are kept.follows;
     numbered = numbered;
   };
-  over = over_same plan runs journal;
+  over_is = over_same plan runs journal;
   stops = stops_same plan runs journal;
-  verdict = verdict_same plan runs journal;
-  tables = refl;
-  report = report_same plan runs journal;
+  verdict_is = verdict_same plan runs journal;
+  tables_are = refl;
+  report_is = report_same plan runs journal;
 }
 
 -- NO OTHER REPLAY IS AS LONG
