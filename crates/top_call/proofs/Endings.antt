@@ -139,9 +139,9 @@ module _ (words : List (List ℕ)) (source : Taking) (sink : Giving) (turns : Li
 
   whole_under : Laws → (chosen : Option Command) (printed : Printed) → command words ≡ chosen → Gave printed → ComesTo chosen source (Some printed) turns journal → Under printed.status
   unfolding ComesTo
-  whole_under laws None printed is given comes = usage_under printed is given comes
+  whole_under laws None printed is given comes = usage_under printed is given comes.comes
   whole_under laws (Some (Run workers)) printed is given comes = plan_under laws (plans.Run workers) printed is given comes
-  whole_under laws (Some (Generate number)) printed is given comes = workload_under number printed is given comes
+  whole_under laws (Some (Generate number)) printed is given comes = workload_under number printed is given comes.comes
   whole_under laws (Some Check) printed is given comes = plan_under laws plans.Check printed is given comes
   whole_under laws (Some Replay) printed is given comes = plan_under laws plans.Replay printed is given comes
 

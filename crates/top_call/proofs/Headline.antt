@@ -1,4 +1,4 @@
--- Where turns were taken, they are a plan's whole replay or whole run.
+-- Where turns were taken, they are those of a plan's sound replay or sound run by workers.
 use Rattle.std.proofs.Common.{◌≡◌, ℕ, ◌==◌, false, List, length, Option, Some, None, Result, Ok, Err, inl, inr, refl, sym, ap, ◌∙◌}
 use Rattle.std.proofs.lemmas.Bool.{true≢false}
 use Rattle.server_model.specs.declared.entry.Entry.{Entry}
@@ -17,7 +17,7 @@ use Rattle.top_call.specs.Comings.{IsRead, TellsPlan, ComesTo, Does}
 use Rattle.top_call.specs.Outcomes.{IsTaken, TakesNone, Comes}
 use Rattle.top_call.specs.Promises.{Runs, RunsBy}
 use Rattle.top_call.specs.TopLaws.{Laws}
-use Rattle.top_call.proofs.Taken.{sound_of, completes}
+use Rattle.top_call.proofs.Taken.{sound_of, completes, done_where_smooth}
 
 -- THE HEADLINE
 
@@ -32,6 +32,7 @@ runs_of laws chosen source printed turns journal was plan said taken = record {
   accepted = said;
   takes = taken.takes;
   completes = completes laws plan journal taken.was_read (sound_of chosen plan turns journal taken.takes).kept;
+  smooth = done_where_smooth laws plan journal taken.was_read (sound_of chosen plan turns journal taken.takes).kept;
 }
 
 runs_said : Laws → (chosen : PlanCommand) (source : Taking) (printed : Option Printed) (turns : List Turn) (journal : List Entry) (was : IsRead chosen source printed turns journal) (said : Result PlanData PlanRefusal) → read was.bytes ≡ said → Comes chosen said printed turns journal → (length journal == 0) ≡ false → Runs chosen source turns journal
@@ -46,15 +47,15 @@ runs_reported : Laws → (chosen : PlanCommand) (source : Taking) (printed : Opt
 runs_reported laws chosen source printed turns journal (inl was) some = runs_said laws chosen source printed turns journal was (read was.bytes) refl was.comes some
 runs_reported laws chosen source printed turns journal (inr fault) some = absurd (none_taken _ printed turns journal fault some)
 
--- *Where turns were taken, they are a plan's whole replay or whole run*
+-- *Where turns were taken, they are a plan's*
 runs_where_taken : Laws → (words : List (List ℕ)) (chosen : Option Command) (source : Taking) (printed : Option Printed) (turns : List Turn) (journal : List Entry) → command words ≡ chosen → ComesTo chosen source printed turns journal → (length journal == 0) ≡ false → RunsBy words source turns journal
 unfolding ComesTo
-runs_where_taken laws words None source printed turns journal is comes some = absurd (none_taken _ printed turns journal comes some)
+runs_where_taken laws words None source printed turns journal is comes some = absurd (none_taken _ printed turns journal comes.comes some)
 runs_where_taken laws words (Some Check) source printed turns journal is comes some = record { chosen = plans.Check; command_is = is; runs = runs_reported laws plans.Check source printed turns journal comes some }
 runs_where_taken laws words (Some Replay) source printed turns journal is comes some = record { chosen = plans.Replay; command_is = is; runs = runs_reported laws plans.Replay source printed turns journal comes some }
 runs_where_taken laws words (Some (Run workers)) source printed turns journal is comes some =
     record { chosen = plans.Run workers; command_is = is; runs = runs_reported laws (plans.Run workers) source printed turns journal comes some }
-runs_where_taken laws words (Some (Generate number)) source printed turns journal is comes some = absurd (none_taken _ printed turns journal comes some)
+runs_where_taken laws words (Some (Generate number)) source printed turns journal is comes some = absurd (none_taken _ printed turns journal comes.comes some)
 
 pub runs_by : Laws → (words : List (List ℕ)) (source : Taking) (sink : Giving) (turns : List Turn) (journal : List Entry) (number : ℕ) → Does words source sink turns journal number → (length journal == 0) ≡ false → RunsBy words source turns journal
 runs_by laws words source sink turns journal number does some = runs_where_taken laws words (command words) source does.printed turns journal refl does.comes some

@@ -1,10 +1,12 @@
+mod Comings
 mod Endings
 mod Faulty
 mod Headline
 mod Numbers
 mod Taken
-mod Untaken
+mod Unread
 mod Words
 mod Worked
 mod PlanWorks
+mod PrintedOrders
 pub mod WholeReplays

@@ -1,2 +1,2 @@
 -- The run of a plan that was read by worker threads, on any server: its journal and whose turns it has, with all that is promised of them, and how it ended.
-pub mod WholeWorks
+pub mod SoundRuns

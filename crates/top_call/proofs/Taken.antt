@@ -22,7 +22,7 @@ use Rattle.top_endings.specs.declared.command.PlanCommand.{PlanCommand}
 use Rattle.top_endings.specs.declared.command.PlanCommand.TheVariants.{Check, Replay, Run}
 use Rattle.top_endings.specs.declared.turn.Turn.{Turn}
 use Rattle.top_call.specs.Outcomes.{Takes}
-use Rattle.top_call.specs.Promises.{Completes, EndsBy}
+use Rattle.top_call.specs.Promises.{Completes, EndsBy, IsDoneWhereSmooth}
 use Rattle.top_call.specs.TopLaws.{Laws}
 
 pub tells_alter : Laws → (plan : PlanData) (journal : List Entry) → WasRead plan → IsFaithful plan journal → Follows plan journal → has_ended plan journal ≡ true → TellsAlter plan journal
@@ -37,6 +37,10 @@ sound_of (Run workers) plan turns journal taken = taken.sound
 -- *Completes*
 pub completes : Laws → (plan : PlanData) (journal : List Entry) → WasRead plan → IsKept plan journal → Completes plan journal
 completes laws plan journal was kept is_quiet converted_rows within ended = laws.quiet plan journal is_quiet converted_rows (laws.runnable plan was) (laws.serial was.bytes plan was.is) kept within ended
+
+-- *Done where smooth*
+pub done_where_smooth : Laws → (plan : PlanData) (journal : List Entry) → WasRead plan → IsKept plan journal → IsDoneWhereSmooth plan journal
+done_where_smooth laws plan journal was kept smooth ended = laws.smooth plan journal (laws.runnable plan was).fitting (laws.runnable plan was).stands kept.faithful kept.follows smooth ended
 
 -- HOW IT ENDED
 

@@ -1,5 +1,5 @@
 -- How many workers a command line may ask for.
-use Rattle.std.proofs.Common.{◌≡◌, ℕ, nat_le, Bool, true, false, ◌&&◌, if◌then◌else◌, List, [], ◌∷◌, Option, Some, None, IfSome, refl, arith}
+use Rattle.std.proofs.Common.{◌≡◌, ℕ, nat_le, Bool, true, false, ◌&&◌, if◌then◌else◌, List, [], ◌∷◌, Option, Some, None, IfSome, refl, subst, arith}
 use Rattle.std.specs.Prelude.{codes, option_and_then, option_map}
 use Rattle.std.specs.Str.{bytes_eq}
 use Rattle.std.proofs.lemmas.Bool.Decides.{nat_tests}
@@ -64,3 +64,7 @@ allowed (name ∷ []) = plainly name
 allowed (name ∷ word ∷ []) = numbered name word
 allowed (name ∷ option ∷ word ∷ []) = by_option name option word
 allowed (name ∷ option ∷ word ∷ other ∷ others) = tt
+
+-- so it has where the words ask for one
+pub allowed_workers : (words : List (List ℕ)) (workers : ℕ) → command words ≡ Some (Run workers) → HasWorkers (Run workers)
+allowed_workers words workers is = subst IsAllowed is (allowed words)

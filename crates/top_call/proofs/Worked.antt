@@ -8,20 +8,20 @@ use Rattle.proof_plans.specs.ReadPlans.Laws.{WasRead}
 use Rattle.top_endings.specs.declared.command.PlanCommand.TheVariants.{Run}
 use Rattle.top_endings.specs.declared.printed.Printed.{Printed}
 use Rattle.top_endings.specs.declared.turn.Turn.{Turn}
-use Rattle.top_call.specs.PlanWorks.Works.{IsWholeRun}
+use Rattle.top_call.specs.PlanWorks.Works.{IsSoundRunByWorkers}
 use Rattle.top_call.specs.Outcomes.{worker_turns, IsReport, IsTaken}
 
 -- it has no more turns than the plan allows
-pub few_turns : (plan : PlanData) (journal : List Entry) (turns : List WorkerTurn) (workers : ℕ) → IsWholeRun plan journal turns workers → length turns ≤ plan.options.turn_limit
+pub few_turns : (plan : PlanData) (journal : List Entry) (turns : List WorkerTurn) (workers : ℕ) → IsSoundRunByWorkers plan journal turns workers → length turns ≤ plan.options.turn_limit
 few_turns plan journal turns workers run =
     let same : length turns ≡ length journal = sym (length-map turns (λ turn. turn.actor)) ∙ ap length run.order.actors ∙ length-map journal (λ entry. entry.actor) in
     subst (λ (count : ℕ). count ≤ plan.options.turn_limit) (sym same) run.sound.bound
 
 -- *What comes of it*, where its turns are told so
-pub taken_by : (plan : PlanData) (printed : Option Printed) (turns : List Turn) (all : List WorkerTurn) (journal : List Entry) (workers : ℕ) → WasRead plan → worker_turns turns ≡ all → IsWholeRun plan journal all workers → IfSome printed (IsReport plan journal) → IsTaken (Run workers) plan printed turns journal
+pub taken_by : (plan : PlanData) (printed : Option Printed) (turns : List Turn) (all : List WorkerTurn) (journal : List Entry) (workers : ℕ) → WasRead plan → worker_turns turns ≡ all → IsSoundRunByWorkers plan journal all workers → IfSome printed (IsReport plan journal) → IsTaken (Run workers) plan printed turns journal
 taken_by plan printed turns all journal workers was is run reports = record {
   was_read = was;
-  takes = subst (λ (each : List WorkerTurn). IsWholeRun plan journal each workers) (sym is) run;
+  takes = subst (λ (each : List WorkerTurn). IsSoundRunByWorkers plan journal each workers) (sym is) run;
   reports = reports;
 }
 

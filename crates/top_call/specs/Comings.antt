@@ -1,7 +1,9 @@
 -- What the words and the source come to. (This project's rule.)
-use Rattle.std.specs.Prelude.{◌≡◌, List, ℕ, Option, Some, None, ◌⊎◌}
+use Rattle.std.specs.Prelude.{◌≡◌, List, [], ℕ, Option, Some, None, Ok, ◌⊎◌}
+use Rattle.std.specs.Io.KnownBytes.{Consumes}
 use Rattle.base_edges.specs.Whole.{ReadsWhole}
 use Rattle.server_model.specs.declared.entry.Entry.{Entry}
+use Rattle.plan_data.specs.PlanData.{PlanData}
 use Rattle.plan_reader.specs.declared.limits.TheConstants.{PLAN_LIMIT}
 use Rattle.plan_reader.specs.Plans.{read}
 use Rattle.top_words.specs.Commands.{command}
@@ -26,13 +28,29 @@ pub record IsRead (chosen : PlanCommand) (source : Taking) (printed : Option Pri
 abbrev pub TellsPlan : PlanCommand → Taking → Option Printed → List Turn → List Entry → Type 0
 TellsPlan chosen source printed turns journal = IsRead chosen source printed turns journal ⊎ TakesNone (IsReadFault source) printed turns journal
 
+-- *Is accepted*: the source was read whole, and its bytes are this plan.
+pub record IsAccepted (source : Taking) (plan : PlanData) : Type 0 where
+  pub bytes : List ℕ
+  pub whole : ReadsWhole PLAN_LIMIT source.before source.after bytes
+  pub accepted : read bytes ≡ Ok plan
+
+-- *Has no plan*: what comes of a source whose bytes are no accepted plan, under each command that reads one
+abbrev pub HasNoPlan : Taking → Option Printed → List Turn → List Entry → Type 0
+HasNoPlan source printed turns journal = (chosen : PlanCommand) → TellsPlan chosen source printed turns journal
+
+-- *Leaves the source*, where no plan is read: nothing was taken from it, and no turn; and this is printed, or nothing where memory
+-- ran out.
+pub record LeavesSource (source : Taking) (Shows : Printed → Type 0) (printed : Option Printed) (turns : List Turn) (journal : List Entry) : Type 0 where
+  pub takes_none : Consumes source.before source.after []
+  pub comes : TakesNone Shows printed turns journal
+
 -- *Comes to*: what the words and the source come to
 unfoldable pub ComesTo : Option Command → Taking → Option Printed → List Turn → List Entry → Type 0
-ComesTo None source = TakesNone (IsUsage source)
+ComesTo None source = LeavesSource source (IsUsage source)
 ComesTo (Some Check) source = TellsPlan plans.Check source
 ComesTo (Some Replay) source = TellsPlan plans.Replay source
 ComesTo (Some (Run workers)) source = TellsPlan (plans.Run workers) source
-ComesTo (Some (Generate number)) source = TakesNone (IsWorkload number source)
+ComesTo (Some (Generate number)) source = LeavesSource source (IsWorkload number source)
 
 -- *Does*: what a call did. Its words and the source come to what is printed, with its turns and its journal; of this so much
 -- was given; and the number is that of how it ended.

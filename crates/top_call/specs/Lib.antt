@@ -1,5 +1,6 @@
 pub mod Comings
 pub mod Outcomes
+pub mod PrintedOrders
 pub mod Promises
 pub mod TopLaws
 pub mod WorkerPlans

@@ -20,8 +20,8 @@ use Rattle.top_endings.specs.declared.status.Status.TheVariants as statuses
 use Rattle.top_endings.specs.declared.turn.Turn.{Turn}
 use Rattle.top_endings.specs.Checks.{IsSchema}
 use Rattle.top_endings.specs.Texts.{IsRefusal}
-use Rattle.top_call.specs.WholeReplays.Replays.{IsWholeReplay}
-use Rattle.top_call.specs.PlanWorks.Works.{IsWholeRun}
+use Rattle.top_call.specs.WholeReplays.Replays.{IsSoundReplay}
+use Rattle.top_call.specs.PlanWorks.Works.{IsSoundRunByWorkers}
 
 -- the status of a report
 abbrev pub status_of : Verdict → Status
@@ -37,12 +37,12 @@ turns_of journal = map (λ entry. record { worker = 0; actor = entry.actor }) jo
 abbrev pub worker_turns : List Turn → List WorkerTurn
 worker_turns turns = map (λ turn. record { worker = turn.worker; actor = turn.actor }) turns
 
--- *Takes*: what holds of the turns that a command takes of a plan: they are those of its whole replay, or of its whole run by
--- this many workers; `check` takes none
+-- *Takes*: what holds of the turns that a command takes of a plan: they are those of a sound replay, or of a sound run by this
+-- many workers; `check` takes none
 abbrev pub Takes : PlanCommand → PlanData → List Turn → List Entry → Type 0
 Takes Check plan turns journal = ⊥
-Takes Replay plan turns journal = IsWholeReplay plan journal × (turns ≡ turns_of journal)
-Takes (Run workers) plan turns journal = IsWholeRun plan journal (worker_turns turns) workers
+Takes Replay plan turns journal = IsSoundReplay plan journal × (turns ≡ turns_of journal)
+Takes (Run workers) plan turns journal = IsSoundRunByWorkers plan journal (worker_turns turns) workers
 
 -- no turn was taken
 pub record IsUntaken (turns : List Turn) (journal : List Entry) : Type 0 where
@@ -60,8 +60,8 @@ pub record IsReport (plan : PlanData) (journal : List Entry) (printed : Printed)
   pub status_is : printed.status ≡ status_of (verdict_of plan journal)
   pub text_is : printed.text ≡ report plan journal (verdict_of plan journal) (state_at plan journal).tables
 
--- These are the turns of the plan's whole replay, or of its whole run by this many workers; its report is printed, or nothing
--- where memory ran out, and then the turns are those that were taken until then.
+-- These are the turns of a sound replay of the plan, or of a sound run of it by this many workers. Its report is printed, and then
+-- it is over; or nothing is where memory ran out, and then the turns are those that were taken until then.
 pub record IsTaken (chosen : PlanCommand) (plan : PlanData) (printed : Option Printed) (turns : List Turn) (journal : List Entry) : Type 0 where
   pub was_read : WasRead plan
   pub takes : Takes chosen plan turns journal

@@ -15,6 +15,7 @@ use Rattle.tool_program.specs.JournalWords.Journals.{state_at}
 use Rattle.tool_program.specs.Failures.{Stands}
 use Rattle.tool_program.specs.Verdicts.{has_ended, verdict_of}
 use Rattle.proof_journals.specs.Machine.Laws.{TellsAlter}
+use Rattle.proof_plans.specs.Complete.Laws.{IsSmoothRun}
 use Rattle.proof_plans.specs.Complete.Quiet.{IsQuiet, RowsHaveConvertedRows, IsWithinLimits}
 use Rattle.top_report.specs.Reports.{report}
 use Rattle.top_words.specs.Commands.{command}
@@ -38,8 +39,13 @@ use Rattle.top_call.specs.Outcomes.{IsUntaken, Takes}
 abbrev pub Completes : PlanData → List Entry → Type 0
 Completes plan journal = IsQuiet plan → RowsHaveConvertedRows plan → IsWithinLimits plan journal → has_ended plan journal ≡ true → verdict_of plan journal ≡ verdicts.Done
 
+-- *Done where smooth*: where no turn hinders the tool until it knows that the RENAME was done, whoever else is there, a run that
+-- has ended is done.
+abbrev pub IsDoneWhereSmooth : PlanData → List Entry → Type 0
+IsDoneWhereSmooth plan journal = IsSmoothRun plan journal → has_ended plan journal ≡ true → verdict_of plan journal ≡ verdicts.Done
+
 -- *The headline*, of the turns that a call leaves: the source was read whole, its bytes are an accepted plan, and the turns are
--- those of the plan's whole replay, or of its whole run by this many workers, as the command says.
+-- those of a sound replay of the plan, or of a sound run of it by this many workers, as the command says.
 pub record Runs (chosen : PlanCommand) (source : Taking) (turns : List Turn) (journal : List Entry) : Type 0 where
   pub bytes : List ℕ
   pub whole : ReadsWhole PLAN_LIMIT source.before source.after bytes
@@ -47,6 +53,7 @@ pub record Runs (chosen : PlanCommand) (source : Taking) (turns : List Turn) (jo
   pub accepted : read bytes ≡ Ok plan
   pub takes : Takes chosen plan turns journal
   pub completes : Completes plan journal
+  pub smooth : IsDoneWhereSmooth plan journal
 
 -- the same of the command that the words are
 pub record RunsBy (words : List (List ℕ)) (source : Taking) (turns : List Turn) (journal : List Entry) : Type 0 where

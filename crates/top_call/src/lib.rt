@@ -1,15 +1,18 @@
 //! The whole program from end to end: a plan's bytes in, a report's bytes out. In `whole_replays` the replay of a plan, in
-//! `plan_works` its run by workers, and in `workers` that every plan that was read may be run so.
+//! `plan_works` its run by workers; in `workers` that every plan that was read may be run so, and in `printed_orders` that an order
+//! which a report printed is replayed.
 #![tactic(auto)]
 
 mod outcome;
 pub mod plan_works;
+pub mod printed_orders;
 mod status;
 mod top;
 mod turns;
 pub mod whole_replays;
 pub mod workers;
 
-pub use top::{Ended, ghost_};
-pub use top_endings::{PlanCommand, Status, Turn, Turns};
+pub use outcome::Outcome;
+pub use top::{Ended, ghost_, outcome_without_workers};
+pub use top_endings::{PlanCommand, Printed, Status, Turn, Turns};
 pub use top_words::{Command, Line};

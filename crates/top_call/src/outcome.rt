@@ -1,12 +1,10 @@
-//! What comes of a plan's bytes.
+//! What comes of a plan.
 
 ghost use Rattle.std.specs.Prelude.{◌≡◌, ◌≤◌, [], IfSome, IfOk};
-ghost use Rattle.plan_reader.specs.Plans.{read};
 ghost use Rattle.proof_plans.specs.ReadPlans.Laws.{WasRead};
 ghost use Rattle.top_endings.specs.declared.command.PlanCommand.TheVariants as plans;
-ghost use Rattle.top_endings.specs.Endings.{asked, HasWorkers};
 ghost use Rattle.top_call.specs.WholeReplays.Replays.{IsEnd};
-ghost use Rattle.top_call.specs.Outcomes.{Comes, IsReport, IsTaken};
+ghost use Rattle.top_call.specs.Outcomes.{IsReport, IsTaken};
 
 use crate::plan_works::work_plan;
 use crate::status::status_of;
@@ -15,25 +13,23 @@ use crate::whole_replays::{End, open_plan, replay_plan};
 use base_edges::Gate;
 use base_values::Sequence;
 use plan_data::Plan;
-use plan_reader::PlanFault;
-use proof_plans::read_accepted_plan;
 use server_api::Serve;
 use server_model::Journal;
 use std::alloc::{AllocError, Global};
 use std::sync::Wait;
 use std::thread::Threads;
-use top_endings::{PlanCommand, Printed, Turns, plan_checked, refused};
+use top_endings::{Printed, Turns};
 use top_report::report;
 
 /// What the words and the source come to.
 #[derive(Drop)]
-pub(crate) struct Outcome {
+pub struct Outcome {
     /// What is printed; none where memory ran out.
-    pub(crate) printed: Option<Printed>,
+    pub printed: Option<Printed>,
     /// Whose turns were taken.
-    pub(crate) turns: Turns,
+    pub turns: Turns,
     /// The turns.
-    pub(crate) journal: Journal,
+    pub journal: Journal,
 }
 
 /// What comes where no turn is taken.
@@ -69,7 +65,7 @@ fn reported<V: Serve>(
 }
 
 /// What comes of the replay of a plan. Where there is no memory for the list of turns, or for the server, no turn is taken.
-fn plan_replayed(alloc: Global, plan: &Plan) -> Result<Outcome, AllocError>
+pub(crate) fn plan_replayed(alloc: Global, plan: &Plan) -> Result<Outcome, AllocError>
     requires { WasRead plan.now }
     ensures { IfOk result (λ outcome. IsTaken plans.Replay plan.now outcome.printed outcome.turns outcome.journal) }
 {
@@ -87,7 +83,7 @@ fn plan_replayed(alloc: Global, plan: &Plan) -> Result<Outcome, AllocError>
 /// What comes of the run of a plan by `workers` workers. Where there is no memory for the list of turns, for the server or for
 /// the turn queue, no turn is taken.
 #[tactic(auto, using(crate::proofs::Worked::few_turns, crate::proofs::Worked::taken_by))]
-fn plan_worked<R: Threads + Wait + Sync, G: Gate + Sync>(
+pub(crate) fn plan_worked<R: Threads + Wait + Sync, G: Gate + Sync>(
     rt: &R,
     alloc: Global,
     plan: &Plan,
@@ -107,24 +103,4 @@ fn plan_worked<R: Threads + Wait + Sync, G: Gate + Sync>(
         turns: turns_of_workers(room, left.turns.as_slice()),
         journal: left.journal,
     })
-}
-
-/// What comes of a plan's bytes under a command; `AllocError` where there was no memory before the first turn.
-pub(crate) fn outcome_of<R: Threads + Wait + Sync, G: Gate + Sync>(
-    rt: &R,
-    alloc: Global,
-    command: PlanCommand,
-    bytes: &[u8],
-    gate: &G,
-) -> Result<Outcome, AllocError>
-    requires { HasWorkers (asked command) }
-    ensures { IfOk result (λ outcome. Comes command (read bytes.now) outcome.printed outcome.turns outcome.journal) }
-{
-    match (read_accepted_plan(alloc, bytes), command) {
-        (Ok(plan), PlanCommand::Check) => Ok(untaken(alloc, plan_checked(alloc, &plan))),
-        (Ok(plan), PlanCommand::Replay) => plan_replayed(alloc, &plan),
-        (Ok(plan), PlanCommand::Run(workers)) => plan_worked(rt, alloc, &plan, workers, gate),
-        (Err(PlanFault::Refused(refusal)), _) => Ok(untaken(alloc, refused(alloc, refusal))),
-        (Err(PlanFault::Memory), _) => Err(AllocError),
-    }
 }

@@ -1,26 +1,32 @@
 //! The top call: all that the program does.
 
-ghost use Rattle.std.specs.Prelude.{◌≡◌, ◌≤◌, ◌==◌, ℕ, false, length, Some, None, IfSome};
+ghost use Rattle.std.specs.Prelude.{◌≡◌, ◌≤◌, ◌==◌, ℕ, false, [], length, Some, None, IfOk, IfErr};
+ghost use Rattle.std.specs.Io.KnownBytes.{Consumes};
 ghost use Rattle.top_words.specs.Commands.{command};
 ghost use Rattle.top_words.specs.declared.command.Command.TheVariants.{Check, Generate, Replay, Run};
 ghost use Rattle.top_endings.specs.declared.command.PlanCommand.TheVariants as plans;
 ghost use Rattle.server_model.specs.declared.outcome.Verdict.TheVariants as verdicts;
-ghost use Rattle.top_endings.specs.Endings.{asked, gave, HasWorkers, IsUsageOrLost, took};
-ghost use Rattle.top_call.specs.Comings.{ComesTo, Does, TellsPlan};
+ghost use Rattle.proof_plans.specs.ReadPlans.Laws.{WasRead};
+ghost use Rattle.top_endings.specs.Endings.{gave, HasWorkers, IsUsageOrLost, reads_plan, took};
+ghost use Rattle.top_call.specs.Comings.{ComesTo, Does, HasNoPlan, IsAccepted, TellsPlan};
 ghost use Rattle.top_call.specs.Promises.{Ends, RunsBy, PrintsReport, PrintsSchema, PrintsWorkload, PrintsRevert, PrintsUnfinished, PrintsRefusal, PrintsUsage, PrintsReadFault, PrintsPrefix, PrintsNone};
 ghost use Rattle.top_call.specs.TopLaws.{Laws};
 
-use crate::outcome::{Outcome, outcome_of, untaken};
+use crate::outcome::{Outcome, plan_replayed, plan_worked, untaken};
 use base_edges::{Gate, ReadFault, Sink, Source, read_whole};
-use law_journals::completion::quiet_runs_are_done;
+use law_journals::completion::{quiet_runs_are_done, smooth_runs_are_done};
 use law_journals::machines::verdicts_tell_the_alter;
 use law_journals::plans::{read_options_allow, read_plans_are_runnable, read_plans_are_serial};
-use plan_reader::PLAN_LIMIT;
+use plan_data::Plan;
+use plan_reader::{PLAN_LIMIT, PlanFault};
+use proof_plans::read_accepted_plan;
 use server_model::Journal;
 use std::alloc::Global;
 use std::sync::Wait;
 use std::thread::Threads;
-use top_endings::{PlanCommand, Turns, give, read_fault_shown, usage_shown, workload_shown};
+use top_endings::{
+    Turns, give, plan_checked, read_fault_shown, refused, usage_shown, workload_shown,
+};
 use top_words::{Command, Line};
 
 /// How a call of `ghost_` ended.
@@ -34,56 +40,118 @@ pub struct Ended {
     pub journal: Journal,
 }
 
-/// What a source comes to under a command that reads a plan.
-#[tactic(auto, using(crate::proofs::Untaken::nothing_reported, crate::proofs::Untaken::fault_reported, crate::proofs::Untaken::read_reported))]
-fn come_to_plan<R: Threads + Wait + Sync, S: Source, G: Gate + Sync>(
-    rt: &R,
-    alloc: Global,
-    chosen: PlanCommand,
-    source: &mut S,
-    gate: &G,
-) -> Outcome
-    requires { HasWorkers (asked chosen) }
-    ensures comes { TellsPlan chosen (took S.left S.faults source.old source.new) result.printed result.turns result.journal }
+/// The plan that a source has; or what comes of the source where its bytes are no accepted plan, whatever is to be done with it.
+#[tactic(auto, using(crate::proofs::Comings::accepted_by, crate::proofs::Comings::nothing_reported, crate::proofs::Comings::fault_reported, crate::proofs::Comings::refusal_reported))]
+fn accepted_plan<S: Source>(alloc: Global, source: &mut S) -> Result<Plan, Outcome>
+    ensures plan { IfOk result (IsAccepted (took S.left S.faults source.old source.new)) }
+    ensures was_read { IfOk result WasRead }
+    ensures none { IfErr result (λ outcome. HasNoPlan (took S.left S.faults source.old source.new) outcome.printed outcome.turns outcome.journal) }
     ensures never_falls { S.faults source.old ≤ S.faults source.new }
 {
     match read_whole(alloc, source, PLAN_LIMIT) {
-        Ok(bytes) => match outcome_of(rt, alloc, chosen, bytes.as_slice(), gate) {
-            Ok(outcome) => outcome,
-            Err(_) => untaken(alloc, None),
+        Ok(bytes) => match read_accepted_plan(alloc, bytes.as_slice()) {
+            Ok(plan) => Ok(plan),
+            Err(PlanFault::Refused(refusal)) => Err(untaken(alloc, refused(alloc, refusal))),
+            Err(PlanFault::Memory) => Err(untaken(alloc, None)),
         },
-        Err(ReadFault::Source) => untaken(alloc, read_fault_shown(alloc)),
-        Err(ReadFault::Memory) => untaken(alloc, None),
+        Err(ReadFault::Source) => Err(untaken(alloc, read_fault_shown(alloc))),
+        Err(ReadFault::Memory) => Err(untaken(alloc, None)),
     }
 }
 
-/// What the words and the source come to, where the words are this command or none.
-#[tactic(auto, using(crate::proofs::Untaken::check_comes, crate::proofs::Untaken::replay_comes, crate::proofs::Untaken::faulty_comes, crate::proofs::Untaken::run_comes, crate::proofs::Untaken::workload_comes))]
-fn come_under<R: Threads + Wait + Sync, S: Source, G: Gate + Sync>(
+/// What a source comes to under `check`.
+#[tactic(auto, using(crate::proofs::Comings::schema_reported))]
+fn outcome_of_check<S: Source>(alloc: Global, source: &mut S) -> Outcome
+    ensures comes { TellsPlan plans.Check (took S.left S.faults source.old source.new) result.printed result.turns result.journal }
+    ensures never_falls { S.faults source.old ≤ S.faults source.new }
+{
+    match accepted_plan(alloc, source) {
+        Ok(plan) => untaken(alloc, plan_checked(alloc, &plan)),
+        Err(outcome) => outcome,
+    }
+}
+
+/// What a source comes to under `replay`.
+#[tactic(auto, using(crate::proofs::Comings::nothing_reported, crate::proofs::Comings::replay_reported))]
+fn outcome_of_replay<S: Source>(alloc: Global, source: &mut S) -> Outcome
+    ensures comes { TellsPlan plans.Replay (took S.left S.faults source.old source.new) result.printed result.turns result.journal }
+    ensures never_falls { S.faults source.old ≤ S.faults source.new }
+{
+    match accepted_plan(alloc, source) {
+        Ok(plan) => match plan_replayed(alloc, &plan) {
+            Ok(outcome) => outcome,
+            Err(_) => untaken(alloc, None),
+        },
+        Err(outcome) => outcome,
+    }
+}
+
+/// What a source comes to under a run by `workers` workers.
+#[tactic(auto, using(crate::proofs::Comings::nothing_reported, crate::proofs::Comings::run_reported))]
+fn outcome_of_run<R: Threads + Wait + Sync, S: Source, G: Gate + Sync>(
     rt: &R,
     alloc: Global,
-    chosen: Option<Command>,
+    workers: u32,
     source: &mut S,
     gate: &G,
 ) -> Outcome
-    requires { IfSome chosen HasWorkers }
-    ensures comes { ComesTo chosen (took S.left S.faults source.old source.new) result.printed result.turns result.journal }
+    requires { HasWorkers (Run workers) }
+    ensures comes { TellsPlan (plans.Run workers) (took S.left S.faults source.old source.new) result.printed result.turns result.journal }
+    ensures never_falls { S.faults source.old ≤ S.faults source.new }
+{
+    match accepted_plan(alloc, source) {
+        Ok(plan) => match plan_worked(rt, alloc, &plan, workers, gate) {
+            Ok(outcome) => outcome,
+            Err(_) => untaken(alloc, None),
+        },
+        Err(outcome) => outcome,
+    }
+}
+
+/// What the words and the source come to, where the words are this command or none; of `run` the number of workers.
+#[tactic(auto, using(crate::proofs::Comings::check_comes, crate::proofs::Comings::replay_comes, crate::proofs::Comings::faulty_comes, crate::proofs::Comings::workload_comes))]
+fn outcome_of_command<S: Source>(
+    alloc: Global,
+    chosen: Option<Command>,
+    source: &mut S,
+) -> Result<Outcome, u32>
+    ensures comes { IfOk result (λ outcome. ComesTo chosen (took S.left S.faults source.old source.new) outcome.printed outcome.turns outcome.journal) }
+    ensures workers { IfErr result (λ workers. chosen ≡ Some (Run workers)) }
+    ensures unmoved { IfErr result (λ workers. source.new ≡ source.old) }
     ensures never_falls { S.faults source.old ≤ S.faults source.new }
 {
     match chosen {
-        Some(Command::Check) => come_to_plan(rt, alloc, PlanCommand::Check, source, gate),
-        Some(Command::Replay) => come_to_plan(rt, alloc, PlanCommand::Replay, source, gate),
-        Some(Command::Run(workers)) => {
-            come_to_plan(rt, alloc, PlanCommand::Run(workers), source, gate)
-        }
-        Some(Command::Generate(number)) => untaken(alloc, workload_shown(alloc, number)),
-        None => untaken(alloc, usage_shown(alloc)),
+        Some(Command::Check) => Ok(outcome_of_check(alloc, source)),
+        Some(Command::Replay) => Ok(outcome_of_replay(alloc, source)),
+        Some(Command::Run(workers)) => Err(workers),
+        Some(Command::Generate(number)) => Ok(untaken(alloc, workload_shown(alloc, number))),
+        None => Ok(untaken(alloc, usage_shown(alloc))),
+    }
+}
+
+/// What the words and the source come to, for each command but `run`; where the words ask for a run, `Err` has the number of its
+/// workers, and the source isn't asked. `ghost_` does all but runs through this call, which has no bound by which it might wait:
+/// so it returns.
+#[tactic(auto, using(crate::proofs::Comings::nothing_comes))]
+pub fn outcome_without_workers<S: Source>(
+    alloc: Global,
+    line: &Line,
+    source: &mut S,
+) -> Result<Outcome, u32>
+    ensures comes { IfOk result (λ outcome. ComesTo (command line.now) (took S.left S.faults source.old source.new) outcome.printed outcome.turns outcome.journal) }
+    ensures workers { IfErr result (λ workers. command line.now ≡ Some (Run workers)) }
+    ensures unmoved { IfErr result (λ workers. source.new ≡ source.old) }
+    ensures never_falls { S.faults source.old ≤ S.faults source.new }
+{
+    match line.command(alloc) {
+        Ok(chosen) => outcome_of_command(alloc, chosen, source),
+        Err(_) => Ok(untaken(alloc, None)),
     }
 }
 
 /// What the words and the source come to.
-#[tactic(auto, using(crate::proofs::Untaken::nothing_comes))]
-fn come_to<R: Threads + Wait + Sync, S: Source, G: Gate + Sync>(
+#[tactic(auto, using(crate::proofs::Comings::run_comes))]
+fn outcome_of_line<R: Threads + Wait + Sync, S: Source, G: Gate + Sync>(
     rt: &R,
     alloc: Global,
     line: &Line,
@@ -93,9 +161,9 @@ fn come_to<R: Threads + Wait + Sync, S: Source, G: Gate + Sync>(
     ensures comes { ComesTo (command line.now) (took S.left S.faults source.old source.new) result.printed result.turns result.journal }
     ensures never_falls { S.faults source.old ≤ S.faults source.new }
 {
-    match line.command(alloc) {
-        Ok(chosen) => come_under(rt, alloc, chosen, source, gate),
-        Err(_) => untaken(alloc, None),
+    match outcome_without_workers(alloc, line, source) {
+        Ok(outcome) => outcome,
+        Err(workers) => outcome_of_run(rt, alloc, workers, source, gate),
     }
 }
 
@@ -112,7 +180,7 @@ fn doing<R: Threads + Wait + Sync, S: Source, K: Sink, G: Gate + Sync>(
     ensures source_never_falls { S.faults source.old ≤ S.faults source.new }
     ensures sink_never_falls { K.faults sink.old ≤ K.faults sink.new }
 {
-    let outcome = come_to(rt, alloc, line, source, gate);
+    let outcome = outcome_of_line(rt, alloc, line, source, gate);
     let status = give(&outcome.printed, sink);
     Ended {
         status: status.number(),
@@ -129,6 +197,7 @@ fn laws_stand()
     read_plans_are_runnable();
     read_plans_are_serial();
     quiet_runs_are_done();
+    smooth_runs_are_done();
     read_options_allow();
 }
 
@@ -143,6 +212,7 @@ fn ending<R: Threads + Wait + Sync, S: Source, K: Sink, G: Gate + Sync>(
 ) -> Ended
     ensures ends { Ends line.now (took S.left S.faults source.old source.new) (gave K.held K.faults sink.old sink.new) result.turns result.journal result.status }
     ensures runs { (length result.journal == 0) ≡ false → RunsBy line.now (took S.left S.faults source.old source.new) result.turns result.journal }
+    ensures unread { reads_plan (command line.now) ≡ false → Consumes (S.left source.old) (S.left source.new) [] }
     ensures source_never_falls { S.faults source.old ≤ S.faults source.new }
     ensures sink_never_falls { K.faults sink.old ≤ K.faults sink.new }
 {
@@ -155,7 +225,8 @@ fn ending<R: Threads + Wait + Sync, S: Source, K: Sink, G: Gate + Sync>(
 /// The commands are `check`, which prints the schema that the plan's ALTER leaves; `replay`, which runs the plan on one thread
 /// and prints the report; `run`, by which worker threads do so, 4 where their number isn't said; and `generate`, which prints
 /// the plan of a number and reads nothing. The gate is told before and after each turn of a worker's, and never while one is
-/// held. Workers wait for each other's turns.
+/// held. Workers wait for each other's turns; every other command goes through `outcome_without_workers`, which waits for
+/// nothing.
 pub fn ghost_<R: Threads + Wait + Sync, S: Source, K: Sink, G: Gate + Sync>(
     rt: &R,
     alloc: Global,
@@ -169,6 +240,9 @@ pub fn ghost_<R: Threads + Wait + Sync, S: Source, K: Sink, G: Gate + Sync>(
 
     // The headline: whatever the status, where turns were taken.
     ensures runs { (length result.journal == 0) ≡ false → RunsBy line.now (took S.left S.faults source.old source.new) result.turns result.journal }
+
+    // Under `generate` and faulty words nothing is taken from the source: whatever the status.
+    ensures unread { reads_plan (command line.now) ≡ false → Consumes (S.left source.old) (S.left source.new) [] }
 
     ensures done { result.status ≡ 0 → command line.now ≡ Some Replay → PrintsReport plans.Replay verdicts.Done (took S.left S.faults source.old source.new) (gave K.held K.faults sink.old sink.new) result.turns result.journal }
     ensures done_by_workers { (workers : ℕ) → result.status ≡ 0 → command line.now ≡ Some (Run workers) → PrintsReport (plans.Run workers) verdicts.Done (took S.left S.faults source.old source.new) (gave K.held K.faults sink.old sink.new) result.turns result.journal }

@@ -1,16 +1,14 @@
--- *Whole run* of a plan by workers: what holds of the journal and the turns that it leaves. (This project's rule.)
+-- *Sound run by workers* of a plan: what holds of the journal and the turns that workers leave. (This project's rule.)
 use Rattle.std.specs.Prelude.{ℕ, List}
 use Rattle.server_model.specs.declared.entry.Entry.{Entry}
 use Rattle.plan_data.specs.PlanData.{PlanData}
 use Rattle.tool_program.specs.JournalWords.Sessions.{NumbersSessions}
 use Rattle.tool_program.specs.Orders.{WorkerTurn, RunOrder}
-use Rattle.run_workers.specs.Passes.{IsByPasses}
 use Rattle.top_call.specs.WholeReplays.SoundRuns.{IsSoundRun}
 
--- *Whole run*: a sound run whose sessions are numbered one by one. Each turn is of one of this many workers, and of the actor
--- that the rule gives that worker; and the turns are those of the workers' passes.
-pub record IsWholeRun (plan : PlanData) (journal : List Entry) (turns : List WorkerTurn) (workers : ℕ) : Type 0 where
+-- *Sound run by workers*: a sound run whose sessions are numbered one by one. Each turn is of one of this many workers, and of
+-- the actor that the rule gives that worker. That the run is over is said apart.
+pub record IsSoundRunByWorkers (plan : PlanData) (journal : List Entry) (turns : List WorkerTurn) (workers : ℕ) : Type 0 where
   pub sound : IsSoundRun plan journal
   pub numbered : NumbersSessions journal
   pub order : RunOrder plan journal turns workers
-  pub passes : IsByPasses journal turns workers

@@ -1,4 +1,4 @@
--- *Whole replay* of a plan: what holds of the journal that it leaves, and how it ended. (This project's rule.)
+-- *Sound replay* of a plan: what holds of the journal that it leaves, and how it ended. (This project's rule.)
 use Rattle.std.specs.Prelude.{◌≡◌, true, List, length}
 use Rattle.server_model.specs.declared.entry.Entry.{Entry}
 use Rattle.server_model.specs.declared.outcome.Verdict.{Verdict}
@@ -10,9 +10,9 @@ use Rattle.tool_program.specs.Verdicts.{verdict_of}
 use Rattle.run_turns.specs.Runs.{is_over}
 use Rattle.top_call.specs.WholeReplays.SoundRuns.{IsSoundRun}
 
--- *Whole replay*: a sound run whose turns go in a replay's order and whose sessions are numbered one by one; and no other
--- replay of the plan has as many turns.
-pub record IsWholeReplay (plan : PlanData) (journal : List Entry) : Type 0 where
+-- *Sound replay*: a sound run whose turns go in a replay's order and whose sessions are numbered one by one; and no other
+-- replay of the plan has as many turns. That the run is over is said apart.
+pub record IsSoundReplay (plan : PlanData) (journal : List Entry) : Type 0 where
   pub sound : IsSoundRun plan journal
   pub replay : IsReplay plan journal
   pub only : (other : List Entry) → IsReplay plan other → length other ≡ length journal → other ≡ journal

@@ -6,7 +6,7 @@ ghost use Rattle.tool_program.specs.Verdicts.{verdict_of};
 ghost use Rattle.proof_plans.specs.ReadPlans.Laws.{WasRead};
 ghost use Rattle.run_desk.specs.declared.turn_queue_workers.ending.Ending.TheVariants as endings;
 ghost use Rattle.top_call.specs.WholeReplays.Replays.{IsEnd};
-ghost use Rattle.top_call.specs.PlanWorks.Works.{IsWholeRun};
+ghost use Rattle.top_call.specs.PlanWorks.Works.{IsSoundRunByWorkers};
 
 use crate::whole_replays::{End, end_with, kept_runs_are_sound};
 use crate::workers::read_plans_go;
@@ -58,7 +58,7 @@ pub fn work_plan<V: Serve + Send, R: Threads + Wait + Sync, G: Gate + Sync>(
     requires few { workers ≤ 16 }
     requires read { WasRead plan.now }
     requires server { V.state server ≡ opening plan.now }
-    ensures run { IfOk result (λ left. IsWholeRun plan.now left.journal left.turns.items workers) }
+    ensures run { IfOk result (λ left. IsSoundRunByWorkers plan.now left.journal left.turns.items workers) }
     ensures end { IfOk result (λ left. IfSome left.end (λ end. IsEnd plan.now left.journal end.verdict (V.state end.server))) }
 {
     kept_runs_are_sound();

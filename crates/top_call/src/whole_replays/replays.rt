@@ -5,7 +5,7 @@ ghost use Rattle.tool_program.specs.JournalWords.Journals.{opening};
 ghost use Rattle.tool_program.specs.Verdicts.{verdict_of};
 ghost use Rattle.proof_plans.specs.ReadPlans.Laws.{WasRead};
 ghost use Rattle.run_replay.specs.declared.whole_replay.replays.Replayed.TheVariants as answers;
-ghost use Rattle.top_call.specs.WholeReplays.Replays.{IsWholeReplay, IsEnd};
+ghost use Rattle.top_call.specs.WholeReplays.Replays.{IsSoundReplay, IsEnd};
 
 use crate::whole_replays::laws::kept_runs_are_sound;
 use law_journals::plans::read_plans_are_runnable;
@@ -63,7 +63,7 @@ pub fn end_with<V: Serve>(verdict: Option<Verdict>, server: V) -> Option<End<V>>
 pub fn replay_plan<V: Serve>(alloc: Global, plan: &Plan, server: V) -> Result<Left<V>, AllocError>
     requires read { WasRead plan.now }
     requires server { V.state server ≡ opening plan.now }
-    ensures replay { IfOk result (λ left. IsWholeReplay plan.now left.journal) }
+    ensures replay { IfOk result (λ left. IsSoundReplay plan.now left.journal) }
     ensures end { IfOk result (λ left. IfSome left.end (λ end. IsEnd plan.now left.journal end.verdict (V.state end.server))) }
 {
     kept_runs_are_sound();

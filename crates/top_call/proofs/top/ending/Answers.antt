@@ -1,5 +1,6 @@
 use Rattle.top_call.proofs.Endings.{ends_by}
 use Rattle.top_call.proofs.Headline.{runs_by}
+use Rattle.top_call.proofs.Unread.{unread}
 use Rattle.top_call.proofs.top.ending.Goals as goal
 
 pub returns-clause-ends : goal.returns-clause-ends
@@ -7,6 +8,9 @@ returns-clause-ends g c = ends_by c.args.line.now _ _ c.doing.result.turns c.doi
 
 pub returns-clause-runs : goal.returns-clause-runs
 returns-clause-runs g c = runs_by c.laws_stand.ensures c.args.line.now _ _ c.doing.result.turns c.doing.result.journal c.doing.result.status c.doing.ensures.does
+
+pub returns-clause-unread : goal.returns-clause-unread
+returns-clause-unread g c = unread c.args.line.now _ _ c.doing.result.turns c.doing.result.journal c.doing.result.status c.doing.ensures.does
 
 pub returns-clause-source_never_falls : goal.returns-clause-source_never_falls
 returns-clause-source_never_falls g c = c.doing.ensures.source_never_falls

@@ -46,3 +46,6 @@ returns-clause-ends g c = c.ending.ensures.ends
 
 pub returns-clause-runs : goal.returns-clause-runs
 returns-clause-runs g c = c.ending.ensures.runs
+
+pub returns-clause-unread : goal.returns-clause-unread
+returns-clause-unread g c = c.ending.ensures.unread

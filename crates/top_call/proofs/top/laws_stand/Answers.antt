@@ -6,5 +6,6 @@ returns c = record {
   runnable = c.read_plans_are_runnable.ensures;
   serial = c.read_plans_are_serial.ensures.serial;
   quiet = c.quiet_runs_are_done.ensures;
+  smooth = c.smooth_runs_are_done.ensures;
   allow = c.read_options_allow.ensures;
 }

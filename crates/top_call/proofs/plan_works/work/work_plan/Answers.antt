@@ -3,8 +3,8 @@ use Rattle.server_model.specs.States.{State}
 use Rattle.server_model.specs.declared.outcome.Verdict.{Verdict}
 use Rattle.run_turns.specs.Runs.{RunView}
 use Rattle.top_call.specs.WholeReplays.Replays.{IsEnd}
-use Rattle.top_call.proofs.WholeReplays.WholeRuns.{with_end}
-use Rattle.top_call.proofs.PlanWorks.WholeWorks.{whole_of, reported_end}
+use Rattle.top_call.proofs.WholeReplays.SoundReplays.{with_end}
+use Rattle.top_call.proofs.PlanWorks.SoundRuns.{sound_run_of, reported_end}
 use Rattle.top_call.proofs.plan_works.work.work_plan.Goals as goal
 
 pub open-requires-clause-runs : goal.open-requires-clause-runs
@@ -12,9 +12,9 @@ open-requires-clause-runs g c = c.read_plans_are_runnable.ensures c.args.plan.no
 
 pub returns-clause-run : goal.returns-clause-run
 returns-clause-run g c =
-    whole_of c.args.plan.now c.in_ok-opened.opened.plan c.in_ok-ran.ran.run c.stop-server.result.1 (ap (λ (run : RunView). run.plan) c.in_ok-opened.ensures) c.in_ok-ran.ensures.plan c.stop-server.ensures.turns
+    sound_run_of c.args.plan.now c.in_ok-opened.opened.plan c.in_ok-ran.ran.run c.stop-server.result.1 (ap (λ (run : RunView). run.plan) c.in_ok-opened.ensures) c.in_ok-ran.ensures.plan c.stop-server.ensures.turns
     c.kept_runs_are_sound.ensures c.in_ok-ran.ran.turns.items c.args.workers c.requires.read c.in_ok-ran.ensures.kept c.in_ok-ran.ensures.numbered c.in_ok-ran.ensures.order
-    c.in_ok-ran.ensures.passes c.in_ok-ran.ensures.stops c.stop-server.ensures.bound
+    c.in_ok-ran.ensures.stops c.stop-server.ensures.bound
 
 pub returns-clause-end : goal.returns-clause-end
 returns-clause-end g c =

@@ -3,7 +3,7 @@ use Rattle.server_model.specs.States.{State}
 use Rattle.server_model.specs.declared.outcome.Verdict.{Verdict}
 use Rattle.run_turns.specs.Runs.{RunView}
 use Rattle.top_call.specs.WholeReplays.Replays.{IsEnd}
-use Rattle.top_call.proofs.WholeReplays.WholeRuns.{reported_end, whole_of, with_end}
+use Rattle.top_call.proofs.WholeReplays.SoundReplays.{reported_end, sound_replay_of, with_end}
 use Rattle.top_call.proofs.whole_replays.replays.replay_plan.Goals as goal
 
 pub open-requires-clause-runs : goal.open-requires-clause-runs
@@ -11,7 +11,7 @@ open-requires-clause-runs g c = c.read_plans_are_runnable.ensures c.args.plan.no
 
 pub returns-clause-replay : goal.returns-clause-replay
 returns-clause-replay g c =
-    whole_of c.kept_runs_are_sound.ensures c.replays_agree.ensures.one c.args.plan.now c.replay-replayed.new.run c.stop-server.result.1 (c.replay-replayed.ensures.plan ∙ ap (λ (run : RunView). run.plan) c.in_ok-run.ensures) c.stop-server.ensures.turns
+    sound_replay_of c.kept_runs_are_sound.ensures c.replays_agree.ensures.one c.args.plan.now c.replay-replayed.new.run c.stop-server.result.1 (c.replay-replayed.ensures.plan ∙ ap (λ (run : RunView). run.plan) c.in_ok-run.ensures) c.stop-server.ensures.turns
     c.requires.read c.replay-replayed.ensures.replay c.journal-in_sessions.ensures.sessions c.stop-server.ensures.bound c.replay-replayed.ensures.stops
 
 pub returns-clause-end : goal.returns-clause-end

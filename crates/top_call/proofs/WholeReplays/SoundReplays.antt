@@ -19,15 +19,15 @@ use Rattle.run_replay.specs.WholeReplay.Replays.{IsStalled}
 use Rattle.run_replay.specs.declared.whole_replay.replays.Replayed.{Replayed}
 use Rattle.run_replay.specs.declared.whole_replay.replays.Replayed.TheVariants as replayed
 use Rattle.top_call.specs.WholeReplays.SoundRuns.{KeptRunsAreSound}
-use Rattle.top_call.specs.WholeReplays.Replays.{IsWholeReplay, IsEnd}
+use Rattle.top_call.specs.WholeReplays.Replays.{IsSoundReplay, IsEnd}
 
 abbrev kept_of : (plan : PlanData) (journal : List Entry) → IsReplay plan journal → KeepsSessions journal → IsKept plan journal
 kept_of plan journal replay sessions = record { faithful = replay.faithful; planned = replay.planned; follows = replay.follows; sessions = sessions }
 
--- *Whole replay*
-pub whole : KeptRunsAreSound → OneReplay → (plan : PlanData) (journal : List Entry) → WasRead plan → IsReplay plan journal → KeepsSessions journal → length journal ≤ plan.options.turn_limit → Stops plan journal → IsWholeReplay plan journal
+-- *Sound replay*
+pub sound_replay : KeptRunsAreSound → OneReplay → (plan : PlanData) (journal : List Entry) → WasRead plan → IsReplay plan journal → KeepsSessions journal → length journal ≤ plan.options.turn_limit → Stops plan journal → IsSoundReplay plan journal
 unfolding KeptRunsAreSound
-whole sound one plan journal was replay sessions bound stops = record {
+sound_replay sound one plan journal was replay sessions bound stops = record {
   sound = sound plan journal was (kept_of plan journal replay sessions) bound stops;
   replay = replay;
   only = λ other others same. one plan other journal others replay same;
@@ -77,9 +77,9 @@ over_after goes plan journal replayed.NoMemory was replay sessions memory over s
 -- OF A RUN
 
 -- the same of the run that it was, and of the journal that is taken out of it
-pub whole_of : KeptRunsAreSound → OneReplay → (plan : PlanData) (run : RunView) (journal : List Entry) → run.plan ≡ plan → journal ≡ run.journal → WasRead plan → IsReplay run.plan run.journal → KeepsSessions run.journal → length run.journal ≤ run.plan.options.turn_limit → Stops run.plan run.journal → IsWholeReplay plan journal
-whole_of sound one plan run journal plan_is journal_is was replay sessions bound stops =
-    subst (IsWholeReplay plan) (sym journal_is) (subst (λ (p : PlanData). IsWholeReplay p run.journal) plan_is (whole sound one run.plan run.journal (subst WasRead (sym plan_is) was) replay sessions bound stops))
+pub sound_replay_of : KeptRunsAreSound → OneReplay → (plan : PlanData) (run : RunView) (journal : List Entry) → run.plan ≡ plan → journal ≡ run.journal → WasRead plan → IsReplay run.plan run.journal → KeepsSessions run.journal → length run.journal ≤ run.plan.options.turn_limit → Stops run.plan run.journal → IsSoundReplay plan journal
+sound_replay_of sound one plan run journal plan_is journal_is was replay sessions bound stops =
+    subst (IsSoundReplay plan) (sym journal_is) (subst (λ (p : PlanData). IsSoundReplay p run.journal) plan_is (sound_replay sound one run.plan run.journal (subst WasRead (sym plan_is) was) replay sessions bound stops))
 
 pub end_of : AcceptedRunsGoOn → (plan : PlanData) (run : RunView) (journal : List Entry) (answer : Replayed) (verdict : Verdict) (server : State) → run.plan ≡ plan → journal ≡ run.journal → WasRead plan → IsReplay run.plan run.journal → KeepsSessions run.journal → answer ≢ replayed.NoMemory → (answer ≡ replayed.Over → is_over run.plan run.journal ≡ true) → (answer ≡ replayed.Stalled → IsStalled run.plan run.journal)
     → verdict ≡ verdict_of run.plan run.journal → server ≡ run.server → (answer ≢ replayed.NoMemory → run.server ≡ state_at run.plan run.journal) → IsEnd plan journal verdict server

@@ -13,19 +13,17 @@ use Rattle.proof_plans.specs.ReadPlans.Laws.{WasRead}
 use Rattle.run_desk.specs.declared.turn_queue_workers.ending.Ending.{Ending}
 use Rattle.run_desk.specs.declared.turn_queue_workers.ending.Ending.TheVariants.{Over}
 use Rattle.run_turns.specs.Runs.{RunView, is_over, Stops}
-use Rattle.run_workers.specs.Passes.{IsByPasses}
 use Rattle.top_call.specs.WholeReplays.SoundRuns.{KeptRunsAreSound}
 use Rattle.top_call.specs.WholeReplays.Replays.{IsEnd}
-use Rattle.top_call.specs.PlanWorks.Works.{IsWholeRun}
+use Rattle.top_call.specs.PlanWorks.Works.{IsSoundRunByWorkers}
 
--- *Whole run*
-whole : KeptRunsAreSound → (plan : PlanData) (journal : List Entry) (turns : List WorkerTurn) (workers : ℕ) → WasRead plan → IsKept plan journal → NumbersSessions journal → RunOrder plan journal turns workers → IsByPasses journal turns workers → Stops plan journal → length journal ≤ plan.options.turn_limit → IsWholeRun plan journal turns workers
+-- *Sound run by workers*
+sound_by_workers : KeptRunsAreSound → (plan : PlanData) (journal : List Entry) (turns : List WorkerTurn) (workers : ℕ) → WasRead plan → IsKept plan journal → NumbersSessions journal → RunOrder plan journal turns workers → Stops plan journal → length journal ≤ plan.options.turn_limit → IsSoundRunByWorkers plan journal turns workers
 unfolding KeptRunsAreSound
-whole sound plan journal turns workers was kept numbered order passes stops bound = record {
+sound_by_workers sound plan journal turns workers was kept numbered order stops bound = record {
   sound = sound plan journal was kept bound stops;
   numbered = numbered;
   order = order;
-  passes = passes;
 }
 
 -- of the run that workers left, which began with this plan, and of the journal that is taken out of it
@@ -33,10 +31,10 @@ module _ (plan begun : PlanData) (run : RunView) (journal : List Entry) (begun_i
   of_run : (P : PlanData → List Entry → Type 0) → P begun run.journal → P plan journal
   of_run P is = subst (λ (all : List Entry). P plan all) (sym journal_is) (subst (λ (p : PlanData). P p run.journal) begun_is is)
 
-  pub whole_of : KeptRunsAreSound → (turns : List WorkerTurn) (workers : ℕ) → WasRead plan → IsKept begun run.journal → NumbersSessions run.journal → RunOrder begun run.journal turns workers → IsByPasses run.journal turns workers → Stops begun run.journal → length run.journal ≤ run.plan.options.turn_limit → IsWholeRun plan journal turns workers
-  whole_of sound turns workers was kept numbered order passes stops bound =
-      of_run (λ (p : PlanData) (all : List Entry). IsWholeRun p all turns workers)
-      (whole sound begun run.journal turns workers (subst WasRead (sym begun_is) was) kept numbered order passes stops (subst (λ (p : PlanData). length run.journal ≤ p.options.turn_limit) plan_is bound))
+  pub sound_run_of : KeptRunsAreSound → (turns : List WorkerTurn) (workers : ℕ) → WasRead plan → IsKept begun run.journal → NumbersSessions run.journal → RunOrder begun run.journal turns workers → Stops begun run.journal → length run.journal ≤ run.plan.options.turn_limit → IsSoundRunByWorkers plan journal turns workers
+  sound_run_of sound turns workers was kept numbered order stops bound =
+      of_run (λ (p : PlanData) (all : List Entry). IsSoundRunByWorkers p all turns workers)
+      (sound_by_workers sound begun run.journal turns workers (subst WasRead (sym begun_is) was) kept numbered order stops (subst (λ (p : PlanData). length run.journal ≤ p.options.turn_limit) plan_is bound))
 
   -- how it ended, where there is a verdict
   pub reported_end : (ending : Ending) (chosen : Option Verdict) (server : State) → IfSome chosen (λ verdict. verdict ≡ verdict_of run.plan run.journal) → IfSome chosen (λ verdict. ending ≡ Over) → (ending ≡ Over → is_over begun run.journal ≡ true) → (ending ≡ Over → run.server ≡ state_at begun run.journal) → server ≡ run.server → IfSome chosen (λ verdict. IsEnd plan journal verdict server)

@@ -1,0 +1,126 @@
+-- What comes of the words and the source.
+use Rattle.std.proofs.Common.{◌≡◌, ℕ, List, [], Option, Some, None, IfSome, Result, Ok, Err, inl, inr, refl, sym, ap, subst}
+use Rattle.std.specs.Io.KnownBytes.{Consumes}
+use Rattle.base_edges.specs.Edges.{Rose}
+use Rattle.base_edges.specs.Whole.{ReadsWhole}
+use Rattle.server_model.specs.declared.entry.Entry.{Entry}
+use Rattle.plan_data.specs.PlanData.{PlanData}
+use Rattle.plan_reader.specs.declared.fault.PlanRefusal.{PlanRefusal}
+use Rattle.plan_reader.specs.declared.limits.TheConstants.{PLAN_LIMIT}
+use Rattle.plan_reader.specs.Plans.{read}
+use Rattle.top_words.specs.Commands.{command}
+use Rattle.top_words.specs.declared.command.Command.{Command}
+use Rattle.top_words.specs.declared.command.Command.TheVariants.{Check, Replay, Run, Generate}
+use Rattle.top_endings.specs.declared.command.PlanCommand.{PlanCommand}
+use Rattle.top_endings.specs.declared.command.PlanCommand.TheVariants as plans
+use Rattle.top_endings.specs.declared.printed.Printed.{Printed}
+use Rattle.top_endings.specs.declared.status.Status.TheVariants as statuses
+use Rattle.top_endings.specs.declared.turn.Turn.{Turn}
+use Rattle.top_endings.specs.Endings.{Taking, IsWorkload, IsUsage, IsReadFault}
+use Rattle.top_endings.specs.Checks.{IsSchema}
+use Rattle.top_endings.specs.Texts.{IsRefusal, usage_text, read_fault_text}
+use Rattle.top_workload.specs.Workloads.{workload}
+use Rattle.top_call.specs.Comings.{ComesTo, HasNoPlan, IsAccepted, LeavesSource, TellsPlan}
+use Rattle.top_call.specs.Outcomes.{Comes, IsTaken, IsUntaken, TakesNone}
+
+no_turn : IsUntaken [] []
+no_turn = record { no_turns = refl; no_journal = refl }
+
+nothing_shown : (Shows : Printed → Type 0) → TakesNone Shows None [] []
+nothing_shown Shows = record { untaken = no_turn; shows = tt }
+
+-- A SOURCE THAT A PLAN IS READ FROM
+
+-- nothing is printed, since memory ran out
+pub nothing_reported : (source : Taking) → HasNoPlan source None [] []
+nothing_reported source = λ chosen. inr (nothing_shown (IsReadFault source))
+
+-- the source failed
+pub fault_reported : (source : Taking) (printed : Option Printed) → IfSome printed (λ one. one ≡ record { status = statuses.ReadFault; text = read_fault_text }) → Rose source.faults_before source.faults_after → HasNoPlan source printed [] []
+fault_reported source None is rose = nothing_reported source
+fault_reported source (Some printed) is rose = λ chosen. inr (record { untaken = no_turn; shows = record { status_is = ap (λ (one : Printed). one.status) is; text_is = ap (λ (one : Printed). one.text) is; rose = rose } })
+
+refusal_comes : (chosen : PlanCommand) (refusal : PlanRefusal) (printed : Option Printed) → IfSome printed (IsRefusal refusal) → Comes chosen (Err refusal) printed [] []
+refusal_comes plans.Check refusal printed shows = record { untaken = no_turn; shows = shows }
+refusal_comes plans.Replay refusal printed shows = record { untaken = no_turn; shows = shows }
+refusal_comes (plans.Run workers) refusal printed shows = record { untaken = no_turn; shows = shows }
+
+-- its bytes are refused
+pub refusal_reported : (source : Taking) (printed : Option Printed) (bytes : List ℕ) (refusal : PlanRefusal) → ReadsWhole PLAN_LIMIT source.before source.after bytes → read bytes ≡ Err refusal → IfSome printed (IsRefusal refusal) → HasNoPlan source printed [] []
+refusal_reported source printed bytes refusal whole refused shows = λ chosen. inl (record {
+  bytes = bytes;
+  whole = whole;
+  comes = subst (λ (said : Result PlanData PlanRefusal). Comes chosen said printed [] []) (sym refused) (refusal_comes chosen refusal printed shows);
+})
+
+pub accepted_by : (source : Taking) (plan : PlanData) (bytes : List ℕ) → ReadsWhole PLAN_LIMIT source.before source.after bytes → read bytes ≡ Ok plan → IsAccepted source plan
+accepted_by source plan bytes whole accepted = record { bytes = bytes; whole = whole; accepted = accepted }
+
+-- its bytes are a plan, of which this comes under the command
+of_plan : (chosen : PlanCommand) (source : Taking) (plan : PlanData) (printed : Option Printed) (turns : List Turn) (journal : List Entry) → IsAccepted source plan → Comes chosen (Ok plan) printed turns journal → TellsPlan chosen source printed turns journal
+of_plan chosen source plan printed turns journal was comes = inl (record {
+  bytes = was.bytes;
+  whole = was.whole;
+  comes = subst (λ (said : Result PlanData PlanRefusal). Comes chosen said printed turns journal) (sym was.accepted) comes;
+})
+
+pub schema_reported : (source : Taking) (plan : PlanData) (printed : Option Printed) → IsAccepted source plan → IfSome printed (IsSchema plan) → TellsPlan plans.Check source printed [] []
+schema_reported source plan printed was shows = of_plan plans.Check source plan printed [] [] was (record { untaken = no_turn; shows = shows })
+
+pub replay_reported : (source : Taking) (plan : PlanData) (printed : Option Printed) (turns : List Turn) (journal : List Entry) → IsAccepted source plan → IsTaken plans.Replay plan printed turns journal → TellsPlan plans.Replay source printed turns journal
+replay_reported source plan printed turns journal was taken = of_plan plans.Replay source plan printed turns journal was taken
+
+pub run_reported : (workers : ℕ) (source : Taking) (plan : PlanData) (printed : Option Printed) (turns : List Turn) (journal : List Entry) → IsAccepted source plan → IsTaken (plans.Run workers) plan printed turns journal → TellsPlan (plans.Run workers) source printed turns journal
+run_reported workers source plan printed turns journal was taken = of_plan (plans.Run workers) source plan printed turns journal was taken
+
+-- THE WORDS
+
+takes_nothing : (left : Option (List ℕ)) → Consumes left left []
+takes_nothing None = tt
+takes_nothing (Some bytes) = refl
+
+abbrev Unmoved : Option (List ℕ) → ℕ → Taking
+Unmoved left faults = record { before = left; after = left; faults_before = faults; faults_after = faults }
+
+-- a source that wasn't asked is as it was
+left_as_it_was : (left : Option (List ℕ)) (faults : ℕ) (Shows : Printed → Type 0) (printed : Option Printed) → TakesNone Shows printed [] [] → LeavesSource (Unmoved left faults) Shows printed [] []
+left_as_it_was left faults Shows printed comes = record { takes_none = takes_nothing left; comes = comes }
+
+-- nothing is printed, whatever the command is, and the source wasn't asked
+pub nothing_comes : (chosen : Option Command) (left : Option (List ℕ)) (faults : ℕ) → ComesTo chosen (Unmoved left faults) None [] []
+unfolding ComesTo
+nothing_comes None left faults = left_as_it_was left faults _ None (nothing_shown _)
+nothing_comes (Some Check) left faults = nothing_reported (Unmoved left faults) plans.Check
+nothing_comes (Some Replay) left faults = nothing_reported (Unmoved left faults) plans.Replay
+nothing_comes (Some (Run workers)) left faults = nothing_reported (Unmoved left faults) (plans.Run workers)
+nothing_comes (Some (Generate number)) left faults = left_as_it_was left faults _ None (nothing_shown _)
+
+-- what comes under the commands that read a plan
+pub check_comes : (source : Taking) (printed : Option Printed) (turns : List Turn) (journal : List Entry) → TellsPlan plans.Check source printed turns journal → ComesTo (Some Check) source printed turns journal
+unfolding ComesTo
+check_comes source printed turns journal tells = tells
+
+pub replay_comes : (source : Taking) (printed : Option Printed) (turns : List Turn) (journal : List Entry) → TellsPlan plans.Replay source printed turns journal → ComesTo (Some Replay) source printed turns journal
+unfolding ComesTo
+replay_comes source printed turns journal tells = tells
+
+-- under words that ask for a run
+pub run_comes : (words : List (List ℕ)) (workers : ℕ) (source : Taking) (printed : Option Printed) (turns : List Turn) (journal : List Entry) → command words ≡ Some (Run workers) → TellsPlan (plans.Run workers) source printed turns journal → ComesTo (command words) source printed turns journal
+unfolding ComesTo
+run_comes words workers source printed turns journal is tells = subst (λ (chosen : Option Command). ComesTo chosen source printed turns journal) (sym is) tells
+
+usage_shown : (left : Option (List ℕ)) (faults : ℕ) (printed : Option Printed) → IfSome printed (λ one. one ≡ record { status = statuses.Usage; text = usage_text }) → TakesNone (IsUsage (Unmoved left faults)) printed [] []
+usage_shown left faults None is = nothing_shown _
+usage_shown left faults (Some printed) is = record { untaken = no_turn; shows = record { status_is = ap (λ (one : Printed). one.status) is; text_is = ap (λ (one : Printed). one.text) is; takes_none = takes_nothing left } }
+
+-- the usage, where the words are no command
+pub faulty_comes : (left : Option (List ℕ)) (faults : ℕ) (printed : Option Printed) → IfSome printed (λ one. one ≡ record { status = statuses.Usage; text = usage_text }) → ComesTo None (Unmoved left faults) printed [] []
+unfolding ComesTo
+faulty_comes left faults printed is = left_as_it_was left faults _ printed (usage_shown left faults printed is)
+
+-- the plan of a number
+pub workload_comes : (number : ℕ) (left : Option (List ℕ)) (faults : ℕ) (printed : Option Printed) → IfSome printed (λ one. one ≡ record { status = statuses.Done; text = workload number }) → ComesTo (Some (Generate number)) (Unmoved left faults) printed [] []
+unfolding ComesTo
+workload_comes number left faults None is = left_as_it_was left faults _ None (nothing_shown _)
+workload_comes number left faults (Some printed) is =
+    left_as_it_was left faults _ (Some printed) (record { untaken = no_turn; shows = record { status_is = ap (λ (one : Printed). one.status) is; text_is = ap (λ (one : Printed). one.text) is; takes_none = takes_nothing left } })
