@@ -39,7 +39,7 @@ use Rattle.tool_program.specs.CutoverCore.Attempts as attempts
 use Rattle.tool_program.specs.ChunkCopier.Copiers as copiers
 use Rattle.tool_program.specs.EventApplier.Appliers as appliers
 use Rattle.tool_program.specs.CutoverCore.CutOvers as cutovers
-use Rattle.tool_program.specs.CutoverCore.CutOvers.{is_bad, is_done, is_resting, attempts_after, begun, ended, failed, waits_phase, drained, inspector_phase, locker_phase, renamer_phase}
+use Rattle.tool_program.specs.CutoverCore.CutOvers.{is_bad, is_done, is_resting, attempts_after, begun, ended, waits_phase, drained, inspector_phase, locker_phase, renamer_phase}
 use Rattle.tool_program.specs.Operators.{commanded}
 use Rattle.tool_program.specs.Programs.{tool_call, may_begin, given, Follows}
 use Rattle.tool_program.specs.Setups.{Setup, Listing, Clearing, MakingLog, MakingGhost, Marking, Reaching, Ready, setup_after}

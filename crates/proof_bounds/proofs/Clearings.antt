@@ -2,7 +2,7 @@
 -- most; besides there are two rollbacks and three turns after the RENAME.
 use Rattle.std.proofs.Common.{◌≡◌, ◌≤◌, ◌<◌, ℕ, zero, suc, ◌+◌, ◌*◌, Bool, true, false, cond, not, ◌&&◌, ◌||◌, List, [], ◌∷◌, ◌++◌, Option, Some, None, refl, sym, ap, ◌∙◌, subst, arith}
 use Rattle.std.specs.Prelude.{is_some, nat_lt}
-use Rattle.std.proofs.lemmas.Bool.{true≢false, false≢true}
+use Rattle.std.proofs.lemmas.Bool.{true≢false, false≢true, or_parts}
 use Rattle.std.proofs.lemmas.Bool.Decides.{nat_tests}
 use Rattle.std.proofs.lemmas.List.Sums.{sum_by_push}
 use Rattle.base_script.specs.declared.actor.Actor.{Actor}
@@ -357,10 +357,6 @@ one_at_most : (b : Bool) → cond b 1 0 ≤ 1
 one_at_most true = omega arith
 one_at_most false = omega arith
 
-second_no : (a b : Bool) → (a || b) ≡ false → (a ≡ false) × (b ≡ false)
-second_no true b is = absurd (true≢false is)
-second_no false b is = (refl, is)
-
 none_side : (side : Option Side) → is_some side ≡ false → side ≡ None
 none_side None is = refl
 none_side (Some side) is = absurd (true≢false is)
@@ -413,10 +409,10 @@ module _ (plan : PlanData) (may : MayWait plan) (before : List Entry) (entry : E
 
   module _ (whole : is_struck entry ≡ false) where
     uncut : is_cut entry.asked ≡ false
-    uncut = (second_no (is_cut entry.asked) (is_some entry.side) whole).0
+    uncut = (or_parts (is_cut entry.asked) (is_some entry.side) whole).0
 
     no_side : entry.side ≡ None
-    no_side = none_side entry.side (second_no (is_cut entry.asked) (is_some entry.side) whole).1
+    no_side = none_side entry.side (or_parts (is_cut entry.asked) (is_some entry.side) whole).1
 
     same_struck : struck_turns more ≡ struck_turns before
     same_struck = struck_more false whole ∙ none (struck_turns before) where

@@ -1,5 +1,5 @@
 -- Each line of a client's script takes one turn and as many more as the plan lets it wait.
-use Rattle.std.proofs.Common.{◌≡◌, ◌⊎◌, inl, inr, ◌≤◌, ◌<◌, ℕ, zero, suc, ◌+◌, ◌*◌, ◌-◌, ◌==◌, Bool, true, false, cond, not, ◌&&◌, List, [], ◌∷◌, ◌++◌, length, Option, Some, None, refl, sym, ap, ◌∙◌, subst, arith}
+use Rattle.std.proofs.Common.{◌≡◌, ◌⊎◌, inl, inr, ◌≤◌, ◌<◌, ℕ, zero, suc, ◌+◌, ◌*◌, ◌-◌, ◌==◌, Bool, true, false, cond, not, ◌&&◌, List, [], ◌∷◌, ◌++◌, length, Option, Some, None, refl, sym, ap, ◌∙◌, subst, arith, mul-le-mul_right}
 use Rattle.std.specs.Prelude.{sum, map, unwrap_or}
 use Rattle.std.specs.List.{slice_get}
 use Rattle.std.proofs.lemmas.Bool.{true≢false, false≢true}
@@ -103,9 +103,6 @@ turns_more c journal entry = sum_by_push (λ (one : Entry). cond (same_actor one
 
 times_less : (a b m : ℕ) → a + 1 ≤ b → a * m + m ≤ b * m
 times_less a b m less = grind (arith, less)
-
-times_same : (a b m : ℕ) → a ≤ b → a * m ≤ b * m
-times_same a b m less = grind (arith, less)
 
 module _ (plan : PlanData) (may : MayWait plan) (c : ℕ) (journal : List Entry) (entry : Entry) (run : IsRun plan journal entry) (is : IsCounted plan journal) (spent : IsSpent plan c journal) where
   abbrev more : List Entry
@@ -396,7 +393,7 @@ module _ (plan : PlanData) (may : MayWait plan) (journal : List Entry) (entry : 
       let short : waited_by plan journal (Client c) ≤ plan.options.client_wait = waits_short plan journal is.counted.few (Client c) in
       join (turns_by c journal) (length (client_at plan journal c).left) (all_lines plan c) (waited_by plan journal (Client c)) plan.options.client_wait line spent short where
         zero_no : (t left w v : ℕ) → 1 ≤ left → t + left * (1 + v) ≤ 0 * (1 + v) + w → w ≤ v → ⊥
-        zero_no t left w v line spent short = let one = times_same 1 left (1 + v) line in omega (arith, one, spent, short)
+        zero_no t left w v line spent short = let one : 1 * (1 + v) ≤ left * (1 + v) = mul-le-mul_right (1 + v) line in omega (arith, one, spent, short)
 
         join : (t left all w v : ℕ) → 1 ≤ left → t + left * (1 + v) ≤ all * (1 + v) + w → w ≤ v → 1 ≤ all
         join t left zero w v line spent short = absurd (zero_no t left w v line spent short)
@@ -485,7 +482,7 @@ client_few plan journal may fit faithful follows =
 
       join : (t left all w v : ℕ) (journal_left : List ScriptLine) → length journal_left ≡ left → t + left * (1 + v) ≤ all * (1 + v) + w → w ≤ v → (w ≡ 0) ⊎ (1 ≤ left) → t ≤ all * (1 + v)
       join t left all w v lines same spent short (inl none) = omega (arith, spent, none)
-      join t left all w v lines same spent short (inr some) = let one = times_same 1 left (1 + v) some in omega (arith, one, spent, short)
+      join t left all w v lines same spent short (inr some) = let one : 1 * (1 + v) ≤ left * (1 + v) = mul-le-mul_right (1 + v) some in omega (arith, one, spent, short)
 
       waits_with : (c : ℕ) → IsCounted plan journal → (waited_by plan journal (Client c) ≡ 0) ⊎ (1 ≤ length (client_at plan journal c).left)
       waits_with c counted = by (client_at plan journal c).waits refl where

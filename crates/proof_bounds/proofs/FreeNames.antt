@@ -1,10 +1,11 @@
 -- Which names are free for an actor, and what its calls are answered then.
-use Rattle.std.proofs.Common.{◌≡◌, ℕ, Bool, true, false, cond, not, ◌||◌, List, [], ◌∷◌, Option, Some, None, refl, sym, ap, ◌∙◌, subst}
+use Rattle.std.proofs.Common.{◌≡◌, ℕ, Bool, true, false, cond, not, List, [], ◌∷◌, Option, Some, None, refl, sym, ap, ◌∙◌, subst}
 use Rattle.std.specs.Prelude.{◌==◌, is_some}
 use Rattle.std.specs.List.{AllByRecursion}
 use Rattle.std.specs.Option.{option_map}
 use Rattle.std.specs.Str.{bytes_eq}
-use Rattle.std.proofs.lemmas.Bool.{true≢false}
+use Rattle.std.proofs.lemmas.Bool.{true≢false, or_from}
+use Rattle.std.proofs.lemmas.Option.{none-some, same_Some}
 use Rattle.base_script.specs.declared.actor.Actor.{Actor}
 use Rattle.base_values.specs.declared.gho_schema.schema.Schema.{Schema}
 use Rattle.base_values.specs.declared.value.Value.{Value}
@@ -116,10 +117,7 @@ module _ (plan : PlanData) (journal : List Entry) (is : IsHeldWell plan journal)
 
   off_names : (a : Actor) (name : List ℕ) → forbids plan a name ≡ true → (names : List (List ℕ)) → AllNames (MayName plan a) names → has_name names name ≡ false
   off_names a name forbidden [] all = refl
-  off_names a name forbidden (first ∷ names) all = both (bytes_eq first name) (has_name names name) (off_one a name forbidden first all.0) (off_names a name forbidden names all.1) where
-    both : (x y : Bool) → x ≡ false → y ≡ false → (x || y) ≡ false
-    both true y off rest = absurd (true≢false off)
-    both false y off rest = rest
+  off_names a name forbidden (first ∷ names) all = or_from (bytes_eq first name) (has_name names name) (off_one a name forbidden first all.0) (off_names a name forbidden names all.1)
 
   -- one that may not
   pub away_forbidden : (a : Actor) (name : List ℕ) → forbids plan a name ≡ true → IsAway a name
@@ -136,10 +134,7 @@ module _ (plan : PlanData) (journal : List Entry) (is : IsHeldWell plan journal)
 
   -- one whose session has nothing
   pub away_free : (a : Actor) (name : List ℕ) → standing_of plan journal a ≡ free → IsAway a name
-  away_free a name none = record { held = λ n lives. by n lives (session_of n now.sessions) refl; waits = λ request some. absurd (no request (sym (ap (λ (s : Standing). s.waits) none) ∙ some)) } where
-    no : (request : Request) → None ≡ Some request → ⊥
-    no request same = cc
-
+  away_free a name none = record { held = λ n lives. by n lives (session_of n now.sessions) refl; waits = λ request some. absurd (none-some request (sym (ap (λ (s : Standing). s.waits) none) ∙ some)) } where
     by : (n : ℕ) → live_session journal a ≡ Some n → (o : Option Session) → session_of n now.sessions ≡ o → WithinIn (Off name) o
     by n lives None gone = tt
     by n lives (Some s) there =
@@ -172,12 +167,9 @@ module _ (plan : PlanData) (runs : IsRunnable plan) (journal : List Entry) (entr
   module _ (called : is_command entry.asked ≡ false) where
     own_session : (n : ℕ) → live_session journal own ≡ Some n → (n == entry.session) ≡ true
     own_session n lives = by (placed journal entry served.seated) where
-      some_same : (a b : ℕ) → Some a ≡ Some b → a ≡ b
-      some_same a b both = cc
-
       by : Placed journal entry → (n == entry.session) ≡ true
       by (Commands command zero) = absurd (true≢false (sym command ∙ called))
-      by (GoesOn calls live) = ap (λ (m : ℕ). m == entry.session) (some_same n entry.session (sym lives ∙ ap (live_session journal) (sym same) ∙ live)) ∙ same_number entry.session
+      by (GoesOn calls live) = ap (λ (m : ℕ). m == entry.session) (same_Some n entry.session (sym lives ∙ ap (live_session journal) (sym same) ∙ live)) ∙ same_number entry.session
       by (Begins calls uncut live above) = absurd (no (sym (ap (live_session journal) (sym same) ∙ live) ∙ lives)) where
         no : None ≡ Some n → ⊥
         no both = cc

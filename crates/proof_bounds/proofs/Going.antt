@@ -3,7 +3,7 @@ use Rattle.std.proofs.Common.{◌≡◌, ◌≢◌, ◌≤◌, ◌<◌, ℕ, ◌
 use Rattle.std.specs.Prelude.{nat_le, is_some}
 use Rattle.std.specs.List.{AllByRecursion, list_any}
 use Rattle.std.specs.Str.{bytes_eq}
-use Rattle.std.proofs.lemmas.Bool.{true≢false, false≢true, or_left, or_right}
+use Rattle.std.proofs.lemmas.Bool.{true≢false, false≢true, or_left, or_right, both_ways}
 use Rattle.std.proofs.lemmas.Bool.Decides.{nat_tests}
 use Rattle.std.proofs.lemmas.Option.{none-some}
 use Rattle.base_script.specs.declared.actor.Actor.{Actor}
@@ -672,9 +672,6 @@ module _ (plan : PlanData) (runs : IsRunnable plan) (journal : List Entry) (entr
 
     lock_fits : (request : Request) → LockerAsks work.cutover.table work.cutover.hold work.cutover.phase request → (answer : Answer) → WorkFits plan after (locker_phase work.cutover.phase answer) (hold_after work.cutover.hold work.cutover.phase answer) work.cutover.renamer_waits
     lock_fits request asks answer = by work.cutover.hold work.cutover.phase asks fits.done fits.back at.renamer where
-      off_on : (renames : Bool) → renames ≡ false → renames ≡ true → ⊥
-      off_on renames off on = true≢false (sym on ∙ off)
-
       no_guard : WaitsToGuard ≡ Nothing → ⊥
       no_guard same = cc
 
@@ -689,9 +686,9 @@ module _ (plan : PlanData) (runs : IsRunnable plan) (journal : List Entry) (entr
 
       by : (hold : Hold) (phase : Phase) → LockerAsks work.cutover.table hold phase request → (is_done phase ≡ true → (hold ≡ Nothing) × (work.cutover.renamer_waits ≡ false)) → (work.cutover.renamer_waits ≡ true → RestsOrLocks hold) → RenamerAt phase work.cutover.renamer_waits
           → WorkFits plan after (locker_phase phase answer) (hold_after hold phase answer) work.cutover.renamer_waits
-      by Nothing Resting asks done back renamer = undone_fits plan after (begun answer) (hold_of_guard answer) work.cutover.renamer_waits (begun_undone answer) (λ on. absurd (off_on work.cutover.renamer_waits renamer on))
+      by Nothing Resting asks done back renamer = undone_fits plan after (begun answer) (hold_of_guard answer) work.cutover.renamer_waits (begun_undone answer) (λ on. absurd (both_ways work.cutover.renamer_waits renamer on))
       by Nothing (Attempting Locking) asks done back renamer =
-          undone_fits plan after (locker_phase (Attempting Locking) answer) (hold_of_lock answer) work.cutover.renamer_waits (locker_undone (Attempting Locking) answer refl) (λ on. absurd (off_on work.cutover.renamer_waits renamer on))
+          undone_fits plan after (locker_phase (Attempting Locking) answer) (hold_of_lock answer) work.cutover.renamer_waits (locker_undone (Attempting Locking) answer refl) (λ on. absurd (both_ways work.cutover.renamer_waits renamer on))
       by Nothing phase asks done back renamer = absurd asks
       by WaitsToGuard phase asks done back renamer =
           undone_fits plan after (locker_phase phase answer) (hold_of_guard answer) work.cutover.renamer_waits (locker_undone phase answer (never_done phase (λ on. no_guard (done on).0))) (λ on. absurd (back on))

@@ -4,8 +4,9 @@ use Rattle.std.proofs.Common.{◌≡◌, ℕ, Bool, true, false, cond, not, ◌&
 use Rattle.std.specs.Prelude.{codes, is_some}
 use Rattle.std.specs.List.{list_any, slice_get}
 use Rattle.std.specs.Str.{bytes_eq}
-use Rattle.std.proofs.lemmas.Bool.{true≢false}
+use Rattle.std.proofs.lemmas.Bool.{true≢false, or_from}
 use Rattle.std.proofs.lemmas.List.{append_cancel_left}
+use Rattle.std.proofs.lemmas.Option.{same_Some}
 use Rattle.base_script.specs.declared.actor.Actor.{Actor}
 use Rattle.base_script.specs.declared.actor.Actor.TheVariants.{Op, Insp, Copy, Apply, Lock, Ren, Client}
 use Rattle.base_script.specs.declared.actor.Side.{Side}
@@ -133,14 +134,11 @@ module _ (plan : PlanData) (runs : IsRunnable plan) (journal : List Entry) (entr
         found : (n : ℕ) × (live_session journal entry.actor ≡ Some n) × MayPoll state_now n
         found = given_polled plan journal entry.actor runs kept.faithful kept.follows gives
 
-        some_same : (a b : ℕ) → Some a ≡ Some b → a ≡ b
-        some_same a b both = cc
-
         same : found.0 ≡ entry.session
         same = at (placed journal entry seat.seated) where
           at : Placed journal entry → found.0 ≡ entry.session
           at (Commands command zero) = absurd (true≢false (sym command ∙ ap is_command asks))
-          at (GoesOn calls live) = some_same found.0 entry.session (sym found.1 ∙ live)
+          at (GoesOn calls live) = same_Some found.0 entry.session (sym found.1 ∙ live)
           at (Begins calls uncut live above) = absurd (no (sym live ∙ found.1)) where
             no : None ≡ Some found.0 → ⊥
             no both = cc
@@ -192,17 +190,13 @@ pub old_not_log : (table : List ℕ) → bytes_eq (old_name table) (log_name tab
 unfolding old_name log_name
 old_not_log table = tails_apart (codes "_del") (codes "_ghc") refl (codes "_" ++ table)
 
-neither : (a b : Bool) → a ≡ false → b ≡ false → (a || b) ≡ false
-neither true b off other = absurd (true≢false off)
-neither false b off other = other
-
 own_may : (plan : PlanData) (name : List ℕ) → name ≡ plan.table → (bytes_eq name (log_name plan.table) || bytes_eq name (old_name plan.table)) ≡ false
-own_may plan name same = subst (λ (n : List ℕ). (bytes_eq n (log_name plan.table) || bytes_eq n (old_name plan.table)) ≡ false) (sym same) (neither (bytes_eq plan.table (log_name plan.table)) (bytes_eq plan.table (old_name plan.table)) (not_log plan.table) (not_old plan.table))
+own_may plan name same = subst (λ (n : List ℕ). (bytes_eq n (log_name plan.table) || bytes_eq n (old_name plan.table)) ≡ false) (sym same) (or_from (bytes_eq plan.table (log_name plan.table)) (bytes_eq plan.table (old_name plan.table)) (not_log plan.table) (not_old plan.table))
 
 ghost_may : (plan : PlanData) (name : List ℕ) → name ≡ ghost_name plan.table → (bytes_eq name (log_name plan.table) || bytes_eq name (old_name plan.table)) ≡ false
 ghost_may plan name same =
     subst (λ (n : List ℕ). (bytes_eq n (log_name plan.table) || bytes_eq n (old_name plan.table)) ≡ false) (sym same)
-    (neither (bytes_eq (ghost_name plan.table) (log_name plan.table)) (bytes_eq (ghost_name plan.table) (old_name plan.table)) (ghost_not_log plan.table) (ghost_not_old plan.table))
+    (or_from (bytes_eq (ghost_name plan.table) (log_name plan.table)) (bytes_eq (ghost_name plan.table) (old_name plan.table)) (ghost_not_log plan.table) (ghost_not_old plan.table))
 
 client_may : (plan : PlanData) (serial : IsSerialPlan plan) (name : List ℕ) → list_any (bytes_eq name) (client_names plan) ≡ true → is_tool_name plan.table name ≡ false
 client_may plan serial name mine = by (is_tool_name plan.table name) refl where

@@ -18,7 +18,7 @@ use Rattle.tool_program.specs.declared.cutover_core.cutover.Phase.{Phase}
 use Rattle.tool_program.specs.declared.cutover_core.cutover.Phase.TheVariants.{Resting, Attempting, Ending, Finishing, Finished}
 use Rattle.tool_program.specs.CutoverCore.Attempts.{has_name, is_clear, first_name, without_first}
 use Rattle.tool_program.specs.CutoverCore.CutOvers.{is_done, finishing, left_at_end}
-use Rattle.tool_program.specs.Setups.{Setup, Listing, Clearing, MakingLog, MakingGhost, Marking, Reaching, Ready, clearing, listed}
+use Rattle.tool_program.specs.Setups.{Setup, Listing, Clearing, MakingLog, MakingGhost, Marking, Reaching, Ready, clearing}
 use Rattle.server_model.proofs.LockedRows.Tests.{same_bytes}
 use Rattle.proof_migration.proofs.Attempt.InspectorAnswers.{listed_is}
 use Rattle.proof_migration.proofs.Attempt.Leaving.{AllStay, has_is}

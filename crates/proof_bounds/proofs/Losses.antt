@@ -1,7 +1,7 @@
 -- Each loss of the plan strikes one turn at most: so there are no more turns in which a session is lost than losses in the plan.
 use Rattle.std.proofs.Common.{◌≡◌, ◌≢◌, ◌≤◌, ℕ, ◌+◌, Bool, true, false, cond, not, ◌&&◌, ◌||◌, List, [], ◌∷◌, ◌++◌, length, Option, Some, None, refl, sym, ap, ◌∙◌, subst, arith}
 use Rattle.std.specs.Prelude.{count_by, is_some, nat_le, ◌==◌}
-use Rattle.std.proofs.lemmas.Bool.{false≢true}
+use Rattle.std.proofs.lemmas.Bool.{and_parts}
 use Rattle.std.proofs.lemmas.Bool.Decides.{nat_tests}
 use Rattle.std.proofs.lemmas.List.{length_push}
 use Rattle.std.proofs.lemmas.List.Sums.{sum_by-cons, sum_by_push, sum_by-le-sum_by, count_by-le-length}
@@ -71,14 +71,6 @@ not_yet n a is = grind (arith, nat_tests, is)
 now_past : (n a b : ℕ) → (n == a + 1) ≡ true → b ≡ a + 1 → nat_le n b ≡ true
 now_past n a b is same = grind (arith, nat_tests, is, same)
 
-first_of : (a b : Bool) → (a && b) ≡ true → a ≡ true
-first_of true b is = refl
-first_of false b is = is
-
-second_of : (a b : Bool) → (a && b) ≡ true → b ≡ true
-second_of true b is = is
-second_of false b is = absurd (false≢true is)
-
 module _ (before : List Entry) (entry : Entry) where
   abbrev more : List Entry
   more = before ++ entry ∷ []
@@ -100,7 +92,7 @@ module _ (before : List Entry) (entry : Entry) where
     taken (Turn number other) first some = at ((number == length before + 1) && is_some (live_session before other)) refl some where
       at : (b : Bool) → ((number == length before + 1) && is_some (live_session before other)) ≡ b → cond b (Some other) None ≡ Some first → (nat_le number (length before) ≡ false) × (nat_le number (length more) ≡ true)
       at true is some =
-          let same : (number == length before + 1) ≡ true = first_of (number == length before + 1) (is_some (live_session before other)) is in
+          let same : (number == length before + 1) ≡ true = (and_parts (number == length before + 1) (is_some (live_session before other)) is).0 in
           (not_yet number (length before) same, now_past number (length before) (length more) same long)
       at false off some = absurd cc
 
@@ -121,8 +113,8 @@ module _ (before : List Entry) (entry : Entry) where
     nth_taken other n at_side first some = at (same_actor other entry.actor && (n == next)) refl some where
       at : (b : Bool) → (same_actor other entry.actor && (n == next)) ≡ b → cond b (Some at_side) None ≡ Some first → (is_spent before (Nth other n at_side) ≡ false) × (is_spent more (Nth other n at_side) ≡ true)
       at true is some =
-          let who : other ≡ entry.actor = same_actor_is other entry.actor (first_of (same_actor other entry.actor) (n == next) is) in
-          let same : (n == next) ≡ true = second_of (same_actor other entry.actor) (n == next) is in
+          let who : other ≡ entry.actor = same_actor_is other entry.actor (and_parts (same_actor other entry.actor) (n == next) is).0 in
+          let same : (n == next) ≡ true = (and_parts (same_actor other entry.actor) (n == next) is).1 in
           subst (λ (a : Actor). (is_spent before (Nth a n at_side) ≡ false) × (is_spent more (Nth a n at_side) ≡ true)) (sym who)
           (not_yet n (turns_of entry.actor before) same, now_past n (turns_of entry.actor before) (turns_of entry.actor more) same (own_turns before entry uncut))
       at false off some = absurd cc

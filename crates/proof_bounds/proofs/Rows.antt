@@ -1,6 +1,6 @@
 -- How many rows a table has after events that fit it, and whose keys these are: each WRITE adds one row at most, no other event any;
 -- and each row's key is that of a row at first, or of one that an event put.
-use Rattle.std.proofs.Common.{◌≡◌, ◌≤◌, ℕ, suc, ◌+◌, Bool, true, false, cond, not, List, [], ◌∷◌, length, filter, find, Some, None, refl, sym, ap, ◌∙◌, subst, arith, ◌&&◌}
+use Rattle.std.proofs.Common.{◌≡◌, ◌≤◌, ℕ, suc, ◌+◌, Bool, true, false, cond, not, List, [], ◌∷◌, length, filter, find, Some, None, refl, sym, ap, ◌∙◌, subst, arith}
 use Rattle.std.specs.Prelude.{unwrap_or}
 use Rattle.std.specs.declared.cmp.Ordering.{Ordering}
 use Rattle.std.specs.declared.cmp.Ordering.TheVariants.{Less, Equal, Greater}
@@ -11,7 +11,7 @@ use Rattle.base_values.specs.declared.gho_schema.schema.Schema.{Schema}
 use Rattle.base_values.specs.KeyOrder.{compare_keys}
 use Rattle.base_values.specs.GhoSchema.Rows.{key_of, key_places, has_key, with_row}
 use Rattle.base_values.specs.declared.value.Value.{Value}
-use Rattle.std.proofs.lemmas.Bool.{false≢true}
+use Rattle.std.proofs.lemmas.Bool.{and_from, and_parts}
 use Rattle.base_values.specs.declared.event.RowEvent.{RowEvent}
 use Rattle.base_values.specs.declared.event.Change.{Change}
 use Rattle.base_values.specs.declared.event.Change.TheVariants.{Write, Update, Delete}
@@ -83,24 +83,16 @@ rows_few name schema rows (event ∷ log) fits = by (rows_few name schema (rows_
 
 -- WHOSE KEYS
 
-both : (a b : Bool) → (a && b) ≡ true → (a ≡ true) × (b ≡ true)
-both true b is = (refl, is)
-both false b is = absurd (false≢true is)
-
-join : (a b : Bool) → a ≡ true → b ≡ true → (a && b) ≡ true
-join true b one two = two
-join false b one two = absurd (false≢true one)
-
 module _ (test : List Value → Bool) (places : List ℕ) where
   with_keys : (row : Row) (rows : List Row) → test (key_of places row) ≡ true → all_keys test places rows ≡ true → all_keys test places (with_row places row rows) ≡ true
   unfolding with_row
-  with_keys row [] one all = join (test (key_of places row)) true one refl
-  with_keys row (first ∷ rows) one all = by (compare_keys (key_of places row) (key_of places first)) (both (test (key_of places first)) (all_keys test places rows) all) (λ rest. with_keys row rows one rest) where
+  with_keys row [] one all = and_from (test (key_of places row)) true one refl
+  with_keys row (first ∷ rows) one all = by (compare_keys (key_of places row) (key_of places first)) (and_parts (test (key_of places first)) (all_keys test places rows) all) (λ rest. with_keys row rows one rest) where
     by : (o : Ordering) → (test (key_of places first) ≡ true) × (all_keys test places rows ≡ true) → (all_keys test places rows ≡ true → all_keys test places (with_row places row rows) ≡ true)
         → all_keys test places (match_ordering o (row ∷ first ∷ rows) (row ∷ first ∷ rows) (first ∷ with_row places row rows)) ≡ true
-    by Less parts rest = join (test (key_of places row)) (all_keys test places (first ∷ rows)) one (join (test (key_of places first)) (all_keys test places rows) parts.0 parts.1)
-    by Equal parts rest = join (test (key_of places row)) (all_keys test places (first ∷ rows)) one (join (test (key_of places first)) (all_keys test places rows) parts.0 parts.1)
-    by Greater parts rest = join (test (key_of places first)) (all_keys test places (with_row places row rows)) parts.0 (rest parts.1)
+    by Less parts rest = and_from (test (key_of places row)) (all_keys test places (first ∷ rows)) one (and_from (test (key_of places first)) (all_keys test places rows) parts.0 parts.1)
+    by Equal parts rest = and_from (test (key_of places row)) (all_keys test places (first ∷ rows)) one (and_from (test (key_of places first)) (all_keys test places rows) parts.0 parts.1)
+    by Greater parts rest = and_from (test (key_of places first)) (all_keys test places (with_row places row rows)) parts.0 (rest parts.1)
 
   put_keys : (row : Row) (rows : List Row) → test (key_of places row) ≡ true → all_keys test places rows ≡ true → all_keys test places (put_in places row rows) ≡ true
   put_keys row rows one all = by (has_key places rows (key_of places row)) where
@@ -110,9 +102,9 @@ module _ (test : List Value → Bool) (places : List ℕ) where
 
   less_keys : (p : Row → Bool) (rows : List Row) → all_keys test places rows ≡ true → all_keys test places (filter p rows) ≡ true
   less_keys p [] all = refl
-  less_keys p (row ∷ rows) all = by (p row) (both (test (key_of places row)) (all_keys test places rows) all) (λ rest. less_keys p rows rest) where
+  less_keys p (row ∷ rows) all = by (p row) (and_parts (test (key_of places row)) (all_keys test places rows) all) (λ rest. less_keys p rows rest) where
     by : (b : Bool) → (test (key_of places row) ≡ true) × (all_keys test places rows ≡ true) → (all_keys test places rows ≡ true → all_keys test places (filter p rows) ≡ true) → all_keys test places (cond b (row ∷ filter p rows) (filter p rows)) ≡ true
-    by true parts rest = join (test (key_of places row)) (all_keys test places (filter p rows)) parts.0 (rest parts.1)
+    by true parts rest = and_from (test (key_of places row)) (all_keys test places (filter p rows)) parts.0 (rest parts.1)
     by false parts rest = rest parts.1
 
   change_keys : (change : Change) (rows : List Row) → puts_key test places change ≡ true → all_keys test places rows ≡ true → all_keys test places (rows_after places change rows) ≡ true
@@ -125,8 +117,8 @@ pub keys_those : KeysAreThose
 unfolding rows_at
 keys_those test name places rows [] all puts = all
 keys_those test name places rows (event ∷ log) all puts =
-    keys_those test name places (rows_then name places event rows) log (by (bytes_eq event.table name) (both (cond (bytes_eq event.table name) (puts_key test places event.change) true) (all_put test name places log) puts).0)
-    (both (cond (bytes_eq event.table name) (puts_key test places event.change) true) (all_put test name places log) puts).1 where
+    keys_those test name places (rows_then name places event rows) log (by (bytes_eq event.table name) (and_parts (cond (bytes_eq event.table name) (puts_key test places event.change) true) (all_put test name places log) puts).0)
+    (and_parts (cond (bytes_eq event.table name) (puts_key test places event.change) true) (all_put test name places log) puts).1 where
       by : (b : Bool) → cond b (puts_key test places event.change) true ≡ true → all_keys test places (cond b (rows_after places event.change rows) rows) ≡ true
       by true one = change_keys test places event.change rows one all
       by false one = all
