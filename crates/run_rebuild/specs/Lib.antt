@@ -1,0 +1,3 @@
+pub mod Rebuilds
+pub mod ShardNumbers
+pub mod Steps
