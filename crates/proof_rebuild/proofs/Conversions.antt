@@ -1,5 +1,5 @@
 -- Converted rows of rows that are put, removed and looked for: each is done to the converted rows alike.
-use Rattle.std.proofs.Common.{◌≡◌, ℕ, Bool, true, false, not, List, [], ◌∷◌, find, filter, cond, Option, Some, None, Ok, Ordering, Less, Equal, Greater, refl, sym, ap, ◌∙◌}
+use Rattle.std.proofs.Common.{◌≡◌, ℕ, Bool, false, not, List, [], ◌∷◌, find, Some, None, Ok, Ordering, Less, Equal, Greater, refl, sym, ap, ◌∙◌}
 use Rattle.std.specs.Ordering.{is_eq, match_ordering}
 use Rattle.std.specs.List.{AllByRecursion}
 use Rattle.base_values.specs.declared.row_conversion.map.MapColumn.{MapColumn}
@@ -51,7 +51,7 @@ converted-with_rows old new map (row ∷ rows) into made put all too is then =
     ∙ ap (λ (rows : List Row). Some (with_rows new rows put)) (sym parts.made_is)
 
 not_here : (test : Row → Bool) (row : Row) (rows : List Row) → test row ≡ false → find test rows ≡ None → find test (row ∷ rows) ≡ None
-not_here test row rows no none = rw no none
+not_here test row rows fails none = rw fails none
 
 -- a key that no row has, no converted row has
 pub converted-find : (old new : List ℕ) (map : List MapColumn) (key : Row) (rows made : List Row) → AllByRecursion (KeepsKey old new map) rows → converted_rows map rows ≡ Some made → find (is_at old key) rows ≡ None → find (is_at new key) made ≡ None
@@ -60,8 +60,8 @@ converted-find old new map key [] made all is none = ap (find (is_at new key)) (
 converted-find old new map key (row ∷ rows) made all is none =
     let parts : IsConverted (converted_row map row) (converted_rows map rows) made = converted_parts (converted_row map row) (converted_rows map rows) made is in
     let here = none_parts (is_at old key row) row (find (is_at old key) rows) none in
-    let no : is_at new key parts.first ≡ false = ap (λ (other : Row). is_eq (compare_keys key other)) (all.0 parts.first parts.one_is) ∙ here.0 in
-    ap (find (is_at new key)) parts.made_is ∙ not_here (is_at new key) parts.first parts.others no (converted-find old new map key rows parts.others all.1 parts.rest_is here.1)
+    let fails : is_at new key parts.first ≡ false = ap (λ (other : Row). is_eq (compare_keys key other)) (all.0 parts.first parts.one_is) ∙ here.0 in
+    ap (find (is_at new key)) parts.made_is ∙ not_here (is_at new key) parts.first parts.others fails (converted-find old new map key rows parts.others all.1 parts.rest_is here.1)
 
 agree_apart : (old new : List ℕ) (map : List MapColumn) (key : Row) (rows : List Row) → AllByRecursion (KeepsKey old new map) rows → AllByRecursion (Agrees (λ row. not (is_at old key row)) (λ row. not (is_at new key row)) map) rows
 agree_apart old new map key [] all = tt

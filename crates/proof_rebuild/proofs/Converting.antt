@@ -1,5 +1,5 @@
 -- The converted rows of shards are the shards of the converted rows.
-use Rattle.std.proofs.Common.{◌≡◌, ◌<◌, ℕ, ◌==◌, Bool, true, false, List, [], ◌∷◌, filter, cond, Option, Some, None, Result, Ok, Err, refl, sym, ap, ◌∙◌, subst}
+use Rattle.std.proofs.Common.{◌≡◌, ◌<◌, ℕ, ◌==◌, Bool, true, false, List, [], ◌∷◌, filter, cond, Option, Some, None, Result, Ok, Err, refl, sym, ap, ◌∙◌}
 use Rattle.std.specs.Result.{result_ok}
 use Rattle.std.specs.List.{AllByRecursion}
 use Rattle.base_values.specs.declared.value.Value.{Value}
@@ -8,10 +8,9 @@ use Rattle.base_values.specs.declared.row_conversion.conversion_fault.UnfitAt.{U
 use Rattle.base_values.specs.RowConversion.ConvertedRows.{converted_row, converted_rows}
 use Rattle.base_values.specs.GhoSchema.Options.{◌>>=◌}
 use Rattle.base_values.specs.GhoSchema.Rows.{key_of}
-use Rattle.base_values.specs.GhoSchema.Tables.{Ascends}
 use Rattle.base_values.proofs.SchemaRules.Steps.{some_is}
 use Rattle.table_store.proofs.Orders.{Row}
-use Rattle.proof_rebuild.specs.Shards.{KeepsKey, shard_of, together}
+use Rattle.proof_rebuild.specs.Shards.{KeepsKey, shard_of}
 use Rattle.proof_rebuild.specs.Laws.{ShardConversionsJoin}
 use Rattle.proof_rebuild.proofs.Joining.{alike, joined}
 

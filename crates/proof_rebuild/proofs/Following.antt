@@ -1,7 +1,5 @@
 -- A shard follows its part of the changes.
-use Rattle.std.proofs.Common.{◌≡◌, ℕ, Bool, true, false, not, List, [], ◌∷◌, ◌++◌, filter, cond, refl, sym, ap, ◌∙◌}
-use Rattle.std.specs.Ordering.{is_eq}
-use Rattle.base_values.specs.declared.value.Value.{Value}
+use Rattle.std.proofs.Common.{◌≡◌, ℕ, Bool, true, false, not, List, [], ◌∷◌, ◌++◌, filter, cond, refl, ap, ◌∙◌}
 use Rattle.base_values.specs.KeyOrder.{compare_keys}
 use Rattle.base_values.proofs.Orders.{tied_keys}
 use Rattle.base_values.specs.GhoSchema.Rows.{with_row}

@@ -3,7 +3,6 @@ use Rattle.std.proofs.Common.{◌≡◌, ◌<◌, ◌≤◌, ℕ, zero, suc, ◌
 use Rattle.std.specs.Ordering.{ordering_reverse}
 use Rattle.std.specs.List.{AllByRecursion}
 use Rattle.std.proofs.lemmas.Bool.Decides.{nat_tests}
-use Rattle.base_values.specs.declared.value.Value.{Value}
 use Rattle.base_values.specs.KeyOrder.{compare_keys}
 use Rattle.base_values.proofs.Orders.{keys_total}
 use Rattle.base_values.specs.GhoSchema.Rows.{key_of, with_row}

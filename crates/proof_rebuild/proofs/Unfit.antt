@@ -1,12 +1,11 @@
 -- The first row that has no converted row is the first that the shards find.
-use Rattle.std.proofs.Common.{◌≡◌, ◌<◌, ◌≤◌, ℕ, zero, suc, ◌+◌, ◌==◌, nat_lt, Bool, true, false, List, [], ◌∷◌, map, cond, Option, Some, None, Result, Ok, Err, refl, sym, ap, ◌∙◌, arith}
+use Rattle.std.proofs.Common.{◌≡◌, ◌<◌, ◌≤◌, ℕ, zero, suc, ◌+◌, ◌==◌, nat_lt, Bool, true, false, List, [], ◌∷◌, map, cond, Option, Some, None, Result, Ok, Err, refl, ap, ◌∙◌, arith}
 use Rattle.std.proofs.lemmas.Bool.Decides.{nat_tests}
-use Rattle.base_values.specs.declared.value.Value.{Value}
 use Rattle.base_values.specs.declared.row_conversion.map.MapColumn.{MapColumn}
 use Rattle.base_values.specs.declared.row_conversion.conversion_fault.UnfitAt.{UnfitAt}
 use Rattle.base_values.specs.RowConversion.ConvertedRows.{converted_row}
 use Rattle.table_store.proofs.Orders.{Row}
-use Rattle.proof_rebuild.specs.Shards.{UnfitRow, earlier, earliest, first_unfit, only, shard_sees, unfit_at}
+use Rattle.proof_rebuild.specs.Shards.{UnfitRow, earlier, earliest, first_unfit, shard_sees, unfit_at}
 use Rattle.proof_rebuild.specs.Laws.{ShardsFindUnfit}
 
 -- what is found isn't before this place

@@ -1,5 +1,5 @@
 -- What holds of shards. The functions of the module `laws` prove each.
-use Rattle.std.specs.Prelude.{◌≡◌, ◌<◌, ◌==◌, ℕ, Bool, List, filter, Option, Some, Ok}
+use Rattle.std.specs.Prelude.{◌≡◌, ◌<◌, ◌==◌, ℕ, Bool, List, filter, Option, Some}
 use Rattle.std.specs.List.{AllByRecursion}
 use Rattle.base_values.specs.declared.value.Value.{Value}
 use Rattle.base_values.specs.declared.row_conversion.map.MapColumn.{MapColumn}

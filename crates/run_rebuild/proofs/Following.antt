@@ -25,8 +25,8 @@ use Rattle.table_store.proofs.FoundRows.{none_to_remove}
 use Rattle.run_rebuild.specs.Steps.{with_converted, written, deleted, followed}
 
 kept_none : (test : Row → Bool) (row : Row) (rows : List Row) (b : Bool) → test row ≡ false → find test rows ≡ None → find test (cond b (row ∷ rows) rows) ≡ None
-kept_none test row rows true no none = rw no none
-kept_none test row rows false no none = none
+kept_none test row rows true fails none = rw fails none
+kept_none test row rows false fails none = none
 
 -- what isn't found among rows isn't found among some of them
 pub find-filter : (test within : Row → Bool) (rows : List Row) → find test rows ≡ None → find test (filter within rows) ≡ None

@@ -1,4 +1,6 @@
+pub mod Following
+pub mod Halves
 pub mod Numbers
 pub mod Ranges
-pub mod Following
+pub mod SeenRows
 pub mod Unions

@@ -31,7 +31,7 @@ still_new places row (other ∷ rest) rows less new =
     (put_other places (key_of places other) row rows apart ∙ new.0, still_new places row rest rows less.1 new.1)
 
 none_here : (test : Row → Bool) (row : Row) (rows : List Row) → test row ≡ false → find test rows ≡ None → find test (row ∷ rows) ≡ None
-none_here test row rows no none = rw no none
+none_here test row rows fails none = rw fails none
 
 module _ (old new : List ℕ) (map : List MapColumn) (p q : Row → Bool) (apart : (key : Row) → p key ≡ true → q key ≡ false) where
   other_key : (key row : Row) (rows : List Row) (b : Bool) → q (key_of old row) ≡ b → p key ≡ true → find (is_at old key) rows ≡ None → find (is_at old key) (cond b (row ∷ rows) rows) ≡ None

@@ -4,6 +4,7 @@ use base_values::{Row, RowEvent};
 use plan_data::AlteredSchema;
 
 /// What a rebuild is given; all shards share it.
+#[derive(Drop)]
 pub(crate) struct Inputs<'a> {
     /// The opening rows, in order of the clustered key.
     pub opening: &'a [Row],

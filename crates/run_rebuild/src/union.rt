@@ -76,7 +76,7 @@ pub fn shards<R: Threads + Sync, G: Gate + Sync>(
             Ok(table)
         }
         (Err(Fault::Refused(one)), Err(Fault::Refused(other))) => {
-            Err(Fault::Refused(first(one, other)))
+            Err(Fault::Refused(first(other, one)))
         }
         (Err(Fault::Memory), _) | (_, Err(Fault::Memory)) => Err(Fault::Memory),
         (Err(fault), Ok(_)) | (Ok(_), Err(fault)) => Err(fault),

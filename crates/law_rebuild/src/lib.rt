@@ -1,0 +1,11 @@
+//! What holds of tables that are rebuilt: functions that do nothing, whose contracts are the laws. That the rebuilt table is the
+//! altered form of the table that followed its events is said by `run_rebuild::rebuild`, of opening tables and events that go
+//! together; here stands which do.
+#![tactic(auto)]
+
+ghost use Rattle.law_rebuild.specs.Laws.{AlteredLogsGoTogether};
+
+/// The events of a table that was altered go together with its opening rows, where they lead through valid tables.
+pub fn altered_logs_go_together()
+    ensures { AlteredLogsGoTogether }
+{}
