@@ -7,13 +7,15 @@ use Rattle.base_values.specs.declared.event.Change.TheVariants.{Write, Update, D
 use Rattle.base_values.specs.declared.row_conversion.map.MapColumn.{MapColumn}
 use Rattle.base_values.specs.declared.row_conversion.conversion_fault.UnfitAt.{UnfitAt}
 use Rattle.base_values.specs.RowConversion.ConvertedRows.{converted_row, converted_rows}
-use Rattle.base_values.specs.GhoSchema.Rows.{key_of, with_row}
+use Rattle.base_values.specs.GhoSchema.Rows.{key_of, key_places, with_row}
 use Rattle.base_values.specs.GhoSchema.Tables.{Ascends}
 use Rattle.base_values.proofs.GhoSchema.Orders.{all-with_row}
 use Rattle.table_store.specs.RowLists.{is_at, without_key}
+use Rattle.base_values.specs.declared.gho_schema.schema.Schema.{Schema}
+use Rattle.table_store.specs.Databases.{TableRows, row_at_key}
 use Rattle.table_store.proofs.Orders.{Row}
 use Rattle.table_store.proofs.Ascending.{none_parts, all-filter, ascends-filter, ascends-with_row}
-use Rattle.table_store.proofs.RowLaws.{filter_in, filter_out, filters_commute}
+use Rattle.table_store.proofs.RowLaws.{gone, filter_in, filter_out, filters_commute}
 use Rattle.table_store.proofs.PagedTables.RowPages.PutLast.{next_ascends, put_after, new_after}
 use Rattle.server_model.specs.Rows.{same_row, stands, without_row, change_rows, change_all}
 use Rattle.server_model.proofs.LockedRows.OneRow.{same_removal}
@@ -48,9 +50,9 @@ module _ (within : Row → Bool) (old new : List ℕ) (columns : List MapColumn)
       → first_unfit columns place (cond b (Some row) None ∷ []) ≡ None → Has (with_row old row rows) (cond b (with_converted new m made) made)
   unfolding first_unfit
   write_here place row rows made true (Ok one) is m_is ascends all keeps fits has none =
-      let gone : find (is_at new (key_of new one)) made ≡ None = ap (λ (key : Row). find (is_at new key) made) (keeps one m_is) ∙ new_row row rows made all fits has in
+      let no_row : find (is_at new (key_of new one)) made ≡ None = ap (λ (key : Row). find (is_at new key) made) (keeps one m_is) ∙ new_row row rows made all fits has in
       ap (converted_rows columns) (filter_in within old row rows ascends is) ∙ converted-with_row old new columns row one (filter within rows) made (all-filter (KeepsKey old new columns) within rows all) keeps m_is has
-      ∙ ap (λ (rows : List Row). Some (with_row new one rows)) (sym (none_to_remove new (key_of new one) made gone))
+      ∙ ap (λ (rows : List Row). Some (with_row new one rows)) (sym (none_to_remove new (key_of new one) made no_row))
   write_here place row rows made true (Err at) is m_is ascends all keeps fits has none =
       let found : unfit_at place (Err at) None ≡ None = ap (λ (m : Result Row UnfitAt). unfit_at place m None) (sym m_is) ∙ none in
       absurd cc
@@ -131,3 +133,40 @@ opened old done (row ∷ rest) ascends =
 pub opening_keep : (old new : List ℕ) (columns : List MapColumn) (rows : List Row) → AllByRecursion (KeepsKey old new columns) rows → AllByRecursion (KeepsAfter old new columns) (map Write rows)
 opening_keep old new columns [] all = tt
 opening_keep old new columns (row ∷ rows) all = (all.0, opening_keep old new columns rows all.1)
+
+-- a row whose key was removed is gone
+pub gone_as : (old middle new : TableRows) (key row : Row) → middle ≡ old → new.schema ≡ middle.schema → new.rows ≡ without_key (key_places middle.schema) key middle.rows → key ≡ key_of (key_places old.schema) row → row_at_key new (key_of (key_places new.schema) row) ≡ None
+gone_as old middle new key row before schema rows is =
+    let places : List ℕ = key_places middle.schema in
+    let own : key ≡ key_of places row = is ∙ ap (λ (table : TableRows). key_of (key_places table.schema) row) (sym before) in
+    ap (λ (s : Schema). find (is_at (key_places s) (key_of (key_places s) row)) new.rows) schema
+    ∙ ap (find (is_at places (key_of places row))) (rows ∙ ap (λ (k : Row). without_key places k middle.rows) own)
+    ∙ gone places (key_of places row) middle.rows
+
+-- before the first opening row is written
+pub at_start : (within : Row → Bool) (old new : List ℕ) (columns : List MapColumn) (rows : List Row) → Ascends old rows → AllByRecursion (KeepsKey old new columns) rows → Follows within old new columns [] (map Write rows) rows
+unfolding converted_rows
+at_start within old new columns rows ascends all =
+    let start = opened old [] rows ascends in
+    record { rows = []; ascends = tt; fit = start.0; row_keys = tt; keys = opening_keep old new columns rows all; has = refl; last_is = start.1 }
+
+-- one change on
+pub moved_on : (within : Row → Bool) (old new : List ℕ) (columns : List MapColumn) (place : ℕ) (made next : List Row) (change : Change) (changes : List Change) (last : List Row) → Follows within old new columns made (change ∷ changes) last
+    → first_unfit columns place (only within (row_after change) ∷ []) ≡ None → next ≡ followed within old new columns change made → Follows within old new columns next changes last
+moved_on within old new columns place made next change changes last is none same =
+    subst (λ (rows : List Row). Follows within old new columns rows changes last) (sym same) (one_followed within old new columns place made change changes last is none)
+
+pub written_as : (within : Row → Bool) (old : List ℕ) (columns : List MapColumn) (row : Row) (own_schema schema : Schema) (made next : List Row) → own_schema ≡ schema → next ≡ written within (key_places own_schema) columns row made
+    → next ≡ followed within old (key_places schema) columns (Write row) made
+written_as within old columns row own_schema schema made next same is = is ∙ ap (λ (s : Schema). written within (key_places s) columns row made) same
+
+pub followed_as : (within : Row → Bool) (old : List ℕ) (columns : List MapColumn) (change : Change) (own_schema schema : Schema) (made next : List Row) → own_schema ≡ schema → next ≡ followed within old (key_places own_schema) columns change made
+    → next ≡ followed within old (key_places schema) columns change made
+followed_as within old columns change own_schema schema made next same is = is ∙ ap (λ (s : Schema). followed within old (key_places s) columns change made) same
+
+-- after the last change
+pub none_follow : (within : Row → Bool) (old new : List ℕ) (columns : List MapColumn) (made : List Row) (changes : List Change) (last : List Row) → changes ≡ [] → Follows within old new columns made changes last → converted_rows columns (filter within last) ≡ Some made
+unfolding change_all
+none_follow within old new columns made changes last none is =
+    let same : is.rows ≡ last = sym (ap (λ (cs : List Change). change_all old cs is.rows) none) ∙ is.last_is in
+    ap (λ (rows : List Row). converted_rows columns (filter within rows)) (sym same) ∙ is.has

@@ -1,6 +1,7 @@
 -- The table of two halves of some shards, and the first unfit row of both.
-use Rattle.std.proofs.Common.{◌≡◌, ◌<◌, ◌≤◌, ℕ, ◌+◌, ◌==◌, ◌||◌, nat_lt, Bool, true, false, not, List, [], ◌∷◌, filter, cond, Option, Some, None, Result, Ok, Err, refl, sym, ap, ◌∙◌, subst, arith}
+use Rattle.std.proofs.Common.{◌≡◌, ◌<◌, ◌≤◌, ℕ, ◌+◌, ◌++◌, length, map, ◌==◌, ◌||◌, nat_lt, Bool, true, false, not, List, [], ◌∷◌, filter, cond, Option, Some, None, Result, Ok, Err, refl, sym, ap, ◌∙◌, subst, arith}
 use Rattle.std.proofs.Math.Nat.{mod-lt}
+use Rattle.std.proofs.lemmas.List.{length-map, map-append}
 use Rattle.std.specs.List.{AllByRecursion}
 use Rattle.base_values.specs.declared.event.Change.{Change}
 use Rattle.base_values.specs.declared.event.Change.TheVariants.{Write, Update, Delete}
@@ -11,19 +12,22 @@ use Rattle.base_values.specs.RowConversion.ConvertedRows.{converted_rows}
 use Rattle.base_values.specs.GhoSchema.Rows.{key_of, key_places, with_row}
 use Rattle.base_values.specs.GhoSchema.Tables.{Ascends}
 use Rattle.base_values.proofs.GhoSchema.Orders.{all-with_row}
+use Rattle.base_values.specs.declared.gho_schema.schema.Schema.{Schema}
+use Rattle.table_store.specs.Databases.{TableRows}
 use Rattle.table_store.specs.PagedTables.RowPages.StoredRows.{PagedTable}
 use Rattle.table_store.proofs.Orders.{Row}
 use Rattle.table_store.proofs.Ascending.{all-filter}
 use Rattle.server_model.specs.Rows.{same_row, without_row, change_rows, change_all}
 use Rattle.server_seen.proofs.Gathered.{same_tests}
 use Rattle.server_seen.proofs.SeenChanges.{changes_seen}
-use Rattle.proof_rebuild.specs.Shards.{KeepsAfter, KeepsKey, UnfitRow, earlier, first_unfit, shard_sees, with_rows}
-use Rattle.proof_rebuild.proofs.Found.{both_find, sees_alike, sees_all}
+use Rattle.proof_rebuild.specs.Shards.{KeepsAfter, KeepsKey, UnfitRow, earlier, first_unfit, only, row_after, rows_seen, shard_sees, with_rows}
+use Rattle.proof_rebuild.proofs.Found.{both_find, found_before, none_before, sees_alike, sees_all}
 use Rattle.run_rebuild.specs.declared.fault.UnfitRow.{UnfitRow as FoundRow}
 use Rattle.run_rebuild.specs.declared.inputs.Inputs.{Inputs}
 use Rattle.run_rebuild.specs.ShardNumbers.{AreShards, is_of, shard_number}
 use Rattle.run_rebuild.specs.Steps.{replaced_all}
-use Rattle.run_rebuild.specs.Rebuilds.{Finds, HasRows, Holds, IsSound, Rebuilds, between, changes_of, home, own, rows_then, seen_of}
+use Rattle.run_rebuild.specs.Rebuilds.{Finds, Fit, GoTogether, HasRows, Holds, IsRebuilt, IsSound, Rebuilds, Unites, between, changes_of, empty_table, home, own, rows_then, seen_of}
+use Rattle.run_rebuild.proofs.Numbers.{nothing_added}
 use Rattle.run_rebuild.proofs.Ranges.{all_are, halves_apart, halves_are, one_is}
 use Rattle.run_rebuild.proofs.Unions.{none_replaced, union_is, union_new}
 
@@ -93,6 +97,14 @@ both_made inputs from low high count up made put table sum place is then ascends
       finds = both inputs from low high ∙ ap (λ (row : Option UnfitRow). earlier row (first_unfit inputs.altered.now.map 0 (shard_sees (between inputs from low) (seen_of inputs)))) here.finds ∙ then.finds;
     })
 
+-- a row as it is found
+abbrev there_found : FoundRow → Option UnfitRow
+there_found row = Some (record { place = row.place; at = row.at })
+
+picked : (b : Bool) (one other : FoundRow) → cond b (Some (record { place = other.place; at = other.at })) (Some (record { place = one.place; at = one.at })) ≡ (let row : FoundRow = cond b other one in there_found row)
+picked true one other = refl
+picked false one other = refl
+
 -- both have an unfit row
 pub both_unfit : (inputs : Inputs) (from low high count up : ℕ) (one other found : FoundRow) → low + high ≡ count → from + low ≡ up → Rebuilds (between inputs up high) inputs (Err (Refused other)) → Rebuilds (between inputs from low) inputs (Err (Refused one))
     → found ≡ cond (nat_lt other.place one.place) other one → Rebuilds (between inputs from count) inputs (Err (Refused found))
@@ -103,13 +115,9 @@ both_unfit inputs from low high count up one other found sum place is then first
       finds = both inputs from low high
           ∙ ap (λ (row : Option UnfitRow). earlier row (first_unfit inputs.altered.now.map 0 (shard_sees (between inputs from low) (seen_of inputs)))) here.finds
           ∙ ap (earlier (Some (record { place = other.place; at = other.at }))) then.finds
-          ∙ picked (nat_lt other.place one.place)
-          ∙ ap (λ (row : FoundRow). Some (record { place = row.place; at = row.at })) (sym first);
+          ∙ picked (nat_lt other.place one.place) one other
+          ∙ ap there_found (sym first);
     })
-where
-  picked : (b : Bool) → cond b (Some (record { place = other.place; at = other.at })) (Some (record { place = one.place; at = one.at })) ≡ (let row : FoundRow = cond b other one in Some (record { place = row.place; at = row.at }))
-  picked true = refl
-  picked false = refl
 
 -- one has an unfit row, or no memory
 pub first_unfit_alone : (inputs : Inputs) (from low high count up : ℕ) (fault : Fault FoundRow) (made : PagedTable) → low + high ≡ count → from + low ≡ up → Rebuilds (between inputs up high) inputs (Ok made) → Rebuilds (between inputs from low) inputs (Err fault)
@@ -147,3 +155,74 @@ all_rows inputs made shards holds = ap (converted_rows inputs.altered.now.map) (
 
 pub all_found : (inputs : Inputs) (result : Result PagedTable (Fault FoundRow)) → AreShards inputs.workers → Finds result (first_unfit inputs.altered.now.map 0 (shard_sees (between inputs 0 inputs.workers) (seen_of inputs))) → Finds result (first_unfit inputs.altered.now.map 0 (seen_of inputs))
 all_found inputs result shards finds = subst (λ (rows : List (Option Row)). Finds result (first_unfit inputs.altered.now.map 0 rows)) (sees_all (between inputs 0 inputs.workers) (seen_of inputs) (every inputs shards)) finds
+
+-- both halves
+pub united : (inputs : Inputs) (from low high count up : ℕ) (one other result : Result PagedTable (Fault FoundRow)) → low + high ≡ count → from + low ≡ up → Rebuilds (between inputs from low) inputs one → Rebuilds (between inputs up high) inputs other → Unites one other result
+    → Rebuilds (between inputs from count) inputs result
+united inputs from low high count up one other (Err Memory) sum place is then unites = record { rows = tt; finds = tt }
+united inputs from low high count up (Ok put) (Ok made) (Ok table) sum place is then unites = both_made inputs from low high count up made put table sum place then is unites.2 unites.0 unites.1
+united inputs from low high count up (Ok put) (Ok made) (Err (Refused row)) sum place is then unites = absurd unites
+united inputs from low high count up (Err (Refused one)) (Err (Refused other)) (Err (Refused row)) sum place is then unites = both_unfit inputs from low high count up one other row sum place then is unites
+united inputs from low high count up (Err (Refused one)) (Ok made) (Err (Refused row)) sum place is then unites =
+    subst (λ (found : FoundRow). Rebuilds (between inputs from count) inputs (Err (Refused found))) (sym unites) (first_unfit_alone inputs from low high count up (Refused one) made sum place then is)
+united inputs from low high count up (Ok put) (Err (Refused other)) (Err (Refused row)) sum place is then unites =
+    subst (λ (found : FoundRow). Rebuilds (between inputs from count) inputs (Err (Refused found))) (sym unites) (last_unfit_alone inputs from low high count up (Refused other) put sum place then is)
+united inputs from low high count up (Err Memory) other (Ok table) sum place is then unites = absurd unites
+united inputs from low high count up (Err Memory) other (Err (Refused row)) sum place is then unites = absurd unites
+united inputs from low high count up (Err (Refused one)) (Err Memory) (Err (Refused row)) sum place is then unites = absurd unites
+united inputs from low high count up (Err (Refused one)) other (Ok table) sum place is then unites = absurd unites
+united inputs from low high count up (Ok put) (Err other) (Ok table) sum place is then unites = absurd unites
+united inputs from low high count up (Ok put) (Err Memory) (Err (Refused row)) sum place is then unites = absurd unites
+
+-- one shard's table, whose opening rows are put first
+in_opening : (inputs : Inputs) (number : ℕ) → shard_sees (own inputs number) (seen_of inputs) ≡ shard_sees (own inputs number) (map (λ (row : Row). Some row) inputs.opening.now) ++ shard_sees (own inputs number) (map row_after (changes_of inputs.events.now))
+in_opening inputs number = map-append (only (own inputs number)) (map (λ (row : Row). Some row) inputs.opening.now) (map row_after (changes_of inputs.events.now))
+
+how_many : (inputs : Inputs) (number : ℕ) → 0 + length (shard_sees (own inputs number) (map (λ (row : Row). Some row) inputs.opening.now)) ≡ length inputs.opening.now
+how_many inputs number = sym (nothing_added (length (shard_sees (own inputs number) (map (λ (row : Row). Some row) inputs.opening.now)))) ∙ length-map (map (λ (row : Row). Some row) inputs.opening.now) (only (own inputs number)) ∙ length-map inputs.opening.now (λ (row : Row). Some row)
+
+pub left_opening : (inputs : Inputs) (number : ℕ) (fault : Fault FoundRow) → Finds {A = Unit {0}} (Err fault) (first_unfit inputs.altered.now.map 0 (shard_sees (own inputs number) (map (λ (row : Row). Some row) inputs.opening.now))) → Rebuilds (own inputs number) inputs (Err fault)
+left_opening inputs number Memory finds = record { rows = tt; finds = tt }
+left_opening inputs number (Refused found) finds = record {
+  rows = tt;
+  finds = ap (first_unfit inputs.altered.now.map 0) (in_opening inputs number)
+      ∙ found_before inputs.altered.now.map 0 (shard_sees (own inputs number) (map (λ (row : Row). Some row) inputs.opening.now)) (shard_sees (own inputs number) (map row_after (changes_of inputs.events.now))) (record { place = found.place; at = found.at }) finds;
+}
+
+-- what is found after the opening rows
+after_opening : (inputs : Inputs) (number : ℕ) → first_unfit inputs.altered.now.map 0 (shard_sees (own inputs number) (map (λ (row : Row). Some row) inputs.opening.now)) ≡ None
+    → first_unfit inputs.altered.now.map 0 (shard_sees (own inputs number) (seen_of inputs)) ≡ first_unfit inputs.altered.now.map (length inputs.opening.now) (shard_sees (own inputs number) (map row_after (changes_of inputs.events.now)))
+after_opening inputs number none =
+    ap (first_unfit inputs.altered.now.map 0) (in_opening inputs number)
+    ∙ none_before inputs.altered.now.map 0 (shard_sees (own inputs number) (map (λ (row : Row). Some row) inputs.opening.now)) (shard_sees (own inputs number) (map row_after (changes_of inputs.events.now))) none
+    ∙ ap (λ (n : ℕ). first_unfit inputs.altered.now.map n (shard_sees (own inputs number) (map row_after (changes_of inputs.events.now)))) (how_many inputs number)
+
+pub left_events : (inputs : Inputs) (number : ℕ) (fault : Fault FoundRow) → first_unfit inputs.altered.now.map 0 (shard_sees (own inputs number) (map (λ (row : Row). Some row) inputs.opening.now)) ≡ None
+    → Finds {A = Unit {0}} (Err fault) (first_unfit inputs.altered.now.map (length inputs.opening.now) (shard_sees (own inputs number) (map row_after (changes_of inputs.events.now)))) → Rebuilds (own inputs number) inputs (Err fault)
+left_events inputs number Memory none finds = record { rows = tt; finds = tt }
+left_events inputs number (Refused found) none finds = record { rows = tt; finds = after_opening inputs number none ∙ finds }
+
+pub all_followed : (inputs : Inputs) (number : ℕ) (empty : TableRows) (opened table : PagedTable) → empty.schema ≡ inputs.altered.now.schema → empty.rows ≡ [] → opened.table.schema ≡ empty.schema
+    → (IsSound inputs → empty ≡ empty_table inputs → Holds (own inputs number) inputs inputs.opening.now opened.table.rows) → first_unfit inputs.altered.now.map 0 (shard_sees (own inputs number) (map (λ (row : Row). Some row) inputs.opening.now)) ≡ None
+    → table.table.schema ≡ opened.table.schema → (IsSound inputs → opened.table.schema ≡ inputs.altered.now.schema → Holds (own inputs number) inputs inputs.opening.now opened.table.rows → Holds (own inputs number) inputs (rows_then inputs) table.table.rows)
+    → first_unfit inputs.altered.now.map (length inputs.opening.now) (shard_sees (own inputs number) (map row_after (changes_of inputs.events.now))) ≡ None → Rebuilds (own inputs number) inputs (Ok table)
+all_followed inputs number empty opened table schema none same rows found then last more = record {
+  rows = (then ∙ same ∙ schema, λ sound. last sound (same ∙ schema) (rows sound (ap (λ (s : Schema). record { schema = s; rows = empty.rows }) schema ∙ ap (λ (rs : List Row). record { schema = inputs.altered.now.schema; rows = rs }) none)));
+  finds = after_opening inputs number found ∙ more;
+}
+
+-- *The rebuilt table*
+pub rebuilt : (inputs : Inputs) (table : TableRows) (result : Result PagedTable (Fault FoundRow)) → AreShards inputs.workers → inputs.places.now ≡ key_places table.schema → inputs.opening.now ≡ table.rows → Rebuilds (between inputs 0 inputs.workers) inputs result
+    → GoTogether inputs.altered.now table (changes_of inputs.events.now) → IsRebuilt inputs.altered.now table (changes_of inputs.events.now) result
+rebuilt inputs table (Ok made) shards places rows is together =
+    let new : List ℕ = key_places inputs.altered.now.schema in
+    let columns : List MapColumn = inputs.altered.now.map in
+    let changes : List Change = changes_of inputs.events.now in
+    let sound : IsSound inputs = subst (λ (ps : List ℕ). Fit ps new columns inputs.opening.now changes) (sym places) (subst (λ (rs : List Row). Fit (key_places table.schema) new columns rs changes) (sym rows) together) in
+    (is.rows.0, ap (converted_rows columns) (ap (λ (ps : List ℕ). change_all ps changes table.rows) (sym places) ∙ ap (change_all inputs.places.now changes) (sym rows)) ∙ all_rows inputs made.table.rows shards (is.rows.1 sound))
+rebuilt inputs table (Err fault) shards places rows is together = tt
+
+pub rebuilt_found : (inputs : Inputs) (table : TableRows) (result : Result PagedTable (Fault FoundRow)) → AreShards inputs.workers → inputs.opening.now ≡ table.rows → Rebuilds (between inputs 0 inputs.workers) inputs result
+    → Finds result (first_unfit inputs.altered.now.map 0 (rows_seen table.rows (changes_of inputs.events.now)))
+rebuilt_found inputs table result shards rows is =
+    subst (λ (rs : List Row). Finds result (first_unfit inputs.altered.now.map 0 (rows_seen rs (changes_of inputs.events.now)))) rows (all_found inputs result shards is.finds)

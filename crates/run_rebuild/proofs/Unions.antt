@@ -19,7 +19,7 @@ use Rattle.proof_rebuild.proofs.Converting.{IsConverted, converted_parts}
 use Rattle.base_values.proofs.Orders.{keys_total}
 use Rattle.table_store.proofs.FoundRows.{none_to_remove}
 use Rattle.proof_rebuild.proofs.Joining.{merge}
-use Rattle.run_rebuild.specs.Steps.{replaced_all}
+use Rattle.run_rebuild.specs.Steps.{replaced, replaced_all}
 use Rattle.base_values.proofs.SchemaRules.Steps.{some_is}
 
 -- rows that come after a row are still new once it is put
@@ -86,3 +86,12 @@ none_replaced places [] into ascends new = refl
 none_replaced places (row ∷ rows) into ascends new =
     ap (λ (others : List Row). replaced_all places rows (with_row places row others)) (none_to_remove places (key_of places row) into new.0)
     ∙ none_replaced places rows (with_row places row into) ascends.1 (still_new places row rows into ascends.0 new.1)
+
+-- one row of them
+pub one_replaced : (places : List ℕ) (row : Row) (rows into : List Row) → replaced_all places rows (replaced places row into) ≡ replaced_all places (row ∷ rows) into
+unfolding replaced_all
+one_replaced places row rows into = refl
+
+pub all_replaced : (places : List ℕ) (rows into : List Row) → rows ≡ [] → into ≡ replaced_all places rows into
+unfolding replaced_all
+all_replaced places rows into none = sym (ap (λ (rows : List Row). replaced_all places rows into) none)

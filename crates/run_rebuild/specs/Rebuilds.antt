@@ -1,5 +1,5 @@
 -- What a rebuild is given and what it answers.
-use Rattle.std.specs.Prelude.{◌≡◌, ℕ, ◌==◌, Bool, List, [], map, filter, Option, Some, None, Result, Ok, Err}
+use Rattle.std.specs.Prelude.{◌≡◌, ℕ, ◌==◌, nat_lt, if◌then◌else◌, Bool, List, [], map, filter, Option, Some, None, Result, Ok, Err}
 use Rattle.std.specs.List.{AllByRecursion}
 use Rattle.base_values.specs.declared.value.Value.{Value}
 use Rattle.base_values.specs.declared.event.Change.{Change}
@@ -18,6 +18,7 @@ use Rattle.plan_data.specs.declared.plan.AlteredSchema.{AlteredSchema}
 use Rattle.proof_rebuild.specs.Shards.{KeepsAfter, KeepsKey, UnfitRow, first_unfit, rows_seen, shard_sees}
 use Rattle.run_rebuild.specs.declared.fault.UnfitRow.{UnfitRow as FoundRow}
 use Rattle.run_rebuild.specs.declared.inputs.Inputs.{Inputs}
+use Rattle.run_rebuild.specs.Steps.{replaced_all}
 use Rattle.run_rebuild.specs.ShardNumbers.{is_of, shard_number}
 
 -- *The unfit row is found*: where a call refuses, that is the row, and where it answers, there is none.
@@ -84,6 +85,15 @@ HasRows within inputs (Err fault) = Unit {0}
 pub record Rebuilds (within : List Value → Bool) (inputs : Inputs) (result : Result PagedTable (Fault FoundRow)) : Type 0 where
   pub rows : HasRows within inputs result
   pub finds : Finds result (first_unfit inputs.altered.now.map 0 (shard_sees within (seen_of inputs)))
+
+-- *Both halves*: the other table's rows are put into the one; or the row that is seen first among those that both found
+abbrev pub Unites : Result PagedTable (Fault FoundRow) → Result PagedTable (Fault FoundRow) → Result PagedTable (Fault FoundRow) → Type 0
+Unites one other (Err Memory) = Unit {0}
+Unites (Ok one) (Ok other) (Ok table) = (table.table.schema ≡ one.table.schema) × (table.table.rows ≡ replaced_all (key_places one.table.schema) other.table.rows one.table.rows) × Ascends (key_places other.table.schema) other.table.rows
+Unites (Err (Refused one)) (Err (Refused other)) (Err (Refused row)) = row ≡ (if nat_lt other.place one.place then other else one)
+Unites (Err (Refused one)) (Ok other) (Err (Refused row)) = row ≡ one
+Unites (Ok one) (Err (Refused other)) (Err (Refused row)) = row ≡ other
+Unites one other result = ⊥
 
 -- The opening table and its changes go together, and with what the table became.
 abbrev pub GoTogether : AlteredSchema → TableRows → List Change → Type 0

@@ -7,11 +7,11 @@
 mod fault;
 mod inputs;
 mod rebuilt_table;
-mod shard;
+mod shard_number;
 mod shard_table;
 mod steps;
 mod union;
 
 pub use fault::{RebuildFault, UnfitRow};
 pub use rebuilt_table::rebuild;
-pub use shard::shard;
+pub use shard_number::shard;

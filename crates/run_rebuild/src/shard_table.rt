@@ -51,11 +51,7 @@ fn follow_events(
 }
 
 /// The converted rows of the shard of this number, as a table of the altered schema.
-fn made_table(
-    alloc: Global,
-    inputs: &Inputs<'_>,
-    number: u32,
-) -> Result<Table, RebuildFault>
+fn made_table(alloc: Global, inputs: &Inputs<'_>, number: u32) -> Result<Table, RebuildFault>
     requires workers { AreShards inputs.now.workers }
     ensures { Rebuilds (own inputs.now number) inputs.now result }
 {

@@ -9,7 +9,7 @@ ghost use Rattle.run_rebuild.specs.Steps.{deleted, followed, replaced, written};
 
 use crate::fault::{RebuildFault, UnfitRow};
 use crate::inputs::Inputs;
-use crate::shard::shard;
+use crate::shard_number::shard;
 use base_values::gho_schema::key_of;
 use base_values::row_conversion::{ColumnMap, converted_row};
 use base_values::{Change, Fault, Row};
@@ -17,12 +17,7 @@ use std::alloc::{AllocError, Global};
 use table_store::paged_tables::row_pages::Table;
 
 /// The converted row of the row that is seen at this place.
-fn converted(
-    alloc: Global,
-    map: &ColumnMap,
-    row: &Row,
-    place: usize,
-) -> Result<Row, RebuildFault>
+fn converted(alloc: Global, map: &ColumnMap, row: &Row, place: usize) -> Result<Row, RebuildFault>
     ensures { IsConvertedAs map.now row.now place result }
 {
     match converted_row(alloc, map.as_slice(), row.as_slice()) {

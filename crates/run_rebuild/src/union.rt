@@ -1,11 +1,11 @@
 //! Shards put together.
 
-ghost use Rattle.std.specs.Prelude.{◌≡◌, ◌≤◌, ◌+◌, if◌then◌else◌, nat_lt, OnOk};
+ghost use Rattle.std.specs.Prelude.{◌≡◌, ◌≤◌, ◌+◌, if◌then◌else◌, nat_lt, Ok, Err, OnOk};
 ghost use Rattle.std.specs.Thread.{IsSync};
 ghost use Rattle.base_values.specs.GhoSchema.Rows.{key_places};
 ghost use Rattle.base_values.specs.GhoSchema.Tables.{Ascends};
 ghost use Rattle.run_rebuild.specs.ShardNumbers.{AreShards};
-ghost use Rattle.run_rebuild.specs.Rebuilds.{Rebuilds, between};
+ghost use Rattle.run_rebuild.specs.Rebuilds.{Rebuilds, Unites, between};
 ghost use Rattle.run_rebuild.specs.Steps.{replaced_all};
 
 use crate::fault::{RebuildFault, UnfitRow};
@@ -40,6 +40,48 @@ fn first(one: UnfitRow, other: UnfitRow) -> UnfitRow
     if one.place < other.place { one } else { other }
 }
 
+/// The fault that both halves come to. That memory ran out comes first, since then a row may not have been seen.
+fn first_fault(one: RebuildFault, other: RebuildFault) -> RebuildFault
+    ensures { Unites (Err one) (Err other) (Err result) }
+{
+    match one {
+        Fault::Memory => Fault::Memory,
+        Fault::Refused(one) => match other {
+            Fault::Memory => Fault::Memory,
+            Fault::Refused(other) => Fault::Refused(first(other, one)),
+        },
+    }
+}
+
+/// Both tables as one.
+fn joined(alloc: Global, one: Table, other: &Table) -> Result<Table, RebuildFault>
+    ensures { Unites (Ok one) (Ok other.now) result }
+{
+    let mut table = one;
+    put_rows(alloc, &mut table, other)?;
+    Ok(table)
+}
+
+/// What two halves of some shards come to.
+fn union(
+    alloc: Global,
+    one: Result<Table, RebuildFault>,
+    other: Result<Table, RebuildFault>,
+) -> Result<Table, RebuildFault>
+    ensures { Unites one other result }
+{
+    match one {
+        Ok(one) => match other {
+            Ok(other) => joined(alloc, one, &other),
+            Err(fault) => Err(fault),
+        },
+        Err(fault) => match other {
+            Ok(_) => Err(fault),
+            Err(other) => Err(first_fault(fault, other)),
+        },
+    }
+}
+
 /// The rows of the shards from this number on, so many, as a table of the altered schema: each half of them in a thread of its own,
 /// where one can be made.
 #[cycle(shards)]
@@ -62,23 +104,14 @@ pub fn shards<R: Threads + Sync, G: Gate + Sync>(
     let low = count / 2;
     let high = count - low;
     let up = from + low;
-    let front = || -> Result<Table, RebuildFault>
+    let front = move || -> Result<Table, RebuildFault>
         requires { IsSync R.row × IsSync G.row × AreShards inputs.now.workers × (1 ≤ low) × (from + low ≤ inputs.now.workers) }
         ensures { Rebuilds (between inputs.entry.now from low) inputs.entry.now result }
     { shards(rt, alloc, inputs, gate, from, low) };
-    let back = || -> Result<Table, RebuildFault>
+    let back = move || -> Result<Table, RebuildFault>
         requires { IsSync R.row × IsSync G.row × AreShards inputs.now.workers × (1 ≤ high) × (up + high ≤ inputs.now.workers) }
         ensures { Rebuilds (between inputs.entry.now up high) inputs.entry.now result }
     { shards(rt, alloc, inputs, gate, up, high) };
-    match join(rt, front, back) {
-        (Ok(mut table), Ok(other)) => {
-            put_rows(alloc, &mut table, &other)?;
-            Ok(table)
-        }
-        (Err(Fault::Refused(one)), Err(Fault::Refused(other))) => {
-            Err(Fault::Refused(first(other, one)))
-        }
-        (Err(Fault::Memory), _) | (_, Err(Fault::Memory)) => Err(Fault::Memory),
-        (Err(fault), Ok(_)) | (Ok(_), Err(fault)) => Err(fault),
-    }
+    let (one, other) = join(rt, front, back);
+    union(alloc, one, other)
 }

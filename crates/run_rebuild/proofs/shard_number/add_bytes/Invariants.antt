@@ -1,6 +1,6 @@
 use Rattle.std.proofs.Common.{◌≡◌, ◌<◌, ◌+◌, ◌%◌, drop}
 use Rattle.std.specs.Prelude.{sum}
-use Rattle.run_rebuild.proofs.shard.add_bytes.Given as goal
+use Rattle.run_rebuild.proofs.shard_number.add_bytes.Given as goal
 
 -- the sum so far, and the bytes that are left, come to all
 abbrev pub invariant-loop-byte : goal.invariant-loop-byte
