@@ -1,5 +1,5 @@
 -- The table of two halves of some shards, and the first unfit row of both.
-use Rattle.std.proofs.Common.{◌≡◌, ◌<◌, ◌≤◌, ℕ, ◌+◌, ◌++◌, length, map, ◌==◌, ◌||◌, nat_lt, Bool, true, false, not, List, [], ◌∷◌, filter, cond, Option, Some, None, Result, Ok, Err, refl, sym, ap, ◌∙◌, subst, arith}
+use Rattle.std.proofs.Common.{◌≡◌, ℕ, ◌+◌, ◌++◌, length, map, ◌||◌, nat_lt, Bool, true, false, not, List, [], ◌∷◌, filter, cond, Option, Some, None, Result, Ok, Err, refl, sym, ap, ◌∙◌, subst, arith}
 use Rattle.std.proofs.Math.Nat.{mod-lt}
 use Rattle.std.proofs.lemmas.List.{length-map, map-append}
 use Rattle.std.specs.List.{AllByRecursion}
@@ -9,7 +9,7 @@ use Rattle.base_values.specs.declared.fault.Fault.{Fault}
 use Rattle.base_values.specs.declared.fault.Fault.TheVariants.{Refused, Memory}
 use Rattle.base_values.specs.declared.row_conversion.map.MapColumn.{MapColumn}
 use Rattle.base_values.specs.RowConversion.ConvertedRows.{converted_rows}
-use Rattle.base_values.specs.GhoSchema.Rows.{key_of, key_places, with_row}
+use Rattle.base_values.specs.GhoSchema.Rows.{key_places, with_row}
 use Rattle.base_values.specs.GhoSchema.Tables.{Ascends}
 use Rattle.base_values.proofs.GhoSchema.Orders.{all-with_row}
 use Rattle.base_values.specs.declared.gho_schema.schema.Schema.{Schema}
@@ -20,7 +20,7 @@ use Rattle.table_store.proofs.Ascending.{all-filter}
 use Rattle.server_model.specs.Rows.{same_row, without_row, change_rows, change_all}
 use Rattle.server_seen.proofs.Gathered.{same_tests}
 use Rattle.server_seen.proofs.SeenChanges.{changes_seen}
-use Rattle.proof_rebuild.specs.Shards.{KeepsAfter, KeepsKey, UnfitRow, earlier, first_unfit, only, row_after, rows_seen, shard_sees, with_rows}
+use Rattle.proof_rebuild.specs.Shards.{KeepsAfter, KeepsKey, UnfitRow, earlier, first_unfit, only, row_after, rows_seen, shard_sees}
 use Rattle.proof_rebuild.proofs.Found.{both_find, found_before, none_before, sees_alike, sees_all}
 use Rattle.run_rebuild.specs.declared.fault.UnfitRow.{UnfitRow as FoundRow}
 use Rattle.run_rebuild.specs.declared.inputs.Inputs.{Inputs}

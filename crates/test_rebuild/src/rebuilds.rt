@@ -60,7 +60,15 @@ fn rebuilt<R: Threads + Sync>(
     if workers < 1 || workers > 16 {
         return Err(CallFault::Unread);
     }
-    match rebuild(rt, alloc, opening, plan.altered(), events.as_slice(), workers, &OpenGate) {
+    match rebuild(
+        rt,
+        alloc,
+        opening,
+        plan.altered(),
+        events.as_slice(),
+        workers,
+        &OpenGate,
+    ) {
         Ok(table) => rows_text(alloc, &table),
         Err(Fault::Memory) => Err(CallFault::Memory),
         Err(Fault::Refused(row)) => {
@@ -96,7 +104,8 @@ fn answer<R: Threads + Sync>(
 }
 
 // A table whose ALTER drops a column.
-const SMALLER: &str = "version = 1\ntable = \"t\"\nalter = \"DROP COLUMN v\"\n[[tables]]\ncreate = \"CREATE TABLE t (id VARCHAR(3) NOT NULL, v SMALLINT, PRIMARY KEY (id))\"\nrows = [\"(3, '3')\", \"('c', 300)\", \"('f', 2)\", \"('e', 2)\", \"('d', 4)\"]\n";
+const SMALLER: &str =
+    "version = 1\ntable = \"t\"\nalter = \"DROP COLUMN v\"\n[[tables]]\ncreate = \"CREATE TABLE t (id VARCHAR(3) NOT NULL, v SMALLINT, PRIMARY KEY (id))\"\nrows = [\"(3, '3')\", \"('c', 300)\", \"('f', 2)\", \"('e', 2)\", \"('d', 4)\"]\n";
 
 // By any number of workers the rows are the same. The UPDATE changes the key.
 #[test]
@@ -110,7 +119,8 @@ fn rows_are_those_of_the_table(rt: HostRuntime) -> Result<(), Fail> {
 }
 
 // A table with a clustered key of two columns.
-const TWO_COLUMNS: &str = "version = 1\ntable = \"t\"\nalter = \"ADD COLUMN b INT\"\n[[tables]]\ncreate = \"CREATE TABLE t (a INT NOT NULL, c VARCHAR(4) NOT NULL, PRIMARY KEY (a, c))\"\nrows = [\"(7, 'a')\", \"(4, 'd')\", \"(6, 4)\", \"(3, 'g')\", \"(3, 'f')\", \"(4, 'a')\", \"(1, 'b')\", \"(5, 'g')\"]\n";
+const TWO_COLUMNS: &str =
+    "version = 1\ntable = \"t\"\nalter = \"ADD COLUMN b INT\"\n[[tables]]\ncreate = \"CREATE TABLE t (a INT NOT NULL, c VARCHAR(4) NOT NULL, PRIMARY KEY (a, c))\"\nrows = [\"(7, 'a')\", \"(4, 'd')\", \"(6, 4)\", \"(3, 'g')\", \"(3, 'f')\", \"(4, 'a')\", \"(1, 'b')\", \"(5, 'g')\"]\n";
 
 #[test]
 fn rows_have_keys_of_two_columns(rt: HostRuntime) -> Result<(), Fail> {
@@ -124,12 +134,19 @@ fn rows_have_keys_of_two_columns(rt: HostRuntime) -> Result<(), Fail> {
 }
 
 // A table of which two opening rows have no converted row.
-const NARROWER: &str = "version = 1\ntable = \"t\"\nalter = \"MODIFY v TINYINT, ADD COLUMN b INT DEFAULT 7\"\n[[tables]]\ncreate = \"CREATE TABLE t (id INT PRIMARY KEY, v INT)\"\nrows = [\"(3, 7)\", \"(4, 300)\", \"(1, 1)\", \"(5, -129)\", \"(2, 1)\"]\n";
+const NARROWER: &str =
+    "version = 1\ntable = \"t\"\nalter = \"MODIFY v TINYINT, ADD COLUMN b INT DEFAULT 7\"\n[[tables]]\ncreate = \"CREATE TABLE t (id INT PRIMARY KEY, v INT)\"\nrows = [\"(3, 7)\", \"(4, 300)\", \"(1, 1)\", \"(5, -129)\", \"(2, 1)\"]\n";
 
 // The first of both is found, whichever shards have them.
 #[test]
 fn first_unfit_row_is_found(rt: HostRuntime) -> Result<(), Fail> {
-    let events = &[("", "21, -3"), ("4, 300", "4, 1"), ("5, -129", "5, 7"), ("", "20, 7"), ("", "22, 1")];
+    let events = &[
+        ("", "21, -3"),
+        ("4, 300", "4, 1"),
+        ("5, -129", "5, 7"),
+        ("", "20, 7"),
+        ("", "22, 1"),
+    ];
     for workers in [1, 3, 16] {
         let found = answer(&rt, rt.alloc(), NARROWER, events, workers)?;
         assert_eq!(rt; found.as_str(), "unfit 3 1 1264");
@@ -138,12 +155,18 @@ fn first_unfit_row_is_found(rt: HostRuntime) -> Result<(), Fail> {
 }
 
 // A table whose opening row has a converted row.
-const SHORTER: &str = "version = 1\ntable = \"t\"\nalter = \"MODIFY v VARBINARY(1), ADD COLUMN b INT DEFAULT 7\"\n[[tables]]\ncreate = \"CREATE TABLE t (id INT PRIMARY KEY, v VARBINARY(4))\"\nrows = [\"(1, x'05')\"]\n";
+const SHORTER: &str =
+    "version = 1\ntable = \"t\"\nalter = \"MODIFY v VARBINARY(1), ADD COLUMN b INT DEFAULT 7\"\n[[tables]]\ncreate = \"CREATE TABLE t (id INT PRIMARY KEY, v VARBINARY(4))\"\nrows = [\"(1, x'05')\"]\n";
 
 // The row after the second event is the third that is seen.
 #[test]
 fn unfit_row_after_an_event_is_found(rt: HostRuntime) -> Result<(), Fail> {
-    let events = &[("", "21, x'05'"), ("1, x'05'", "1, x'01 02'"), ("1, x'01 02'", "1, x'05'"), ("", "20, x'05'")];
+    let events = &[
+        ("", "21, x'05'"),
+        ("1, x'05'", "1, x'01 02'"),
+        ("1, x'01 02'", "1, x'05'"),
+        ("", "20, x'05'"),
+    ];
     let found = answer(&rt, rt.alloc(), SHORTER, events, 4)?;
     assert_eq!(rt; found.as_str(), "unfit 2 1 1406");
     Ok(())

@@ -1,4 +1,4 @@
-use Rattle.std.proofs.Common.{◌≡◌, ◌+◌, ◌%◌, ℕ, List, ap, ◌∙◌}
+use Rattle.std.proofs.Common.{◌+◌, ◌%◌, ℕ, List, ap, ◌∙◌}
 use Rattle.std.specs.Prelude.{sum}
 use Rattle.std.proofs.lemmas.Int.{to_z-of_z}
 use Rattle.std.specs.Int.{w128, to_be_bytes, cast_unsigned}

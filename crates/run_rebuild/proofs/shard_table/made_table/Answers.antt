@@ -1,4 +1,4 @@
-use Rattle.std.proofs.Common.{◌≡◌, sym, ap, ◌∙◌}
+use Rattle.std.proofs.Common.{◌∙◌}
 use Rattle.std.proofs.lemmas.Result.{err_from_is_err_and}
 use Rattle.run_rebuild.proofs.Halves.{all_followed, left_events, left_opening}
 use Rattle.run_rebuild.proofs.shard_table.made_table.Goals as goal

@@ -1,4 +1,4 @@
-use Rattle.std.proofs.Common.{◌≡◌, List, [], ◌∷◌, ap, ◌∙◌}
+use Rattle.std.proofs.Common.{[], ◌∷◌, ap, ◌∙◌}
 use Rattle.base_values.specs.declared.event.Change.{Change}
 use Rattle.proof_rebuild.specs.Shards.{first_unfit, only, row_after}
 use Rattle.run_rebuild.specs.Rebuilds.{own}

@@ -1,6 +1,5 @@
-use Rattle.std.proofs.Common.{◌≡◌, sym, ap, ◌∙◌}
+use Rattle.std.proofs.Common.{◌≡◌, ap, ◌∙◌}
 use Rattle.base_values.specs.GhoSchema.Rows.{key_of, key_places}
-use Rattle.table_store.proofs.RowLaws.{gone}
 use Rattle.run_rebuild.proofs.Following.{gone_as}
 use Rattle.run_rebuild.proofs.steps.replace.Goals as goal
 

@@ -1,4 +1,4 @@
-use Rattle.std.proofs.Common.{sym, rules}
+use Rattle.std.proofs.Common.{sym}
 use Rattle.std.proofs.lemmas.Result.{err_from_is_err_and}
 use Rattle.run_rebuild.proofs.SeenRows.{is_converted, is_unfit, not_own}
 use Rattle.run_rebuild.specs.Rebuilds.{own}

@@ -1,4 +1,4 @@
-use Rattle.std.proofs.Common.{arith, rules}
+use Rattle.std.proofs.Common.{arith}
 use Rattle.run_rebuild.proofs.Halves.{one_shard, united}
 use Rattle.run_rebuild.proofs.union.+shards.Goals as goal
 
