@@ -2,7 +2,7 @@
 
 use base_edges::OpenGate;
 use base_values::{Change, Fault, Name, Row, RowEvent, Text, print_row};
-use plan_reader::read_plan;
+use proof_plans::read_accepted_plan;
 use run_rebuild::rebuild;
 use std::alloc::{AllocError, Global};
 use std::test::Fail;
@@ -50,7 +50,7 @@ fn rebuilt<R: Threads + Sync>(
     written: &[(&str, &str)],
     workers: u32,
 ) -> Result<Text, CallFault> {
-    let Ok(plan) = read_plan(alloc, plan.as_bytes()) else {
+    let Ok(plan) = read_accepted_plan(alloc, plan.as_bytes()) else {
         return Err(CallFault::Unread);
     };
     let Some(opening) = plan.tables().find(plan.table()) else {
