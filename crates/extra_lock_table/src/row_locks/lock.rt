@@ -8,8 +8,8 @@ use base_values::{Bound, Duplicate, Span};
 use server_locks::row_locks::{HeldLock, Lock};
 use std::alloc::{AllocError, Global};
 
-/// Whether the span is that of one key.
 // It moves into `server_locks` when the table takes its place: there it stands in `lock_order`, which isn't public.
+/// Whether the span is that of one key.
 pub fn is_point(span: &Span) -> bool
     ensures { result ≡ is_point span.now }
 {
@@ -22,8 +22,8 @@ pub fn is_point(span: &Span) -> bool
     }
 }
 
-/// Copies of the locks, held by the session.
 // It moves into `server_locks` when the table takes its place: there it stands in `lock`, which isn't public.
+/// Copies of the locks, held by the session.
 pub fn held_by(alloc: Global, session: u32, set: &[Lock]) -> Result<Vec<HeldLock>, AllocError>
     ensures { IfOk result (λ held. held.items ≡ map (held_by session) set.now) }
 {
