@@ -1,15 +1,15 @@
 //! When the tool holds back.
 
 use base_values::Text;
-use extra_throttle::{Go, Throttle};
 use std::alloc::Global;
 use test_lines::{CallFault, text_of, unsigned_of};
+use tool_throttle::{Go, Throttle};
 
 /// A load, and whether the word `commanded` comes after it.
-fn load_of(text: &str) -> Result<(u32, bool), CallFault> {
+fn load_of(text: &str) -> Result<(u64, bool), CallFault> {
     match text.strip_suffix(" commanded") {
-        Some(load) => Ok((unsigned_of(load)?, true)),
-        None => Ok((unsigned_of(text)?, false)),
+        Some(load) => Ok((u64::from(unsigned_of(load)?), true)),
+        None => Ok((u64::from(unsigned_of(text)?), false)),
     }
 }
 
@@ -25,6 +25,6 @@ fn word_of(go: Go) -> &'static str {
 pub fn answer(alloc: Global, input: &str) -> Result<Text, CallFault> {
     let (most, load) = input.split_once(' ').ok_or(CallFault::Unread)?;
     let (load, commanded) = load_of(load)?;
-    let go = Throttle::new(unsigned_of(most)?).asks(load, commanded);
+    let go = Throttle::new(u64::from(unsigned_of(most)?)).asks(load, commanded);
     text_of(alloc, word_of(go))
 }

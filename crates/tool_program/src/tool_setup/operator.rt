@@ -7,6 +7,7 @@ ghost use Rattle.tool_program.specs.ToolSetup.Meanings.{operator_of, words_in, i
 
 use base_script::{Command, OperatorWord};
 use plan_data::{Options, Plan};
+use tool_throttle::{Go, Throttle};
 
 /// What the operator's commands have done so far.
 #[derive(Clone, Copy)]
@@ -85,7 +86,11 @@ impl Operator {
     pub fn is_throttled(&self, plan: &Plan, load: u64) -> bool
         ensures { result ≡ is_throttled_under plan.now load (operator_of self.now) }
     {
-        self.throttles && self.is_left(plan) || u64::from(plan.options().max_load) < load
+        let commanded = self.throttles && self.is_left(plan);
+        match Throttle::new(u64::from(plan.options().max_load)).asks(load, commanded) {
+            Go::Hold { .. } => true,
+            Go::Go => false,
+        }
     }
 
     /// Whether no attempt begins yet.

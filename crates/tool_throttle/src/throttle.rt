@@ -1,7 +1,7 @@
 //! When the tool holds back.
 
 ghost use Rattle.std.specs.Prelude.{◌≡◌};
-ghost use Rattle.extra_throttle.specs.Throttle.{answer_at};
+ghost use Rattle.tool_throttle.specs.Throttle.{answer_at};
 
 use std::marker::Model;
 
@@ -20,7 +20,7 @@ pub enum Go {
 /// How much load the tool tolerates.
 #[derive(Drop)]
 pub struct Throttle {
-    max_load: u32,
+    max_load: u64,
 }
 
 impl Model for Throttle {
@@ -33,14 +33,14 @@ impl Model for Throttle {
 
 impl Throttle {
     /// A throttle that holds above this load.
-    pub fn new(max_load: u32) -> Throttle
+    pub fn new(max_load: u64) -> Throttle
         ensures { result ≡ max_load }
     {
         Throttle { max_load }
     }
 
     /// Whether work may begin under this load, where the operator commanded the tool to hold, or didn't.
-    pub fn asks(&self, load: u32, commanded: bool) -> Go
+    pub fn asks(&self, load: u64, commanded: bool) -> Go
         ensures { result ≡ answer_at self.now load commanded }
     {
         let loaded = load > self.max_load;
