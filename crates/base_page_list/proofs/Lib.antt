@@ -1,3 +1,4 @@
+pub mod Ascending
 pub mod PageLists
 pub mod PageEdits
 pub mod PagePlaces

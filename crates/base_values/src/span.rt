@@ -105,7 +105,7 @@ impl Bound {
     }
 
     /// Whether there is room between this lower end and an upper one.
-    fn leaves_room(&self, high: &Bound) -> bool
+    pub fn leaves_room(&self, high: &Bound) -> bool
         ensures { result ≡ leave_room self.now high.now }
     {
         match self {

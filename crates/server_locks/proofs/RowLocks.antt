@@ -1,4 +1,4 @@
 pub mod HeldLocks
 pub mod LockIndex
 pub mod LockOrder
-pub mod Refusers
+pub mod LockTable

@@ -1,5 +1,10 @@
 pub mod Grants
 pub mod LockTable
 pub mod LockIndex
+pub mod ListOrders
+pub mod LockLists
+pub mod Blockers
+pub mod Releases
+pub mod HeldSpans
 pub mod Laws
 pub mod Marks

@@ -4,8 +4,9 @@ mod conflicts;
 pub mod held_locks;
 pub mod laws;
 mod lock;
-mod locks;
+mod lock_table;
 mod refusals;
 
 pub use lock::{HeldLock, Lock, LockAnswer, LockSet};
-pub use locks::RowLocks;
+pub use lock_table::RowLocks;
+pub use lock_table::held_spans::HeldSpans;

@@ -72,7 +72,7 @@ use Rattle.proof_journals.proofs.Sentry.Inductions.{moment_more}
 
 -- NAMES
 
-tails_apart : (a b : List ℕ) → bytes_eq a b ≡ false → (front : List ℕ) → bytes_eq (front ++ a) (front ++ b) ≡ false
+pub tails_apart : (a b : List ℕ) → bytes_eq a b ≡ false → (front : List ℕ) → bytes_eq (front ++ a) (front ++ b) ≡ false
 tails_apart a b off front = by (bytes_eq (front ++ a) (front ++ b)) refl where
   by : (r : Bool) → bytes_eq (front ++ a) (front ++ b) ≡ r → r ≡ false
   by true same = let one : a ≡ b = append_cancel_left front a b (are_same (front ++ a) (front ++ b) same) in absurd (true≢false (sym (same_bytes a) ∙ ap (bytes_eq a) one ∙ off))

@@ -9,8 +9,7 @@ ghost use Rattle.server_locks.specs.RowLocks.Grants.{conflict};
 
 use crate::row_locks::conflicts::any_conflicts;
 use crate::row_locks::held_locks::lock_index::LockIndex;
-use crate::row_locks::held_locks::lock_order::is_point;
-use crate::row_locks::lock::{Lock, LockSet};
+use crate::row_locks::lock::{Lock, LockSet, is_point};
 use std::alloc::{AllocError, Global};
 use std::marker::Model;
 

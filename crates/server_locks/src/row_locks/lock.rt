@@ -1,10 +1,10 @@
 //! A row lock, a set of them, and the answer to who asks for one.
 
-ghost use Rattle.std.specs.Prelude.{◌≡◌, ◌==◌, not, map, filter, IfOk};
-ghost use Rattle.std.specs.List.{list_any};
+ghost use Rattle.std.specs.Prelude.{◌≡◌, map, IfOk};
 ghost use Rattle.server_locks.specs.RowLocks.LockTable.{held_by};
+ghost use Rattle.server_locks.specs.RowLocks.LockIndex.{is_point};
 
-use base_values::{Duplicate, Name, Sequence, Span};
+use base_values::{Bound, Duplicate, Name, Sequence, Span};
 use std::alloc::{AllocError, Global};
 
 /// A lock on the values of one key of a table that lie in a span, whether or not rows have them.
@@ -70,18 +70,17 @@ pub fn held_by(alloc: Global, session: u32, set: &[Lock]) -> Result<Vec<HeldLock
     Ok(held)
 }
 
-/// Whether the session holds one of the locks.
-pub fn holds_one(held: &[HeldLock], session: u32) -> bool
-    ensures { result ≡ list_any (λ held. held.session == session) held.now }
+/// Whether the span is that of one key.
+pub fn is_point(span: &Span) -> bool
+    ensures { result ≡ is_point span.now }
 {
-    held.iter().any(|held| held.session == session)
-}
-
-/// Takes away all locks of the session.
-pub fn take_away(held: &mut Vec<HeldLock>, session: u32)
-    ensures { held.new.items ≡ filter (λ held. not (held.session == session)) held.old.items }
-{
-    held.retain(|held| held.session != session);
+    match &span.low {
+        Bound::Closed(low) => match &span.high {
+            Bound::Closed(high) => low.cmp(high).is_eq(),
+            _ => false,
+        },
+        _ => false,
+    }
 }
 
 /// What is answered to a session that asks for locks.

@@ -3,7 +3,6 @@ pub mod ByKeys
 pub mod ClashTests
 pub mod FirstRows
 pub mod Indexing
-pub mod Ordered
 pub mod PutLast
 pub mod Reserving
 pub mod RowPlaces

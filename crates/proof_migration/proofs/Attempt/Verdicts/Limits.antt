@@ -62,7 +62,7 @@ opened_limits nothing tool number state = at (nothing || is_live state number) w
   at true = refl
   at false = refl
 
-limits_after : (state : State) (journal : List Entry) → (state_after state journal).limits ≡ state.limits
+pub limits_after : (state : State) (journal : List Entry) → (state_after state journal).limits ≡ state.limits
 unfolding state_after
 limits_after state [] = refl
 limits_after state (entry ∷ journal) =

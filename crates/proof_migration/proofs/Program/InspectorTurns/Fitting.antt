@@ -33,7 +33,7 @@ use Rattle.tool_program.specs.declared.cutover_core.cutover.Hold.TheVariants.{Lo
 
 -- NAMES
 
-old_not_log : (table : List ℕ) → bytes_eq (old_name table) (log_name table) ≡ false
+pub old_not_log : (table : List ℕ) → bytes_eq (old_name table) (log_name table) ≡ false
 unfolding old_name log_name
 old_not_log table = by (bytes_eq (front ++ codes "_del") (front ++ codes "_ghc")) refl where
   front : List ℕ

@@ -55,7 +55,7 @@ use Rattle.proof_migration.proofs.Program.LockerTurns.Apart.{gone_names, lost_ho
 use Rattle.proof_migration.proofs.Program.LockerTurns.Quiet.{CountsNone, Quiet, defines, is_late, is_ok, is_rowless, quiet_served}
 
 -- no name is held, where none is shared and none is locked
-no_names : (held : List HeldName) → names_of (shared_names held) ≡ [] → locked_names held ≡ [] → held ≡ []
+pub no_names : (held : List HeldName) → names_of (shared_names held) ≡ [] → locked_names held ≡ [] → held ≡ []
 no_names [] shared locked = refl
 no_names (one ∷ held) shared locked = by one.exclusive shared locked where
   by : (b : Bool) → names_of (cond (not b) (one ∷ shared_names held) (shared_names held)) ≡ [] → names_of (cond b (one ∷ kept_names held) (kept_names held)) ≡ [] → one ∷ held ≡ []

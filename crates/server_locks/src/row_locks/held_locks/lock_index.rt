@@ -6,8 +6,8 @@ ghost use Rattle.base_page_list.specs.Pages.{flat};
 ghost use Rattle.server_locks.specs.RowLocks.Grants.{conflict};
 ghost use Rattle.server_locks.specs.RowLocks.LockIndex.{is_point, is_point_lock, is_wide_lock, conflicts_at, ArePoints, IsIndexed, HasRoom};
 
-use crate::row_locks::held_locks::lock_order::{BeforeKey, BeforeLock, is_point, lock_at};
-use crate::row_locks::lock::Lock;
+use crate::row_locks::held_locks::lock_order::{BeforeKey, BeforeLock, lock_at};
+use crate::row_locks::lock::{Lock, is_point};
 use base_page_list::PagedList;
 use std::alloc::{AllocError, Global};
 

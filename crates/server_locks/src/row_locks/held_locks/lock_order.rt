@@ -1,25 +1,12 @@
 //! The order of locks on one key.
 
 ghost use Rattle.std.specs.Prelude.{◌≡◌, slice_get, option_copied};
-ghost use Rattle.server_locks.specs.RowLocks.LockIndex.{is_point, end_key, compare_places, compare_locks, is_after};
+ghost use Rattle.server_locks.specs.RowLocks.LockIndex.{end_key, compare_places, compare_locks, is_after};
 
 use crate::row_locks::lock::Lock;
 use base_page_list::Test;
-use base_values::{Bound, Span, Value};
+use base_values::{Bound, Value};
 use std::cmp::Ordering;
-
-/// Whether the span is that of one key.
-pub fn is_point(span: &Span) -> bool
-    ensures { result ≡ is_point span.now }
-{
-    match &span.low {
-        Bound::Closed(low) => match &span.high {
-            Bound::Closed(high) => low.cmp(high).is_eq(),
-            _ => false,
-        },
-        _ => false,
-    }
-}
 
 /// The key at an end of a span, or no values where there is no end.
 fn end_key(bound: &Bound) -> &[Value]

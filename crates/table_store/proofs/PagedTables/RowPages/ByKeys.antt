@@ -12,12 +12,13 @@ use Rattle.base_values.specs.GhoSchema.ClusteredKey.{clustered_place, unique_at}
 use Rattle.base_values.specs.GhoSchema.Rows.{key_of, key_places, places_of, places_at}
 use Rattle.base_page_list.specs.Pages.{InPages, flat}
 use Rattle.table_store.proofs.Orders.{Row}
-use Rattle.table_store.specs.PagedTables.RowPages.RowOrders.{row_of, rows_of, compare_by, Ascending, Has, IsListed}
+use Rattle.base_page_list.specs.Orders.{Ascending, Has}
+use Rattle.table_store.specs.PagedTables.RowPages.RowOrders.{row_of, rows_of, compare_by, IsListed}
 use Rattle.table_store.specs.PagedTables.RowPages.Indexes.{all_but, other_keys, keys_of, IsIndexed}
 use Rattle.table_store.specs.PagedTables.RowPages.ByKeys.{HasRow, AreInSpan, IsOrderOf}
 use Rattle.table_store.specs.PagedTables.RowPages.StoredRows.{IsStored}
 use Rattle.table_store.specs.declared.paged_tables.row_pages.indexes.KeyIndex.{KeyIndex}
-use Rattle.table_store.proofs.PagedTables.RowPages.Ordered.{all_at}
+use Rattle.base_page_list.proofs.Ascending.{all_at}
 use Rattle.table_store.proofs.PagedTables.RowPages.RowPlaces.{Rows}
 use Rattle.table_store.proofs.PagedTables.RowPages.TableClash.{listed_twice}
 

@@ -12,8 +12,9 @@ use Rattle.base_page_list.specs.Pages.{flat}
 use Rattle.table_store.specs.PagedTables.RowPages.Indexes.{IsIndexed}
 use Rattle.table_store.specs.PagedTables.RowPages.Clashes.{besides_test, earlier}
 use Rattle.table_store.specs.declared.paged_tables.row_pages.indexes.KeyIndex.{KeyIndex}
-use Rattle.table_store.specs.PagedTables.RowPages.RowOrders.{row_of, rows_of, compare_by, Ascending, Has}
-use Rattle.table_store.proofs.PagedTables.RowPages.Ordered.{has_all}
+use Rattle.base_page_list.specs.Orders.{Ascending, Has}
+use Rattle.table_store.specs.PagedTables.RowPages.RowOrders.{row_of, rows_of, compare_by}
+use Rattle.base_page_list.proofs.Ascending.{has_all}
 use Rattle.table_store.proofs.PagedTables.RowPages.RowPlaces.{Rows, all_rows, key_equal, if_at, none_after}
 
 -- an entry whose row passes is found

@@ -4,11 +4,12 @@ use Rattle.std.specs.List.{AllByRecursion, AllZip, slice_get}
 use Rattle.slab.specs.Slab.{get, slab_len, Updates}
 use Rattle.base_page_list.specs.Pages.{flat}
 use Rattle.table_store.proofs.Orders.{Row}
-use Rattle.table_store.specs.PagedTables.RowPages.RowOrders.{row_of, rows_of, compare_by, Ascending, place_by, Has, is_tied, IsNew, IsListed}
+use Rattle.base_page_list.specs.Orders.{Ascending, Has, is_tied}
+use Rattle.table_store.specs.PagedTables.RowPages.RowOrders.{row_of, rows_of, compare_by, place_by, IsNew, IsListed}
 use Rattle.table_store.specs.PagedTables.RowPages.Indexes.{keys_of, room_in, IsOwnListed, IsIndexed, IsReady, IsAdded, IsHolding, IsTaken, IsSame, IsWide, IsEmptyIndex}
 use Rattle.table_store.specs.declared.paged_tables.row_pages.indexes.KeyIndex.{KeyIndex}
 use Rattle.table_store.proofs.PagedTables.RowPages.Zipped.{weaker_by}
-use Rattle.table_store.proofs.PagedTables.RowPages.Ordered.{has_cases, has_fewer, has_other, has_at}
+use Rattle.base_page_list.proofs.Ascending.{has_cases, has_fewer, has_other, has_at}
 use Rattle.table_store.proofs.PagedTables.RowPages.RowPlaces.{Rows, rows_kept, new_all, rows_all, all_rows, moved, put_same, listed_put, listed_remove, gone, again}
 
 pub own_all : (clustered : List ℕ) (slab : Rows) (order : List ℕ) (indexes : List KeyIndex) → AllByRecursion (IsIndexed clustered slab order) indexes → AllByRecursion (IsOwnListed clustered slab) indexes

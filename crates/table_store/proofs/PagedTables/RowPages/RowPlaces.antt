@@ -19,8 +19,9 @@ use Rattle.table_store.specs.PagedTables.RowPages.KeyLookup.{IsFound}
 use Rattle.table_store.proofs.NameMap.Entries.{map-insert, map-remove}
 use Rattle.table_store.proofs.Orders.{Row, FailsAbove, before_fails}
 use Rattle.table_store.specs.RowLists.{comes_before, is_at, without_key}
-use Rattle.table_store.specs.PagedTables.RowPages.RowOrders.{row_of, rows_of, compare_by, is_before, Ascending, place_by, Has, is_tied, IsNew, IsListed}
-use Rattle.table_store.proofs.PagedTables.RowPages.Ordered.{fails_on, ascending_insert, ascending_remove, stands_by, all_insert, all_at, has_new, has_old, has_fewer, has_all, all_has, has_place, has_at, map_same}
+use Rattle.base_page_list.specs.Orders.{Ascending, Has, is_tied}
+use Rattle.table_store.specs.PagedTables.RowPages.RowOrders.{row_of, rows_of, compare_by, is_before, place_by, IsNew, IsListed}
+use Rattle.base_page_list.proofs.Ascending.{fails_on, ascending_insert, ascending_remove, stands_by, all_insert, all_at, has_new, has_old, has_fewer, has_all, all_has, has_place, has_at, map_same}
 
 pub by_total : (first second : List ℕ) → IsTotalOrder (compare_by first second)
 by_total first second = then_total (on_total (key_of first) keys_total) (on_total (key_of second) keys_total)

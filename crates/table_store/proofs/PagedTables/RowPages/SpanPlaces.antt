@@ -6,8 +6,9 @@ use Rattle.base_page_list.specs.Pages.{FailsOn, between}
 use Rattle.base_page_list.proofs.Tested.{none_before}
 use Rattle.table_store.proofs.Orders.{Row, FailsOn as RowsFailOn}
 use Rattle.table_store.proofs.RowsBetween.{start, between as rows_between}
-use Rattle.table_store.specs.PagedTables.RowPages.RowOrders.{row_of, rows_of, Has}
-use Rattle.table_store.proofs.PagedTables.RowPages.Ordered.{prefix_map}
+use Rattle.base_page_list.specs.Orders.{Has}
+use Rattle.table_store.specs.PagedTables.RowPages.RowOrders.{row_of, rows_of}
+use Rattle.base_page_list.proofs.Ascending.{prefix_map}
 use Rattle.table_store.proofs.PagedTables.RowPages.RowPlaces.{Rows}
 
 has_drop : (n z : ℕ) (ys : List ℕ) → Has (drop n ys) z → Has ys z

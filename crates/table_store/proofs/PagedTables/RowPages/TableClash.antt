@@ -14,11 +14,12 @@ use Rattle.base_values.specs.GhoSchema.Rows.{key_of, key_places, places_of}
 use Rattle.base_values.specs.GhoSchema.Tables.{no_null, clash}
 use Rattle.table_store.proofs.Orders.{Row}
 use Rattle.table_store.specs.RowLists.{is_at, is_besides}
-use Rattle.table_store.specs.PagedTables.RowPages.RowOrders.{rows_of, compare_by, Ascending, IsListed}
+use Rattle.base_page_list.specs.Orders.{Ascending}
+use Rattle.table_store.specs.PagedTables.RowPages.RowOrders.{rows_of, compare_by, IsListed}
 use Rattle.table_store.specs.PagedTables.RowPages.Indexes.{all_but, other_keys, keys_of, IsIndexed}
 use Rattle.table_store.specs.PagedTables.RowPages.Clashes.{clashes_at, by_key, earlier, earliest}
 use Rattle.table_store.specs.declared.paged_tables.row_pages.indexes.KeyIndex.{KeyIndex}
-use Rattle.table_store.proofs.PagedTables.RowPages.Ordered.{self_tied}
+use Rattle.base_page_list.proofs.Ascending.{self_tied}
 use Rattle.table_store.proofs.PagedTables.RowPages.RowPlaces.{Rows}
 use Rattle.table_store.proofs.PagedTables.RowPages.TablePages.{all_less}
 use Rattle.std.proofs.lemmas.Cmp.{on_total}

@@ -10,7 +10,8 @@ use Rattle.base_page_list.specs.Pages.{Dense, ArePages, flat, pages_made, first_
 use Rattle.base_page_list.proofs.Tested.{all_left, all_right}
 use Rattle.table_store.proofs.Orders.{Row}
 use Rattle.table_store.specs.RowLists.{comes_before}
-use Rattle.table_store.specs.PagedTables.RowPages.RowOrders.{row_of, rows_of, compare_by, is_before, Ascending}
+use Rattle.base_page_list.specs.Orders.{Ascending}
+use Rattle.table_store.specs.PagedTables.RowPages.RowOrders.{row_of, rows_of, compare_by, is_before}
 use Rattle.table_store.specs.PagedTables.RowPages.StoredRows.{DenseRows, ArePagesOfRows}
 use Rattle.table_store.proofs.PagedTables.RowPages.RowPlaces.{Rows}
 

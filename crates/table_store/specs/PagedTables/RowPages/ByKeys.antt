@@ -8,7 +8,8 @@ use Rattle.base_values.specs.GhoSchema.Rows.{key_of, key_places, places_at}
 use Rattle.base_page_list.specs.Pages.{InPages}
 use Rattle.table_store.specs.RowLists.{is_at}
 use Rattle.table_store.specs.Databases.{TableRows}
-use Rattle.table_store.specs.PagedTables.RowPages.RowOrders.{compare_by, Ascending}
+use Rattle.base_page_list.specs.Orders.{Ascending}
+use Rattle.table_store.specs.PagedTables.RowPages.RowOrders.{compare_by}
 use Rattle.table_store.specs.PagedTables.RowPages.Indexes.{IsIndexed}
 
 -- the row of least clustered key that has these values in the columns of the unique key of this number

@@ -6,7 +6,8 @@ use Rattle.base_values.specs.declared.value.Value.{Value}
 use Rattle.base_values.specs.GhoSchema.Rows.{key_of}
 use Rattle.base_page_list.specs.Pages.{flat, place_in}
 use Rattle.table_store.specs.RowLists.{is_at, comes_before}
-use Rattle.table_store.specs.PagedTables.RowPages.RowOrders.{row_of, rows_of, Has}
+use Rattle.base_page_list.specs.Orders.{Has}
+use Rattle.table_store.specs.PagedTables.RowPages.RowOrders.{row_of, rows_of}
 use Rattle.table_store.specs.declared.paged_tables.row_pages.places.Wanted.{Wanted}
 use Rattle.table_store.specs.declared.paged_tables.row_pages.places.Wanted.TheVariants.{Key, Of}
 

@@ -26,25 +26,9 @@ compare_by first second a b = ordering_then (compare_keys (key_of first a) (key_
 abbrev pub is_before : List ℕ → List ℕ → List Value → List Value → Bool
 is_before first second row other = is_gt (compare_by first second row other)
 
--- each comes before all after it
-abbrev pub Ascending : {X : Type 0} → (X → X → Ordering) → List X → Type 0
-Ascending cmp [] = Unit {0}
-Ascending cmp (x ∷ xs) = AllByRecursion (λ y. cmp x y ≡ Less) xs × Ascending cmp xs
-
 -- the place of a row among rows in order
 abbrev pub place_by : List ℕ → List ℕ → List Value → List (List Value) → ℕ
 place_by first second row rows = prefix_len (is_before first second row) rows
-
--- the entry is one of these
-abbrev pub Has : List ℕ → ℕ → Type 0
-Has [] x = ⊥
-Has (y ∷ ys) x = (y ≡ x) ⊎ Has ys x
-
--- two rows tie
-abbrev pub is_tied : Ordering → Bool
-is_tied Less = false
-is_tied Equal = true
-is_tied Greater = false
 
 -- no row has this row's clustered key
 abbrev pub IsNew : List ℕ → List Value → List (List Value) → Type 0

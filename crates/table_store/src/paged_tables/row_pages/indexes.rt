@@ -3,7 +3,8 @@
 ghost use Rattle.std.specs.Prelude.{◌≡◌, ◌<◌, ◌++◌, map, OnOk, OnErr, IfOk};
 ghost use Rattle.std.specs.List.{AllByRecursion, AllZip};
 ghost use Rattle.base_page_list.specs.Pages.{flat, place_in, IsGap};
-ghost use Rattle.table_store.specs.PagedTables.RowPages.RowOrders.{row_of, rows_of, compare_by, Ascending, place_by};
+ghost use Rattle.base_page_list.specs.Orders.{Ascending};
+ghost use Rattle.table_store.specs.PagedTables.RowPages.RowOrders.{row_of, rows_of, compare_by, place_by};
 ghost use Rattle.table_store.specs.PagedTables.RowPages.Indexes.{other_keys, keys_of, IsReady, IsAdded, IsHolding, IsTaken, IsSame, IsWide, IsEmptyIndex};
 
 use crate::paged_tables::row_pages::places::{place_of_row, row_of};

@@ -8,7 +8,8 @@ ghost use Rattle.base_values.specs.KeyOrder.{compare_keys};
 ghost use Rattle.base_values.specs.GhoSchema.Rows.{key_of};
 ghost use Rattle.base_page_list.specs.Pages.{flat, place_in, IsGap, FailsOn, last_page};
 ghost use Rattle.table_store.specs.RowLists.{comes_before, is_at};
-ghost use Rattle.table_store.specs.PagedTables.RowPages.RowOrders.{row_of, rows_of, compare_by, is_before, Ascending, place_by, IsListed};
+ghost use Rattle.base_page_list.specs.Orders.{Ascending};
+ghost use Rattle.table_store.specs.PagedTables.RowPages.RowOrders.{row_of, rows_of, compare_by, is_before, place_by, IsListed};
 ghost use Rattle.table_store.specs.PagedTables.RowPages.KeyLookup.{wanted_key, IsFound, IsFirst};
 ghost use Rattle.table_store.specs.PagedTables.RowPages.Clashes.{besides_test};
 

@@ -4,7 +4,8 @@ ghost use Rattle.std.specs.Prelude.{◌≡◌, not, filter, List, ℕ};
 ghost use Rattle.base_values.specs.Spans.{above, below, has};
 ghost use Rattle.base_values.specs.GhoSchema.Rows.{key_of};
 ghost use Rattle.base_page_list.specs.Pages.{flat};
-ghost use Rattle.table_store.specs.PagedTables.RowPages.RowOrders.{row_of, rows_of, compare_by, Ascending, Has};
+ghost use Rattle.base_page_list.specs.Orders.{Ascending, Has};
+ghost use Rattle.table_store.specs.PagedTables.RowPages.RowOrders.{row_of, rows_of, compare_by};
 
 use crate::paged_tables::row_pages::comparison::compare_key;
 use crate::paged_tables::row_pages::places::row_of;

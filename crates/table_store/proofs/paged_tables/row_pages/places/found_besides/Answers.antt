@@ -6,7 +6,7 @@ use Rattle.base_page_list.specs.Pages.{flat, place_in}
 use Rattle.table_store.specs.RowLists.{is_at}
 use Rattle.table_store.specs.PagedTables.RowPages.RowOrders.{row_of, rows_of}
 use Rattle.table_store.specs.PagedTables.RowPages.KeyLookup.{wanted_key}
-use Rattle.table_store.proofs.PagedTables.RowPages.Ordered.{has_at}
+use Rattle.base_page_list.proofs.Ascending.{has_at}
 use Rattle.table_store.proofs.PagedTables.RowPages.RowPlaces.{Rows, row_at}
 use Rattle.table_store.proofs.PagedTables.RowPages.FirstRows.{none_besides, first_besides, next_yes, next_no, next_none}
 use Rattle.table_store.proofs.paged_tables.row_pages.places.found_besides.Goals as goal

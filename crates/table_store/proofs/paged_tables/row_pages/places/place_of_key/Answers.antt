@@ -3,7 +3,7 @@ use Rattle.base_page_list.specs.Pages.{flat}
 use Rattle.table_store.specs.RowLists.{comes_before}
 use Rattle.table_store.specs.PagedTables.RowPages.RowOrders.{row_of}
 use Rattle.table_store.specs.PagedTables.RowPages.KeyLookup.{wanted_key}
-use Rattle.table_store.proofs.PagedTables.RowPages.Ordered.{fails_map, prefix_map}
+use Rattle.base_page_list.proofs.Ascending.{fails_map, prefix_map}
 use Rattle.table_store.proofs.paged_tables.row_pages.places.place_of_key.Goals as goal
 
 pub place-requires : goal.place-requires

@@ -1,7 +1,7 @@
 use Rattle.std.proofs.Common.{◌∙◌}
 use Rattle.base_page_list.specs.Pages.{flat}
 use Rattle.table_store.specs.PagedTables.RowPages.RowOrders.{row_of, is_before}
-use Rattle.table_store.proofs.PagedTables.RowPages.Ordered.{fails_map, prefix_map, last_map}
+use Rattle.base_page_list.proofs.Ascending.{fails_map, prefix_map, last_map}
 use Rattle.table_store.proofs.paged_tables.row_pages.places.place_of_row.Goals as goal
 
 pub place-requires : goal.place-requires

@@ -1,7 +1,7 @@
 use Rattle.std.proofs.Common.{◌∙◌, IsSome, sym}
 use Rattle.slab.specs.Slab.{get}
 use Rattle.base_page_list.specs.Pages.{flat}
-use Rattle.table_store.proofs.PagedTables.RowPages.Ordered.{has_all}
+use Rattle.base_page_list.proofs.Ascending.{has_all}
 use Rattle.table_store.proofs.PagedTables.RowPages.RowPlaces.{some_row}
 use Rattle.table_store.proofs.paged_tables.row_pages.places.row_besides.Goals as goal
 

@@ -4,7 +4,7 @@ use Rattle.base_values.specs.GhoSchema.Rows.{key_of}
 use Rattle.base_page_list.specs.Pages.{flat}
 use Rattle.table_store.proofs.Orders.{Row, under_fails, below_fails}
 use Rattle.table_store.specs.PagedTables.RowPages.RowOrders.{row_of, rows_of}
-use Rattle.table_store.proofs.PagedTables.RowPages.Ordered.{fails_map}
+use Rattle.base_page_list.proofs.Ascending.{fails_map}
 use Rattle.table_store.proofs.PagedTables.RowPages.RowPlaces.{test_fails_on}
 use Rattle.table_store.proofs.PagedTables.RowPages.SpanPlaces.{has_between, rows_of_between}
 use Rattle.table_store.proofs.paged_tables.row_pages.spans.entries_in_span.Goals as goal

@@ -1,7 +1,7 @@
 use Rattle.std.proofs.Common.{◌∙◌, ℕ, IsSome}
 use Rattle.slab.specs.Slab.{get}
 use Rattle.base_page_list.specs.Pages.{flat}
-use Rattle.table_store.proofs.PagedTables.RowPages.Ordered.{has_all, all_has}
+use Rattle.base_page_list.proofs.Ascending.{has_all, all_has}
 use Rattle.table_store.proofs.paged_tables.row_pages.table.Table.in_span.Goals as goal
 
 pub new-requires : goal.new-requires

@@ -2,7 +2,7 @@ use Rattle.std.proofs.Common.{◌∙◌, ℕ, IsSome}
 use Rattle.slab.specs.Slab.{get}
 use Rattle.base_values.specs.GhoSchema.Rows.{key_places, places_at}
 use Rattle.base_page_list.specs.Pages.{flat}
-use Rattle.table_store.proofs.PagedTables.RowPages.Ordered.{has_all, all_has}
+use Rattle.base_page_list.proofs.Ascending.{has_all, all_has}
 use Rattle.table_store.proofs.PagedTables.RowPages.ByKeys.{are_in_span}
 use Rattle.table_store.proofs.paged_tables.row_pages.table.Table.in_span_by.Goals as goal
 

@@ -7,7 +7,7 @@ use Rattle.table_store.specs.RowLists.{is_at}
 use Rattle.table_store.specs.PagedTables.RowPages.RowOrders.{rows_of, row_of}
 use Rattle.table_store.specs.PagedTables.RowPages.Indexes.{IsTaken}
 use Rattle.table_store.proofs.PagedTables.RowPages.Indexing.{holding_all, indexed_remove, keys_zip, room_more}
-use Rattle.table_store.proofs.PagedTables.RowPages.Ordered.{has_all, has_at}
+use Rattle.base_page_list.proofs.Ascending.{has_all, has_at}
 use Rattle.table_store.proofs.PagedTables.RowPages.RowPlaces.{row_at, rows_removed, listed_remove, removed_is, none_left, some_row, on_some}
 use Rattle.table_store.proofs.paged_tables.row_pages.table.Table.remove.Goals as goal
 

@@ -1,4 +1,0 @@
-use Rattle.extra_lock_table.proofs.row_locks.lock_table.RowLocks.free.Goals as goal
-
-pub invariant_of-self : goal.invariant_of-self
-invariant_of-self c = c.take_away.ensures.consistent c.self.inside.next c.self.invariant

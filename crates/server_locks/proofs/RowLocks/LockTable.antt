@@ -1,0 +1,10 @@
+pub mod Blockers
+pub mod HeldSpans
+pub mod KeyRuns
+pub mod ListEdits
+pub mod LockLists
+pub mod Permutations
+pub mod Releases
+pub mod Runs
+pub mod Tables
+pub mod TotalOrders

@@ -1,0 +1,4 @@
+use Rattle.server_locks.proofs.row_locks.lock_table.RowLocks.undo.Goals as goal
+
+pub invariant_of-self : goal.invariant_of-self
+invariant_of-self c = c.take_back.ensures.consistent c.self.inside.next c.self.invariant
