@@ -171,3 +171,14 @@ fn unfit_row_after_an_event_is_found(rt: HostRuntime) -> Result<(), Fail> {
     assert_eq!(rt; found.as_str(), "unfit 2 1 1406");
     Ok(())
 }
+
+// A table whose one row is too long for its new column, and of which nothing is logged.
+const TOO_LONG: &str =
+    "version = 1\ntable = \"t\"\nalter = \"MODIFY c VARCHAR(3)\"\n[[tables]]\ncreate = \"CREATE TABLE t (id INT PRIMARY KEY, c VARCHAR(20))\"\nrows = [\"(1, 'abcd')\"]\n";
+
+#[test]
+fn unfit_opening_row_is_found(rt: HostRuntime) -> Result<(), Fail> {
+    let found = answer(&rt, rt.alloc(), TOO_LONG, &[], 4)?;
+    assert_eq!(rt; found.as_str(), "unfit 0 1 1406");
+    Ok(())
+}
