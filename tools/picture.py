@@ -3,7 +3,7 @@ from facts import CHUNK, TABLE_LOCK, curves, mark, spans, waits
 from svg import BLUE, GREEN, GREY, RED, VIOLET, YELLOW, Picture
 from traces import name_of
 
-TURN, LANE, LEFT, TOP, CURVE = 34, 46, 130, 92, 52
+TURN, LANE, LEFT, TOP, CURVE = 34, 52, 130, 92, 52
 BARS = {CHUNK: "#b9cfe8", TABLE_LOCK: "#e8a0a0"}
 OPEN = "#b5dcc4"
 CURVES = (BLUE, RED, "#d68910")
@@ -62,7 +62,7 @@ class Timeline:
     def lane_names(self):
         for actor, y in self.lanes.items():
             self.picture.text(LEFT - 10, y + 19, name_of(actor), text_anchor="end", font_weight="bold")
-            self.picture.line(LEFT, y + LANE - 8, self.x(self.last + 1), y + LANE - 8, "#eeeeee")
+            self.picture.line(LEFT, y + LANE - 10, self.x(self.last + 1), y + LANE - 10, "#eeeeee")
 
     def bar(self, actor, first, last, fill, text=""):
         if last < self.first or first > self.last:

@@ -10,6 +10,8 @@ from xml.etree import ElementTree
 
 TESTS = pathlib.Path(__file__).resolve().parent
 TOOLS, TRACES = TESTS.parent, TESTS / "traces"
+# Each has a plan, what `trace` prints of it, and its picture.
+PICTURES = TESTS.parent.parent / "docs/pictures"
 
 # What stands for the program: a run of five turns, in which a loss of the copier takes two turns more, one of c1 is seen by it,
 # and a panic reverts.
@@ -38,7 +40,8 @@ def run(tool, *words, given=b""):
 
 
 def trace(name):
-    return (TRACES / f"{name}.trace").read_bytes()
+    file = TRACES / f"{name}.trace"
+    return (file if file.exists() else PICTURES / f"{name}.stdout").read_bytes()
 
 
 def wanted(name):
@@ -59,7 +62,10 @@ class Looked(unittest.TestCase):
                 self.assertEqual(run("stats", *words, given=trace(name if words else file.stem)), (0, file.read_text(), ""))
 
     def test_pictures(self):
-        self.assertEqual(run("timeline", given=trace("unlock_lost")), (0, wanted("unlock_lost.svg"), ""))
+        for file in PICTURES.glob("*.stdout"):
+            with self.subTest(file.stem):
+                self.assertEqual(run("timeline", given=file.read_bytes()), (0, file.with_suffix(".svg").read_text(), ""))
+                self.assertTrue(file.read_bytes().startswith(file.with_suffix(".toml").read_bytes() + b"\n#journal\n"))
         self.assertEqual(run("timeline", "--overview", given=trace("losses")), (0, wanted("losses.svg"), ""))
 
     def test_part_of_a_run(self):
