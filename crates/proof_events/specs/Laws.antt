@@ -13,7 +13,6 @@ use Rattle.tool_program.specs.Tools.{Work, Migrating, moment}
 use Rattle.proof_journals.specs.Machine.Runnable.{IsRunnable}
 use Rattle.proof_journals.specs.Plans.{IsSerialPlan}
 use Rattle.proof_journals.specs.Run.Kept.{IsKept}
-use Rattle.proof_migration.specs.ToolPhase.Runnable.{IsAlterable, IsWorded}
 use Rattle.proof_migration.specs.ToolPhase.Unaltered.{IsUnaltered}
 
 -- the rows of the table of this name; none where it doesn't exist
@@ -47,5 +46,5 @@ HintsAreFew = (plan : PlanData) (journal : List Entry) → 1 ≤ plan.options.de
 -- since, since each ends at another key of these; and one more is numbered where all are copied
 abbrev pub ChunksAreFew : Type 0
 ChunksAreFew =
-    (plan : PlanData) (journal : List Entry) (work : Work) → IsAlterable plan → IsWorded plan → IsSerialPlan plan → IsKept plan journal → IsUnaltered plan journal → (moment plan journal).tool.tool_phase ≡ Migrating work
+    (plan : PlanData) (journal : List Entry) (work : Work) → IsRunnable plan → IsSerialPlan plan → IsKept plan journal → IsUnaltered plan journal → (moment plan journal).tool.tool_phase ≡ Migrating work
     → work.copier.number ≤ (measures plan).rows + events (measures plan) + (if work.copier.is_copied then 1 else 0)
