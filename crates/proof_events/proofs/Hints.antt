@@ -130,7 +130,7 @@ hinted_none cutover phase answer may said = by (is_unhinted (inspector_phase cut
   never : (most : ℕ) → most < 0 → ⊥
   never most less = omega (arith, less)
 
-  by : (next : Bool) → HintsIn next [] 0 [] → cond next 1 0 ≡ 0
+  by : (next : Bool) → HintsIn next [] 0 [] → cond {A = ℕ} next 1 0 ≡ 0
   by true most = absurd (never most.0 most.1)
   by false below = refl
 
