@@ -252,7 +252,7 @@ take_all P zero keys all = tt
 take_all P (suc n) [] all = tt
 take_all P (suc n) (key ∷ keys) all = (all.0, take_all P n keys all.1)
 
-last_all : (P : Row → Type 0) (key : Row) (keys : List Row) → P key → AllByRecursion P keys → P (last_of key keys)
+pub last_all : (P : Row → Type 0) (key : Row) (keys : List Row) → P key → AllByRecursion P keys → P (last_of key keys)
 last_all P key [] one all = one
 last_all P key (next ∷ keys) one all = last_all P next keys all.0 all.1
 

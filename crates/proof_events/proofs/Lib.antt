@@ -2,6 +2,8 @@ pub mod LineEvents
 pub mod Transactions
 pub mod Lines
 pub mod Linked
+pub mod Keys
 pub mod Volumes
 pub mod HintRows
 pub mod Hints
+pub mod ChunkAnswers

@@ -1,6 +1,6 @@
 -- What transactions that ended one after the other leave of a table: each of their lines adds one row at most, and one event for
 -- each row that there may be, and one more.
-use Rattle.std.proofs.Common.{◌≡◌, ◌≤◌, ℕ, suc, ◌+◌, ◌*◌, Bool, true, false, cond, ◌||◌, List, [], ◌∷◌, ◌++◌, length, filter, Option, Some, None, refl, sym, ap, ◌∙◌, subst, arith}
+use Rattle.std.proofs.Common.{◌≡◌, ◌≤◌, ℕ, suc, ◌+◌, ◌*◌, Bool, true, false, cond, ◌||◌, List, [], ◌∷◌, ◌++◌, length, filter, Option, Some, None, refl, sym, ap, ◌∙◌, subst, arith, append_assoc, append-nil}
 use Rattle.std.specs.Prelude.{count_by, option_map, unwrap_or}
 use Rattle.std.specs.List.{AllByRecursion, list_any}
 use Rattle.std.specs.Str.{bytes_eq}
@@ -80,11 +80,13 @@ module _ (name : List ℕ) (most : ℕ) where
   -- what it leaves, and what it committed
   pub record LeavesFew (tables after : Database) (lines : ℕ) (committed : List RowEvent) : Type 0 where
     pub well : IsWellFormedDatabase after
+    pub fits : EventsFit tables committed
+    pub is : after ≡ after_events tables committed
     pub rows : row_count name after ≤ row_count name tables + lines
     pub events : count_of name committed ≤ lines * (most + 1)
 
   alone_few : (tables : Database) (lines : List TxnLine) → IsWellFormedDatabase tables → row_count name tables + length lines ≤ most → LeavesFew tables (alone tables lines).tables (length lines) (alone tables lines).committed
-  unfolding alone
+  unfolding alone EventsFit after_events
   alone_few tables lines is short = by (stays lines) where
     ran : Ran
     ran = lines_run tables nothing_ran lines
@@ -93,8 +95,8 @@ module _ (name : List ℕ) (most : ℕ) where
     few = fresh_few tables lines is short
 
     by : (b : Bool) → LeavesFew tables (outcome_if b tables ran).tables (length lines) (outcome_if b tables ran).committed
-    by true = record { well = well_formed_events tables ran.writes is few.fits; rows = few.rows; events = few.events }
-    by false = record { well = is; rows = omega arith; events = omega arith }
+    by true = record { well = well_formed_events tables ran.writes is few.fits; fits = few.fits; is = refl; rows = few.rows; events = few.events }
+    by false = record { well = is; fits = tt; is = refl; rows = omega arith; events = omega arith }
 
   -- the same transaction on two databases that have the same tables of its names
   alone_alike : (names : List (List ℕ)) (a b : Database) (lines : List TxnLine) → AllByRecursion (λ line. NamesTable names line.word) lines → FoundAlike names a b → FoundAlike names (alone a lines).tables (alone b lines).tables × ((alone a lines).committed ≡ (alone b lines).committed)
@@ -163,6 +165,36 @@ module _ (scene : Scene) (name : List ℕ) (most : ℕ) where
       record { tables = rest.tables; well = rest.well; alike = rest.alike; rows = omega (arith, d); events = omega (arith, e, f) } where
         times_both : (a b m : ℕ) → (a + b) * m ≡ a * m + b * m
         times_both a b m = grind arith
+
+-- *What ended leads by events that fit*: they are what is more in the log, and the tables after them are those that are left
+pub record LeadsByEvents (scene : Scene) (tables : Database) (before after : Stored) : Type 0 where
+  pub more : List RowEvent
+  pub log : after.log ≡ before.log ++ more
+  pub fits : EventsFit tables more
+  pub alike : FoundAlike scene.mine (after_events tables more) after.tables
+
+pub serial_leads : (scene : Scene) (before after : Stored) (items : List PlainItem) (tables : Database) → AllByRecursion IsTxn items → Serial scene before items after → IsWellFormedDatabase tables → FoundAlike scene.mine tables before.tables → LeadsByEvents scene tables before after
+unfolding EventsFit after_events
+serial_leads scene before after [] tables txns alike is same = record { more = []; log = sym alike.log ∙ sym (append-nil before.log); fits = tt; alike = alike_then scene.mine tables before.tables after.tables same alike.tables }
+serial_leads scene before after (Alter ∷ items) tables txns serial is same = absurd txns.0
+serial_leads scene before after (Txn past ∷ items) tables txns serial is same =
+    let start : Stored = serial.0 in
+    let between : Stored = serial.1 in
+    let leads = serial.3 in
+    let lines : List TxnLine = past.txn.lines in
+    let committed : List RowEvent = (alone tables lines).committed in
+    let here : FoundAlike scene.mine tables start.tables = alike_then scene.mine tables before.tables start.tables same serial.2.tables in
+    let left : LeavesFew scene.migrated (row_count scene.migrated tables + length lines) tables (alone tables lines).tables (length lines) committed = alone_few scene.migrated (row_count scene.migrated tables + length lines) tables lines is (omega arith) in
+    let both = alone_alike scene.migrated 0 scene.mine tables start.tables lines leads.3 here in
+    let there : FoundAlike scene.mine (alone tables lines).tables between.tables = subst (FoundAlike scene.mine (alone tables lines).tables) (sym leads.1) both.0 in
+    let log : between.log ≡ before.log ++ committed = leads.2 ∙ ap (λ (l : List RowEvent). l ++ (alone start.tables lines).committed) (sym serial.2.log) ∙ ap (λ (l : List RowEvent). before.log ++ l) (sym both.1) in
+    let rest : LeadsByEvents scene (alone tables lines).tables between after = serial_leads scene between after items (alone tables lines).tables txns.1 serial.4 left.well there in
+    record {
+      more = committed ++ rest.more;
+      log = rest.log ∙ ap (λ (l : List RowEvent). l ++ rest.more) log ∙ append_assoc before.log committed rest.more;
+      fits = fit_more tables committed rest.more left.fits (subst (λ (d : Database). EventsFit d rest.more) left.is rest.fits);
+      alike = subst (λ (d : Database). FoundAlike scene.mine d after.tables) (ap (λ (d : Database). after_events d rest.more) left.is ∙ sym (after_events-append tables committed rest.more)) rest.alike;
+    }
 
 -- THE CLIENTS' PART OF THE LOG
 

@@ -4,6 +4,9 @@ use Rattle.std.proofs.Common.{◌≡◌, ◌≤◌, ℕ, ◌+◌, ◌*◌, Bool,
 use Rattle.std.specs.Prelude.{option_map, unwrap_or}
 use Rattle.std.specs.List.{AllByRecursion, list_any}
 use Rattle.std.proofs.lemmas.Bool.{true≢false}
+use Rattle.std.proofs.lemmas.Option.{same_Some}
+use Rattle.base_values.specs.declared.event.RowEvent.{RowEvent}
+use Rattle.base_values.specs.GhoSchema.Rows.{key_places}
 use Rattle.table_store.specs.Databases.{TableRows, find_table}
 use Rattle.server_model.specs.declared.entry.Entry.{Entry}
 use Rattle.plan_data.specs.PlanData.{PlanData}
@@ -16,18 +19,23 @@ use Rattle.proof_journals.specs.Laws.{IsTxn}
 use Rattle.proof_journals.specs.Machine.Runnable.{IsRunnable}
 use Rattle.proof_journals.specs.Plans.{IsSerialPlan, scene_of}
 use Rattle.proof_journals.specs.Run.Kept.{IsKept}
-use Rattle.proof_journals.specs.Scenes.{FoundAlike, PlainItem, Scene, Serial, Stored, seen}
+use Rattle.proof_journals.specs.Ghost.Rows.Moments.{Row, rows_at}
+use Rattle.proof_journals.specs.Scenes.{FoundAlike, PlainItem, Scene, Serial, Stored, is_mine, seen}
+use Rattle.proof_journals.proofs.Ghost.Fitting.{found_behind}
 use Rattle.proof_journals.proofs.Naming.{migrated_named}
 use Rattle.proof_journals.proofs.Openings.{opening_well_formed}
 use Rattle.proof_journals.proofs.PlanJournals.{PlanHolds}
 use Rattle.proof_journals.proofs.Progress.{plain}
 use Rattle.proof_migration.specs.ToolPhase.Unaltered.{IsUnaltered}
 use Rattle.proof_migration.proofs.ToolPhase.Unaltered.Runs.{unaltered_runs}
+use Rattle.proof_bounds.specs.Rows.{all_keys, all_put}
+use Rattle.proof_bounds.proofs.Rows.{keys_those}
 use Rattle.proof_events.specs.Laws.{CommittedRowsAreFew, EventsAreFew}
+use Rattle.proof_events.proofs.Keys.{all_ever, ever_puts, ever_rows, is_in, puts_filtered}
 use Rattle.proof_events.proofs.LineEvents.{count_of, row_count}
 use Rattle.proof_events.proofs.Lines.{all_lines, open_lines}
 use Rattle.proof_events.proofs.Linked.{run_holds}
-use Rattle.proof_events.proofs.Transactions.{HasGrown, ended_lines, logged_count, serial_few}
+use Rattle.proof_events.proofs.Transactions.{HasGrown, LeadsByEvents, ended_lines, logged_count, serial_few, serial_leads}
 
 plain_lines : (items : List HistoryItem) → ended_lines (map plain items) ≡ all_lines items
 unfolding ended_lines all_lines
@@ -88,6 +96,25 @@ module _ (plan : PlanData) (journal : List Entry) (runs : IsRunnable plan) (seri
       join (count_of plan.table (state_at plan journal).log) (ended_lines (map plain ended)) (measures plan).lines (keys (measures plan) + 1) (subst (λ (n : ℕ). n ≤ 0 + ended_lines (map plain ended) * (keys (measures plan) + 1)) b a) few_lines where
         join : (n few most m : ℕ) → n ≤ 0 + few * m → few ≤ most → n ≤ most * m
         join n few most m less more = grind (arith, less, more)
+
+  leads : LeadsByEvents scene plan.tables (record { tables = plan.tables; log = [] }) (seen scene now)
+  leads = serial_leads scene (record { tables = plan.tables; log = [] }) (seen scene now) (map plain ended) plan.tables (plain_txns ended off) serial_is (opening_well_formed plan.tables serial.tables) (record { each = λ name is. refl })
+
+  -- each committed row's key is one that the table ever had
+  pub keys_known : (opened table : TableRows) → find_table plan.table plan.tables ≡ Some opened → find_table plan.table (state_at plan journal).tables ≡ Some table
+      → all_keys (is_in (all_ever plan.table (key_places opened.schema) opened.rows (state_at plan journal).log)) (key_places table.schema) table.rows ≡ true
+  keys_known opened table found is =
+      subst (λ (t : TableRows). all_keys (is_in keys_ever) (key_places t.schema) t.rows ≡ true) same
+      (keys_those (is_in keys_ever) plan.table (key_places opened.schema) opened.rows leads.more (ever_rows plan.table (key_places opened.schema) opened.rows (state_at plan journal).log)
+      (subst (λ (l : List RowEvent). all_put (is_in keys_ever) plan.table (key_places opened.schema) l ≡ true) leads.log
+      (puts_filtered (is_in keys_ever) plan.table (key_places opened.schema) (λ event. is_mine scene event.table) (state_at plan journal).log (ever_puts plan.table (key_places opened.schema) opened.rows (state_at plan journal).log)))) where
+        keys_ever : List Row
+        keys_ever = all_ever plan.table (key_places opened.schema) opened.rows (state_at plan journal).log
+
+        same : record { schema = opened.schema; rows = rows_at plan.table (key_places opened.schema) opened.rows leads.more (length leads.more) } ≡ table
+        same =
+            same_Some (record { schema = opened.schema; rows = rows_at plan.table (key_places opened.schema) opened.rows leads.more (length leads.more) }) table
+            (sym (found_behind plan.table leads.more plan.tables opened (opening_well_formed plan.tables serial.tables) leads.fits found) ∙ leads.alike.each plan.table (migrated_named plan) ∙ is)
 
 -- *Rows are few*
 pub committed_few : CommittedRowsAreFew
