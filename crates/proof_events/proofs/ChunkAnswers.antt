@@ -10,7 +10,7 @@ use Rattle.base_values.specs.GhoSchema.Rows.{key_of, key_places}
 use Rattle.base_values.specs.GhoSchema.Tables.{Ascends}
 use Rattle.base_values.specs.KeyOrder.{compare_keys}
 use Rattle.base_values.specs.Spans.{has}
-use Rattle.table_store.specs.Databases.{Database, TableRows, find_table}
+use Rattle.table_store.specs.Databases.{TableRows, find_table}
 use Rattle.server_model.specs.declared.answer.Answer.{Answer}
 use Rattle.server_model.specs.declared.answer.Answer.TheVariants as answers
 use Rattle.server_model.specs.declared.answer.KeyRange.{KeyRange}
@@ -21,7 +21,6 @@ use Rattle.server_model.specs.declared.request.Request.TheVariants as requests
 use Rattle.server_model.specs.Blockers.{need_within}
 use Rattle.server_model.specs.Chunks.{chunk_end, ends_of, keys_of, last_of, span_keys}
 use Rattle.server_model.specs.Effects.{begins, effect_unless, is_outside, of_table}
-use Rattle.server_model.specs.Effects.Effect.{Rests}
 use Rattle.server_model.specs.LockedRows.Databases.{IsWellFormedDatabase, WhereFound}
 use Rattle.server_model.specs.LockedRows.Coverage.{IsWellFormedTable}
 use Rattle.server_model.specs.PlainServer.{does, done}

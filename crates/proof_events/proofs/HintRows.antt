@@ -1,5 +1,5 @@
 -- The INSERT of an attempt's hint row logs one event of the changelog at most.
-use Rattle.std.proofs.Common.{◌≡◌, ◌≤◌, ℕ, ◌+◌, Bool, true, false, cond, ◌||◌, List, [], ◌∷◌, ◌++◌, Option, Some, None, Result, Ok, Err, refl, sym, ap, ◌∙◌, subst, arith}
+use Rattle.std.proofs.Common.{◌≡◌, ◌≤◌, ℕ, ◌+◌, Bool, true, false, cond, ◌||◌, List, [], ◌∷◌, ◌++◌, Option, Some, None, Result, Ok, Err, refl, ap, ◌∙◌, subst, arith}
 use Rattle.std.specs.List.{list_any}
 use Rattle.std.specs.Str.{bytes_eq}
 use Rattle.std.proofs.lemmas.List.Sums.{sum_by-cons}
@@ -30,7 +30,7 @@ use Rattle.server_model.specs.StatementResults.{only, tells}
 use Rattle.server_model.specs.States.{State, is_of}
 use Rattle.tool_changelog.specs.Hints.{hint_row}
 use Rattle.tool_program.specs.JournalWords.Journals.{opens}
-use Rattle.proof_journals.specs.Ghost.EffectStates.{EffectLeaves, is_lost, reported_done, undone_hold, was_done, where_done}
+use Rattle.proof_journals.specs.Ghost.EffectStates.{EffectLeaves, is_lost, reported_done, was_done, where_done}
 use Rattle.proof_journals.specs.Ghost.Invariant.{NotOf}
 use Rattle.proof_journals.specs.Holdings.{face_of, stored}
 use Rattle.proof_journals.specs.Scenes.{Scene, SessionHold, Stored}

@@ -1,6 +1,6 @@
 -- Each attempt to exchange the tables logs one event of the changelog at most: its hint row, which the inspector inserts while the
 -- attempt has none. Nobody else's turn logs any, and the inspector never waits, so no INSERT outlives its attempt.
-use Rattle.std.proofs.Common.{◌≡◌, ◌≤◌, ◌⊎◌, inl, inr, ℕ, ◌+◌, Bool, true, false, cond, List, [], ◌∷◌, ◌++◌, Option, Some, None, refl, sym, ap, ◌∙◌, subst, arith, append_assoc, append-nil}
+use Rattle.std.proofs.Common.{◌≡◌, ◌≤◌, ◌<◌, ◌⊎◌, inl, inr, ℕ, ◌+◌, Bool, true, false, cond, List, [], ◌∷◌, ◌++◌, Option, Some, None, refl, sym, ap, ◌∙◌, subst, arith, append_assoc, append-nil}
 use Rattle.std.proofs.lemmas.Bool.{true≢false, false≢true}
 use Rattle.base_script.specs.declared.actor.Actor.{Actor}
 use Rattle.base_script.specs.declared.actor.Actor.TheVariants.{Op, Insp, Copy, Apply, Lock, Ren, Client}
@@ -25,7 +25,7 @@ use Rattle.tool_program.specs.declared.cutover_core.cutover.Phase.{Phase}
 use Rattle.tool_program.specs.declared.cutover_core.cutover.Phase.TheVariants.{Resting, Attempting, Ending, Finishing, Finished}
 use Rattle.tool_program.specs.declared.cutover_core.cutover.Role.TheVariants.{Inspector, Locker, Renamer}
 use Rattle.tool_program.specs.declared.cutover_core.cutover.Stage.{Stage}
-use Rattle.tool_program.specs.declared.cutover_core.cutover.Stage.TheVariants.{Guarding, Locking, Hinting, Draining, Drained, Showing, Dropping, Unlocking, Exchanging}
+use Rattle.tool_program.specs.declared.cutover_core.cutover.Stage.TheVariants.{Guarding, Locking, Hinting, Showing, Dropping, Unlocking}
 use Rattle.tool_program.specs.CutoverCore.Attempts as attempts
 use Rattle.tool_program.specs.CutoverCore.CutOvers as cutovers
 use Rattle.tool_program.specs.CutoverCore.CutOvers.{attempts_after, begun, inspector_phase, is_bad, locker_phase, locker_stage, renamer_phase}
@@ -34,7 +34,6 @@ use Rattle.tool_program.specs.Programs.{IsGiven, tool_call}
 use Rattle.tool_program.specs.Setups.{Setup, Listing, Clearing as Clears, MakingLog, MakingGhost, Marking, Reaching, Ready, setup_after}
 use Rattle.tool_program.specs.Tools.{Tool, ToolPhase, Migrating, SettingUp, Work, is_reverting, moment, stopped, tool_phase_of}
 use Rattle.tool_program.proofs.OnlineCalls.Machines.{ToolPhaseIsNamed, named}
-use Rattle.proof_journals.specs.Ghost.Invariant.{NotOf}
 use Rattle.proof_journals.specs.Holdings.{face_in, face_of}
 use Rattle.proof_journals.specs.Machine.Machines.{ToolPhaseStands, WorkStands}
 use Rattle.proof_journals.specs.Machine.Runnable.{IsRunnable}
@@ -42,14 +41,14 @@ use Rattle.proof_journals.specs.Machine.Standings.{Standing, standing_in, standi
 use Rattle.proof_journals.specs.Plans.{IsSerialPlan, limits_of, scene_of}
 use Rattle.proof_journals.specs.Run.Kept.{IsKept}
 use Rattle.proof_journals.specs.Turns.{about}
-use Rattle.proof_journals.proofs.Actors.{Begins, Commands, GoesOn, Placed, placed, same_actor_is}
+use Rattle.proof_journals.proofs.Actors.{Begins, Commands, GoesOn, Placed, placed}
 use Rattle.proof_journals.proofs.Machine.Asking.{some_request}
 use Rattle.proof_migration.specs.Program.Hints.{is_unhinted}
 use Rattle.proof_migration.specs.ToolPhase.Unaltered.{IsUnaltered}
 use Rattle.proof_migration.proofs.Migration.Leaves.{WritesAway}
 use Rattle.proof_migration.proofs.Program.Hints.Asked.{InspLeft, before, insp_from, insp_left, lost_left, others_left, run, scene_run, served, setup_left, together, uncommanded}
 use Rattle.proof_migration.proofs.Program.Hints.Known.{hints_go}
-use Rattle.proof_migration.proofs.Program.Hints.Logging.{LeavesAway, LogsAway, LogsHint, NoneWrote, away_left, watched}
+use Rattle.proof_migration.proofs.Program.Hints.Logging.{LogsAway, LogsHint, away_left, watched}
 use Rattle.proof_migration.proofs.Program.Hints.Phases.{HintsIn, HintsStand, Passes, drain_passes, end_passes, hint_below, insp_below, may_hint, renamer_passes}
 use Rattle.proof_migration.proofs.Program.Hints.States.{HintsGo, ToolPhaseHints}
 use Rattle.proof_migration.proofs.Program.Hints.Writes.{hint_insert}

@@ -7,3 +7,5 @@ pub mod Volumes
 pub mod HintRows
 pub mod Hints
 pub mod ChunkAnswers
+pub mod Chunks
+pub mod ChunkCounts

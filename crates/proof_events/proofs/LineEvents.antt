@@ -1,5 +1,5 @@
 -- What one line of a client's script writes: at most one event for each row of its table and one more, and one new row at most.
-use Rattle.std.proofs.Common.{◌≡◌, ◌≤◌, ℕ, suc, ◌+◌, ◌*◌, Bool, true, false, cond, ◌||◌, List, [], ◌∷◌, ◌++◌, map, length, filter, Option, Some, None, Result, Ok, Err, refl, sym, ap, ◌∙◌, subst, arith}
+use Rattle.std.proofs.Common.{◌≡◌, ◌≤◌, ℕ, suc, ◌+◌, Bool, true, false, cond, ◌||◌, List, [], ◌∷◌, ◌++◌, map, length, filter, Option, Some, None, Result, Ok, Err, refl, sym, ap, ◌∙◌, subst, arith}
 use Rattle.std.specs.Prelude.{count_by, option_map, unwrap_or}
 use Rattle.std.specs.List.{list_any}
 use Rattle.std.specs.Str.{bytes_eq}
@@ -8,7 +8,6 @@ use Rattle.std.proofs.lemmas.List.Sums.{sum_by-cons, sum_by-append, length-filte
 use Rattle.base_script.specs.declared.actor.Side.TheVariants.{Before, After}
 use Rattle.base_script.specs.declared.script.ScriptWord.{ScriptWord}
 use Rattle.base_script.specs.declared.script.ScriptWord.TheVariants as words
-use Rattle.base_script.specs.declared.statement.Statement.{Statement}
 use Rattle.base_values.specs.declared.event.Change.{Change}
 use Rattle.base_values.specs.declared.event.Change.TheVariants as changes
 use Rattle.base_values.specs.declared.event.RowEvent.{RowEvent}
@@ -30,7 +29,7 @@ use Rattle.server_model.specs.Answers.{refuses}
 use Rattle.server_model.specs.LockedRows.Databases.{IsWellFormedDatabase}
 use Rattle.server_model.specs.Operations.{Operation, operation_of, operation_result, result_in, events_of, after_events, change_table}
 use Rattle.server_model.specs.Rows.{change_rows, reaches, rows_met, same_row}
-use Rattle.server_model.specs.StatementResults.{change_first, clashes_besides, displaced, only, result_or_refusal, tells, updated, updates, with_sets}
+use Rattle.server_model.specs.StatementResults.{change_first, clashes_besides, only, result_or_refusal, tells, updated, updates, with_sets}
 use Rattle.server_model.specs.States.{is_of}
 use Rattle.server_model.proofs.LockedRows.Finding.{change_if, found_after}
 use Rattle.server_model.proofs.LockedRows.Stables.{statement_sound}

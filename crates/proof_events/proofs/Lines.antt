@@ -3,7 +3,6 @@
 use Rattle.std.proofs.Common.{◌≡◌, ◌⊎◌, inl, inr, ◌≤◌, ◌<◌, ℕ, zero, suc, ◌+◌, ◌-◌, ◌==◌, Bool, true, false, cond, List, [], ◌∷◌, ◌++◌, length, Option, Some, None, refl, sym, ap, ◌∙◌, subst, arith}
 use Rattle.std.specs.Prelude.{sum, map, unwrap_or}
 use Rattle.std.specs.List.{slice_get}
-use Rattle.std.proofs.lemmas.Bool.{true≢false}
 use Rattle.std.proofs.lemmas.Bool.Decides.{nat_tests}
 use Rattle.std.proofs.lemmas.List.{length-append}
 use Rattle.std.proofs.lemmas.List.Sums.{sum_by-cons}
@@ -21,14 +20,14 @@ use Rattle.server_model.specs.declared.transaction.Reply.{Reply}
 use Rattle.server_model.specs.declared.transaction.TxnEnd.{TxnEnd}
 use Rattle.server_model.specs.declared.transaction.TxnEnd.TheVariants as ends
 use Rattle.server_model.specs.declared.transaction.TxnLine.{TxnLine}
+use Rattle.server_model.specs.Along.{gathered-more}
 use Rattle.server_model.specs.Entries.{same_actor}
 use Rattle.server_model.proofs.LockedRows.Tests.{same_number, are_one}
 use Rattle.plan_data.specs.PlanData.{PlanData}
 use Rattle.tool_program.specs.JournalWords.Bounds.{measures}
-use Rattle.tool_program.specs.JournalWords.Clients.{Reached, Became, Nothing, Waits, Marked, Broken, is_inside, closes, after_transaction, left_after, ends_with, with_line, marked, client_after, became, script_of, client_at}
+use Rattle.tool_program.specs.JournalWords.Clients.{Reached, Became, Nothing, Waits, Marked, Broken, is_inside, closes, after_transaction, left_after, ends_with, kept_unless, with_line, marked, client_after, became, script_of, client_at}
 use Rattle.tool_program.specs.JournalWords.Histories.{HistoryItem, Txn, Alter, about, answer_in, alters, adds, breaks, client_ends, ends_so, entry_adds, history, line_ends, renames_away}
 use Rattle.proof_journals.proofs.Linking.{client_more}
-use Rattle.proof_journals.proofs.Machine.Marks.{history_more}
 
 -- LINES OF ENDED TRANSACTIONS
 
@@ -51,7 +50,7 @@ all_own c (item ∷ items) = own_lines c item + all_own c items
 
 own_both : (c : ℕ) (one two : List HistoryItem) → all_own c (one ++ two) ≡ all_own c one + all_own c two
 unfolding all_own
-own_both c [] two = refl
+own_both c [] two = omega arith
 own_both c (item ∷ one) two = let a = own_both c one two in omega (arith, a)
 
 -- ONE CLIENT
@@ -90,24 +89,18 @@ one_ended : (c : ℕ) (client : Reached) (line : ScriptLine) (mark : Mark) (repl
     → all_own c (ends_so c client line mark reply ended) + Had (marked client mark reply (line ∷ lines)) ≤ length client.lines + suc (length lines)
 unfolding all_own
 one_ended c client line mark reply None is lines =
-    let kept : (marked client mark reply (line ∷ lines)).lines ≡ with_line client line.word mark = ap (λ (e : Option TxnEnd). kept_lines e) is in
+    let kept : (marked client mark reply (line ∷ lines)).lines ≡ with_line client line.word mark = ap (λ (e : Option TxnEnd). kept_unless e (with_line client line.word mark)) is in
     let long : length (marked client mark reply (line ∷ lines)).lines ≡ length client.lines + 1 = ap length kept ∙ length-append client.lines (record { word = line.word; mark = mark } ∷ []) in
     let short = left_short (is_inside client.lines) mark line lines in
-    omega (arith, long, short) where
-      kept_lines : Option TxnEnd → List TxnLine
-      kept_lines None = with_line client line.word mark
-      kept_lines (Some ended) = []
+    omega (arith, long, short)
 one_ended c client line mark reply (Some ended) is lines =
-    let none : (marked client mark reply (line ∷ lines)).lines ≡ [] = ap (λ (e : Option TxnEnd). kept_lines e) is in
+    let none : (marked client mark reply (line ∷ lines)).lines ≡ [] = ap (λ (e : Option TxnEnd). kept_unless e (with_line client line.word mark)) is in
     let long : length (with_line client line.word mark) ≡ length client.lines + 1 = length-append client.lines (record { word = line.word; mark = mark } ∷ []) in
     let counted : own_lines c (Txn (record { client = c; number = 0; txn = record { lines = with_line client line.word mark; ended = ended }; replies = [] })) ≡ length (with_line client line.word mark) =
     ap (λ (b : Bool). cond b (length (with_line client line.word mark)) 0) (same_number c) in
     let gone : length (marked client mark reply (line ∷ lines)).lines ≡ 0 = ap length none in
     let short = left_short (is_inside client.lines) mark line lines in
-    omega (arith, long, counted, gone, short) where
-      kept_lines : Option TxnEnd → List TxnLine
-      kept_lines None = with_line client line.word mark
-      kept_lines (Some ended) = []
+    omega (arith, long, counted, gone, short)
 
 line_ended : (c : ℕ) (client : Reached) (mark : Mark) (reply : Option Reply) (left : List ScriptLine) → client.left ≡ left → all_own c (line_ends c client mark reply left) + Had (marked client mark reply left) ≤ length client.lines + length left
 unfolding all_own
@@ -183,6 +176,7 @@ module _ (plan : PlanData) (journal : List Entry) (entry : Entry) (c : ℕ) wher
   own_adds Ren own = absurd cc
 
   listed_more : IsListed plan c journal → IsListed plan c (journal ++ entry ∷ [])
+  unfolding history
   listed_more listed = by (same_actor entry.actor (Client c)) refl where
     more : List Entry
     more = journal ++ entry ∷ []
@@ -191,7 +185,7 @@ module _ (plan : PlanData) (journal : List Entry) (entry : Entry) (c : ℕ) wher
     client = client_at plan journal c
 
     items : all_own c (history plan more) ≡ all_own c (history plan journal) + all_own c (adds plan journal entry entry.actor)
-    items = ap (all_own c) (history_more plan journal entry) ∙ own_both c (history plan journal) (entry_adds plan journal entry)
+    items = ap (all_own c) (gathered-more (entry_adds plan) [] journal entry) ∙ own_both c (history plan journal) (entry_adds plan journal entry)
 
     client_is : (b : Bool) → same_actor entry.actor (Client c) ≡ b → Had (client_at plan more c) ≡ Had (cond b (client_after (became client entry) client) client)
     client_is b is = ap Had (client_more plan journal entry c) ∙ ap (λ (s : Bool). Had (cond s (client_after (became client entry) client) client)) is
@@ -274,7 +268,7 @@ one_of plan zero = inr refl
 one_of plan (suc i) = by (slice_get plan.clients i) refl where
   by : (script : Option (List ScriptLine)) → slice_get plan.clients i ≡ script → OneOf plan (suc i)
   by None none = inr (ap (λ (s : Option (List ScriptLine)). length (unwrap_or s [])) (script_at plan i ∙ none))
-  by (Some script) some = inl (i, (slice_get_within plan.clients i script some, (let same : suc i ≡ 1 + i = omega arith in same)))
+  by (Some script) some = inl (i, slice_get_within plan.clients i script some, (let same : suc i ≡ 1 + i = omega arith in same))
 
 item_most : (plan : PlanData) (item : HistoryItem) → ((c : ℕ) → own_lines c item ≤ script_lines plan c) → lines_of item ≤ sum_from (λ (c : ℕ). own_lines c item) 1 plan.clients
 item_most plan Alter each = omega arith

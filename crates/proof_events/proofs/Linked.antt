@@ -1,5 +1,5 @@
 -- After each run of a plan, what the server keeps of its sessions and what the journal says of its clients go together.
-use Rattle.std.proofs.Common.{◌≡◌, ℕ, false, List, [], ◌∷◌, ◌++◌, None, refl, subst, append_assoc, append-nil}
+use Rattle.std.proofs.Common.{◌≡◌, ℕ, false, List, [], ◌∷◌, ◌++◌, refl, subst, append_assoc, append-nil}
 use Rattle.std.specs.List.{AllByRecursion}
 use Rattle.server_model.specs.Along.{Along, gathered-more}
 use Rattle.server_model.specs.declared.entry.Entry.{Entry}

@@ -1,25 +1,23 @@
 -- What transactions that ended one after the other leave of a table: each of their lines adds one row at most, and one event for
 -- each row that there may be, and one more.
-use Rattle.std.proofs.Common.{◌≡◌, ◌≤◌, ℕ, suc, ◌+◌, ◌*◌, Bool, true, false, cond, ◌||◌, List, [], ◌∷◌, ◌++◌, length, filter, Option, Some, None, refl, sym, ap, ◌∙◌, subst, arith, append_assoc, append-nil}
-use Rattle.std.specs.Prelude.{count_by, option_map, unwrap_or}
-use Rattle.std.specs.List.{AllByRecursion, list_any}
+use Rattle.std.proofs.Common.{◌≡◌, ◌≤◌, ℕ, suc, ◌+◌, ◌*◌, Bool, true, false, cond, ◌||◌, List, [], ◌∷◌, ◌++◌, length, refl, sym, ap, ◌∙◌, subst, arith, append_assoc, append-nil}
+use Rattle.std.specs.List.{AllByRecursion}
 use Rattle.std.specs.Str.{bytes_eq}
 use Rattle.std.proofs.lemmas.List.Sums.{sum_by-cons}
 use Rattle.base_values.specs.declared.event.RowEvent.{RowEvent}
-use Rattle.table_store.specs.Databases.{TableRows, Database, find_table}
+use Rattle.table_store.specs.Databases.{Database}
 use Rattle.server_model.specs.declared.transaction.TxnLine.{TxnLine}
-use Rattle.server_model.specs.Alone.{Ran, Outcome, alone, line_events, lines_run, nothing_ran, outcome_if, stays}
+use Rattle.server_model.specs.Alone.{Ran, alone, line_events, lines_run, nothing_ran, outcome_if, stays}
 use Rattle.server_model.specs.LockedRows.Databases.{IsWellFormedDatabase}
 use Rattle.server_model.specs.Operations.{after_events}
 use Rattle.server_model.specs.States.{is_of}
 use Rattle.server_model.proofs.LockedRows.Stables.{after_events-append, one_more}
 use Rattle.server_model.proofs.LockedRows.Tests.{are_same}
 use Rattle.proof_journals.specs.Ghost.FittingEvents.{EventsFit}
-use Rattle.proof_journals.specs.Scenes.{Past, PlainItem, Txn, Alter, Scene, Stored, FoundAlike, Leads, Serial, NamesTable, is_mine, logged}
+use Rattle.proof_journals.specs.Scenes.{PlainItem, Txn, Alter, Scene, Stored, FoundAlike, Serial, NamesTable, is_mine, logged}
 use Rattle.proof_journals.specs.Laws.{IsTxn}
 use Rattle.proof_journals.proofs.Bridges.{alike_events, lines_alike}
 use Rattle.proof_journals.proofs.Ghost.Fitting.{fit_more, well_formed_events}
-use Rattle.proof_events.specs.Laws.{rows_of}
 use Rattle.proof_events.proofs.LineEvents.{WritesFew, count_both, count_of, line_rows, line_writes, row_count}
 
 -- LINES OF ONE TRANSACTION

@@ -1,6 +1,6 @@
 -- Until the RENAME is done the migrated table has few rows, and few events in the log: what ended leads one transaction at a time
 -- from the opening tables on, and all transactions have no more lines than the scripts.
-use Rattle.std.proofs.Common.{◌≡◌, ◌≤◌, ℕ, ◌+◌, ◌*◌, Bool, true, false, ◌||◌, List, [], ◌∷◌, map, length, Option, Some, None, refl, sym, ap, ◌∙◌, subst, arith}
+use Rattle.std.proofs.Common.{◌≡◌, ◌≤◌, ℕ, ◌+◌, ◌*◌, true, false, List, [], ◌∷◌, map, length, Option, Some, None, refl, sym, ap, ◌∙◌, subst, arith}
 use Rattle.std.specs.Prelude.{option_map, unwrap_or}
 use Rattle.std.specs.List.{AllByRecursion, list_any}
 use Rattle.std.proofs.lemmas.Bool.{true≢false}
@@ -10,7 +10,7 @@ use Rattle.base_values.specs.GhoSchema.Rows.{key_places}
 use Rattle.table_store.specs.Databases.{TableRows, find_table}
 use Rattle.server_model.specs.declared.entry.Entry.{Entry}
 use Rattle.plan_data.specs.PlanData.{PlanData}
-use Rattle.tool_program.specs.JournalWords.Bounds.{measures, keys, events}
+use Rattle.tool_program.specs.JournalWords.Bounds.{measures, keys}
 use Rattle.tool_program.specs.JournalWords.Histories as histories
 use Rattle.tool_program.specs.JournalWords.Histories.{HistoryItem, is_alter}
 use Rattle.tool_program.specs.JournalWords.Journals.{state_at}
@@ -20,7 +20,7 @@ use Rattle.proof_journals.specs.Machine.Runnable.{IsRunnable}
 use Rattle.proof_journals.specs.Plans.{IsSerialPlan, scene_of}
 use Rattle.proof_journals.specs.Run.Kept.{IsKept}
 use Rattle.proof_journals.specs.Ghost.Rows.Moments.{Row, rows_at}
-use Rattle.proof_journals.specs.Scenes.{FoundAlike, PlainItem, Scene, Serial, Stored, is_mine, seen}
+use Rattle.proof_journals.specs.Scenes.{PlainItem, Scene, Serial, Stored, is_mine, seen}
 use Rattle.proof_journals.proofs.Ghost.Fitting.{found_behind}
 use Rattle.proof_journals.proofs.Naming.{migrated_named}
 use Rattle.proof_journals.proofs.Openings.{opening_well_formed}
