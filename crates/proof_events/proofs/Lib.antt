@@ -4,6 +4,7 @@ pub mod Lines
 pub mod Linked
 pub mod Keys
 pub mod Volumes
+pub mod Views
 pub mod HintRows
 pub mod Hints
 pub mod ChunkAnswers

@@ -65,7 +65,7 @@ module _ (plan : PlanData) (journal : List Entry) (runs : IsRunnable plan) (seri
   abbrev ended : List HistoryItem
   ended = histories.history plan journal
 
-  holds : PlanHolds plan journal journal
+  pub holds : PlanHolds plan journal journal
   holds = run_holds plan journal (unaltered_runs plan journal runs serial kept off)
 
   serial_is : Serial scene (record { tables = plan.tables; log = [] }) (map plain ended) (seen scene now)
