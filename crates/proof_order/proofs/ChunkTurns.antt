@@ -238,15 +238,15 @@ module _ (plan : PlanData) (journal : List Entry) (entry : Entry) (run : IsRun p
   -- what waits is what waited, or the call that was made
   copy_unfit : (work : Work) → now.tool.tool_phase ≡ Migrating work → entry.actor ≡ Copy → Asking plan journal Copy entry.asked → is_reverting now.tool.reason ≡ false → (place number : ℕ) → copiers.progress work.copier entry.answer ≡ Rattle.server_model.specs.declared.outcome.Progress.TheVariants.Unfit place number
       → New false (Migrating work)
+  unfolding copiers.progress
   copy_unfit work eq who asks going place number unfit =
       copy_about plan journal entry is.together run work eq (work_has work eq) going asks (New false (Migrating work))
       (λ request about kind. inr (subst (λ (c : CopiedChunk). CopierAt more c (now_has Copy).waits work.copier) (sym (chunk_own who ∙ unfit_chunk work.copier entry.asked entry.answer request (chunk_at journal) place number kind (asked_so request about) unfit))
       (copier_more journal (entry ∷ []) (chunk_at journal) (has Copy).waits (now_has Copy).waits work.copier (λ other some. none_some other (now_has Copy).waits (quiet request who about (refused entry.answer unfit)) some) (going_at work eq going)))) where
         refused : (answer : Answer) → copiers.progress work.copier answer ≡ Rattle.server_model.specs.declared.outcome.Progress.TheVariants.Unfit place number → is_wait answer ≡ false
-        unfolding copiers.progress
         refused answer unfit = by work.copier.step answer unfit where
           by : (step : CopyStep) (answer : Answer) → copiers.progress_at step answer ≡ Rattle.server_model.specs.declared.outcome.Progress.TheVariants.Unfit place number → is_wait answer ≡ false
-          by step (answers.Waits by) unfit = absurd cc
+          by step (answers.Waits blocker) unfit = absurd cc
           by step answer unfit = refl
 
   copy_turn : (work : Work) → now.tool.tool_phase ≡ Migrating work → entry.actor ≡ Copy → Asking plan journal Copy entry.asked → CopyKeeps New entry.answer tool work

@@ -86,9 +86,9 @@ step_more : (journal more : List Entry) (chunk : CopiedChunk) (waits now_waits :
     → StepAt journal chunk waits low step → StepAt (journal ++ more) chunk now_waits now_low step
 step_more journal more chunk waits now_waits low now_low Choosing same fewer is = λ request some. is request (fewer request some) ∙ sym same
 step_more journal more chunk waits now_waits low now_low (Spanning reported size) same fewer is =
-    (taken_more journal more reported is.0, (is.1.0 ∙ ap (λ (a : Option Answer). Some (end_in a)) (sym (answer_same journal more reported is.0)), is.1.1 ∙ sym same))
+    (taken_more journal more reported is.0, is.1 ∙ ap (λ (a : Option Answer). Some (end_in a)) (sym (answer_same journal more reported is.0)), is.2 ∙ sym same)
 step_more journal more chunk waits now_waits low now_low (Copying at copied) same fewer is =
-    (taken_more journal more at.reported is.0, (is.1.0 ∙ ap (λ (a : Option Answer). Some (keys_in a)) (sym (answer_same journal more at.reported is.0)), is.1.1 ∙ sym same))
+    (taken_more journal more at.reported is.0, is.1 ∙ ap (λ (a : Option Answer). Some (keys_in a)) (sym (answer_same journal more at.reported is.0)), is.2 ∙ sym same)
 step_more journal more chunk waits now_waits low now_low (Committing at) same fewer is = (taken_more journal more at.reported is.0, is.1 ∙ sym same)
 
 -- *In others' turns*
@@ -139,7 +139,7 @@ module _ (journal : List Entry) (entry : Entry) (turn : ℕ) (copier : Copier) (
 
   choosing : (asked_chunk : CopiedChunk) → asked_chunk.low ≡ low → FollowsAt journal copier.following → (one : Answer) → answer ≡ one → CopierAt more (answered_after one asked_chunk) now_waits (took turn (record copier { step = Choosing }) one)
   unfolding took
-  choosing asked_chunk is follows (answers.End end) same = goes (record asked_chunk { high = Some end }) (Spanning turn copier.size) follows (λ low_is. (taken, (end_here end same, is ∙ sym low_is)))
+  choosing asked_chunk is follows (answers.End end) same = goes (record asked_chunk { high = Some end }) (Spanning turn copier.size) follows (λ low_is. (taken, end_here end same, is ∙ sym low_is))
   choosing asked_chunk is follows answers.Lost same = chooses (record asked_chunk { keys = None }) follows is
   choosing asked_chunk is follows (answers.TimedOut waited) same = chooses (record asked_chunk { keys = None }) follows is
   choosing asked_chunk is follows (answers.Keys keys end) same = chooses (record asked_chunk { keys = Some keys }) follows is
@@ -160,13 +160,13 @@ module _ (journal : List Entry) (entry : Entry) (turn : ℕ) (copier : Copier) (
 
     by : (b : Bool) → CopierAt more (record chunk { keys = Some keys }) now_waits (record copier { step = cond b (Committing at) (Copying at 0) })
     by true = goes (record chunk { keys = Some keys }) (Committing at) follows (λ low_is. (taken, is ∙ sym low_is))
-    by false = goes (record chunk { keys = Some keys }) (Copying at 0) follows (λ low_is. (taken, (keys_here keys end same, is ∙ sym low_is)))
+    by false = goes (record chunk { keys = Some keys }) (Copying at 0) follows (λ low_is. (taken, keys_here keys end same, is ∙ sym low_is))
 
   spanning : (reported size most : ℕ) (table : List ℕ) (span : Span) → Old (Spanning reported size) → (one : Answer) → answer ≡ one → answers_to (requests.BeginSpan table span most) one ≡ true → CopierAt more (answered_after one chunk) now_waits (took turn (record copier { step = Spanning reported size }) one)
   unfolding took
-  spanning reported size most table span old (answers.Keys keys end) same fits = begins keys end same old.follows old.step.1.1
-  spanning reported size most table span old answers.Lost same fits = chooses (record chunk { keys = None }) old.follows old.step.1.1
-  spanning reported size most table span old (answers.TimedOut waited) same fits = chooses (record chunk { keys = None }) old.follows old.step.1.1
+  spanning reported size most table span old (answers.Keys keys end) same fits = begins keys end same old.follows old.step.2
+  spanning reported size most table span old answers.Lost same fits = chooses (record chunk { keys = None }) old.follows old.step.2
+  spanning reported size most table span old (answers.TimedOut waited) same fits = chooses (record chunk { keys = None }) old.follows old.step.2
   spanning reported size most table span old (answers.End end) same fits = absurd (false≢true fits)
   spanning reported size most table span old one same fits = stays (Spanning reported size) old.follows old.step
 
@@ -175,14 +175,14 @@ module _ (journal : List Entry) (entry : Entry) (turn : ℕ) (copier : Copier) (
   copies_on : (at : Chunk) (copied : ℕ) → Old (Copying at copied) → CopierAt more chunk now_waits (record copier { step = after_copies at (copied + 1) })
   copies_on at copied old = by ((copied + 1) == at.keys) where
     by : (b : Bool) → CopierAt more chunk now_waits (record copier { step = cond b (Committing at) (Copying at (copied + 1)) })
-    by true = stays (Committing at) old.follows (old.step.0, old.step.1.1)
+    by true = stays (Committing at) old.follows (old.step.0, old.step.2)
     by false = stays (Copying at (copied + 1)) old.follows old.step
 
   copying : (at : Chunk) (copied : ℕ) (from into : List ℕ) (map : List MapColumn) (key : List Value) → Old (Copying at copied) → (one : Answer) → answers_to (requests.CopyRow from into map key) one ≡ true → CopierAt more (answered_after one chunk) now_waits (took turn (record copier { step = Copying at copied }) one)
   unfolding took
   copying at copied from into map key old (answers.Ok count) fits = copies_on at copied old
-  copying at copied from into map key old answers.Lost fits = chooses (record chunk { keys = None }) old.follows old.step.1.1
-  copying at copied from into map key old (answers.TimedOut waited) fits = chooses (record chunk { keys = None }) old.follows old.step.1.1
+  copying at copied from into map key old answers.Lost fits = chooses (record chunk { keys = None }) old.follows old.step.2
+  copying at copied from into map key old (answers.TimedOut waited) fits = chooses (record chunk { keys = None }) old.follows old.step.2
   copying at copied from into map key old (answers.End end) fits = absurd (false≢true fits)
   copying at copied from into map key old (answers.Keys keys end) fits = absurd (false≢true fits)
   copying at copied from into map key old one fits = stays (Copying at copied) old.follows old.step
@@ -268,8 +268,8 @@ module _ (plan : PlanData) (journal : List Entry) (copier : Copier) (own : copie
         (record {
           own = own;
           end = end_in (answer_at journal reported);
-          reported = is.1.0;
-          whole = ap (λ (l : Bound). record { low = l; high = Closed (end_in (answer_at journal reported)) }) (ap (λ (r : Option CopyRange). low_of journal r copier.following) (sym same) ∙ sym is.1.1);
+          reported = is.1;
+          whole = ap (λ (l : Bound). record { low = l; high = Closed (end_in (answer_at journal reported)) }) (ap (λ (r : Option CopyRange). low_of journal r copier.following) (sym same) ∙ sym is.2);
         })
     at range same (Committing chunk) is call = some_request (IsLockedCall plan journal Copy) requests.Commit request call tt
     at range same (Copying chunk copied) is call = key (key_at journal (Copying chunk copied)) refl call where
@@ -277,7 +277,7 @@ module _ (plan : PlanData) (journal : List Entry) (copier : Copier) (own : copie
       key None given call = absurd cc
       key (Some found) given call =
           some_request (IsLockedCall plan journal Copy) (requests.CopyRow copier.table (ghost_name copier.table) copier.map found) request call
-          (record { own = own; new = ap ghost_name own; keys = keys_in (answer_at journal chunk.reported); locked = is.1.0; place = copied; given = given })
+          (record { own = own; new = ap ghost_name own; keys = keys_in (answer_at journal chunk.reported); locked = is.1; place = copied; given = given })
 
     by : (copied : Bool) (range : Option CopyRange) → copier.range ≡ range → cond copied None (call_in journal copier range) ≡ Some request → IsLockedCall plan journal Copy request
     by true range same call = absurd cc

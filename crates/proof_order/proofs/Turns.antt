@@ -514,7 +514,7 @@ module _ (plan : PlanData) (journal : List Entry) (entry : Entry) (run : IsRun p
   inspector_turn work eq who (calls_so request asks none call) tries =
       leaves Insp (Call request) entry.answer who asks refl refl (Migrating (record work { cutover = cutovers.took Inspector work.cutover entry.answer; attempt_tries = tries }))
       (inspector_order plan work.cutover (own_table work eq) told live work.applier entry.session entry.answer work.cutover.phase request (ap (λ (c : ToolPhase). tool_call plan now.server journal now.tool c Insp) (sym eq) ∙ call) (fits Insp request who (is_called asks none))
-      (λ showing is_show waiters answers. shows work eq showing who (asks ∙ ap Call is_show) waiters replies) (old_at (Migrating work) eq))
+      (λ showing is_show waiters replies. shows work eq showing who (asks ∙ ap Call is_show) waiters replies) (old_at (Migrating work) eq))
 
   inspector_lost : (work : Work) → now.tool.tool_phase ≡ Migrating work → entry.actor ≡ Insp → entry.asked ≡ Cut → entry.answer ≡ answers.Lost → (tries : List ℕ) → New (is_reverting tool.reason) (Migrating (record work { cutover = cutovers.took Inspector work.cutover answers.Lost; attempt_tries = tries }))
   unfolding cutovers.took
