@@ -5,7 +5,8 @@
 //! is what such plans have. Of every history: `histories`, `turns`, `machines`, `server_turns`, `server_states`. The ghost
 //! relation stands in `ghost_relation`, `ghost_rows` and `ghost_turns`, the sentry relation in `sentry`. Of every journal
 //! that follows the program: `migration`, `chunks`, `program`, `cut_over`, `hints`, `sessions`, `attempts`, `causes` and
-//! `progress`; in `order` the order of the tool's steps; and so `unaltered`, `marked` and `reverts`, by which kept journals are serial. `bounds` counts turns.
+//! `progress`; and so `unaltered`, `marked` and `reverts`, by which kept journals are serial. `order` says in which order the
+//! tool works, and `bounds` counts turns.
 #![tactic(auto)]
 
 pub mod attempts;

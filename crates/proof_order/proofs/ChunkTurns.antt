@@ -3,7 +3,6 @@ use Rattle.std.proofs.Common.{◌≡◌, ◌⊎◌, ℕ, ◌+◌, Bool, true, fa
 use Rattle.std.specs.List.{slice_get}
 use Rattle.std.proofs.lemmas.Bool.{true≢false, false≢true}
 use Rattle.std.proofs.lemmas.List.Sums.{fold-append}
-use Rattle.std.proofs.lemmas.Option.{none-some}
 use Rattle.base_values.specs.declared.span.Bound.{Bound}
 use Rattle.base_values.specs.declared.value.Value.{Value}
 use Rattle.base_script.specs.declared.actor.Actor.{Actor}
@@ -44,7 +43,7 @@ use Rattle.tool_program.specs.Programs.{given, IsGiven, Follows, tool_call, copy
 use Rattle.tool_program.specs.Setups.{Setup, Listing, Clearing, MakingLog, MakingGhost, Marking, Reaching, Ready, setup_after}
 use Rattle.tool_program.specs.Tools.{Work, ToolPhase, SettingUp, Migrating, Tool, Moment, stopped, is_reverting, tool_phase_of, moment}
 use Rattle.tool_program.proofs.OnlineCalls.Machines.{ToolPhaseIsNamed, named}
-use Rattle.proof_journals.specs.Machine.Machines.{ToolPhaseStands, WorkStands, SetupStands, copier_asks, copier_busy, applier_asks, inspector_asks}
+use Rattle.proof_journals.specs.Machine.Machines.{ToolPhaseStands, WorkStands, SetupStands, copier_busy, applier_asks, inspector_asks}
 use Rattle.proof_journals.specs.Machine.Standings.{Standing, free, standing_in, standing_of, answered, answers_to, IsAbout, is_called, is_polled}
 use Rattle.proof_journals.proofs.Actors.{same_actor_is}
 use Rattle.proof_journals.proofs.Machine.Asking.{idle_stands, unless_called, setup_next, inspector_next, renamer_next}
@@ -53,8 +52,8 @@ use Rattle.proof_journals.proofs.Machine.Journals.{IsRun, IsTogether, Asking, ca
 use Rattle.proof_journals.proofs.Machine.Seated.{IsKnown, IsServed, others_stand, own_stands, own_fits, own_given, own_lost, own_missed, own_session}
 use Rattle.proof_journals.proofs.Machine.Tabling.{back_quiet}
 use Rattle.proof_migration.proofs.ToolPhase.Owners.{commands_operator}
-use Rattle.proof_migration.proofs.ToolPhase.ToolPhaseTurns.{Kept, UnfitKeeps, CopyKeeps, ApplyKeeps, SetupKeeps, AnswerKeeps, ResizeKeeps, turn_kept, gives_asked}
-use Rattle.proof_order.specs.ChunkLocks.{CopiedChunk, asked_after, answered_after, chunk_after, chunk_at, IsLockedCall, IsLockedTurn, CopiesUnderLocks}
+use Rattle.proof_migration.proofs.ToolPhase.ToolPhaseTurns.{Kept, UnfitKeeps, CopyKeeps, SetupKeeps, AnswerKeeps, ResizeKeeps, turn_kept, gives_asked}
+use Rattle.proof_order.specs.ChunkLocks.{CopiedChunk, chunk_after, chunk_at, IsLockedCall, IsLockedTurn, CopiesUnderLocks}
 use Rattle.proof_order.specs.Laws.{JournalsCopyUnderLocks}
 use Rattle.proof_order.proofs.Chunks.{CopierAt, StepAt, low_of, AsksChunk, calls_it, polls_it, copier_more, took_chunk, unfit_chunk, ends_low, copier_locked}
 

@@ -1,8 +1,7 @@
 -- The copier's step is what the journal tells of the chunk at hand.
 use Rattle.std.proofs.Common.{◌≡◌, ◌⊎◌, ℕ, ◌+◌, ◌==◌, Bool, true, false, cond, List, [], ◌∷◌, ◌++◌, length, Option, Some, None, refl, sym, ap, ◌∙◌, subst, inl, inr}
 use Rattle.std.specs.List.{slice_get}
-use Rattle.std.proofs.lemmas.Bool.{true≢false, false≢true}
-use Rattle.std.proofs.lemmas.List.Sums.{fold-append}
+use Rattle.std.proofs.lemmas.Bool.{false≢true}
 use Rattle.base_values.specs.declared.span.Bound.{Bound}
 use Rattle.base_values.specs.declared.span.Bound.TheVariants.{Open, Closed}
 use Rattle.base_values.specs.declared.value.Value.{Value}
@@ -24,7 +23,7 @@ use Rattle.tool_program.specs.declared.chunk_copier.copier.Copier.{Copier}
 use Rattle.tool_program.specs.declared.chunk_copier.copier.CopyRange.{CopyRange}
 use Rattle.tool_program.specs.declared.chunk_copier.copier.CopyStep.{CopyStep}
 use Rattle.tool_program.specs.declared.chunk_copier.copier.CopyStep.TheVariants.{Choosing, Spanning, Copying, Committing}
-use Rattle.tool_program.specs.ChunkCopier.Copiers.{low_end, key_at, copies, call_at, call_in, next, begun, after_copies, is_top, committed, took, progress, progress_at}
+use Rattle.tool_program.specs.ChunkCopier.Copiers.{low_end, key_at, copies, call_at, call_in, next, begun, after_copies, is_top, took, progress, progress_at}
 use Rattle.proof_journals.specs.Machine.Machines.{copier_asks}
 use Rattle.proof_journals.proofs.Machine.Asking.{some_request}
 use Rattle.base_values.specs.declared.row_conversion.map.MapColumn.{MapColumn}
@@ -32,7 +31,7 @@ use Rattle.base_values.specs.declared.span.Span.{Span}
 use Rattle.proof_journals.specs.Machine.Standings.{answers_to}
 use Rattle.server_model.specs.declared.outcome.Progress.TheVariants.{Unfit}
 use Rattle.tool_program.specs.CutoverCore.CutOvers.{is_wait}
-use Rattle.proof_order.specs.ChunkLocks.{CopiedChunk, asked_after, answered_after, chunk_after, chunk_at, IsWholeChunk, IsLockedRow, IsLockedCall}
+use Rattle.proof_order.specs.ChunkLocks.{CopiedChunk, answered_after, chunk_after, chunk_at, IsLockedCall}
 
 -- WHAT IS SO
 

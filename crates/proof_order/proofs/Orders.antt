@@ -10,7 +10,6 @@ use Rattle.base_script.specs.declared.operator.OperatorWord.{OperatorWord}
 use Rattle.base_values.specs.ToolNames.{log_name, old_name}
 use Rattle.server_model.specs.Along.{Along, Along-keeps}
 use Rattle.server_model.specs.Entries.{request_in}
-use Rattle.server_model.specs.declared.answer.Answer.{Answer}
 use Rattle.server_model.specs.declared.entry.Asked.{Asked}
 use Rattle.server_model.specs.declared.entry.Asked.TheVariants.{Call, Poll, Command, Cut}
 use Rattle.server_model.specs.declared.entry.Entry.{Entry}
@@ -19,7 +18,6 @@ use Rattle.server_model.specs.declared.request.Request.TheVariants as requests
 use Rattle.server_model.proofs.LockedRows.Tests.{same_bytes}
 use Rattle.plan_data.specs.PlanData.{PlanData}
 use Rattle.tool_changelog.specs.Hints.{hint_row}
-use Rattle.tool_changelog.specs.ToolTables.{sentry_schema}
 use Rattle.tool_program.specs.JournalWords.KeptPlans.{words_of}
 use Rattle.tool_program.specs.JournalWords.Sessions.{live_session}
 use Rattle.tool_program.specs.declared.chunk_copier.copier.CopyStep.{CopyStep}
@@ -29,7 +27,6 @@ use Rattle.tool_program.specs.declared.event_applier.applier.ApplyStep.TheVarian
 use Rattle.tool_program.specs.declared.cutover_core.cutover.Clearing.TheVariants.{Looking, Drops}
 use Rattle.tool_program.specs.declared.cutover_core.cutover.Hold.{Hold}
 use Rattle.tool_program.specs.declared.cutover_core.cutover.Hold.TheVariants.{Nothing, WaitsToGuard, WaitsToLock, Locks}
-use Rattle.tool_program.specs.declared.cutover_core.cutover.Leftovers.{Leftovers}
 use Rattle.tool_program.specs.declared.cutover_core.cutover.Phase.{Phase}
 use Rattle.tool_program.specs.declared.cutover_core.cutover.Phase.TheVariants.{Resting, Attempting, Ending, Finishing, Finished}
 use Rattle.tool_program.specs.declared.cutover_core.cutover.Stage.TheVariants.{Locking, Hinting, Drained, Showing, Dropping, Unlocking}
@@ -42,25 +39,25 @@ use Rattle.tool_program.specs.Operators.{is_throttled}
 use Rattle.tool_program.specs.Programs as programs
 use Rattle.tool_program.specs.Programs.{given, IsGiven, tool_call, apply_call, copy_call, rolls_back, in_transaction, may_read, unread_in}
 use Rattle.tool_program.specs.Setups.{Setup, Listing, Clearing, MakingLog, MakingGhost, Marking, Reaching, Ready, setup_call}
-use Rattle.tool_program.specs.Tools.{Work, ToolPhase, SettingUp, Migrating, Tool, Moment, is_reverting, moment}
+use Rattle.tool_program.specs.Tools.{Work, ToolPhase, SettingUp, Migrating, Moment, is_reverting, moment}
 use Rattle.tool_program.proofs.OnlineCalls.Machines.{ToolPhaseIsNamed, named}
 use Rattle.proof_journals.specs.Plans.{IsSerialPlan}
 use Rattle.proof_journals.specs.Run.Kept.{IsKept}
-use Rattle.proof_journals.specs.Machine.Machines.{ToolPhaseStands, WorkStands, PhaseHolds, copier_asks, applier_asks, both_names, held}
+use Rattle.proof_journals.specs.Machine.Machines.{ToolPhaseStands, WorkStands, PhaseHolds, copier_asks, applier_asks, held}
 use Rattle.proof_journals.specs.Machine.Runnable.{IsRunnable}
 use Rattle.proof_journals.specs.Machine.Standings.{Standing, standing_of, IsAbout, is_called, is_polled}
-use Rattle.proof_journals.proofs.Machine.Asking.{some_request, unless_called, copier_next, applier_next}
+use Rattle.proof_journals.proofs.Machine.Asking.{some_request, unless_called, copier_next}
 use Rattle.proof_journals.proofs.Machine.Calling.{reverting_or}
 use Rattle.proof_journals.proofs.Machine.CuttingOver.{LockerAsks}
 use Rattle.proof_journals.proofs.Machine.Journals.{IsRun, IsTogether, Asking, calls_so, polls_so, asking, lock_about, apply_about}
 use Rattle.proof_journals.proofs.Machine.Tabling.{back_quiet}
 use Rattle.proof_migration.proofs.Attempt.Standing.{IsStanding, all_standing}
 use Rattle.proof_migration.proofs.Program.Turns.Follows.{kept_front, kept_run}
-use Rattle.proof_order.specs.CutOverOrder.{holds_so, waits_so, last_call, last_answer, is_locked, is_at_rest, attempts_begun, rename_shown, is_renamed, tables_listed, is_renaming, hints_applied, IsHint, IsOrderedCall, IsOrderedTurn, KeepsOrder}
+use Rattle.proof_order.specs.CutOverOrder.{holds_so, waits_so, last_call, last_answer, is_locked, is_at_rest, attempts_begun, rename_shown, is_renamed, tables_listed, is_renaming, hints_applied, IsOrderedCall, IsOrderedTurn, KeepsOrder}
 use Rattle.proof_order.specs.Laws.{KeptJournalsKeepOrder}
 use Rattle.proof_order.proofs.Words.{Words, words}
-use Rattle.proof_order.proofs.Phases.{PhaseOrder, PassedAt, ShownAt, DropsAt, is_held, and_both, first_order}
-use Rattle.proof_order.proofs.Roles.{OrderedAt, LockerTold, DoneAt}
+use Rattle.proof_order.proofs.Phases.{PassedAt, ShownAt, DropsAt, is_held, and_both, first_order}
+use Rattle.proof_order.proofs.Roles.{LockerTold, DoneAt}
 use Rattle.proof_order.proofs.Turns.{ToolPhaseOrdered, SetupOrdered, IsOrdered, ordered_more, ordered_begins}
 
 -- LEMMAS OF BOOLEANS

@@ -1,32 +1,26 @@
 -- What each phase of the cut-over says of what the journal tells.
-use Rattle.std.proofs.Common.{◌≡◌, ◌⊎◌, ℕ, ◌+◌, ◌<◌, ◌==◌, Bool, true, false, cond, not, ◌&&◌, ◌||◌, List, [], ◌∷◌, ◌++◌, Option, Some, None, refl, sym, ap, ◌∙◌, subst, inl, inr, arith}
+use Rattle.std.proofs.Common.{◌≡◌, ◌⊎◌, ℕ, ◌+◌, ◌<◌, ◌==◌, Bool, true, false, cond, not, ◌&&◌, ◌||◌, List, ◌++◌, refl, sym, ap, ◌∙◌, inl, inr, arith}
 use Rattle.std.specs.Prelude.{codes, nat_le}
 use Rattle.std.specs.List.{list_any}
 use Rattle.std.specs.Str.{bytes_eq}
-use Rattle.std.proofs.lemmas.Bool.{true≢false, false≢true, or_left, or_right}
+use Rattle.std.proofs.lemmas.Bool.{true≢false, false≢true}
 use Rattle.std.proofs.lemmas.List.{append_cancel_left}
 use Rattle.base_values.specs.ToolNames.{ghost_name, log_name, old_name}
 use Rattle.server_model.proofs.LockedRows.Tests.{are_same, same_bytes}
 use Rattle.server_model.specs.declared.answer.Answer.{Answer}
 use Rattle.server_model.specs.declared.answer.Answer.TheVariants as answers
 use Rattle.server_model.specs.declared.listing.TableName.{TableName}
-use Rattle.server_model.specs.declared.request.Request.{Request}
-use Rattle.server_model.specs.declared.request.Request.TheVariants as requests
 use Rattle.plan_data.specs.PlanData.{PlanData}
-use Rattle.tool_program.specs.declared.cutover_core.cutover.Clearing.{Clearing as Cleared}
 use Rattle.tool_program.specs.declared.cutover_core.cutover.Clearing.TheVariants.{Looking, Drops}
 use Rattle.tool_program.specs.declared.cutover_core.cutover.CutOver.{CutOver}
-use Rattle.tool_program.specs.declared.cutover_core.cutover.Hold.{Hold}
-use Rattle.tool_program.specs.declared.cutover_core.cutover.Hold.TheVariants.{Nothing, WaitsToGuard, WaitsToLock, Locks}
 use Rattle.tool_program.specs.declared.cutover_core.cutover.Leftovers.{Leftovers}
 use Rattle.tool_program.specs.declared.cutover_core.cutover.Phase.{Phase}
 use Rattle.tool_program.specs.declared.cutover_core.cutover.Phase.TheVariants.{Resting, Attempting, Ending, Finishing, Finished}
 use Rattle.tool_program.specs.declared.cutover_core.cutover.Stage.{Stage}
 use Rattle.tool_program.specs.declared.cutover_core.cutover.Stage.TheVariants.{Guarding, Locking, Hinting, Draining, Drained, Showing, Dropping, Unlocking, Exchanging}
 use Rattle.tool_program.specs.CutoverCore.Attempts.{is_clear, without_first, first_name, has_name, has_sentry}
-use Rattle.tool_program.specs.CutoverCore.CutOvers.{is_bad, is_done, stands, failed, ended, drained, locker_phase, locker_stage, inspector_phase, inspector_stage, waits_phase, renamer_phase, finishing, left_at_end, sentry_alone, seen, shows_wait, ending_after, finishing_after}
+use Rattle.tool_program.specs.CutoverCore.CutOvers.{is_bad, is_done, stands, failed, ended, drained, locker_phase, locker_stage, waits_phase, renamer_phase, finishing, left_at_end, sentry_alone, seen}
 use Rattle.proof_journals.proofs.Machine.Marks.{ghost_not_old}
-use Rattle.proof_order.specs.CutOverOrder.{holds_so, waits_so}
 
 -- WHAT A PHASE SAYS
 

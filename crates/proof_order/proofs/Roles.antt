@@ -1,5 +1,5 @@
 -- What an answer to the locker, the renamer and the inspector leaves of what the journal tells of the cut-over.
-use Rattle.std.proofs.Common.{◌≡◌, ◌⊎◌, ℕ, ◌+◌, ◌==◌, Bool, true, false, cond, not, ◌&&◌, ◌||◌, List, [], ◌∷◌, ◌++◌, Option, Some, None, refl, sym, ap, ◌∙◌, subst, inl, inr}
+use Rattle.std.proofs.Common.{◌≡◌, ◌⊎◌, ℕ, ◌+◌, ◌==◌, Bool, true, false, cond, not, List, Option, Some, None, refl, sym, ap, ◌∙◌, subst, inl, inr}
 use Rattle.std.specs.List.{list_any}
 use Rattle.std.proofs.lemmas.Bool.{true≢false, false≢true, or_right}
 use Rattle.base_script.specs.declared.actor.Actor.TheVariants.{Insp, Lock, Ren}
@@ -15,7 +15,6 @@ use Rattle.server_model.specs.declared.request.Request.TheVariants as requests
 use Rattle.plan_data.specs.PlanData.{PlanData}
 use Rattle.tool_changelog.specs.ToolTables.{sentry_schema}
 use Rattle.tool_program.specs.declared.event_applier.applier.Applier.{Applier}
-use Rattle.tool_program.specs.declared.cutover_core.cutover.Clearing.{Clearing as Cleared}
 use Rattle.tool_program.specs.declared.cutover_core.cutover.Clearing.TheVariants.{Looking, Drops}
 use Rattle.tool_program.specs.declared.cutover_core.cutover.CutOver.{CutOver}
 use Rattle.tool_program.specs.declared.cutover_core.cutover.Hold.{Hold}
@@ -24,7 +23,7 @@ use Rattle.tool_program.specs.declared.cutover_core.cutover.Leftovers.{Leftovers
 use Rattle.tool_program.specs.declared.cutover_core.cutover.Phase.{Phase}
 use Rattle.tool_program.specs.declared.cutover_core.cutover.Phase.TheVariants.{Resting, Attempting, Ending, Finishing, Finished}
 use Rattle.tool_program.specs.declared.cutover_core.cutover.Stage.{Stage}
-use Rattle.tool_program.specs.declared.cutover_core.cutover.Stage.TheVariants.{Guarding, Locking, Hinting, Draining, Drained, Showing, Dropping, Unlocking, Exchanging}
+use Rattle.tool_program.specs.declared.cutover_core.cutover.Stage.TheVariants.{Locking, Hinting, Draining, Drained, Showing, Dropping, Unlocking, Exchanging}
 use Rattle.tool_program.specs.CutoverCore.Attempts.{exchange, is_free, clears, inspector_call, is_clear, without_first, first_name, has_name, has_sentry}
 use Rattle.tool_program.specs.CutoverCore.CutOvers.{is_bad, is_wait, is_resting, attempts_after, failed, ended, drained, hold_of_guard, hold_of_lock, hold_under, hold_after, locker_phase, locker_stage, inspector_phase, inspector_stage, ending_after, finishing_after, waits_phase, renamer_phase, finishing, left_at_end, seen, shows_wait}
 use Rattle.proof_journals.specs.Machine.Machines.{PhaseHolds, both_names, held, renaming}

@@ -13,7 +13,6 @@ use Rattle.base_script.specs.declared.operator.OperatorWord.TheVariants.{ChunkSi
 use Rattle.base_values.specs.ToolNames.{old_name}
 use Rattle.server_model.specs.declared.answer.Answer.{Answer}
 use Rattle.server_model.specs.declared.answer.Answer.TheVariants as answers
-use Rattle.server_model.specs.declared.answer.KeyRange.{KeyRange}
 use Rattle.server_model.specs.declared.entry.Asked.{Asked}
 use Rattle.server_model.specs.declared.entry.Asked.TheVariants.{Call, Poll, Command, Cut}
 use Rattle.server_model.specs.declared.entry.Entry.{Entry}
@@ -23,13 +22,12 @@ use Rattle.server_model.specs.declared.request.Request.TheVariants as requests
 use Rattle.server_model.specs.declared.session.Waiting.{Waiting}
 use Rattle.server_model.specs.Entries.{same_actor, is_client, is_command, is_cut}
 use Rattle.server_model.specs.Listings.{waits_shown}
-use Rattle.server_model.specs.PlainServer.{calls, serves}
+use Rattle.server_model.specs.PlainServer.{serves}
 use Rattle.server_model.specs.States.{State, has_work, waiting_of}
 use Rattle.server_model.proofs.LockedRows.Tests.{same_bytes}
 use Rattle.plan_data.specs.PlanData.{PlanData}
 use Rattle.tool_program.specs.JournalWords.Journals.{opens, state_at}
 use Rattle.tool_program.specs.JournalWords.Sessions.{live_session, session_left}
-use Rattle.tool_program.specs.declared.event_applier.applier.Applier.{Applier}
 use Rattle.tool_program.specs.EventApplier.Appliers as appliers
 use Rattle.tool_program.specs.declared.cutover_core.cutover.CutOver.{CutOver}
 use Rattle.tool_program.specs.declared.cutover_core.cutover.Hold.{Hold}
@@ -51,8 +49,7 @@ use Rattle.proof_journals.specs.Machine.Machines.{ToolPhaseStands, WorkStands, S
 use Rattle.proof_journals.specs.Machine.Standings.{Standing, free, standing_in, standing_of, answered, answers_to, needs_names, IsAbout, is_called, is_polled}
 use Rattle.proof_journals.proofs.Actors.{Placed, Commands, GoesOn, Begins, live_more, placed, same_actor_is, same_actor_itself}
 use Rattle.proof_journals.proofs.Journals.{opened_waits}
-use Rattle.proof_journals.proofs.Machine.Asking.{idle_stands, some_request, unless_called}
-use Rattle.proof_journals.proofs.Machine.Calling.{reverting_or}
+use Rattle.proof_journals.proofs.Machine.Asking.{idle_stands, some_request}
 use Rattle.proof_journals.proofs.Machine.CuttingOver.{LockerAsks}
 use Rattle.proof_journals.proofs.Machine.Fitting.{IsPrompt}
 use Rattle.proof_journals.proofs.Machine.Journals.{IsRun, IsTogether, Asking, calls_so, polls_so, asking, lock_about, apply_about}
@@ -62,12 +59,12 @@ use Rattle.proof_migration.proofs.Attempt.Stages.{RenamerAt, StandsAt}
 use Rattle.proof_migration.proofs.Attempt.Standing.{IsStanding, ToolPhaseAt, no_asking}
 use Rattle.proof_migration.proofs.ToolPhase.Owners.{commands_operator}
 use Rattle.proof_migration.proofs.ToolPhase.ToolPhaseTurns.{Kept, UnfitKeeps, CopyKeeps, ApplyKeeps, SetupKeeps, AnswerKeeps, ResizeKeeps, turn_kept, gives_asked}
-use Rattle.proof_order.specs.CutOverOrder.{holds_so, waits_so, has_session, hints_after, Hints}
+use Rattle.proof_order.specs.CutOverOrder.{waits_so, has_session, hints_after, Hints}
 use Rattle.proof_order.proofs.Words.{Words, words, words_after, words_more, words_begin}
 use Rattle.proof_order.proofs.Phases.{PhaseOrder, passes_more, ended_order, drained_order}
 use Rattle.proof_order.proofs.Hints.{AppliedAt, AsksSo, calls_it, polls_it, took_applied, unfit_same, passed_more}
 use Rattle.proof_order.proofs.Waits.{ShownBy, show_called, shows_session}
-use Rattle.proof_order.proofs.Roles.{OrderedAt, LockerTold, DoneAt, lost_holds, ended_done, drained_done, locker_order, locker_lost_order, renamer_calls, renamer_polls, renamer_lost_order, renaming_off, inspector_order, inspector_lost_order}
+use Rattle.proof_order.proofs.Roles.{OrderedAt, LockerTold, lost_holds, ended_done, drained_done, locker_order, locker_lost_order, renamer_calls, renamer_polls, renamer_lost_order, renaming_off, inspector_order, inspector_lost_order}
 
 -- WHAT IS SO
 

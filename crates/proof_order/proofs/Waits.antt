@@ -1,5 +1,5 @@
 -- The list of waits shows the RENAME that waits.
-use Rattle.std.proofs.Common.{◌≡◌, ℕ, ◌==◌, Bool, true, false, cond, ◌||◌, List, [], ◌∷◌, ◌++◌, Option, Some, None, refl, sym, ap, ◌∙◌, subst}
+use Rattle.std.proofs.Common.{◌≡◌, ℕ, ◌==◌, Bool, true, false, cond, ◌||◌, List, [], ◌∷◌, ◌++◌, Option, Some, None, refl, sym, ap, ◌∙◌}
 use Rattle.std.specs.Prelude.{map, take, drop, fold}
 use Rattle.std.specs.List.{list_any}
 use Rattle.std.proofs.Math.Bool.{or-false, or_assoc}
@@ -17,7 +17,7 @@ use Rattle.server_model.specs.Blockers.{need, blocker}
 use Rattle.server_model.specs.Effects.{is_outside, effect_unless}
 use Rattle.server_model.specs.Listings.{placed_waiter, waiter_shown, waits_shown}
 use Rattle.server_model.specs.PlainServer.{does, done, called_unless, calls}
-use Rattle.server_model.specs.States.{State, session_of, is_in_transaction, view, is_exclusive, names_in, waiting_of, waits_for, waiters}
+use Rattle.server_model.specs.States.{State, session_of, is_in_transaction, view, is_exclusive, names_in, waiting_of, waiters}
 use Rattle.proof_journals.specs.Turns.{request_of}
 use Rattle.proof_order.specs.CutOverOrder.{has_session}
 

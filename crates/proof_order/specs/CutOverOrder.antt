@@ -1,7 +1,7 @@
 -- *The order of the cut-over*, read from the journal alone: who called what, and what was answered. The sentry is dropped once
 -- the RENAME was seen to wait, under the lock; the RENAME is called once a hint row of its own attempt was applied; nothing is
 -- read of the log from then on; and an attempt that failed is cleared up once nobody holds or waits. (gh-ost, "Cut-over".)
-use Rattle.std.specs.Prelude.{◌≡◌, ℕ, ◌+◌, ◌==◌, Bool, true, false, ◌&&◌, ◌||◌, not, if◌then◌else◌, List, [], ◌∷◌, ◌++◌, fold, Option, Some, None}
+use Rattle.std.specs.Prelude.{◌≡◌, ℕ, ◌+◌, ◌==◌, Bool, true, false, ◌&&◌, ◌||◌, not, if◌then◌else◌, List, [], ◌∷◌, fold, Option, Some, None}
 use Rattle.std.specs.List.{list_any}
 use Rattle.std.specs.Str.{bytes_eq}
 use Rattle.base_script.specs.declared.actor.Actor.{Actor}
