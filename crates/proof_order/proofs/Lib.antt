@@ -1,0 +1,9 @@
+pub mod Words
+pub mod Phases
+pub mod Hints
+pub mod Waits
+pub mod Roles
+pub mod Turns
+pub mod Orders
+pub mod Chunks
+pub mod ChunkTurns

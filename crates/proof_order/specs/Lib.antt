@@ -1,0 +1,3 @@
+pub mod ChunkLocks
+pub mod CutOverOrder
+pub mod Laws
