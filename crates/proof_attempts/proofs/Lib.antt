@@ -1,0 +1,5 @@
+pub mod Listings
+pub mod Blocked
+pub mod Sentries
+pub mod Potentials
+pub mod Attempts
