@@ -1,5 +1,6 @@
 pub mod Listings
 pub mod Blocked
 pub mod Sentries
+pub mod Calls
 pub mod Potentials
 pub mod Attempts
