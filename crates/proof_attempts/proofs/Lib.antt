@@ -2,5 +2,6 @@ pub mod Listings
 pub mod Blocked
 pub mod Sentries
 pub mod Calls
+pub mod HintRows
 pub mod Potentials
 pub mod Attempts
