@@ -1,6 +1,6 @@
 -- The hint row of an attempt is stored, where no row of the changelog has its number.
 use Rattle.std.proofs.Common.{◌≡◌, ◌≤◌, ℕ, ◌+◌, ◌==◌, pos, Bool, true, false, cond, codes, not, ◌&&◌, ◌||◌, List, [], ◌∷◌, length, Option, Some, None, Result, Ok, Err, refl, sym, ap, ◌∙◌, subst, arith}
-use Rattle.std.specs.Prelude.{nat_le, nat_lt, int_le, unwrap_or}
+use Rattle.std.specs.Prelude.{nat_le, nat_lt, int_le}
 use Rattle.std.specs.Fmt.{signed_decimal}
 use Rattle.std.specs.List.{list_any}
 use Rattle.std.specs.Ordering.{is_eq, match_ordering}
@@ -16,7 +16,7 @@ use Rattle.base_values.specs.declared.unfit.Unfit.TheVariants as unfit
 use Rattle.base_values.specs.declared.value.Value.{Value}
 use Rattle.base_values.specs.declared.value.Value.TheVariants.{Null, Num, Text, Blob}
 use Rattle.base_values.specs.KeyOrder.{compare_keys}
-use Rattle.base_values.specs.GhoSchema.Rows.{key_of, has_key, with_row}
+use Rattle.base_values.specs.GhoSchema.Rows.{key_of, with_row}
 use Rattle.base_values.specs.GhoSchema.Tables.{clash}
 use Rattle.base_values.specs.StoredValues.{character_count, half, highest, in_range, lowest, stores, text_within}
 use Rattle.base_values.proofs.Orders.{tied_keys}
@@ -112,7 +112,7 @@ own_below : (n : ℕ) → is_below (n + 1) (key_of (0 ∷ []) (hint_row n)) ≡ 
 unfolding key_of hint_row
 own_below n = grind (arith, nat_tests)
 
-row_below : (n : ℕ) (rows : List (List Value)) → AllBelow (n + 1) rows → AllBelow (n + 1) (with_row (0 ∷ []) (hint_row n) rows)
+pub row_below : (n : ℕ) (rows : List (List Value)) → AllBelow (n + 1) rows → AllBelow (n + 1) (with_row (0 ∷ []) (hint_row n) rows)
 unfolding with_row
 row_below n [] all = and_from (is_below (n + 1) (key_of (0 ∷ []) (hint_row n))) true (own_below n) refl
 row_below n (first ∷ rows) all = by (compare_keys (key_of (0 ∷ []) (hint_row n)) (key_of (0 ∷ []) first)) (row_below n rows parts.1) where
@@ -123,9 +123,3 @@ row_below n (first ∷ rows) all = by (compare_keys (key_of (0 ∷ []) (hint_row
   by Less later = and_from (is_below (n + 1) (key_of (0 ∷ []) (hint_row n))) (all_keys (is_below (n + 1)) (0 ∷ []) (first ∷ rows)) (own_below n) all
   by Equal later = and_from (is_below (n + 1) (key_of (0 ∷ []) (hint_row n))) (all_keys (is_below (n + 1)) (0 ∷ []) (first ∷ rows)) (own_below n) all
   by Greater later = and_from (is_below (n + 1) (key_of (0 ∷ []) first)) (all_keys (is_below (n + 1)) (0 ∷ []) (with_row (0 ∷ []) (hint_row n) rows)) parts.0 later
-
-pub hint_below : (n : ℕ) (rows : List (List Value)) → AllBelow (n + 1) rows → AllBelow (n + 1) (unwrap_or (cond (has_key (0 ∷ []) rows (key_of (0 ∷ []) (hint_row n))) None (Some (with_row (0 ∷ []) (hint_row n) rows))) rows)
-hint_below n rows all = by (has_key (0 ∷ []) rows (key_of (0 ∷ []) (hint_row n))) where
-  by : (b : Bool) → AllBelow (n + 1) (unwrap_or (cond b None (Some (with_row (0 ∷ []) (hint_row n) rows))) rows)
-  by true = all
-  by false = row_below n rows all
