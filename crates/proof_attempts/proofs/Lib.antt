@@ -4,5 +4,7 @@ pub mod Sentries
 pub mod Calls
 pub mod HintRows
 pub mod ChangelogTurns
+pub mod HintInserts
+pub mod Changelogs
 pub mod Potentials
 pub mod Attempts
