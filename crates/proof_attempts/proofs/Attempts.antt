@@ -1,7 +1,7 @@
 -- The attempts' turns: each attempt that is begun pays for those that it may take, and each turn leaves fewer.
-use Rattle.std.proofs.Common.{◌≡◌, ◌≤◌, ◌<◌, ℕ, ◌+◌, ◌*◌, ◌==◌, Bool, true, false, cond, not, ◌||◌, ◌&&◌, List, [], ◌∷◌, ◌++◌, Option, Some, None, refl, sym, ap, ◌∙◌, subst, arith, mul-le-mul_right}
+use Rattle.std.proofs.Common.{◌≡◌, ◌≤◌, ℕ, ◌+◌, ◌*◌, Bool, true, false, cond, not, List, [], ◌∷◌, ◌++◌, Option, Some, None, refl, sym, ap, ◌∙◌, subst, arith}
 use Rattle.std.specs.Prelude.{is_some}
-use Rattle.std.proofs.lemmas.Bool.{true≢false, false≢true}
+use Rattle.std.proofs.lemmas.Bool.{true≢false}
 use Rattle.std.proofs.lemmas.Option.{none-some}
 use Rattle.base_script.specs.declared.actor.Actor.{Actor}
 use Rattle.base_script.specs.declared.actor.Actor.TheVariants.{Op, Insp, Copy, Apply, Lock, Ren, Client}
@@ -34,7 +34,7 @@ use Rattle.tool_program.specs.declared.cutover_core.cutover.Phase.{Phase}
 use Rattle.tool_program.specs.declared.cutover_core.cutover.Phase.TheVariants.{Resting, Attempting, Ending, Finishing, Finished}
 use Rattle.tool_program.specs.declared.cutover_core.cutover.Role.TheVariants.{Inspector, Locker, Renamer}
 use Rattle.tool_program.specs.declared.cutover_core.cutover.Stage.{Stage}
-use Rattle.tool_program.specs.declared.cutover_core.cutover.Stage.TheVariants.{Locking, Hinting, Draining, Drained, Showing, Dropping}
+use Rattle.tool_program.specs.declared.cutover_core.cutover.Stage.TheVariants.{Hinting, Showing}
 use Rattle.tool_program.specs.CutoverCore.Attempts as attempts
 use Rattle.tool_program.specs.CutoverCore.Attempts.{clears, has_name, has_sentry, is_clear, is_free, without_first}
 use Rattle.tool_program.specs.CutoverCore.CutOvers as cutovers
@@ -44,17 +44,15 @@ use Rattle.tool_program.specs.Setups.{Setup, Listing, Clearing, MakingLog, Makin
 use Rattle.tool_program.specs.Tools.{Work, ToolPhase, SettingUp, Migrating, Tool, Moment, stopped, is_reverting, tool_phase_of, moment}
 use Rattle.proof_journals.specs.Plans.{IsSerialPlan}
 use Rattle.proof_journals.specs.Run.Kept.{IsKept}
-use Rattle.proof_journals.specs.Machine.Machines.{ToolPhaseStands, WorkStands, SetupStands, PhaseHolds, held, renaming}
+use Rattle.proof_journals.specs.Machine.Machines.{ToolPhaseStands, WorkStands, SetupStands, held, renaming}
 use Rattle.proof_journals.specs.Machine.Runnable.{IsRunnable}
-use Rattle.proof_journals.specs.Machine.Standings.{Standing, free, standing_in, standing_of, serves_to, IsAbout, is_called, is_polled}
+use Rattle.proof_journals.specs.Machine.Standings.{Standing, free, standing_in, standing_of, serves_to, IsAbout, is_called}
 use Rattle.proof_journals.proofs.Actors.{live_more, same_actor_is}
 use Rattle.proof_journals.proofs.Machine.Asking.{some_request, idle_stands}
-use Rattle.proof_journals.proofs.Machine.CuttingOver.{LockerAsks}
 use Rattle.proof_journals.proofs.Machine.Journals.{IsRun, IsTogether, Asking, calls_so, polls_so, asking, lock_about}
 use Rattle.proof_journals.proofs.Machine.Seated.{IsKnown, IsServed, own_heard, own_given, own_missed, own_session}
 use Rattle.proof_journals.proofs.Machine.Tabling.{free_idle}
-use Rattle.proof_migration.proofs.Attempt.RenamerAnswers.{AsksAt}
-use Rattle.proof_migration.proofs.Attempt.Stages.{RenamerAt, StandsAt}
+use Rattle.proof_migration.proofs.Attempt.Stages.{StandsAt}
 use Rattle.proof_migration.proofs.Attempt.Standing.{ToolPhaseAt, about_own, asks_at, no_asking}
 use Rattle.proof_migration.proofs.Program.Turns.Follows.{kept_front, kept_run}
 use Rattle.proof_migration.proofs.ToolPhase.Owners.{commands_operator}
@@ -70,8 +68,9 @@ use Rattle.proof_bounds.proofs.Guards.{sentries_made}
 use Rattle.proof_bounds.proofs.Holders.{each_kept}
 use Rattle.proof_bounds.proofs.Leftovers.{WorkFits}
 use Rattle.proof_bounds.proofs.Waits.{IsCounted, counted_more, counted_begins, waited_by, idle_waited, waits_on, waits_end, waits_cut, waits_short, others_wait}
-use Rattle.proof_attempts.specs.Attempts.{IsOk, ShowsWait, IsNotRefused, AttemptGoes, AttemptsGoOn, AttemptTurnsAreFew}
-use Rattle.proof_attempts.proofs.Potentials.{hold_left, rename_left, clear_left, clear_two, phase_left, stage_left, stage_ends, whole_left, begun_left, waits_after, hold_waits, rename_waits, ended_left, drained_left, unseated_left, locker_pays, locker_lost, renamer_pays, renamer_lost, waits_left}
+use Rattle.proof_attempts.specs.Attempts.{IsOk, ShowsWait, TurnGoes, AttemptTurnsAreFew}
+use Rattle.proof_attempts.proofs.Calls.{attempts_go}
+use Rattle.proof_attempts.proofs.Potentials.{hold_left, rename_left, clear_left, phase_left, stage_ends, whole_left, begun_left, waits_after, hold_waits, rename_waits, ended_left, drained_left, unseated_left, locker_pays, locker_lost, renamer_pays, renamer_lost, waits_left}
 
 -- WHOSE TURN IT IS
 
@@ -211,7 +210,7 @@ module _ (plan : PlanData) (journal : List Entry) (counted : IsCounted plan jour
 
 -- ONE TURN
 
-module _ (plan : PlanData) (may : MayWait plan) (runs : IsRunnable plan) (journal : List Entry) (entry : Entry) (kept : IsKept plan journal) (run : IsRun plan journal entry) (going : IsGoing plan journal) (guarded : (work : Work) → (moment plan journal).tool.tool_phase ≡ Migrating work → HasSentryAtOnce work) (goes : AttemptsGoOn plan journal entry) (is : IsPaid plan journal) where
+module _ (plan : PlanData) (may : MayWait plan) (runs : IsRunnable plan) (journal : List Entry) (entry : Entry) (kept : IsKept plan journal) (run : IsRun plan journal entry) (going : IsGoing plan journal) (guarded : (work : Work) → (moment plan journal).tool.tool_phase ≡ Migrating work → HasSentryAtOnce work) (goes : TurnGoes plan journal entry) (is : IsPaid plan journal) where
   abbrev now : Moment
   now = moment plan journal
 
@@ -677,7 +676,7 @@ paid_begins : (plan : PlanData) → IsRunnable plan → IsPaid plan []
 unfolding moment live_session
 paid_begins plan runs = record { counted = counted_begins plan runs.fitting.scripts; paid = let none = count_none OfAttempts plan in omega (arith, none) }
 
-all_paid : (plan : PlanData) (journal : List Entry) → MayWait plan → IsRunnable plan → IsSerialPlan plan → IsKept plan journal → ((before : List Entry) (entry : Entry) → IsKept plan (before ++ entry ∷ []) → AttemptsGoOn plan before entry) → IsPaid plan journal
+all_paid : (plan : PlanData) (journal : List Entry) → MayWait plan → IsRunnable plan → IsSerialPlan plan → IsKept plan journal → ((before : List Entry) (entry : Entry) → IsKept plan (before ++ entry ∷ []) → TurnGoes plan before entry) → IsPaid plan journal
 all_paid plan journal may runs serial kept goes =
     each_kept plan (IsPaid plan)
     (λ before entry one is.
@@ -691,9 +690,9 @@ all_paid plan journal may runs serial kept goes =
 -- *The attempts' turns are few*
 pub attempt_turns_few : AttemptTurnsAreFew
 unfolding term_of measures
-attempt_turns_few plan journal may runs serial kept some goes = by (moment plan journal).tool.tool_phase refl is.paid where
+attempt_turns_few plan journal may tries runs serial kept = by (moment plan journal).tool.tool_phase refl is.paid where
   is : IsPaid plan journal
-  is = all_paid plan journal may runs serial kept goes
+  is = all_paid plan journal may runs serial kept (λ before entry one. attempts_go plan before entry tries runs serial one)
 
   going : IsGoing plan journal
   going = all_going plan journal runs serial kept
@@ -716,7 +715,7 @@ attempt_turns_few plan journal may runs serial kept some goes = by (moment plan 
         none_of : (t l r k : ℕ) → t ≤ l + r → l ≤ 0 → r ≤ 0 → t ≤ k
         none_of t l r k paid lock ren = omega (arith, paid, lock, ren)
   by (Migrating work) eq paid =
-      let most = times work.cutover.attempts plan.options.default_retries (whole_left plan.options.tool_wait) (attempts_few plan journal work some kept.faithful kept.follows eq) in
+      let most = times work.cutover.attempts plan.options.default_retries (whole_left plan.options.tool_wait) (attempts_few plan journal work tries.some kept.faithful kept.follows eq) in
       join (turns_at plan journal) (phase_left plan.options.tool_wait (live_at journal) work.cutover.hold work.cutover.renamer_waits work.cutover.phase) (work.cutover.attempts * whole_left plan.options.tool_wait) (plan.options.default_retries * whole_left plan.options.tool_wait) (waited_by plan journal Lock) (waited_by plan journal Ren) (hold_waits plan.options.tool_wait work.cutover.hold) (rename_waits plan.options.tool_wait work.cutover.renamer_waits)
       paid most (lock_waits plan journal is.counted going work eq) (ren_waits plan journal is.counted going work eq)
       (waits_left plan.options.tool_wait (live_at journal) work.cutover.hold work.cutover.renamer_waits work.cutover.phase (work_stands plan journal is.counted going work eq).phase (work_at plan journal is.counted going work eq).renamer (sentries_made plan journal work runs serial kept eq).hold (hold_done plan journal is.counted going work eq) (renames_done plan journal is.counted going work eq))

@@ -1,5 +1,5 @@
 -- While the locker has locked the table the RENAME's call waits, and the listing of waits shows it.
-use Rattle.std.proofs.Common.{◌≡◌, ◌≢◌, ◌≤◌, ℕ, ◌==◌, Bool, true, false, not, ◌||◌, List, [], ◌∷◌, ◌++◌, Option, Some, None, refl, sym, ap, ◌∙◌, subst, arith}
+use Rattle.std.proofs.Common.{◌≡◌, ◌≢◌, ◌≤◌, ℕ, ◌==◌, Bool, true, false, not, List, [], ◌∷◌, Option, Some, None, refl, sym, ap, ◌∙◌, subst, arith}
 use Rattle.std.specs.Prelude.{is_some}
 use Rattle.std.specs.List.{list_any}
 use Rattle.std.specs.Option.{option_map}
@@ -8,17 +8,14 @@ use Rattle.std.proofs.lemmas.Bool.{true≢false, false≢true, or_left}
 use Rattle.std.proofs.lemmas.Bool.Decides.{nat_tests}
 use Rattle.std.proofs.lemmas.Option.{same_Some}
 use Rattle.base_script.specs.declared.actor.Actor.{Actor}
-use Rattle.base_script.specs.declared.actor.Actor.TheVariants.{Insp, Lock, Ren}
+use Rattle.base_script.specs.declared.actor.Actor.TheVariants.{Lock, Ren}
 use Rattle.base_script.specs.declared.actor.Side.{Side}
 use Rattle.server_locks.proofs.LeastSession.Sessions.{none_of}
 use Rattle.server_locks.specs.MetadataLocks.Grants.{HeldName, holds, blocker_of_names}
 use Rattle.server_locks.specs.RowLocks.Grants.{blocker_of_set}
-use Rattle.server_model.specs.declared.answer.Answer.{Answer}
-use Rattle.server_model.specs.declared.answer.Answer.TheVariants as answers
 use Rattle.server_model.specs.declared.entry.Asked.{Asked}
 use Rattle.server_model.specs.declared.entry.Asked.TheVariants.{Call}
 use Rattle.server_model.specs.declared.entry.Entry.{Entry}
-use Rattle.server_model.specs.declared.request.Request.{Request}
 use Rattle.server_model.specs.declared.request.Request.TheVariants as requests
 use Rattle.server_model.specs.declared.session.Session.{Session}
 use Rattle.server_model.specs.declared.session.Waiting.{Waiting}
@@ -37,7 +34,7 @@ use Rattle.proof_journals.specs.Holdings.{face_in, face_of}
 use Rattle.proof_journals.specs.Turns.{request_of}
 use Rattle.proof_journals.specs.Run.Kept.{IsKept}
 use Rattle.proof_journals.specs.Machine.Machines.{both_names}
-use Rattle.proof_journals.specs.Machine.Standings.{Standing, standing_in, standing_of, serves_to, IsAbout, is_called}
+use Rattle.proof_journals.specs.Machine.Standings.{standing_in, standing_of, serves_to, IsAbout}
 use Rattle.proof_journals.specs.ServerTurns.Others.{held_at}
 use Rattle.proof_journals.proofs.Actors.{Placed, Commands, GoesOn, Begins, placed, others_differ}
 use Rattle.proof_journals.proofs.Journals.{opened_waits}

@@ -1,24 +1,18 @@
 -- Each call of an attempt goes on.
-use Rattle.std.proofs.Common.{◌≡◌, ℕ, Bool, true, false, List, [], ◌∷◌, ◌++◌, Option, Some, None, refl, sym, ap, ◌∙◌, subst}
+use Rattle.std.proofs.Common.{◌≡◌, ℕ, false, List, [], ◌∷◌, ◌++◌, Option, Some, None, refl, sym, ap, ◌∙◌, subst}
 use Rattle.std.proofs.lemmas.Bool.{true≢false}
 use Rattle.base_script.specs.declared.actor.Actor.{Actor}
 use Rattle.base_script.specs.declared.actor.Actor.TheVariants.{Insp, Lock, Ren}
-use Rattle.server_model.specs.declared.answer.Answer.{Answer}
-use Rattle.server_model.specs.declared.answer.Answer.TheVariants as answers
-use Rattle.server_model.specs.declared.entry.Asked.{Asked}
-use Rattle.server_model.specs.declared.entry.Asked.TheVariants.{Call, Cut}
+use Rattle.server_model.specs.declared.entry.Asked.TheVariants.{Call}
 use Rattle.server_model.specs.declared.entry.Entry.{Entry}
 use Rattle.server_model.specs.declared.request.Request.{Request}
 use Rattle.server_model.specs.declared.request.Request.TheVariants as requests
-use Rattle.server_model.specs.Answers.{ok}
 use Rattle.server_model.specs.Entries.{is_command, is_cut}
 use Rattle.plan_data.specs.PlanData.{PlanData}
 use Rattle.tool_program.specs.JournalWords.Journals.{state_at}
-use Rattle.tool_program.specs.declared.cutover_core.cutover.Clearing.TheVariants.{Drops}
-use Rattle.tool_program.specs.declared.cutover_core.cutover.Hold.{Hold}
 use Rattle.tool_program.specs.declared.cutover_core.cutover.Hold.TheVariants.{Locks}
 use Rattle.tool_program.specs.declared.cutover_core.cutover.Phase.{Phase}
-use Rattle.tool_program.specs.declared.cutover_core.cutover.Phase.TheVariants.{Attempting, Ending}
+use Rattle.tool_program.specs.declared.cutover_core.cutover.Phase.TheVariants.{Attempting}
 use Rattle.tool_program.specs.declared.cutover_core.cutover.Stage.TheVariants.{Hinting, Drained, Showing}
 use Rattle.tool_program.specs.CutoverCore.Attempts as attempts
 use Rattle.tool_program.specs.CutoverCore.Attempts.{exchange, writes_hint}
@@ -39,15 +33,12 @@ use Rattle.proof_migration.proofs.ToolPhase.ToolPhaseTurns.{gives_asked}
 use Rattle.proof_bounds.specs.Guards.{HasSentryAtOnce}
 use Rattle.proof_bounds.proofs.Going.{IsGoing, all_going}
 use Rattle.proof_bounds.proofs.Guards.{sentries_made}
-use Rattle.proof_attempts.specs.Attempts.{IsNotRefused, IsOk, ShowsWait, AttemptGoes, AttemptsGoOn}
+use Rattle.proof_attempts.specs.Attempts.{IsNotRefused, IsOk, ShowsWait, AttemptGoes, MayTry, AttemptsGoOn}
 use Rattle.proof_attempts.proofs.Blocked.{rename_goes, listing_shows}
+use Rattle.proof_attempts.proofs.Changelogs.{hint_goes}
 use Rattle.proof_attempts.proofs.Sentries.{ToolPhaseSentry, all_sentried, locks_go, drops_go, clears_ok}
 
--- the hint row is written, where its session isn't lost
-abbrev pub HintGoes : PlanData → List Entry → Entry → Work → Type 0
-HintGoes plan before entry work = (moment plan before).tool.tool_phase ≡ Migrating work → work.cutover.phase ≡ Attempting Hinting → entry.actor ≡ Insp → entry.asked ≡ Call (writes_hint plan.table work.cutover.attempts) → entry.side ≡ None → IsOk entry.answer
-
-module _ (plan : PlanData) (runs : IsRunnable plan) (serial : IsSerialPlan plan) (journal : List Entry) (entry : Entry) (kept_more : IsKept plan (journal ++ entry ∷ [])) (hint : (work : Work) → HintGoes plan journal entry work) where
+module _ (plan : PlanData) (runs : IsRunnable plan) (serial : IsSerialPlan plan) (journal : List Entry) (entry : Entry) (tries : MayTry plan) (kept_more : IsKept plan (journal ++ entry ∷ [])) where
   abbrev now : Moment
   now = moment plan journal
 
@@ -141,9 +132,9 @@ module _ (plan : PlanData) (runs : IsRunnable plan) (serial : IsSerialPlan plan)
       by : (request : Request) → entry.asked ≡ Call request → Some (writes_hint work.cutover.table work.cutover.attempts) ≡ Some request → IsOk entry.answer
       by request asks call =
           some_request (λ (r : Request). entry.asked ≡ Call r → IsOk entry.answer) (writes_hint work.cutover.table work.cutover.attempts) request call
-          (λ asks_it. hint work eq hinting same (asks_it ∙ ap (λ (t : List ℕ). Call (writes_hint t work.cutover.attempts)) own_table) none) asks
+          (λ asks_it. hint_goes plan journal entry work runs serial tries.some tries.few kept_more eq hinting same (asks_it ∙ ap (λ (t : List ℕ). Call (writes_hint t work.cutover.attempts)) own_table) none) asks
 
-    pub goes_on : AttemptGoes work entry
+    goes_on : AttemptGoes work entry
     goes_on = record {
       locks = λ locking same. locks_go plan runs journal entry kept run going guarded sentry work eq called locking same (lock_asking same);
       hints = hints;
@@ -154,3 +145,7 @@ module _ (plan : PlanData) (runs : IsRunnable plan) (serial : IsSerialPlan plan)
           insp_calls (IsOk entry.answer) same
           (λ request asks call. subst IsOk (sym (clears_ok plan runs journal entry kept run going guarded sentry work eq same request asks left ending (subst (λ (p : Phase). attempts.inspector_call work.cutover p ≡ Some request) ending call) none)) tt);
     }
+
+-- *Attempts go on*
+pub attempts_go : AttemptsGoOn
+attempts_go plan before entry tries runs serial kept work eq called uncut = goes_on plan runs serial before entry tries kept work eq called uncut

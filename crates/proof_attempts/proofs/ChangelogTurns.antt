@@ -1,12 +1,11 @@
 -- What a turn leaves of the changelog's rows: the same, or a table without rows; but for the turn that writes a hint row.
-use Rattle.std.proofs.Common.{◌≡◌, ◌⊎◌, ℕ, Bool, true, false, cond, not, ◌||◌, List, [], ◌∷◌, ◌++◌, Option, Some, None, Result, Ok, Err, refl, sym, ap, ◌∙◌, subst, inl, inr}
+use Rattle.std.proofs.Common.{◌≡◌, ◌⊎◌, ℕ, Bool, true, false, cond, List, [], ◌∷◌, ◌++◌, Option, Some, None, Result, Ok, Err, refl, sym, ap, ◌∙◌, inl, inr}
 use Rattle.std.specs.List.{list_any}
 use Rattle.std.specs.Str.{bytes_eq}
 use Rattle.std.proofs.lemmas.Bool.{true≢false, false_from_ne_true, or_from}
 use Rattle.std.proofs.lemmas.Option.{none-some, same_Some}
 use Rattle.base_script.specs.declared.actor.Actor.{Actor}
 use Rattle.base_script.specs.declared.actor.Actor.TheVariants.{Op, Insp, Copy, Apply, Lock, Ren, Client}
-use Rattle.base_values.specs.declared.gho_schema.schema.Schema.{Schema}
 use Rattle.base_values.specs.ToolNames.{ghost_name, log_name, old_name, is_tool_name}
 use Rattle.table_store.specs.Databases.{Database, TableRows, find_table, has_table, is_named, rename_tables, without_table}
 use Rattle.table_store.specs.declared.renames.NotRenamed.{NotRenamed}
@@ -24,7 +23,6 @@ use Rattle.tool_program.specs.JournalWords.Journals.{opens, state_at}
 use Rattle.tool_program.specs.CutoverCore.Attempts.{exchange}
 use Rattle.tool_program.proofs.OnlineCalls.Naming.{not_log}
 use Rattle.server_model.proofs.LockedRows.Tests.{are_same, turned_bytes}
-use Rattle.proof_journals.specs.Holdings.{stored}
 use Rattle.proof_journals.specs.Plans.{IsSerialPlan, limits_of, scene_of}
 use Rattle.proof_journals.specs.Scenes.{Stored}
 use Rattle.proof_journals.specs.Turns.{ClientAsks, about, reported_at}
@@ -34,7 +32,7 @@ use Rattle.proof_journals.proofs.Ghost.Keeping.{found_besides}
 use Rattle.proof_journals.proofs.Machine.Marks.{ghost_not_log}
 use Rattle.proof_journals.proofs.Moves.{drop_moves, gone_none, rename_moves}
 use Rattle.proof_migration.specs.ToolPhase.Unaltered.{IsUnaltered}
-use Rattle.proof_migration.proofs.Migration.Leaves.{Cases, IsMoved, WritesAway, turn_leaves}
+use Rattle.proof_migration.proofs.Migration.Leaves.{IsMoved, WritesAway, turn_leaves}
 use Rattle.proof_migration.proofs.Program.Hints.Asked.{known, run, scene_run}
 use Rattle.proof_migration.proofs.Program.Hints.Logging.{LogsAway, NoneWrote, away_left, watched}
 use Rattle.proof_migration.proofs.Program.Turns.Asked.{asked_as}

@@ -13,12 +13,10 @@ use Rattle.base_script.specs.declared.actor.Actor.{Actor}
 use Rattle.base_script.specs.declared.actor.Actor.TheVariants.{Op, Insp, Copy, Apply, Lock, Ren, Client}
 use Rattle.base_script.specs.declared.actor.Side.{Side}
 use Rattle.base_script.specs.declared.actor.Side.TheVariants.{Before, After}
-use Rattle.base_script.specs.declared.operator.OperatorWord.{OperatorWord}
-use Rattle.base_script.specs.declared.operator.OperatorWord.TheVariants.{ChunkSize}
 use Rattle.base_values.specs.declared.event.RowEvent.{RowEvent}
 use Rattle.base_values.specs.declared.gho_schema.schema.Schema.{Schema}
 use Rattle.base_values.specs.ToolNames.{log_name}
-use Rattle.table_store.specs.Databases.{Database, TableRows, find_table, has_table}
+use Rattle.table_store.specs.Databases.{Database, TableRows, find_table}
 use Rattle.server_model.specs.Blockers.{need, blocker}
 use Rattle.server_model.specs.declared.answer.Answer.{Answer}
 use Rattle.server_model.specs.declared.answer.Answer.TheVariants as answers
@@ -26,19 +24,17 @@ use Rattle.server_model.specs.declared.entry.Asked.{Asked}
 use Rattle.server_model.specs.declared.entry.Asked.TheVariants.{Call, Poll, Command, Cut}
 use Rattle.server_model.specs.declared.entry.Entry.{Entry}
 use Rattle.server_model.specs.declared.request.Request.{Request}
-use Rattle.server_model.specs.declared.request.Request.TheVariants as requests
 use Rattle.server_model.specs.declared.session.Session.{Session}
 use Rattle.server_model.specs.Effects.{is_outside}
-use Rattle.server_model.specs.Entries.{same_actor, is_client, is_command, is_cut}
+use Rattle.server_model.specs.Entries.{same_actor, is_client, is_command}
 use Rattle.server_model.specs.PlainServer.{done, called_unless, calls, leaves, loses, serves}
-use Rattle.server_model.specs.States.{State, has_work, is_in_transaction, session_of, writes_of}
+use Rattle.server_model.specs.States.{State, is_in_transaction, session_of, writes_of}
 use Rattle.plan_data.specs.PlanData.{PlanData}
 use Rattle.tool_changelog.specs.Hints.{hint_in, last_hint}
 use Rattle.tool_changelog.specs.ToolTables.{log_schema}
 use Rattle.tool_program.specs.JournalWords.Histories as histories
 use Rattle.tool_program.specs.JournalWords.Histories.{is_alter}
 use Rattle.tool_program.specs.JournalWords.Journals.{opens, opens_if, state_at}
-use Rattle.tool_program.specs.JournalWords.Sessions.{live_session}
 use Rattle.tool_program.specs.declared.cutover_core.cutover.Clearing.{Clearing as Cleared}
 use Rattle.tool_program.specs.declared.cutover_core.cutover.Clearing.TheVariants.{Looking, Drops}
 use Rattle.tool_program.specs.declared.cutover_core.cutover.Leftovers.{Leftovers}
@@ -47,19 +43,18 @@ use Rattle.tool_program.specs.declared.cutover_core.cutover.Phase.TheVariants.{R
 use Rattle.tool_program.specs.declared.cutover_core.cutover.Stage.TheVariants.{Hinting, Showing}
 use Rattle.tool_program.specs.CutoverCore.Attempts as attempts
 use Rattle.tool_program.specs.CutoverCore.Attempts.{clears, first_name, is_clear, is_free, without_first, writes_hint}
-use Rattle.tool_program.specs.CutoverCore.CutOvers.{is_bad, reverted, applier_turn}
+use Rattle.tool_program.specs.CutoverCore.CutOvers.{applier_turn}
 use Rattle.tool_program.specs.Programs.{tool_call, given}
 use Rattle.tool_program.specs.Setups.{Setup, Listing, Clearing, MakingLog, MakingGhost, Marking, Reaching, Ready, clearing, listed, setup_call, setup_after, setup_step}
 use Rattle.tool_program.specs.Tools.{Work, ToolPhase, SettingUp, Migrating, Tool, Moment, stopped, is_reverting, tool_phase_of, moment}
 use Rattle.tool_program.proofs.OnlineCalls.Machines.{ToolPhaseIsNamed, named}
-use Rattle.proof_journals.specs.Holdings.{face_in, face_of, stored}
+use Rattle.proof_journals.specs.Holdings.{face_in, stored}
 use Rattle.proof_journals.specs.Plans.{IsSerialPlan}
 use Rattle.proof_journals.specs.Scenes.{SessionHold, Stored, no_hold}
 use Rattle.proof_journals.specs.Turns.{about}
 use Rattle.proof_journals.specs.Run.Kept.{IsKept}
-use Rattle.proof_journals.specs.Machine.MigrationTables.{schema_of}
 use Rattle.proof_journals.specs.Machine.Runnable.{IsRunnable}
-use Rattle.proof_journals.specs.Machine.Standings.{Standing, free, standing_in, standing_of, answered, IsAbout, is_called}
+use Rattle.proof_journals.specs.Machine.Standings.{Standing, free, standing_in, standing_of, answered, is_called}
 use Rattle.proof_journals.proofs.Actors.{Placed, Commands, GoesOn, Begins, placed, same_actor_is}
 use Rattle.proof_journals.proofs.Journals.{stored_opened}
 use Rattle.proof_journals.proofs.Machine.Asking.{some_request, unless_called}
@@ -80,16 +75,16 @@ use Rattle.proof_migration.proofs.Program.InspectorTurns.Keeping.{past_log, LogS
 use Rattle.proof_migration.proofs.Program.Turns.Asked.{waits_with}
 use Rattle.proof_migration.proofs.Program.Turns.Follows.{kept_front, kept_run}
 use Rattle.proof_migration.proofs.ToolPhase.CopyAnswers.{not_outside}
-use Rattle.proof_migration.proofs.ToolPhase.ToolPhaseTurns.{Kept, UnfitKeeps, CopyKeeps, ApplyKeeps, SetupKeeps, AnswerKeeps, ResizeKeeps, turn_kept, gives_asked}
+use Rattle.proof_migration.proofs.ToolPhase.ToolPhaseTurns.{Kept, SetupKeeps, AnswerKeeps, ResizeKeeps, turn_kept, gives_asked}
 use Rattle.proof_migration.proofs.ToolPhase.Unaltered.Away.{unaltered_front}
 use Rattle.proof_bounds.proofs.Attempts.{attempts_few}
 use Rattle.proof_bounds.proofs.Going.{IsGoing, ToolPhaseFits, all_going, insp_free}
 use Rattle.proof_bounds.proofs.Holders.{each_kept}
 use Rattle.proof_bounds.proofs.Leftovers.{SetupFits}
-use Rattle.proof_attempts.specs.Attempts.{IsOk}
+use Rattle.proof_attempts.specs.Attempts.{IsOk, most_tries}
 use Rattle.proof_attempts.proofs.ChangelogTurns.{others_away, rows_left, logs_left}
 use Rattle.proof_attempts.proofs.HintInserts.{AllNumbered, HintDone, hint_done, hint_numbered}
-use Rattle.proof_attempts.proofs.HintRows.{AllBelow, most_attempts, more_below}
+use Rattle.proof_attempts.proofs.HintRows.{AllBelow, more_below}
 
 -- THE CHANGELOG WAS MADE
 
@@ -156,7 +151,7 @@ hints_so Finished hinting = absurd (false≢true hinting)
 
 -- ONE TURN
 
-module _ (plan : PlanData) (runs : IsRunnable plan) (serial : IsSerialPlan plan) (some : 1 ≤ plan.options.default_retries) (few : plan.options.default_retries ≤ most_attempts) (journal : List Entry) (entry : Entry) (kept_more : IsKept plan (journal ++ entry ∷ [])) where
+module _ (plan : PlanData) (runs : IsRunnable plan) (serial : IsSerialPlan plan) (some : 1 ≤ plan.options.default_retries) (few : plan.options.default_retries ≤ most_tries) (journal : List Entry) (entry : Entry) (kept_more : IsKept plan (journal ++ entry ∷ [])) where
   abbrev t : List ℕ
   t = plan.table
 
@@ -350,7 +345,7 @@ module _ (plan : PlanData) (runs : IsRunnable plan) (serial : IsSerialPlan plan)
     found : (table : TableRows) × (find_table (log_name t) before.tables ≡ Some table) × (table.schema ≡ log_schema t)
     found = found_some (find_table (log_name t) before.tables) (log_schema t) log_stands
 
-    most : n ≤ most_attempts
+    most : n ≤ most_tries
     most = let less = attempts_few plan journal work some kept.faithful kept.follows eq in omega (arith, less, few)
 
     least : 1 ≤ n
@@ -490,7 +485,7 @@ numbered_begins : (plan : PlanData) → IsNumbered plan []
 unfolding moment
 numbered_begins plan past = absurd (false≢true past)
 
-all_numbered : (plan : PlanData) (journal : List Entry) → IsRunnable plan → IsSerialPlan plan → 1 ≤ plan.options.default_retries → plan.options.default_retries ≤ most_attempts → IsKept plan journal → IsUnaltered plan journal → IsNumbered plan journal
+all_numbered : (plan : PlanData) (journal : List Entry) → IsRunnable plan → IsSerialPlan plan → 1 ≤ plan.options.default_retries → plan.options.default_retries ≤ most_tries → IsKept plan journal → IsUnaltered plan journal → IsNumbered plan journal
 all_numbered plan journal runs serial some few kept =
     each_kept plan (λ before. IsUnaltered plan before → IsNumbered plan before) (λ before entry one is off. numbered_more plan runs serial some few before entry one off (is (unaltered_front plan before (entry ∷ []) off))) journal kept (λ off. numbered_begins plan)
 
@@ -502,7 +497,7 @@ attempt_unaltered plan journal work runs serial kept eq hinting = by (list_any i
   by true marked = absurd (subst (IsRenamedAt plan (state_at plan journal).tables) hinting (subst (ToolPhaseRenamed plan (state_at plan journal).tables) eq (all_seen plan journal runs serial kept.faithful kept.follows marked)))
 
 -- *The hint row goes on*
-pub hint_goes : (plan : PlanData) (before : List Entry) (entry : Entry) (work : Work) → IsRunnable plan → IsSerialPlan plan → 1 ≤ plan.options.default_retries → plan.options.default_retries ≤ most_attempts → IsKept plan (before ++ entry ∷ []) → (moment plan before).tool.tool_phase ≡ Migrating work → work.cutover.phase ≡ Attempting Hinting → entry.actor ≡ Insp
+pub hint_goes : (plan : PlanData) (before : List Entry) (entry : Entry) (work : Work) → IsRunnable plan → IsSerialPlan plan → 1 ≤ plan.options.default_retries → plan.options.default_retries ≤ most_tries → IsKept plan (before ++ entry ∷ []) → (moment plan before).tool.tool_phase ≡ Migrating work → work.cutover.phase ≡ Attempting Hinting → entry.actor ≡ Insp
     → entry.asked ≡ Call (writes_hint plan.table work.cutover.attempts) → entry.side ≡ None → IsOk entry.answer
 hint_goes plan before entry work runs serial some few kept eq hinting same asks none =
     let front : IsKept plan before = kept_front plan before (entry ∷ []) kept in

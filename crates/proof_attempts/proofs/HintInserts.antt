@@ -1,10 +1,8 @@
 -- The INSERT of an attempt's hint row is done, where its number is new; and the next attempt's is new then.
-use Rattle.std.proofs.Common.{◌≡◌, ◌≤◌, ◌<◌, ℕ, ◌+◌, pos, Bool, true, false, cond, codes, ◌&&◌, List, [], ◌∷◌, ◌++◌, Option, Some, None, Result, Ok, Err, refl, sym, ap, ◌∙◌, subst, arith}
+use Rattle.std.proofs.Common.{◌≡◌, ◌≤◌, ℕ, ◌+◌, pos, Bool, true, false, cond, List, [], ◌∷◌, ◌++◌, Some, None, Result, refl, sym, ap, ◌∙◌, subst, arith}
 use Rattle.std.specs.Prelude.{nat_lt}
 use Rattle.std.specs.Fmt.{signed_decimal}
-use Rattle.std.specs.List.{list_any}
 use Rattle.std.specs.Str.{bytes_eq}
-use Rattle.std.proofs.lemmas.Bool.{true≢false}
 use Rattle.std.proofs.lemmas.Bool.Decides.{nat_tests}
 use Rattle.std.proofs.lemmas.List.Sums.{fold-append}
 use Rattle.std.proofs.lemmas.Option.{same_Some}
@@ -31,11 +29,12 @@ use Rattle.server_model.specs.States.{State, is_in_transaction, session_of, view
 use Rattle.server_model.specs.StatementResults.{only, tells}
 use Rattle.server_model.proofs.LockedRows.Finding.{change_if, found_after}
 use Rattle.server_model.proofs.LockedRows.Tests.{same_bytes}
-use Rattle.tool_changelog.specs.Hints.{hint_if, hint_in, hint_of, hint_row, last_hint, or_last}
-use Rattle.tool_changelog.specs.ToolTables.{first_is_primary, log_schema}
+use Rattle.tool_changelog.specs.Hints.{hint_in, hint_of, hint_row, last_hint, or_last}
+use Rattle.tool_changelog.specs.ToolTables.{log_schema}
 use Rattle.tool_program.specs.CutoverCore.Attempts.{writes_hint}
 use Rattle.proof_migration.proofs.Program.InspectorTurns.Hints.{hint_event, hint_insert}
-use Rattle.proof_attempts.proofs.HintRows.{AllBelow, most_attempts, hint_made, hint_new, more_below, row_below}
+use Rattle.proof_attempts.specs.Attempts.{most_tries}
+use Rattle.proof_attempts.proofs.HintRows.{AllBelow, hint_made, hint_new, more_below, row_below}
 
 -- the numbers of the changelog's rows are those of its hint rows at most
 abbrev pub AllNumbered : List ℕ → Database → List RowEvent → Type 0
@@ -47,7 +46,7 @@ log_key : (t : List ℕ) → key_places (log_schema t) ≡ 0 ∷ []
 unfolding log_schema clustered_among
 log_key t = refl
 
-hint_result : (t : List ℕ) (n : ℕ) (tables : Database) (table : TableRows) → find_table (log_name t) tables ≡ Some table → table.schema ≡ log_schema t → n ≤ most_attempts → AllBelow n table.rows → statement_result tables (hint_insert t n) ≡ record { answer = answers.Ok 1; events = hint_event t n ∷ [] }
+hint_result : (t : List ℕ) (n : ℕ) (tables : Database) (table : TableRows) → find_table (log_name t) tables ≡ Some table → table.schema ≡ log_schema t → n ≤ most_tries → AllBelow n table.rows → statement_result tables (hint_insert t n) ≡ record { answer = answers.Ok 1; events = hint_event t n ∷ [] }
 unfolding operation_result work_of tells log_schema
 hint_result t n tables table found schema few below =
     ap (result_in (operation_of (hint_insert t n))) found
@@ -64,7 +63,7 @@ pub record HintDone (t : List ℕ) (n : ℕ) (state : State) (served : Served) :
 
 -- by a session that holds no table lock and is in no transaction
 pub hint_done : (t : List ℕ) (n : ℕ) (state : State) (number : ℕ) (table : TableRows) → is_outside (session_of number state.sessions) (writes_hint t n) ≡ false → is_in_transaction (session_of number state.sessions) ≡ false → writes_of (session_of number state.sessions) ≡ [] → find_table (log_name t) state.tables ≡ Some table
-    → table.schema ≡ log_schema t → n ≤ most_attempts → AllBelow n table.rows → HintDone t n state (done state number (writes_hint t n))
+    → table.schema ≡ log_schema t → n ≤ most_tries → AllBelow n table.rows → HintDone t n state (done state number (writes_hint t n))
 unfolding done after_events
 hint_done t n state number table inside idle none found schema few below = record {
   answer = by (λ (s : Served). s.answer) ∙ ap (λ (r : StatementResult). r.answer) result;

@@ -1,38 +1,34 @@
 -- The hint row of an attempt is stored, where no row of the changelog has its number.
-use Rattle.std.proofs.Common.{◌≡◌, ◌≤◌, ℕ, ◌+◌, ◌==◌, pos, Bool, true, false, cond, codes, not, ◌&&◌, ◌||◌, List, [], ◌∷◌, length, Option, Some, None, Result, Ok, Err, refl, sym, ap, ◌∙◌, subst, arith}
+use Rattle.std.proofs.Common.{◌≡◌, ◌≤◌, ℕ, ◌+◌, pos, Bool, true, false, cond, codes, ◌||◌, List, [], ◌∷◌, length, None, Result, Ok, Err, refl, ap, ◌∙◌, arith}
 use Rattle.std.specs.Prelude.{nat_le, nat_lt, int_le}
 use Rattle.std.specs.Fmt.{signed_decimal}
 use Rattle.std.specs.List.{list_any}
 use Rattle.std.specs.Ordering.{is_eq, match_ordering}
 use Rattle.std.specs.declared.cmp.Ordering.{Ordering}
 use Rattle.std.specs.declared.cmp.Ordering.TheVariants.{Less, Equal, Greater}
-use Rattle.std.proofs.lemmas.Bool.{true≢false, false≢true, and_parts, and_from}
+use Rattle.std.proofs.lemmas.Bool.{false≢true, and_parts, and_from}
 use Rattle.std.proofs.lemmas.Bool.Decides.{nat_tests}
 use Rattle.std.proofs.lemmas.Fmt.{length_signed_le}
 use Rattle.std.proofs.lemmas.List.Sums.{count_by-le-length}
-use Rattle.base_values.specs.declared.gho_schema.schema.Schema.{Schema}
 use Rattle.base_values.specs.declared.unfit.Unfit.{Unfit}
 use Rattle.base_values.specs.declared.unfit.Unfit.TheVariants as unfit
 use Rattle.base_values.specs.declared.value.Value.{Value}
-use Rattle.base_values.specs.declared.value.Value.TheVariants.{Null, Num, Text, Blob}
+use Rattle.base_values.specs.declared.value.Value.TheVariants.{Num, Text}
 use Rattle.base_values.specs.KeyOrder.{compare_keys}
 use Rattle.base_values.specs.GhoSchema.Rows.{key_of, with_row}
 use Rattle.base_values.specs.GhoSchema.Tables.{clash}
-use Rattle.base_values.specs.StoredValues.{character_count, half, highest, in_range, lowest, stores, text_within}
+use Rattle.base_values.specs.StoredValues.{character_count, half, highest, in_range, stores, text_within}
 use Rattle.base_values.proofs.Orders.{tied_keys}
 use Rattle.server_model.specs.Checks.{◌>>=◌, beside, new_row, row_from, value_at}
 use Rattle.server_model.specs.declared.answer.Answer.{Answer}
 use Rattle.tool_changelog.specs.Hints.{hint_row}
 use Rattle.tool_changelog.specs.ToolTables.{first_is_primary, log_schema}
 use Rattle.proof_bounds.specs.Rows.{all_keys}
+use Rattle.proof_attempts.specs.Attempts.{most_tries}
 
 -- IT FITS
 
--- so many attempts a plan may have
-abbrev pub most_attempts : ℕ
-most_attempts = 1000
-
-number_fits : (n : ℕ) → n ≤ most_attempts → in_range 8 false (pos n) ≡ Ok (Num (pos n))
+number_fits : (n : ℕ) → n ≤ most_tries → in_range 8 false (pos n) ≡ Ok (Num (pos n))
 unfolding in_range half
 number_fits n few = ap (λ (b : Bool). cond b (Ok (Num (pos n))) (Err unfit.Range)) less where
   less : int_le (pos n) (highest 8 false) ≡ true
@@ -42,7 +38,7 @@ hint_fits : text_within 64 (codes "cut-over") ≡ Ok (Text (codes "cut-over"))
 unfolding text_within character_count
 hint_fits = refl
 
-text_fits : (n : ℕ) → n ≤ most_attempts → text_within 255 (signed_decimal (pos n)) ≡ Ok (Text (signed_decimal (pos n)))
+text_fits : (n : ℕ) → n ≤ most_tries → text_within 255 (signed_decimal (pos n)) ≡ Ok (Text (signed_decimal (pos n)))
 unfolding text_within character_count
 text_fits n few = ap (λ (b : Bool). cond b (Ok (Text (signed_decimal (pos n)))) (Err unfit.Length)) short where
   digits : length (signed_decimal (pos n)) ≤ 4 + 1
@@ -58,7 +54,7 @@ joined : (place : ℕ) (stored : Result Value Unfit) (own : Value) (others : Res
 joined place stored own others rest one more = rw (one, more) refl
 
 -- *The row that is made*
-pub hint_made : (t : List ℕ) (n : ℕ) → n ≤ most_attempts → new_row (log_schema t) None (hint_row n) ≡ Ok (hint_row n)
+pub hint_made : (t : List ℕ) (n : ℕ) → n ≤ most_tries → new_row (log_schema t) None (hint_row n) ≡ Ok (hint_row n)
 unfolding new_row row_from beside stores log_schema hint_row
 hint_made t n few =
     joined 0 (in_range 8 false (pos n)) (Num (pos n)) _ (Text (codes "cut-over") ∷ Text (signed_decimal (pos n)) ∷ []) (number_fits n few)

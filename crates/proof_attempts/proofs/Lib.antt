@@ -1,10 +1,10 @@
+pub mod Potentials
 pub mod Listings
 pub mod Blocked
 pub mod Sentries
-pub mod Calls
 pub mod HintRows
-pub mod ChangelogTurns
 pub mod HintInserts
+pub mod ChangelogTurns
 pub mod Changelogs
-pub mod Potentials
+pub mod Calls
 pub mod Attempts

@@ -1,22 +1,17 @@
 -- The sentry exists from its CREATE to its DROP, so neither LOCK TABLES nor the DROP is refused.
-use Rattle.std.proofs.Common.{◌≡◌, ◌⊎◌, ℕ, ◌+◌, ◌==◌, Bool, true, false, cond, not, ◌&&◌, ◌||◌, List, [], ◌∷◌, ◌++◌, Option, Some, None, refl, sym, ap, ◌∙◌, subst, inl, inr}
-use Rattle.std.specs.Prelude.{nat_le, is_some}
-use Rattle.std.specs.List.{list_any}
+use Rattle.std.proofs.Common.{◌≡◌, ◌⊎◌, ℕ, ◌+◌, Bool, true, false, cond, not, ◌&&◌, ◌||◌, List, [], ◌∷◌, ◌++◌, Option, Some, None, refl, sym, ap, ◌∙◌, subst, inl, inr}
 use Rattle.std.specs.Str.{bytes_eq}
 use Rattle.std.proofs.Math.Bool.{or-true}
-use Rattle.std.proofs.lemmas.Bool.{true≢false, false≢true, or_right, and_parts}
-use Rattle.std.proofs.lemmas.Option.{none-some}
+use Rattle.std.proofs.lemmas.Bool.{true≢false, false≢true, or_right}
 use Rattle.base_script.specs.declared.actor.Actor.{Actor}
 use Rattle.base_script.specs.declared.actor.Actor.TheVariants.{Op, Insp, Copy, Apply, Lock, Ren, Client}
 use Rattle.base_script.specs.declared.actor.Side.{Side}
 use Rattle.base_script.specs.declared.operator.OperatorWord.{OperatorWord}
 use Rattle.base_script.specs.declared.operator.OperatorWord.TheVariants.{ChunkSize}
-use Rattle.base_values.specs.declared.gho_schema.schema.Schema.{Schema}
 use Rattle.base_values.specs.ToolNames.{ghost_name, log_name, old_name}
 use Rattle.table_store.specs.Databases.{Database, has_table}
 use Rattle.server_model.specs.declared.answer.Answer.{Answer}
 use Rattle.server_model.specs.declared.answer.Answer.TheVariants as answers
-use Rattle.server_model.specs.declared.entry.Asked.{Asked}
 use Rattle.server_model.specs.declared.entry.Asked.TheVariants.{Call, Command, Cut}
 use Rattle.server_model.specs.declared.entry.Entry.{Entry}
 use Rattle.server_model.specs.declared.listing.TableName.{TableName}
@@ -25,10 +20,10 @@ use Rattle.server_model.specs.declared.request.Request.TheVariants as requests
 use Rattle.server_model.specs.declared.session.Session.{Session}
 use Rattle.server_model.specs.Answers.{ok}
 use Rattle.server_model.specs.Effects.{all_exist, locks_if, dropped, defined, effect_unless, is_beyond, is_outside}
-use Rattle.server_model.specs.Entries.{same_actor, is_client, is_command}
+use Rattle.server_model.specs.Entries.{same_actor, is_command}
 use Rattle.server_model.specs.Listings.{tables_shown}
 use Rattle.server_model.specs.PlainServer.{does, done}
-use Rattle.server_model.specs.States.{State, has_work, session_of, is_in_transaction, tables_named, view}
+use Rattle.server_model.specs.States.{State, session_of, is_in_transaction, tables_named, view}
 use Rattle.plan_data.specs.PlanData.{PlanData, old_schema}
 use Rattle.tool_changelog.specs.ToolTables.{sentry_comment, sentry_schema}
 use Rattle.tool_program.specs.JournalWords.Journals.{may_lose, opens, state_at}
@@ -47,18 +42,16 @@ use Rattle.tool_program.specs.CutoverCore.Attempts as attempts
 use Rattle.tool_program.specs.CutoverCore.Attempts.{exchange, clears, first_name, is_clear, is_free, has_name, has_sentry, without_first}
 use Rattle.tool_program.specs.CutoverCore.CutOvers as cutovers
 use Rattle.tool_program.specs.CutoverCore.CutOvers.{is_bad, begun, ended, failed, waits_phase, finishing, finishing_after, left_at_end, sentry_alone, seen, drained, inspector_phase, inspector_stage, locker_phase, locker_stage, renamer_phase, applier_turn, reverted}
-use Rattle.tool_program.specs.Programs.{tool_call, given, IsGiven}
+use Rattle.tool_program.specs.Programs.{tool_call, given}
 use Rattle.tool_program.specs.Setups.{Setup, Listing, Clearing, MakingLog, MakingGhost, Marking, Reaching, Ready, setup_after}
 use Rattle.tool_program.specs.Tools.{Work, ToolPhase, SettingUp, Migrating, Tool, Moment, stopped, is_reverting, tool_phase_of, moment}
 use Rattle.tool_program.proofs.OnlineCalls.Machines.{ToolPhaseIsNamed, named}
 use Rattle.server_model.proofs.LockedRows.Tests.{same_bytes}
-use Rattle.proof_journals.specs.Holdings.{face_in}
 use Rattle.proof_journals.specs.Plans.{IsSerialPlan}
 use Rattle.proof_journals.specs.Run.Kept.{IsKept}
 use Rattle.proof_journals.specs.Machine.Machines.{ToolPhaseStands, WorkStands, PhaseHolds, both_names, held, renaming}
-use Rattle.proof_journals.specs.Machine.MigrationTables.{schema_of}
 use Rattle.proof_journals.specs.Machine.Runnable.{IsRunnable}
-use Rattle.proof_journals.specs.Machine.Standings.{Standing, free, standing_in, standing_of, IsAbout, is_called, is_polled}
+use Rattle.proof_journals.specs.Machine.Standings.{Standing, standing_in, standing_of, IsAbout, is_called}
 use Rattle.proof_journals.proofs.Machine.Asking.{some_request}
 use Rattle.proof_journals.proofs.Machine.CuttingOver.{LockerAsks}
 use Rattle.proof_journals.proofs.Machine.Journals.{IsRun, IsTogether, Asking, calls_so, polls_so, asking, lock_about, ren_about}
@@ -66,7 +59,7 @@ use Rattle.proof_journals.proofs.Machine.Schemas.{is_quiet}
 use Rattle.proof_journals.proofs.Machine.Seated.{IsKnown, IsServed, IsOpen, is_open, own_missed}
 use Rattle.proof_journals.proofs.Machine.Tabling.{may_define, quiet_stay}
 use Rattle.proof_migration.proofs.Attempt.InspectorAnswers.{listed_is}
-use Rattle.proof_migration.proofs.Attempt.Leaving.{AllStay, CreateLeaves, DropLeaves, ExchangeLeaves, Left, stands_has, has_is, create_left, drop_left, exchange_left}
+use Rattle.proof_migration.proofs.Attempt.Leaving.{AllStay, CreateLeaves, DropLeaves, ExchangeLeaves, stands_has, has_is, create_left, drop_left, exchange_left}
 use Rattle.proof_migration.proofs.Attempt.LockerAnswers.{heard_leaves}
 use Rattle.proof_migration.proofs.Attempt.RenamerAnswers.{AsksAt}
 use Rattle.proof_migration.proofs.Attempt.Stages.{RenamerAt, LeftAt, StandsAt, TablesAt, GuardedTables}

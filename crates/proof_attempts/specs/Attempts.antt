@@ -1,4 +1,4 @@
--- How many turns the attempts to exchange the tables take, as far as each of their calls goes on.
+-- How many turns the attempts to exchange the tables take: each of their calls goes on, and so an attempt takes few.
 use Rattle.std.specs.Prelude.{◌≡◌, ◌≤◌, ℕ, true, false, List, [], ◌∷◌, ◌++◌, None}
 use Rattle.base_script.specs.declared.actor.Actor.TheVariants.{Insp, Lock, Ren}
 use Rattle.server_model.specs.declared.answer.Answer.{Answer}
@@ -48,9 +48,22 @@ pub record AttemptGoes (work : Work) (entry : Entry) : Type 0 where
   pub drops : work.cutover.phase ≡ Attempting Dropping → entry.actor ≡ Lock → IsNotRefused entry.answer
   pub clears : (left : Leftovers) → work.cutover.phase ≡ Ending (Drops left) → entry.actor ≡ Insp → entry.side ≡ None → IsOk entry.answer
 
-abbrev pub AttemptsGoOn : PlanData → List Entry → Entry → Type 0
-AttemptsGoOn plan before entry = (work : Work) → (moment plan before).tool.tool_phase ≡ Migrating work → is_command entry.asked ≡ false → is_cut entry.asked ≡ false → AttemptGoes work entry
+-- so does a turn that isn't a command, nor a loss between calls
+abbrev pub TurnGoes : PlanData → List Entry → Entry → Type 0
+TurnGoes plan before entry = (work : Work) → (moment plan before).tool.tool_phase ≡ Migrating work → is_command entry.asked ≡ false → is_cut entry.asked ≡ false → AttemptGoes work entry
 
--- *The attempts' turns are few*, where each call goes on so
+-- a task may be tried once at least, and an attempt's number fits its hint row
+abbrev pub most_tries : ℕ
+most_tries = 1000
+
+pub record MayTry (plan : PlanData) : Type 0 where
+  pub some : 1 ≤ plan.options.default_retries
+  pub few : plan.options.default_retries ≤ most_tries
+
+-- *Attempts go on*: so does each turn of every journal that is kept
+abbrev pub AttemptsGoOn : Type 0
+AttemptsGoOn = (plan : PlanData) (before : List Entry) (entry : Entry) → MayTry plan → IsRunnable plan → IsSerialPlan plan → IsKept plan (before ++ entry ∷ []) → TurnGoes plan before entry
+
+-- *The attempts' turns are few*: a journal that is kept has at most as many as each attempt that may be begun takes, with its waits
 abbrev pub AttemptTurnsAreFew : Type 0
-AttemptTurnsAreFew = (plan : PlanData) (journal : List Entry) → MayWait plan → IsRunnable plan → IsSerialPlan plan → IsKept plan journal → 1 ≤ plan.options.default_retries → ((before : List Entry) (entry : Entry) → IsKept plan (before ++ entry ∷ []) → AttemptsGoOn plan before entry) → turns_of_part OfAttempts plan journal ≤ term_of OfAttempts (measures plan)
+AttemptTurnsAreFew = (plan : PlanData) (journal : List Entry) → MayWait plan → MayTry plan → IsRunnable plan → IsSerialPlan plan → IsKept plan journal → turns_of_part OfAttempts plan journal ≤ term_of OfAttempts (measures plan)
