@@ -10,3 +10,5 @@ pub mod Chunks
 pub mod ChunksGo
 pub mod Batches
 pub mod Rested
+pub mod ReadLogs
+pub mod StatementAnswers
