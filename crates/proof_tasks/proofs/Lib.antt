@@ -12,3 +12,4 @@ pub mod Batches
 pub mod Rested
 pub mod ReadLogs
 pub mod StatementAnswers
+pub mod BatchesGo

@@ -1,10 +1,10 @@
 -- What the applier's reading of the log gives: some event where one is unread, and no more than a batch; so a later position, and so
 -- many statements at most.
-use Rattle.std.proofs.Common.{◌≡◌, ◌≤◌, ◌<◌, ℕ, zero, suc, ◌+◌, ◌*◌, ◌==◌, Bool, true, false, cond, not, ◌&&◌, ◌||◌, List, [], ◌∷◌, ◌++◌, length, take, drop, map, Option, Some, None, refl, sym, ap, ◌∙◌, subst, append_assoc, arith}
+use Rattle.std.proofs.Common.{◌≡◌, ◌≤◌, ℕ, zero, suc, ◌+◌, ◌*◌, Bool, true, false, cond, not, ◌&&◌, ◌||◌, List, [], ◌∷◌, ◌++◌, length, take, drop, map, Some, None, refl, sym, ap, ◌∙◌, subst, append_assoc, arith}
 use Rattle.std.specs.Prelude.{count_by, filter, nat_lt}
-use Rattle.std.specs.List.{flat_map, sum_by}
+use Rattle.std.specs.List.{flat_map}
 use Rattle.std.specs.Str.{bytes_eq}
-use Rattle.std.proofs.lemmas.Bool.{true≢false, false≢true}
+use Rattle.std.proofs.lemmas.Bool.{false≢true}
 use Rattle.std.proofs.lemmas.Bool.Decides.{nat_tests}
 use Rattle.std.proofs.lemmas.List.{append_cancel_left, take-append-drop}
 use Rattle.std.proofs.lemmas.List.Sums.{length-filter, sum_by-append, sum_by-cons}
@@ -12,9 +12,8 @@ use Rattle.base_values.specs.ToolNames.{log_name}
 use Rattle.base_values.specs.declared.event.Change.{Change}
 use Rattle.base_values.specs.declared.event.Change.TheVariants as changes
 use Rattle.base_values.specs.declared.event.RowEvent.{RowEvent}
-use Rattle.server_model.specs.Listings.{ReadEvent, after_last, events_given, events_read, read_from}
+use Rattle.server_model.specs.Listings.{ReadEvent, events_given, events_read, read_from}
 use Rattle.server_model.specs.States.{State, is_of, unread}
-use Rattle.server_model.specs.declared.answer.Answer.{Answer}
 use Rattle.server_model.specs.declared.answer.Answer.TheVariants as answers
 use Rattle.server_model.specs.declared.entry.Entry.{Entry}
 use Rattle.server_model.specs.declared.request.Request.{Request}
@@ -24,7 +23,7 @@ use Rattle.tool_program.specs.EventApplier.Appliers.{Doing, Putting, Removing, C
 use Rattle.tool_program.specs.EventApplier.Appliers as appliers
 use Rattle.tool_program.specs.JournalWords.Journals.{state_at}
 use Rattle.tool_program.specs.Programs.{apply_call, is_held, may_read, unread_in}
-use Rattle.tool_program.specs.Tools.{Migrating, ToolPhase, Work, moment}
+use Rattle.tool_program.specs.Tools.{Migrating, Work, moment}
 use Rattle.tool_program.specs.declared.event_applier.applier.Applier.{Applier}
 use Rattle.tool_program.proofs.OnlineCalls.Machines.{ToolPhaseIsNamed, named}
 use Rattle.proof_journals.proofs.Ghost.Reading.{read_is}

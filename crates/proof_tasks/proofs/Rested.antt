@@ -74,7 +74,7 @@ Rests reverting (SettingUp setup tries) = Unit {0}
 Rests reverting (Migrating work) = reverting ≡ false → IsRested work
 
 -- what waits to read the log waits for no name
-reads_none : (step : ApplyStep) (waits : Option Request) → step ≡ Reading → waits_so (applier_asks step) waits ≡ true → ((request : Request) → waits ≡ Some request → needs_names request ≡ true) → waits ≡ None
+pub reads_none : (step : ApplyStep) (waits : Option Request) → step ≡ Reading → waits_so (applier_asks step) waits ≡ true → ((request : Request) → waits ≡ Some request → needs_names request ≡ true) → waits ≡ None
 reads_none step None at kind names = refl
 reads_none step (Some request) at kind names = absurd (by request (subst (λ (s : ApplyStep). applier_asks s request ≡ true) at kind) (names request refl)) where
   by : (request : Request) → applier_asks Reading request ≡ true → needs_names request ≡ true → ⊥

@@ -1,15 +1,14 @@
 -- What the applier's statements are answered on the new table: they are done, but a value that doesn't fit is refused, and a whole
 -- UPDATE that gives its row another row's key.
-use Rattle.std.proofs.Common.{◌≡◌, ℕ, Bool, true, false, List, [], ◌∷◌, Option, Some, None, Result, Ok, Err, refl, sym, ap, ◌∙◌, subst}
+use Rattle.std.proofs.Common.{◌≡◌, ℕ, Bool, true, false, List, Option, Some, None, Result, Ok, Err, refl, sym, ap, ◌∙◌, subst}
 use Rattle.std.specs.Option.{option_map}
 use Rattle.base_values.specs.GhoSchema.Rows.{key_of, key_places}
 use Rattle.base_values.specs.GhoSchema.Tables.{no_null}
 use Rattle.base_values.specs.declared.gho_schema.schema.Schema.{Schema}
-use Rattle.base_values.specs.declared.mysql_errors.TheConstants.{ER_DUP_ENTRY}
 use Rattle.base_values.specs.declared.row_conversion.conversion_fault.UnfitAt.{UnfitAt}
 use Rattle.base_values.specs.RowConversion.ConvertedRows.{converted_row}
 use Rattle.table_store.specs.Databases.{Database, TableRows, find_table}
-use Rattle.server_model.specs.Answers.{refuses, refuses_value}
+use Rattle.server_model.specs.Answers.{refuses_value}
 use Rattle.server_model.specs.Checks.{are_distinct}
 use Rattle.server_model.specs.Effects.{effect_unless, is_outside}
 use Rattle.server_model.specs.LockedRows.Databases.{IsWellFormedDatabase}
@@ -22,10 +21,8 @@ use Rattle.server_model.specs.declared.request.Request.TheVariants as requests
 use Rattle.tool_program.specs.EventApplier.Appliers.{Doing, Putting, Removing, Changing, in_part}
 use Rattle.tool_program.specs.declared.event_applier.applier.Part.{Part}
 use Rattle.tool_program.specs.declared.event_applier.applier.Part.TheVariants.{Whole, Removal, Return}
-use Rattle.proof_journals.specs.Ghost.HeldKeys.{Clustered}
 use Rattle.proof_journals.specs.Ghost.Rows.Moments.{Row}
 use Rattle.proof_journals.specs.Ghost.Rows.Timelines.{IsPlanned, Migration}
-use Rattle.proof_journals.specs.Ghost.Statements.{unfit_at}
 use Rattle.proof_journals.specs.Machine.MigrationTables.{schema_of}
 use Rattle.proof_journals.proofs.Ghost.Keys.{full_key}
 use Rattle.proof_migration.specs.Migration.Applier.FoundColumns.{FindsRows}
