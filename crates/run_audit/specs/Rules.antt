@@ -61,12 +61,12 @@ left_outside word lines = lines
 
 -- What is left after a line, where a run would leave this. No server answers a BEGIN by a timeout, so no run shows what is left
 -- then; a trace can.
-abbrev pub left_by : Bool → Became → List ScriptLine → List ScriptLine → List ScriptLine
-left_by false (Marked marks.TimedOut reply) (line ∷ lines) left = left_outside line.word lines
-left_by inside became lines left = left
+abbrev pub left_by : Became → Bool → List ScriptLine → List ScriptLine → List ScriptLine
+left_by (Marked marks.TimedOut reply) false (line ∷ lines) left = left_outside line.word lines
+left_by became inside lines left = left
 
 abbrev pub client_after_line : Became → Reached → Reached
-client_after_line became client = record (client_after became client) { left = left_by (is_inside client.lines) became client.left (client_after became client).left }
+client_after_line became client = record (client_after became client) { left = left_by became (is_inside client.lines) client.left (client_after became client).left }
 
 -- a client after a line; one that was lost has no more
 abbrev pub client_step : ℕ → Reached → TraceLine → Reached
