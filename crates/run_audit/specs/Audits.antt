@@ -1,6 +1,6 @@
 -- *Audited trace*: the first rule that a trace breaks, if it breaks one. What clients were answered is judged by *serial*, the
 -- history being that of the lines. (This project's rule.)
-use Rattle.std.specs.Prelude.{ℕ, ◌+◌, ◌-◌, ◌==◌, nat_lt, min, Bool, true, false, not, ◌&&◌, ◌||◌, if◌then◌else◌, List, [], ◌∷◌, ◌++◌, drop, take, length, Option, Some, None}
+use Rattle.std.specs.Prelude.{ℕ, ◌-◌, ◌==◌, nat_lt, min, Bool, true, false, not, ◌&&◌, ◌||◌, if◌then◌else◌, List, [], ◌∷◌, ◌++◌, drop, take, length, Option, Some, None}
 use Rattle.std.specs.List.{list_all, slice_get}
 use Rattle.std.specs.Str.{bytes_eq}
 use Rattle.base_values.specs.declared.value.Value.{Value}
@@ -20,19 +20,18 @@ use Rattle.server_model.specs.Alone.{alone}
 use Rattle.server_model.specs.Entries.{same_actor}
 use Rattle.server_model.specs.Rows.{same_row}
 use Rattle.plan_data.specs.PlanData.{PlanData}
-use Rattle.tool_program.specs.JournalWords.Clients.{Became, Marked, Reached}
+use Rattle.tool_program.specs.JournalWords.Clients.{Became, Marked}
 use Rattle.tool_program.specs.JournalWords.Histories.{HistoryItem, Past, Txn, Alter, client_ends}
 use Rattle.tool_program.specs.JournalWords.KeptPlans.{words_of}
 use Rattle.tool_program.specs.JournalWords.Serials.{altered_database, tables_left}
 use Rattle.run_audit.specs.Lines.{printed_table}
-use Rattle.run_audit.specs.declared.line.LineAsked.{LineAsked}
 use Rattle.run_audit.specs.declared.line.LineAnswer.{LineAnswer}
 use Rattle.run_audit.specs.declared.line.LineAnswer.TheVariants as line_answers
 use Rattle.run_audit.specs.declared.line.TraceLine.{TraceLine}
 use Rattle.run_audit.specs.declared.trace.Audit.{Audit}
 use Rattle.run_audit.specs.declared.trace.Audit.TheVariants as audits
 use Rattle.run_audit.specs.declared.trace.Trace.{Trace}
-use Rattle.run_audit.specs.Rules.{alters_in, became_by, broken_turns, client_reached, commands_in, has_altered, all_are_over, is_astray, is_cut, is_loss, is_word, next_turn, was_lost}
+use Rattle.run_audit.specs.Rules.{alters_in, became_by, broken_turns, client_reached, commands_in, has_altered, all_are_over, is_astray, is_cut, is_loss, is_word, next_turn}
 
 -- ---- the history of the lines
 

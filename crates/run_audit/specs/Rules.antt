@@ -1,6 +1,6 @@
 -- *Rules of turns*: what a line of a trace has to keep, by the lines before it. How far clients are in their scripts, what ends
 -- with a line and which losses strike is defined by the same steps as for a journal. (This project's rule.)
-use Rattle.std.specs.Prelude.{ℕ, ◌+◌, ◌-◌, ◌==◌, nat_lt, Bool, true, false, not, ◌&&◌, ◌||◌, if◌then◌else◌, List, [], ◌∷◌, ◌++◌, drop, fold, count_by, length, is_some, unwrap_or, Option, Some, None}
+use Rattle.std.specs.Prelude.{ℕ, ◌+◌, ◌==◌, nat_lt, Bool, true, false, not, ◌&&◌, ◌||◌, if◌then◌else◌, List, [], ◌∷◌, fold, count_by, length, is_some, unwrap_or, Option, Some, None}
 use Rattle.base_script.specs.declared.actor.Actor.{Actor}
 use Rattle.base_script.specs.declared.actor.Actor.TheVariants.{Op, Client}
 use Rattle.base_script.specs.declared.actor.Side.{Side}
@@ -11,7 +11,6 @@ use Rattle.base_script.specs.declared.script.ScriptLine.{ScriptLine}
 use Rattle.base_script.specs.declared.script.ScriptWord.{ScriptWord}
 use Rattle.base_script.specs.declared.script.ScriptWord.TheVariants as words
 use Rattle.server_model.specs.declared.transaction.Mark.TheVariants as marks
-use Rattle.server_model.specs.declared.transaction.Reply.{Reply}
 use Rattle.server_model.specs.declared.transaction.Reply.TheVariants as replies
 use Rattle.server_model.specs.Along.{gathered}
 use Rattle.server_model.specs.Entries.{same_actor}
