@@ -213,9 +213,9 @@ pub same_client : (actor : Actor) (c : ℕ) → same_actor actor (Client c) ≡ 
 same_client (Client n) c same = let one : n ≡ c = grind (arith, nat_tests) in ap Client one
 same_client actor c same = absurd cc
 
-behind_more : (plan : PlanData) (lines : List TraceLine) (line : TraceLine) (c : ℕ) → client_reached plan (lines ++ line ∷ []) c ≡ client_step c (client_reached plan lines c) line
+pub reached_more : (plan : PlanData) (lines : List TraceLine) (line : TraceLine) (c : ℕ) → client_reached plan (lines ++ line ∷ []) c ≡ client_step c (client_reached plan lines c) line
 unfolding client_reached
-behind_more plan lines line c = fold-append (client_step c) (new_client (unwrap_or (script_of c plan) [])) lines (line ∷ [])
+reached_more plan lines line c = fold-append (client_step c) (new_client (unwrap_or (script_of c plan) [])) lines (line ∷ [])
 
 pub at_more : (plan : PlanData) (journal : List Entry) (entry : Entry) (c : ℕ) → client_at plan (journal ++ entry ∷ []) c ≡ after_turn c (client_at plan journal c) entry
 unfolding client_at
@@ -241,7 +241,7 @@ lines_tell_clients plan journal c turns = Along-keeps _ (λ before. client_reach
       → client_reached plan (lines_of (before ++ entry ∷ [])) c ≡ client_at plan (before ++ entry ∷ []) c
   step before entry turn same =
       ap (λ (lines : List TraceLine). client_reached plan lines c) (map-append line_of before (entry ∷ []))
-      ∙ behind_more plan (lines_of before) (line_of entry) c
+      ∙ reached_more plan (lines_of before) (line_of entry) c
       ∙ ap (λ (client : Reached). client_step c client (line_of entry)) same
       ∙ told_alike (client_at plan before c) entry c (λ is. (turn c is).lives) (λ is. (turn c is).heard) (λ is. (turn c is).timed) (λ is. (turn c is).lost)
       ∙ sym (at_more plan before entry c)

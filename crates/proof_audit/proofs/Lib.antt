@@ -13,4 +13,6 @@ pub mod Rules
 pub mod Serials
 pub mod Sessions
 pub mod Struck
+pub mod Timed
 pub mod Verdicts
+pub mod Whole
