@@ -2,6 +2,7 @@
 #![tactic(auto)]
 
 ghost use Rattle.law_traces.specs.Laws.{LinesTellClients, LinesTellSessions, TracesAreAudited};
+ghost use Rattle.proof_audit.specs.AuditedTraces.{AuditsSayYes};
 
 use law_journals::plans::{read_plans_are_runnable, read_plans_are_serial, read_plans_are_worded};
 use law_journals::runs::{accepted_runs_are_serial, accepted_runs_go_on};
@@ -13,6 +14,12 @@ pub fn lines_tell_actors()
 {
     read_plans_are_worded();
 }
+
+/// A trace is audited yes exactly where it breaks no rule: clients keep to their scripts, losses and commands are the plan's, the
+/// history of the lines is serial and leads to the printed tables, and the verdict holds.
+pub fn audits_say_yes()
+    ensures { AuditsSayYes }
+{}
 
 /// The trace of every run of every accepted plan is audited yes.
 pub fn traces_are_audited()
