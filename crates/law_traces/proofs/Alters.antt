@@ -138,7 +138,7 @@ module _ (plan : PlanData) (serial : IsSerialPlan plan) (runs : IsRunnable plan)
   served : IsServed plan before entry
   served = record { answered = run.answered; seated = record { session = run.followed.session } }
 
-  open_now : State
+  abbrev open_now : State
   open_now = opens entry (state_at plan before)
 
   -- ---- a client's
