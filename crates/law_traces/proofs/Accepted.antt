@@ -1,5 +1,4 @@
 -- The trace of every run of every accepted plan is audited yes.
-use Rattle.plan_data.specs.PlanData.{PlanData}
 use Rattle.proof_plans.specs.Laws.{AcceptedCausesStand, AcceptedRunsAreSerial}
 use Rattle.proof_plans.specs.ReadPlans.Laws.{ReadPlansAreRunnable, ReadPlansAreSerial, ReadPlansAreWorded}
 use Rattle.proof_audit.proofs.Audited.{traces_audited}

@@ -24,7 +24,7 @@ use Rattle.tool_program.specs.JournalWords.Clients.{client_at, word_asks}
 use Rattle.tool_program.specs.JournalWords.Histories.{about, adds, alters, answer_in, asked_about, entry_adds, is_alter, renames_away, request_waiting, takes_away}
 use Rattle.tool_program.specs.JournalWords.Journals.{inner_answer, missed, opens, state_at}
 use Rattle.tool_program.specs.JournalWords.KeptPlans.{TakesNext}
-use Rattle.tool_program.specs.Programs.{IsGiven, given}
+use Rattle.tool_program.specs.Programs.{IsGiven}
 use Rattle.proof_journals.specs.Machine.Runnable.{IsRunnable}
 use Rattle.proof_journals.specs.Machine.Standings.{IsAbout, is_called, is_polled, serves_to, standing_of}
 use Rattle.proof_journals.specs.Plans.{IsSerialPlan}
@@ -32,18 +32,18 @@ use Rattle.proof_journals.specs.Turns.{request_of}
 use Rattle.proof_journals.specs.Run.Kept.{IsKept}
 use Rattle.proof_journals.proofs.Journals.{opened_waits}
 use Rattle.proof_journals.proofs.Machine.Asking.{WaitsWith}
-use Rattle.proof_journals.proofs.Machine.Clients.{ClientStands, Next, calls_line, client_next, polls_line}
+use Rattle.proof_journals.proofs.Machine.Clients.{Next, calls_line, client_next, polls_line}
 use Rattle.proof_journals.proofs.Machine.Fitting.{call_fits, poll_fits}
 use Rattle.proof_journals.proofs.Machine.Journals.{IsRun}
 use Rattle.proof_journals.proofs.Machine.Polling.{given_idle, given_waits}
 use Rattle.proof_journals.proofs.Machine.Seated.{IsServed, own_waiting}
-use Rattle.proof_migration.proofs.ToolPhase.Unaltered.Asking.{ToolCall, exchange_takes}
+use Rattle.proof_migration.proofs.ToolPhase.Unaltered.Asking.{exchange_takes}
 use Rattle.proof_migration.proofs.ToolPhase.Unaltered.Away.{IsKnownAsked, about_asked, all_asked, tool_adds}
 use Rattle.run_actors.proofs.AlterTurns.{of_client}
 use Rattle.run_audit.specs.Lines.{asked_of, heard_answer, line_answer, line_of, lines_of, missed_answer}
 use Rattle.run_audit.specs.Rules.{alters_in, has_renamed, is_done, is_rename}
 use Rattle.proof_audit.specs.Laws.{LinesTellAlters}
-use Rattle.proof_audit.proofs.Kept.{lost_rightly, takes_asks}
+use Rattle.proof_audit.proofs.Kept.{lost_rightly}
 use Rattle.proof_audit.proofs.Renaming.{is_rename_request, lines_tell_waiting}
 use Rattle.proof_audit.proofs.Rules.{kept_before, planned_next, run_next}
 

@@ -1,8 +1,9 @@
 //! What holds of the trace of a run: functions that do nothing, whose contracts are the laws.
 #![tactic(auto)]
 
-ghost use Rattle.law_traces.specs.Laws.{LinesTellClients, LinesTellSessions, TracesAreAudited};
+ghost use Rattle.law_traces.specs.Laws.{TracesAreAudited};
 ghost use Rattle.proof_audit.specs.AuditedTraces.{AuditsSayYes};
+ghost use Rattle.proof_audit.specs.Laws.{LinesTellClients, LinesTellSessions};
 
 use law_journals::plans::{read_plans_are_runnable, read_plans_are_serial, read_plans_are_worded};
 use law_journals::runs::{accepted_runs_are_serial, accepted_runs_go_on};
@@ -11,9 +12,7 @@ use law_journals::runs::{accepted_runs_are_serial, accepted_runs_go_on};
 pub fn lines_tell_actors()
     ensures clients { LinesTellClients }
     ensures sessions { LinesTellSessions }
-{
-    read_plans_are_worded();
-}
+{}
 
 /// A trace is audited yes exactly where it breaks no rule: clients keep to their scripts, losses and commands are the plan's, the
 /// history of the lines is serial and leads to the printed tables, and the verdict holds.

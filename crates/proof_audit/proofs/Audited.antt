@@ -1,5 +1,5 @@
--- What is told of a run that is kept is audited yes.
-use Rattle.std.proofs.Common.{◌≡◌, ◌≢◌, ℕ, ◌+◌, ◌-◌, ◌<◌, ◌≤◌, ◌==◌, ◌&&◌, ◌||◌, nat_lt, Bool, true, false, not, cond, List, [], ◌∷◌, ◌++◌, length, take, drop, map, Option, Some, None, refl, sym, ap, ◌∙◌, subst, append_assoc, arith, suc}
+-- The trace of a run that is kept is audited yes.
+use Rattle.std.proofs.Common.{◌≡◌, ◌≢◌, ℕ, ◌+◌, ◌-◌, ◌≤◌, ◌==◌, ◌&&◌, ◌||◌, Bool, true, false, not, cond, List, [], ◌∷◌, ◌++◌, length, take, drop, map, Option, Some, None, refl, sym, ap, ◌∙◌, subst, append_assoc, arith, suc}
 use Rattle.std.specs.Prelude.{count_by}
 use Rattle.std.specs.List.{list_any, slice_get}
 use Rattle.std.proofs.lemmas.Bool.Decides.{nat_tests}
@@ -22,23 +22,22 @@ use Rattle.plan_data.specs.PlanData.{PlanData}
 use Rattle.tool_program.specs.Failures.{Stands}
 use Rattle.tool_program.specs.JournalWords.Histories.{HistoryItem, Txn, Alter, about, adds, alters, entry_adds, history, is_alter, renames_away, answer_in}
 use Rattle.tool_program.specs.JournalWords.Journals.{state_at}
-use Rattle.tool_program.specs.JournalWords.Serials.{IsSerial, tables_left}
+use Rattle.tool_program.specs.JournalWords.Serials.{tables_left}
 use Rattle.tool_program.specs.Tools.{Reason, Tool, moment}
-use Rattle.tool_program.specs.Verdicts.{ended_so, has_ended, reverted_by, verdict_of}
+use Rattle.tool_program.specs.Verdicts.{has_ended, reverted_by, verdict_of}
 use Rattle.proof_journals.specs.Machine.Scripts.{ScriptsFit}
 use Rattle.proof_journals.specs.Run.Kept.{IsKept}
 use Rattle.proof_journals.proofs.Ghost.Turns.{along_next}
-use Rattle.run_audit.specs.declared.trace.Audit.{Audit}
 use Rattle.run_audit.specs.declared.trace.Audit.TheVariants as audits
 use Rattle.run_audit.specs.declared.line.TraceLine.{TraceLine}
-use Rattle.run_audit.specs.Audits.{Judged, Altered, audited, bad_turns, cause_holds, first_no, first_other, item_of, judged, judged_in, least, opening_tables, tables_reached, unended, verdict_holds, wrong_turns}
+use Rattle.run_audit.specs.Audits.{Altered, audited, cause_holds, first_no, first_other, item_of, judged, judged_in, least, opening_tables, tables_reached, unended, verdict_holds, wrong_turns}
 use Rattle.run_audit.specs.Lines.{line_of, lines_of, printed_table, trace_of}
 use Rattle.run_audit.specs.Rules.{alter_turns, alters_in, breaks, broken_turns, has_altered, is_within, keeps_losses, keeps_script, next_turn, turn_if}
 use Rattle.proof_audit.proofs.Sessions.{IsLostRightly}
 use Rattle.proof_audit.proofs.Struck.{both}
-use Rattle.proof_audit.proofs.Verdicts.{tries_are_told, unfit_is_told}
-use Rattle.proof_audit.specs.Laws.{LinesTellAlters, KeptAreSerial, MarksAgree, RefusalsKeepTables, AreSerialLines, TracesAreAudited}
-use Rattle.proof_audit.proofs.Ended.{lines_end, panic_told, turn_splits}
+use Rattle.proof_audit.proofs.Verdicts.{tries_in_lines, unfit_in_line}
+use Rattle.proof_audit.specs.Laws.{LinesTellAlters, KeptAreSerial, MarksAgree, AreSerialLines, SerialTracesAreAudited}
+use Rattle.proof_audit.proofs.Ended.{lines_end, panic_in_lines, turn_splits}
 use Rattle.proof_audit.proofs.Idle.{idle_write_nothing}
 use Rattle.proof_audit.proofs.Kept.{kept_lost}
 use Rattle.proof_audit.proofs.Refusals.{refusals_keep}
@@ -115,31 +114,31 @@ marked_shape false h turn once = refl
 tool_marks : (plan : PlanData) (before : List Entry) (entry : Entry) (items : List HistoryItem) → (alters_in (lines_of before) (line_of entry) && has_altered (lines_of before)) ≡ false → alters_in (lines_of before) (line_of entry) ≡ list_any is_alter items
     → items ≡ cond (list_any is_alter items) (Alter ∷ []) []
     → map item_of (cond (alters_in (lines_of before) (line_of entry) && not (has_altered (lines_of before))) (Altered (next_turn (lines_of before)) ∷ []) []) ≡ items
-tool_marks plan before entry items once told shape =
-    marked_shape (alters_in (lines_of before) (line_of entry)) (has_altered (lines_of before)) (next_turn (lines_of before)) once ∙ ap (λ (b : Bool). cond b (Alter ∷ []) []) told ∙ sym shape
+tool_marks plan before entry items once known shape =
+    marked_shape (alters_in (lines_of before) (line_of entry)) (has_altered (lines_of before)) (next_turn (lines_of before)) once ∙ ap (λ (b : Bool). cond b (Alter ∷ []) []) known ∙ sym shape
 
 marks_so : (plan : PlanData) (before : List Entry) (entry : Entry) (actor : Actor) → entry.actor ≡ actor → KeptAreSerial plan → LinesTellAlters plan → IsKept plan (before ++ entry ∷ [])
     → adds plan before entry actor ≡ alters plan (about before entry) (answer_in entry.asked entry.side entry.answer entry.missed)
     → judged_in plan (lines_of before) (line_of entry) actor ≡ cond (alters_in (lines_of before) (line_of entry) && not (has_altered (lines_of before))) (Altered (next_turn (lines_of before)) ∷ []) []
     → map item_of (judged_in plan (lines_of before) (line_of entry) entry.actor) ≡ entry_adds plan before entry
-marks_so plan before entry actor same serial told kept adds_is judged_is =
+marks_so plan before entry actor same serial known kept adds_is judged_is =
     ap (λ (a : Actor). map item_of (judged_in plan (lines_of before) (line_of entry) a)) same
     ∙ ap (map item_of) judged_is
-    ∙ tool_marks plan before entry (alters plan (about before entry) (answer_in entry.asked entry.side entry.answer entry.missed)) (alters_once plan before entry serial told kept)
-    (told before entry kept ∙ ap (λ (a : Actor). list_any is_alter (adds plan before entry a)) same ∙ ap (list_any is_alter) adds_is) (alters_shape plan (about before entry) (answer_in entry.asked entry.side entry.answer entry.missed))
+    ∙ tool_marks plan before entry (alters plan (about before entry) (answer_in entry.asked entry.side entry.answer entry.missed)) (alters_once plan before entry serial known kept)
+    (known before entry kept ∙ ap (λ (a : Actor). list_any is_alter (adds plan before entry a)) same ∙ ap (list_any is_alter) adds_is) (alters_shape plan (about before entry) (answer_in entry.asked entry.side entry.answer entry.missed))
     ∙ sym adds_is
     ∙ sym (ap (adds plan before entry) same)
 
 marks_agree : (plan : PlanData) → KeptAreSerial plan → LinesTellAlters plan → MarksAgree plan
-marks_agree plan serial told before entry kept not_client = by entry.actor refl where
+marks_agree plan serial known before entry kept not_client = by entry.actor refl where
   by : (actor : Actor) → entry.actor ≡ actor → map item_of (judged_in plan (lines_of before) (line_of entry) entry.actor) ≡ entry_adds plan before entry
   by (Client c) same = let no : true ≡ false = sym (ap is_client same) ∙ not_client in absurd (cc no)
-  by Op same = marks_so plan before entry Op same serial told kept refl refl
-  by Insp same = marks_so plan before entry Insp same serial told kept refl refl
-  by Copy same = marks_so plan before entry Copy same serial told kept refl refl
-  by Apply same = marks_so plan before entry Apply same serial told kept refl refl
-  by Lock same = marks_so plan before entry Lock same serial told kept refl refl
-  by Ren same = marks_so plan before entry Ren same serial told kept refl refl
+  by Op same = marks_so plan before entry Op same serial known kept refl refl
+  by Insp same = marks_so plan before entry Insp same serial known kept refl refl
+  by Copy same = marks_so plan before entry Copy same serial known kept refl refl
+  by Apply same = marks_so plan before entry Apply same serial known kept refl refl
+  by Lock same = marks_so plan before entry Lock same serial known kept refl refl
+  by Ren same = marks_so plan before entry Ren same serial known kept refl refl
 
 -- ---- no turn is broken
 
@@ -150,7 +149,7 @@ not_broken false w l x script losses once = absurd cc
 not_broken true w false x script losses once = absurd cc
 not_broken true w true true script losses once = absurd cc
 
-lines_along : (plan : PlanData) (P : List TraceLine → TraceLine → Type 0) → ((some : List Entry) (entry : Entry) (behind : List Entry) → IsKept plan (some ++ entry ∷ behind) → P (lines_of some) (line_of entry)) → (before journal : List Entry) → IsKept plan (before ++ journal) → Along P (lines_of before) (lines_of journal)
+lines_along : (plan : PlanData) (P : List TraceLine → TraceLine → Type 0) → ((some : List Entry) (entry : Entry) (later : List Entry) → IsKept plan (some ++ entry ∷ later) → P (lines_of some) (line_of entry)) → (before journal : List Entry) → IsKept plan (before ++ journal) → Along P (lines_of before) (lines_of journal)
 lines_along plan P each before [] kept = tt
 lines_along plan P each before (entry ∷ journal) kept = (
   each before entry journal kept,
@@ -163,14 +162,14 @@ gathered_none add before (line ∷ lines) all = ap (λ (turns : List ℕ). turns
 
 none_broken : (plan : PlanData) (journal : List Entry) → ScriptsFit plan → KeptAreSerial plan → LinesTellAlters plan → IsKept plan journal → broken_turns plan (lines_of journal) ≡ []
 unfolding broken_turns
-none_broken plan journal fit serial told kept =
+none_broken plan journal fit serial known kept =
     gathered_none (λ some line. turn_if (breaks plan some line) some) [] (lines_of journal) (lines_along plan (λ some line. turn_if (breaks plan some line) some ≡ []) each [] journal kept) where
-      each : (some : List Entry) (entry : Entry) (behind : List Entry) → IsKept plan (some ++ entry ∷ behind) → turn_if (breaks plan (lines_of some) (line_of entry)) (lines_of some) ≡ []
-      each some entry behind whole =
-          let rules = keep_rules plan some entry behind fit whole in
-          let front : IsKept plan (some ++ entry ∷ []) = kept_before plan (some ++ entry ∷ []) behind (subst (IsKept plan) (sym (append_assoc some (entry ∷ []) behind)) whole) in
+      each : (some : List Entry) (entry : Entry) (later : List Entry) → IsKept plan (some ++ entry ∷ later) → turn_if (breaks plan (lines_of some) (line_of entry)) (lines_of some) ≡ []
+      each some entry later whole =
+          let rules = keep_rules plan some entry later fit whole in
+          let front : IsKept plan (some ++ entry ∷ []) = kept_before plan (some ++ entry ∷ []) later (subst (IsKept plan) (sym (append_assoc some (entry ∷ []) later)) whole) in
           ap (λ (b : Bool). turn_if b (lines_of some))
-          (not_broken (keeps_script plan (lines_of some) (line_of entry)) (is_within plan (lines_of some)) (keeps_losses plan (lines_of some) (line_of entry)) (alters_in (lines_of some) (line_of entry) && has_altered (lines_of some)) rules.script rules.losses (alters_once plan some entry serial told front))
+          (not_broken (keeps_script plan (lines_of some) (line_of entry)) (is_within plan (lines_of some)) (keeps_losses plan (lines_of some) (line_of entry)) (alters_in (lines_of some) (line_of entry) && has_altered (lines_of some)) rules.script rules.losses (alters_once plan some entry serial known front))
 
 -- ---- the verdict
 
@@ -195,9 +194,9 @@ rightly_at plan journal kept turn entry is =
 
 cause_told : (plan : PlanData) (journal : List Entry) (cause : Cause) → IsKept plan journal → length journal ≤ plan.options.turn_limit → Stands plan journal cause → cause_holds plan (lines_of journal) cause ≡ true
 unfolding Stands
-cause_told plan journal (causes.Unfit turn key column number) kept within stands = unfit_is_told plan journal turn key column number (rightly_at plan journal kept turn) stands
-cause_told plan journal (causes.Spent task turns) kept within stands = tries_are_told plan journal task turns (rightly_at plan journal kept) stands.each
-cause_told plan journal (causes.Panic turn) kept within stands = panic_told plan journal turn kept within stands
+cause_told plan journal (causes.Unfit turn key column number) kept within stands = unfit_in_line plan journal turn key column number (rightly_at plan journal kept turn) stands
+cause_told plan journal (causes.Spent task turns) kept within stands = tries_in_lines plan journal task turns (rightly_at plan journal kept) stands.each
+cause_told plan journal (causes.Panic turn) kept within stands = panic_in_lines plan journal turn kept within stands
 
 holds_here : (plan : PlanData) (journal : List Entry) (verdict : Verdict) → verdict_of plan journal ≡ verdict → has_altered (lines_of journal) ≡ list_any is_alter (history plan journal) → IsKept plan journal → length journal ≤ plan.options.turn_limit
     → ((cause : Cause) → verdict_of plan journal ≡ verdicts.Reverted cause → Stands plan journal cause) → verdict_holds plan (lines_of journal) verdict ≡ true
@@ -217,11 +216,11 @@ unfolding least
 answer_yes broken wrong left other holds one two three four five = rw (one, two, three, four, five) refl
 
 -- *Traces are audited yes*
-pub traces_audited : TracesAreAudited
+pub traces_audited : SerialTracesAreAudited
 unfolding audited trace_of
-traces_audited plan journal fit serial told kept within stands =
-    let tells : AreSerialLines plan journal = are_serial plan journal fit serial (marks_agree plan serial told) (refusals_keep plan (idle_write_nothing plan)) kept in
+traces_audited plan journal fit serial known kept within stands =
+    let tells : AreSerialLines plan journal = are_serial plan journal fit serial (marks_agree plan serial known) (refusals_keep plan (idle_write_nothing plan)) kept in
     answer_yes (broken_turns plan (lines_of journal)) (wrong_turns plan (opening_tables plan) (judged plan (lines_of journal))) (unended plan (trace_of plan journal (verdict_of plan journal) (state_at plan journal).tables))
     (first_other (map printed_table (tables_left plan (state_at plan journal).tables)) (tables_reached plan (opening_tables plan) (judged plan (lines_of journal)))) (verdict_holds plan (lines_of journal) (verdict_of plan journal))
-    (none_broken plan journal fit serial told kept) tells.turns (lines_end plan journal fit kept) tells.printed
-    (holds_here plan journal (verdict_of plan journal) refl (altered_is plan journal told kept) kept within stands)
+    (none_broken plan journal fit serial known kept) tells.turns (lines_end plan journal fit kept) tells.printed
+    (holds_here plan journal (verdict_of plan journal) refl (altered_is plan journal known kept) kept within stands)

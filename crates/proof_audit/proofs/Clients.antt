@@ -1,6 +1,6 @@
--- Behind the lines of a journal each client is so far as it is behind the journal, where no client has a turn behind its loss and
+-- After the lines of a journal each client is as far as after the journal, where no client has a turn after its loss and
 -- each that heard an answer heard one of a client's.
-use Rattle.std.proofs.Common.{◌≡◌, ◌≢◌, ℕ, Bool, true, false, List, [], ◌∷◌, ◌++◌, fold, map, cond, unwrap_or, Option, Some, None, refl, sym, ap, ◌∙◌, subst, arith}
+use Rattle.std.proofs.Common.{◌≡◌, ◌≢◌, ℕ, Bool, true, false, List, [], ◌∷◌, ◌++◌, cond, unwrap_or, Option, Some, None, refl, sym, ap, ◌∙◌, arith}
 use Rattle.std.proofs.lemmas.List.{map-append}
 use Rattle.std.proofs.lemmas.List.Sums.{fold-append}
 use Rattle.std.proofs.lemmas.Bool.Decides.{nat_tests}
@@ -13,7 +13,6 @@ use Rattle.base_script.specs.declared.script.ScriptWord.{ScriptWord}
 use Rattle.base_script.specs.declared.script.ScriptWord.TheVariants as words
 use Rattle.server_model.specs.declared.transaction.Mark.TheVariants as marks
 use Rattle.server_model.specs.declared.transaction.Reply.{Reply}
-use Rattle.server_model.specs.declared.transaction.Reply.TheVariants as replies
 use Rattle.server_model.specs.declared.request.Request.{Request}
 use Rattle.server_model.specs.declared.request.Request.TheVariants as requests
 use Rattle.server_model.specs.declared.answer.Answer.{Answer}
@@ -27,8 +26,6 @@ use Rattle.plan_data.specs.PlanData.{PlanData}
 use Rattle.tool_program.specs.JournalWords.Clients.{Became, Nothing, Waits, Marked, Broken, Reached, after_turn, became, became_in, became_of, client_after, client_at, cut_off, is_inside, left_after, lost_side, marked, new_client, script_of}
 use Rattle.run_audit.specs.declared.line.LineAsked.{LineAsked}
 use Rattle.run_audit.specs.declared.line.LineAsked.TheVariants as asks
-use Rattle.run_audit.specs.declared.line.LineAnswer.{LineAnswer}
-use Rattle.run_audit.specs.declared.line.LineAnswer.TheVariants as line_answers
 use Rattle.run_audit.specs.declared.line.TraceLine.{TraceLine}
 use Rattle.run_audit.specs.Lines.{asked_of, heard_answer, missed_answer, line_answer, line_of, lines_of}
 use Rattle.run_audit.specs.Rules.{became_of_line, client_after_line, client_step, client_reached, left_by, left_outside}
@@ -110,7 +107,7 @@ lost_alike client one other (line ∷ lines) =
     ap (λ (rest : List ScriptLine). record { left = rest; begun = (marked client (marks.Lost one) None (line ∷ lines)).begun; lines = []; replies = []; waits = false; is_lost = true })
     (after_lost (is_inside client.lines) one line lines ∙ sym (after_lost (is_inside client.lines) other line lines))
 
--- what became of a line that was lost behind its call
+-- what became of a line that was lost after its call
 after_alike : (client : Reached) (missed : Option Answer) (kind : LineAsked) → kind ≢ asks.Cut → client_after_line (became_of_line client.waits kind (missed_answer missed)) client ≡ client_after (Marked (marks.Lost (lost_side (Some After) missed)) None) client
 after_alike client missed asks.Cut not_cut = absurd (not_cut refl)
 after_alike client None asks.Call not_cut = lost_alike client After Before client.left
@@ -221,10 +218,10 @@ pub at_more : (plan : PlanData) (journal : List Entry) (entry : Entry) (c : ℕ)
 unfolding client_at
 at_more plan journal entry c = fold-append (after_turn c) (new_client (unwrap_or (script_of c plan) [])) journal (entry ∷ [])
 
--- one client behind one turn
-told_alike : (client : Reached) (entry : Entry) (c : ℕ) → (entry.actor ≡ Client c → client.is_lost ≡ false) → (entry.actor ≡ Client c → entry.asked ≢ Cut → entry.side ≡ None → IsClients entry.answer) → (entry.actor ≡ Client c → entry.asked ≢ Cut → entry.side ≡ None → NoBegin client.left entry.answer) → (entry.actor ≡ Client c → entry.side ≡ Some Before → entry.answer ≡ answers.Lost)
+-- one client after one turn
+line_alike : (client : Reached) (entry : Entry) (c : ℕ) → (entry.actor ≡ Client c → client.is_lost ≡ false) → (entry.actor ≡ Client c → entry.asked ≢ Cut → entry.side ≡ None → IsClients entry.answer) → (entry.actor ≡ Client c → entry.asked ≢ Cut → entry.side ≡ None → NoBegin client.left entry.answer) → (entry.actor ≡ Client c → entry.side ≡ Some Before → entry.answer ≡ answers.Lost)
     → client_step c client (line_of entry) ≡ after_turn c client entry
-told_alike client entry c lives heard timed lost = by (same_actor entry.actor (Client c)) refl where
+line_alike client entry c lives heard timed lost = by (same_actor entry.actor (Client c)) refl where
   by : (b : Bool) → same_actor entry.actor (Client c) ≡ b → cond b (cond client.is_lost client (client_after_line (became_of_line client.waits (asked_of entry.asked) (line_answer (is_client entry.actor) entry.side entry.answer entry.missed)) client)) client ≡ cond b (client_after (became client entry) client) client
   by false other = refl
   by true same =
@@ -243,5 +240,5 @@ lines_tell_clients plan journal c turns = Along-keeps _ (λ before. client_reach
       ap (λ (lines : List TraceLine). client_reached plan lines c) (map-append line_of before (entry ∷ []))
       ∙ reached_more plan (lines_of before) (line_of entry) c
       ∙ ap (λ (client : Reached). client_step c client (line_of entry)) same
-      ∙ told_alike (client_at plan before c) entry c (λ is. (turn c is).lives) (λ is. (turn c is).heard) (λ is. (turn c is).timed) (λ is. (turn c is).lost)
+      ∙ line_alike (client_at plan before c) entry c (λ is. (turn c is).lives) (λ is. (turn c is).heard) (λ is. (turn c is).timed) (λ is. (turn c is).lost)
       ∙ sym (at_more plan before entry c)

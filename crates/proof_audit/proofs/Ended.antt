@@ -1,5 +1,5 @@
--- A run that has ended left no script that wasn't gone through, and a panic is told as one.
-use Rattle.std.proofs.Common.{◌≡◌, ◌≢◌, ℕ, suc, ◌+◌, ◌-◌, ◌<◌, ◌≤◌, ◌&&◌, nat_lt, Bool, true, false, not, cond, List, [], ◌∷◌, ◌++◌, length, take, drop, get_or, Option, Some, None, refl, sym, ap, ◌∙◌, subst, arith}
+-- A run that has ended left no script that wasn't gone through, and a panic is in its line.
+use Rattle.std.proofs.Common.{◌≡◌, ℕ, suc, ◌+◌, ◌-◌, ◌<◌, ◌&&◌, nat_lt, Bool, true, false, not, cond, List, [], ◌∷◌, ◌++◌, length, take, drop, Some, refl, ap, ◌∙◌, subst, arith}
 use Rattle.std.specs.List.{slice_get}
 use Rattle.std.proofs.lemmas.Bool.Decides.{nat_tests}
 use Rattle.std.proofs.lemmas.List.{take-map}
@@ -11,21 +11,18 @@ use Rattle.base_script.specs.declared.operator.OperatorWord.{OperatorWord}
 use Rattle.base_script.specs.declared.operator.OperatorWord.TheVariants.{Panic}
 use Rattle.base_script.specs.declared.script.ScriptLine.{ScriptLine}
 use Rattle.server_model.specs.declared.entry.Asked.{Asked}
-use Rattle.server_model.specs.declared.entry.Asked.TheVariants.{Call, Poll, Command, Cut}
+use Rattle.server_model.specs.declared.entry.Asked.TheVariants.{Command}
 use Rattle.server_model.specs.declared.entry.Entry.{Entry}
-use Rattle.server_model.specs.declared.outcome.Verdict.{Verdict}
 use Rattle.server_model.specs.declared.outcome.Verdict.TheVariants as verdicts
 use Rattle.plan_data.specs.PlanData.{PlanData}
-use Rattle.tool_program.specs.Failures.{IsPanic}
-use Rattle.tool_program.specs.JournalWords.Clients.{Reached, all_over, client_asks, client_at, client_over, clients_over, line_asks, word_asks}
-use Rattle.tool_program.specs.JournalWords.Journals.{state_at}
+use Rattle.tool_program.specs.JournalWords.Clients.{Reached, all_over, client_asks, client_at, client_over, clients_over, line_asks}
 use Rattle.tool_program.specs.JournalWords.KeptPlans.{TakesNext, commands_taken, words_of}
 use Rattle.tool_program.specs.Tools.{moment}
 use Rattle.tool_program.specs.Verdicts.{ended_so, has_ended, is_over, verdict_of}
 use Rattle.proof_journals.specs.Machine.Scripts.{ScriptsFit}
 use Rattle.proof_journals.specs.Run.Kept.{IsKept}
 use Rattle.run_audit.specs.declared.line.TraceLine.{TraceLine}
-use Rattle.run_audit.specs.Audits.{is_panic, is_panic_at, is_unfinished, line_at, unended}
+use Rattle.run_audit.specs.Audits.{is_panic, is_panic_at, is_unfinished}
 use Rattle.run_audit.specs.Lines.{asked_of, line_of, lines_of, trace_of}
 use Rattle.run_audit.specs.Rules.{all_are_over, client_reached, commands_in, is_word, next_turn}
 use Rattle.proof_audit.proofs.Sessions.{lines_tell_commands}
@@ -105,14 +102,14 @@ commanded plan before Apply word takes = absurd cc
 commanded plan before Lock word takes = absurd cc
 commanded plan before Ren word takes = absurd cc
 
--- the turns before a turn, and it, and those behind it
+-- the turns before a turn, and it, and those after it
 pub turn_splits : (journal : List Entry) (place : ℕ) (entry : Entry) → slice_get journal place ≡ Some entry → journal ≡ take place journal ++ entry ∷ drop (suc place) journal
 turn_splits journal place entry is =
     split_at journal place entry (slice_get_within journal place entry is) ∙ ap (λ (e : Entry). take place journal ++ e ∷ drop (suc place) journal) (get_or_from_slice_get journal place entry entry is)
 
--- *A panic is told*
-pub panic_told : LinesTellPanic
-panic_told plan journal turn kept within is =
+-- *A panic is in its line*
+pub panic_in_lines : LinesTellPanic
+panic_in_lines plan journal turn kept within is =
     let before : List Entry = take (turn - 1) journal in
     let split : journal ≡ before ++ is.entry ∷ drop (suc (turn - 1)) journal = turn_splits journal (turn - 1) is.entry is.is.stands in
     let takes : TakesNext plan before is.entry.actor is.entry.asked = (planned_next plan before is.entry (drop (suc (turn - 1)) journal) (subst (IsKept plan) split kept)).next in
@@ -120,8 +117,8 @@ panic_told plan journal turn kept within is =
     let lower : turn - 1 < length journal = slice_get_within journal (turn - 1) is.entry is.is.stands in
     let some : 0 < turn = is.is.from_one in
     let allowed : nat_lt plan.options.turn_limit turn ≡ false = grind (arith, nat_tests) in
-    let told : commands_in (take (turn - 1) (lines_of journal)) ≡ commands_taken before = ap (λ (lines : List TraceLine). commands_in lines) (take-map line_of (turn - 1) journal) ∙ lines_tell_commands before in
+    let known : commands_in (take (turn - 1) (lines_of journal)) ≡ commands_taken before = ap (λ (lines : List TraceLine). commands_in lines) (take-map line_of (turn - 1) journal) ∙ lines_tell_commands before in
     ap (is_panic_at plan (lines_of journal) turn) (line_there journal turn is.entry is.is.from_one is.is.stands)
     ∙ both (is_word (asked_of is.entry.asked) && not (nat_lt plan.options.turn_limit turn)) (is_panic (slice_get (words_of plan) (commands_in (take (turn - 1) (lines_of journal)))))
     (both (is_word (asked_of is.entry.asked)) (not (nat_lt plan.options.turn_limit turn)) (ap (λ (asked : Asked). is_word (asked_of asked)) is.asked) (ap not allowed))
-    (ap (λ (n : ℕ). is_panic (slice_get (words_of plan) n)) told ∙ ap is_panic word)
+    (ap (λ (n : ℕ). is_panic (slice_get (words_of plan) n)) known ∙ ap is_panic word)

@@ -1,11 +1,8 @@
--- A session outside a transaction has written nothing, behind every list of turns.
-use Rattle.std.proofs.Common.{◌≡◌, ℕ, ◌==◌, ◌||◌, Bool, true, false, not, cond, List, [], ◌∷◌, ◌++◌, find, filter, Option, Some, None, Result, Ok, Err, refl, sym, ap, ◌∙◌, subst}
+-- A session outside a transaction has written nothing, after any turns.
+use Rattle.std.proofs.Common.{◌≡◌, ℕ, ◌==◌, ◌||◌, Bool, true, false, cond, List, [], ◌∷◌, ◌++◌, find, filter, Option, Some, None, refl}
 use Rattle.std.specs.List.{AllByRecursion}
-use Rattle.table_store.specs.Databases.{TableRows, Database, find_table, has_table}
-use Rattle.base_values.specs.declared.event.RowEvent.{RowEvent}
 use Rattle.base_script.specs.declared.actor.Side.{Side}
 use Rattle.base_script.specs.declared.actor.Side.TheVariants.{Before, After}
-use Rattle.server_model.specs.declared.need.Need.{Need}
 use Rattle.server_model.specs.declared.request.Request.{Request}
 use Rattle.server_model.specs.declared.entry.Asked.{Asked}
 use Rattle.server_model.specs.declared.entry.Asked.TheVariants.{Call, Poll, Command, Cut}
@@ -14,8 +11,7 @@ use Rattle.server_model.specs.declared.session.Session.{Session}
 use Rattle.server_model.specs.declared.session.Waiting.{Waiting}
 use Rattle.server_model.specs.Effects.{Effect, Rests, Grows, Writes, Forgets, Moves, Locks, Unlocks, effect}
 use Rattle.server_model.specs.PlainServer.{called_unless, calls, does, done, leaves, loses, polled_of, polled_over, polled_unless, polls, serves, without_waiting}
-use Rattle.server_model.specs.States.{State, connected, is_in_transaction, opened, session_of, waiting_of, with_session, writes_of}
-use Rattle.plan_data.specs.PlanData.{PlanData}
+use Rattle.server_model.specs.States.{State, connected, is_in_transaction, session_of, waiting_of, with_session, writes_of}
 use Rattle.tool_program.specs.JournalWords.Journals.{after_entry, opening, opens, opens_if, state_at, state_after}
 use Rattle.proof_audit.specs.Laws.{IdleWriteNothing}
 

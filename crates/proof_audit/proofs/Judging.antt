@@ -13,7 +13,7 @@ use Rattle.server_model.specs.declared.transaction.Reply.TheVariants.{Ok, Error,
 use Rattle.server_model.specs.Alone.{alone}
 use Rattle.server_model.specs.Rows.{same_row}
 use Rattle.plan_data.specs.PlanData.{PlanData}
-use Rattle.tool_program.specs.JournalWords.Histories.{HistoryItem, Past, Txn, Alter}
+use Rattle.tool_program.specs.JournalWords.Histories.{Alter}
 use Rattle.tool_program.specs.JournalWords.Serials.{Serial, altered_database}
 use Rattle.run_audit.specs.Audits.{Judged, Ended, Altered, item_of, same_rows, same_reply, mismatches, after_alter, or_these, wrong_turns, tables_reached}
 

@@ -1,5 +1,5 @@
 -- Of a journal that is kept each client's turn is one of a client that lives, and what it hears is a client's.
-use Rattle.std.proofs.Common.{◌≡◌, ◌≢◌, ℕ, Bool, true, false, List, [], ◌∷◌, ◌++◌, is_some, Option, Some, None, refl, sym, ap, ◌∙◌, subst}
+use Rattle.std.proofs.Common.{◌≡◌, ◌≢◌, ℕ, Bool, true, false, List, [], ◌∷◌, ◌++◌, Option, Some, None, refl, sym, ap, ◌∙◌, subst}
 use Rattle.base_script.specs.declared.actor.Actor.{Actor}
 use Rattle.base_script.specs.declared.actor.Actor.TheVariants.{Client}
 use Rattle.base_script.specs.declared.actor.Side.{Side}
@@ -18,10 +18,10 @@ use Rattle.server_model.specs.PlainServer.{given_at, serves}
 use Rattle.server_model.specs.States.{State}
 use Rattle.plan_data.specs.PlanData.{PlanData}
 use Rattle.tool_program.specs.JournalWords.Clients.{client_asks, client_at, word_asks}
-use Rattle.tool_program.specs.JournalWords.Journals.{IsAnswered, IsFaithful, heard, inner_answer, may_lose, opens, state_at}
+use Rattle.tool_program.specs.JournalWords.Journals.{IsAnswered, heard, inner_answer, may_lose, opens, state_at}
 use Rattle.tool_program.specs.JournalWords.KeptPlans.{IsPlanned, KeepsPlan, TakesNext}
 use Rattle.tool_program.specs.JournalWords.Sessions.{live_session}
-use Rattle.tool_program.specs.Programs.{Follows, IsFollowed}
+use Rattle.tool_program.specs.Programs.{Follows}
 use Rattle.proof_journals.specs.Machine.Scripts.{ScriptsFit}
 use Rattle.proof_journals.specs.Machine.Standings.{IsAbout, is_called, is_polled, serves_to, standing_of}
 use Rattle.proof_journals.specs.Run.Kept.{IsKept}
@@ -30,8 +30,6 @@ use Rattle.proof_journals.proofs.Machine.ClientJournals.{ClientsTogether, client
 use Rattle.proof_journals.proofs.Machine.Clients.{ClientStands, Next, calls_line, polls_line, client_next}
 use Rattle.proof_journals.proofs.Machine.Journals.{IsRun, all_runs}
 use Rattle.proof_journals.proofs.Machine.Seated.{IsServed, own_heard}
-use Rattle.run_audit.specs.Lines.{lines_of}
-use Rattle.run_audit.specs.Rules.{client_reached, has_session}
 use Rattle.proof_audit.proofs.Clients.{AreClientTurns, IsClientTurn, IsClients, IsTimeout, NoBegin, lines_tell_clients}
 use Rattle.proof_audit.proofs.Lost.{IsLosing, LostHaveNone, lost_before, lost_step}
 use Rattle.proof_audit.proofs.Sessions.{IsLostRightly, lines_tell_sessions}

@@ -1,19 +1,18 @@
 -- Serial histories end in one database; and a transaction whose last line was lost has the same replies, whether that line was
 -- done or not, and where it wasn't leaves the database as it was.
-use Rattle.std.proofs.Common.{◌≡◌, Bool, true, false, ◌&&◌, ◌||◌, List, [], ◌∷◌, ◌++◌, Option, Some, None, refl, sym, ap, ◌∙◌, subst}
+use Rattle.std.proofs.Common.{◌≡◌, Bool, true, false, ◌&&◌, ◌||◌, List, [], ◌∷◌, ◌++◌, refl, sym, ap, ◌∙◌, subst}
 use Rattle.base_values.proofs.SchemaRules.Steps.{some_is}
 use Rattle.table_store.specs.Databases.{Database}
 use Rattle.base_script.specs.declared.actor.Side.{Side}
 use Rattle.base_script.specs.declared.actor.Side.TheVariants.{Before, After}
 use Rattle.base_script.specs.declared.script.ScriptWord.{ScriptWord}
 use Rattle.server_model.specs.declared.transaction.Mark.TheVariants as marks
-use Rattle.server_model.specs.declared.transaction.Reply.{Reply}
 use Rattle.server_model.specs.declared.transaction.TxnLine.{TxnLine}
 use Rattle.server_model.specs.Alone.{Ran, line_replies, line_events, lines_run, nothing_ran, is_done, is_commit, is_statement, commit_was_done, stays, outcome_if, alone}
 use Rattle.server_model.specs.Operations.{after_events}
 use Rattle.plan_data.specs.PlanData.{PlanData}
 use Rattle.tool_program.specs.JournalWords.Histories.{HistoryItem, Past, Txn, Alter}
-use Rattle.tool_program.specs.JournalWords.Serials.{Leads, Serial, altered_database}
+use Rattle.tool_program.specs.JournalWords.Serials.{Leads, Serial}
 
 -- ---- serial histories
 

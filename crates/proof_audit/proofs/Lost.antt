@@ -18,9 +18,9 @@ use Rattle.server_model.specs.Alone.{reply_of}
 use Rattle.server_model.specs.Along.{Along, Along-keeps}
 use Rattle.server_model.specs.Entries.{same_actor}
 use Rattle.plan_data.specs.PlanData.{PlanData}
-use Rattle.tool_program.specs.JournalWords.Clients.{Became, Nothing, Waits, Marked, Broken, Reached, after_turn, became_in, became_of, client_after, client_asks, client_at, cut_off, is_loss, line_asks, lost_side, marked}
+use Rattle.tool_program.specs.JournalWords.Clients.{Reached, after_turn, became_in, became_of, client_after, client_asks, client_at, is_loss, marked}
 use Rattle.tool_program.specs.JournalWords.KeptPlans.{IsPlanned, IsStruck, cut_among, cut_by, cut_due, or_first, TakesNext}
-use Rattle.tool_program.specs.JournalWords.Sessions.{live_session, session_in, session_left}
+use Rattle.tool_program.specs.JournalWords.Sessions.{live_session, session_left}
 use Rattle.proof_audit.proofs.Clients.{at_more, same_client}
 use Rattle.proof_audit.proofs.Sessions.{IsLostRightly, live_more}
 

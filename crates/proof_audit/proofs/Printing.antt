@@ -1,8 +1,8 @@
 -- Tables that are printed are the tables; and the least of no turns is none.
-use Rattle.std.proofs.Common.{◌≡◌, ℕ, Bool, true, false, List, [], ◌∷◌, map, cond, Option, None, refl, ap, ◌∙◌}
+use Rattle.std.proofs.Common.{◌≡◌, ℕ, true, List, [], ◌∷◌, map, None, refl}
 use Rattle.std.specs.Str.{bytes_eq}
 use Rattle.std.specs.Cmp.Lexicographic.{bytes_decides}
-use Rattle.table_store.specs.Databases.{TableRows, Database}
+use Rattle.table_store.specs.Databases.{Database}
 use Rattle.run_audit.specs.Lines.{printed_table}
 use Rattle.run_audit.specs.Audits.{first_other}
 

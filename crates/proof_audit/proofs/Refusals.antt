@@ -1,5 +1,5 @@
 -- A call that was refused changes no table.
-use Rattle.std.proofs.Common.{◌≡◌, ℕ, ◌||◌, Bool, true, false, not, cond, List, [], ◌∷◌, ◌++◌, map, Option, Some, None, Result, Ok, Err, refl, sym, ap, ◌∙◌, subst}
+use Rattle.std.proofs.Common.{◌≡◌, ℕ, ◌||◌, Bool, true, false, cond, List, [], ◌∷◌, ◌++◌, map, Option, Some, None, Result, Ok, Err, refl, sym, ap, ◌∙◌, subst}
 use Rattle.std.specs.List.{list_any}
 use Rattle.base_values.specs.declared.value.Value.{Value}
 use Rattle.base_values.specs.declared.row_conversion.conversion_fault.UnfitAt.{UnfitAt}
@@ -21,18 +21,15 @@ use Rattle.server_model.specs.declared.need.Need.{Need}
 use Rattle.server_model.specs.declared.work.StatementResult.{StatementResult}
 use Rattle.server_model.specs.declared.work.Work.{Work}
 use Rattle.server_model.specs.declared.work.Work.TheVariants as works
-use Rattle.server_model.specs.Effects.{Effect, Rests, Grows, Writes, Forgets, Moves, Locks, Unlocks, all_exist, begins, created, effect, effect_unless, effect_within, defined, dropped, is_outside, locks_if, renamed_or, result_effect}
+use Rattle.server_model.specs.Effects.{Effect, all_exist, begins, effect_unless, effect_within, defined, is_outside, locks_if, result_effect}
 use Rattle.server_model.specs.Operations.{Operation, after_events, events_of, operation_result, result_in}
 use Rattle.server_model.specs.StatementResults.{TableResult, result_or_refusal, tells, updated, updates}
-use Rattle.server_model.specs.PlainServer.{Served, called_unless, calls, commits, does, done, given_at, leaves, loses, polled_of, polled_over, polled_unless, polls, serves, without_waiting}
+use Rattle.server_model.specs.PlainServer.{called_unless, calls, does, done, given_at, leaves, loses, polled_of, polled_over, polled_unless, polls, serves, without_waiting}
 use Rattle.server_model.specs.States.{State, connected, is_in_transaction, session_of, waiting_of, writes_of}
-use Rattle.server_model.specs.declared.session.Session.{Session}
 use Rattle.server_model.specs.declared.session.Waiting.{Waiting}
-use Rattle.plan_data.specs.PlanData.{PlanData}
-use Rattle.tool_program.specs.JournalWords.Journals.{IsAnswered, after_entry, inner_answer, missed, opening, opens, opens_if, state_at, state_after}
-use Rattle.proof_journals.specs.Run.Kept.{IsKept}
+use Rattle.tool_program.specs.JournalWords.Journals.{after_entry, inner_answer, missed, opening, opens, opens_if, state_at, state_after}
 use Rattle.proof_journals.proofs.Machine.Journals.{IsRun}
-use Rattle.proof_audit.specs.Laws.{IdleWroteNothing, RefusalsKeep}
+use Rattle.proof_audit.specs.Laws.{RefusalsKeep}
 use Rattle.proof_audit.proofs.Rules.{run_next}
 
 -- the answer is a refusal
@@ -55,19 +52,19 @@ updated_nothing schema (Ok sets) met rows is = changed_nothing (updates schema s
 updated_nothing schema (Err at) [] rows is = refl
 updated_nothing schema (Err at) (row ∷ met) rows is = refl
 
-told_nothing : (schema : Schema) (rows : List (List Value)) (work : Work) → IsRefusal (tells schema rows work).answer → (tells schema rows work).changes ≡ []
+result_nothing : (schema : Schema) (rows : List (List Value)) (work : Work) → IsRefusal (tells schema rows work).answer → (tells schema rows work).changes ≡ []
 unfolding tells
-told_nothing schema rows (works.Refuse refusal) is = refl
-told_nothing schema rows (works.Insert row) is = inserted (list_any (clash schema.uniques row) rows) _ _ refl (λ no. no) is
-told_nothing schema rows (works.Copy row) is = inserted (list_any (clash schema.uniques row) rows) _ _ refl (λ no. no) is
-told_nothing schema rows (works.Replace row) is = absurd is
-told_nothing schema rows (works.Delete reach) is = absurd is
-told_nothing schema rows (works.Update reach sets) is = updated_nothing schema sets _ rows is
-told_nothing schema rows (works.Select reach selection) is = refl
+result_nothing schema rows (works.Refuse refusal) is = refl
+result_nothing schema rows (works.Insert row) is = inserted (list_any (clash schema.uniques row) rows) _ _ refl (λ no. no) is
+result_nothing schema rows (works.Copy row) is = inserted (list_any (clash schema.uniques row) rows) _ _ refl (λ no. no) is
+result_nothing schema rows (works.Replace row) is = absurd is
+result_nothing schema rows (works.Delete reach) is = absurd is
+result_nothing schema rows (works.Update reach sets) is = updated_nothing schema sets _ rows is
+result_nothing schema rows (works.Select reach selection) is = refl
 
 in_nothing : (operation : Operation) (found : Option TableRows) → IsRefusal (result_in operation found).answer → (result_in operation found).events ≡ []
 in_nothing operation None is = refl
-in_nothing operation (Some table) is = ap (events_of operation.table) (told_nothing table.schema table.rows (operation.work table.schema) is)
+in_nothing operation (Some table) is = ap (events_of operation.table) (result_nothing table.schema table.rows (operation.work table.schema) is)
 
 said_nothing : (tables : Database) (operation : Operation) → IsRefusal (operation_result tables operation).answer → (operation_result tables operation).events ≡ []
 unfolding operation_result

@@ -1,5 +1,5 @@
 -- Where an actor waits, its last call is what it waits with: so the lines tell whether that is a RENAME.
-use Rattle.std.proofs.Common.{◌≡◌, Bool, true, false, cond, List, [], ◌∷◌, ◌++◌, fold, Option, Some, None, refl, sym, ap, ◌∙◌, subst}
+use Rattle.std.proofs.Common.{◌≡◌, Bool, true, false, cond, List, [], ◌∷◌, ◌++◌, Option, Some, None, refl, sym, ap, ◌∙◌}
 use Rattle.std.proofs.lemmas.List.{map-append}
 use Rattle.std.proofs.lemmas.List.Sums.{fold-append}
 use Rattle.base_values.proofs.SchemaRules.Steps.{some_is}
@@ -51,10 +51,10 @@ abbrev pub LinesTellWaiting : List Entry → Type 0
 LinesTellWaiting journal = (actor : Actor) (request : Request) → request_waiting journal actor ≡ Some request → has_renamed (lines_of journal) actor ≡ is_rename_request request
 
 waits_step : (journal : List Entry) (entry : Entry) → LinesTellWaiting journal → LinesTellWaiting (journal ++ entry ∷ [])
-waits_step journal entry told actor request is =
+waits_step journal entry known actor request is =
     ap (λ (lines : List TraceLine). has_renamed lines actor) (map-append line_of journal (entry ∷ []))
     ∙ renamed_more (lines_of journal) (line_of entry) actor
-    ∙ here_renames (same_actor entry.actor actor) (request_waiting journal actor) (has_renamed (lines_of journal) actor) entry.asked entry.answer request (told actor) (sym (waiting_more journal entry actor) ∙ is)
+    ∙ here_renames (same_actor entry.actor actor) (request_waiting journal actor) (has_renamed (lines_of journal) actor) entry.asked entry.answer request (known actor) (sym (waiting_more journal entry actor) ∙ is)
 
 any_journal : (before journal : List Entry) → Along (λ some entry. Unit {0}) before journal
 any_journal before [] = tt
@@ -63,4 +63,4 @@ any_journal before (entry ∷ journal) = (tt, any_journal (before ++ entry ∷ [
 -- *The lines tell of a RENAME that waits*
 pub lines_tell_waiting : (journal : List Entry) → LinesTellWaiting journal
 unfolding request_waiting
-lines_tell_waiting journal = Along-keeps (λ some entry. Unit {0}) LinesTellWaiting (λ some entry any told. waits_step some entry told) [] journal (any_journal [] journal) (λ actor request is. absurd cc)
+lines_tell_waiting journal = Along-keeps (λ some entry. Unit {0}) LinesTellWaiting (λ some entry any known. waits_step some entry known) [] journal (any_journal [] journal) (λ actor request is. absurd cc)

@@ -1,15 +1,12 @@
 -- No line of a journal that is kept breaks a rule of scripts, losses or commands.
 use Rattle.std.proofs.Common.{◌≡◌, ◌≢◌, ℕ, ◌<◌, ◌&&◌, ◌||◌, nat_lt, Bool, true, false, not, cond, List, [], ◌∷◌, ◌++◌, length, Option, Some, None, refl, sym, ap, ◌∙◌, subst, arith}
-use Rattle.std.specs.List.{slice_get}
 use Rattle.std.proofs.lemmas.Bool.Decides.{nat_tests}
 use Rattle.std.proofs.lemmas.Option.{slice_get_within}
 use Rattle.base_script.specs.declared.actor.Actor.{Actor}
 use Rattle.base_script.specs.declared.actor.Actor.TheVariants.{Op, Insp, Copy, Apply, Lock, Ren, Client}
-use Rattle.base_script.specs.declared.operator.OperatorWord.{OperatorWord}
 use Rattle.base_script.specs.declared.script.ScriptLine.{ScriptLine}
 use Rattle.base_script.specs.declared.script.ScriptWord.{ScriptWord}
 use Rattle.base_script.specs.declared.script.ScriptWord.TheVariants as words
-use Rattle.server_model.specs.declared.request.Request.{Request}
 use Rattle.server_model.specs.declared.request.Request.TheVariants as requests
 use Rattle.server_model.specs.declared.entry.Asked.{Asked}
 use Rattle.server_model.specs.declared.entry.Asked.TheVariants.{Call, Poll, Command, Cut}
@@ -22,7 +19,6 @@ use Rattle.tool_program.specs.JournalWords.Journals.{IsAnswered, state_at}
 use Rattle.tool_program.specs.JournalWords.KeptPlans.{IsPlanned, KeepsPlan, TakesNext, commands_taken, words_of}
 use Rattle.tool_program.specs.JournalWords.Sessions.{IsSeated, KeepsSessions}
 use Rattle.tool_program.specs.Programs.{Follows, IsFollowed}
-use Rattle.proof_journals.specs.Machine.Scripts.{ScriptsFit}
 use Rattle.proof_journals.specs.Run.Kept.{IsKept}
 use Rattle.proof_journals.proofs.Ghost.Turns.{along_next}
 use Rattle.proof_journals.proofs.Machine.Journals.{IsRun}
@@ -35,26 +31,26 @@ use Rattle.run_audit.specs.Rules.{asks_next, client_reached, commands_in, is_ast
 use Rattle.proof_audit.proofs.Lost.{IsLosing, lost_have_none}
 use Rattle.proof_audit.proofs.Sessions.{lines_tell_commands}
 use Rattle.proof_audit.proofs.Struck.{both, losses_are_kept}
-use Rattle.proof_audit.specs.Laws.{KeepsRules, LinesKeepRules}
-use Rattle.proof_audit.proofs.Kept.{client_lives, kept_lost, kept_runs, lost_rightly, takes_asks, tell_clients}
+use Rattle.proof_audit.specs.Laws.{LinesKeepRules}
+use Rattle.proof_audit.proofs.Kept.{client_lives, kept_lost, kept_runs, lost_rightly, tell_clients}
 
 -- ---- prefixes
 
-pub kept_before : (plan : PlanData) (before behind : List Entry) → IsKept plan (before ++ behind) → IsKept plan before
+pub kept_before : (plan : PlanData) (before later : List Entry) → IsKept plan (before ++ later) → IsKept plan before
 unfolding KeepsPlan Follows KeepsSessions
-kept_before plan before behind kept = record {
-  faithful = along_front (λ some entry. IsAnswered (state_at plan some) entry) [] before behind kept.faithful;
-  planned = along_front (IsPlanned plan) [] before behind kept.planned;
-  follows = along_front (IsFollowed plan) [] before behind kept.follows;
-  sessions = along_front IsSeated [] before behind kept.sessions;
+kept_before plan before later kept = record {
+  faithful = along_front (λ some entry. IsAnswered (state_at plan some) entry) [] before later kept.faithful;
+  planned = along_front (IsPlanned plan) [] before later kept.planned;
+  follows = along_front (IsFollowed plan) [] before later kept.follows;
+  sessions = along_front IsSeated [] before later kept.sessions;
 }
 
-pub planned_next : (plan : PlanData) (before : List Entry) (entry : Entry) (behind : List Entry) → IsKept plan (before ++ entry ∷ behind) → IsPlanned plan before entry
+pub planned_next : (plan : PlanData) (before : List Entry) (entry : Entry) (later : List Entry) → IsKept plan (before ++ entry ∷ later) → IsPlanned plan before entry
 unfolding KeepsPlan
-planned_next plan before entry behind kept = along_next (IsPlanned plan) [] before entry behind kept.planned
+planned_next plan before entry later kept = along_next (IsPlanned plan) [] before entry later kept.planned
 
-pub run_next : (plan : PlanData) (before : List Entry) (entry : Entry) (behind : List Entry) → IsKept plan (before ++ entry ∷ behind) → IsRun plan before entry
-run_next plan before entry behind kept = along_next (IsRun plan) [] before entry behind (kept_runs plan (before ++ entry ∷ behind) kept)
+pub run_next : (plan : PlanData) (before : List Entry) (entry : Entry) (later : List Entry) → IsKept plan (before ++ entry ∷ later) → IsRun plan before entry
+run_next plan before entry later kept = along_next (IsRun plan) [] before entry later (kept_runs plan (before ++ entry ∷ later) kept)
 
 all_losing : (plan : PlanData) (before journal : List Entry) → Along (IsRun plan) before journal → Along (IsPlanned plan) before journal → Along (IsLosing plan) before journal
 all_losing plan before [] runs planned = tt
@@ -115,7 +111,7 @@ operator_so plan lines before (Call request) same takes = let other : Call reque
 operator_so plan lines before Poll same takes = let other : Poll ≡ Command takes.0 = takes.2 in absurd (cc other)
 operator_so plan lines before (Command word) same takes =
     let within : commands_taken before < length (words_of plan) = slice_get_within (words_of plan) (commands_taken before) takes.0 takes.1 in
-    let told : commands_in lines < length (words_of plan) = subst (λ (n : ℕ). n < length (words_of plan)) (sym same) within in
+    let known : commands_in lines < length (words_of plan) = subst (λ (n : ℕ). n < length (words_of plan)) (sym same) within in
     let less : nat_lt (commands_in lines) (length (words_of plan)) ≡ true = grind (arith, nat_tests) in
     less
 
@@ -161,22 +157,22 @@ commands_here plan before asked (Client c) same takes =
 
 -- *The lines keep the rules*
 pub keep_rules : LinesKeepRules
-keep_rules plan before entry behind fit kept = record { script = script; losses = losses } where
+keep_rules plan before entry later fit kept = record { script = script; losses = losses } where
   front : IsKept plan before
-  front = kept_before plan before (entry ∷ behind) kept
+  front = kept_before plan before (entry ∷ later) kept
 
   planned : IsPlanned plan before entry
-  planned = planned_next plan before entry behind kept
+  planned = planned_next plan before entry later kept
 
   run : IsRun plan before entry
-  run = run_next plan before entry behind kept
+  run = run_next plan before entry later kept
 
   client : (c : ℕ) → entry.actor ≡ Client c → ((client_reached plan (lines_of before) c).is_lost ≡ false) × (asks_next (client_reached plan (lines_of before) c).waits (client_reached plan (lines_of before) c).left (asked_of entry.asked) ≡ true)
   client c same =
-      let told : client_reached plan (lines_of before) c ≡ client_at plan before c = tell_clients plan before c fit front in
+      let known : client_reached plan (lines_of before) c ≡ client_at plan before c = tell_clients plan before c fit front in
       let takes : TakesNext plan before (Client c) entry.asked = subst (λ (a : Actor). TakesNext plan before a entry.asked) same planned.next in (
-        ap (λ (r : Reached). r.is_lost) told ∙ client_lives plan before entry c (lost_have_none plan before (kept_losing plan before front)) run planned same,
-        ap (λ (r : Reached). asks_next r.waits r.left (asked_of entry.asked)) told ∙ client_next_so plan before c entry.asked takes,
+        ap (λ (r : Reached). r.is_lost) known ∙ client_lives plan before entry c (lost_have_none plan before (kept_losing plan before front)) run planned same,
+        ap (λ (r : Reached). asks_next r.waits r.left (asked_of entry.asked)) known ∙ client_next_so plan before c entry.asked takes,
       )
 
   script : keeps_script plan (lines_of before) (line_of entry) ≡ true

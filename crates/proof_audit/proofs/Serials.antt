@@ -12,7 +12,6 @@ use Rattle.server_model.specs.declared.transaction.Mark.TheVariants as marks
 use Rattle.server_model.specs.declared.transaction.Reply.{Reply}
 use Rattle.server_model.specs.declared.transaction.TxnEnd.{TxnEnd}
 use Rattle.server_model.specs.declared.transaction.TxnEnd.TheVariants as ends
-use Rattle.server_model.specs.declared.request.Request.{Request}
 use Rattle.server_model.specs.declared.answer.Answer.{Answer}
 use Rattle.server_model.specs.declared.answer.Answer.TheVariants as answers
 use Rattle.server_model.specs.declared.entry.Asked.{Asked}
@@ -24,9 +23,8 @@ use Rattle.server_model.specs.PlainServer.{given_at, serves}
 use Rattle.server_model.specs.States.{State}
 use Rattle.plan_data.specs.PlanData.{PlanData}
 use Rattle.tool_program.specs.JournalWords.Clients.{Became, Nothing, Waits, Marked, Broken, Reached, became_in, client_at, is_inside, ends_with, number_of, with_line, with_reply}
-use Rattle.tool_program.specs.JournalWords.Histories.{HistoryItem, Txn, Alter, Past, adds, breaks, client_ends, ends_so, entry_adds, history, line_ends}
+use Rattle.tool_program.specs.JournalWords.Histories.{HistoryItem, Txn, Past, adds, breaks, client_ends, ends_so, entry_adds, history, line_ends}
 use Rattle.tool_program.specs.JournalWords.Journals.{IsAnswered, inner_answer, missed, opens, state_at}
-use Rattle.tool_program.specs.JournalWords.KeptPlans.{IsPlanned, TakesNext}
 use Rattle.tool_program.specs.JournalWords.Serials.{IsSerial, Leads, Serial, tables_left}
 use Rattle.proof_journals.specs.Machine.Scripts.{ScriptsFit}
 use Rattle.proof_journals.specs.Run.Kept.{IsKept}
@@ -35,14 +33,14 @@ use Rattle.run_audit.specs.declared.line.LineAsked.{LineAsked}
 use Rattle.run_audit.specs.declared.line.LineAsked.TheVariants as asks
 use Rattle.run_audit.specs.declared.line.LineAnswer.TheVariants as line_answers
 use Rattle.run_audit.specs.declared.line.TraceLine.{TraceLine}
-use Rattle.run_audit.specs.Audits.{Judged, item_of, first_other, judged, judged_in, judged_of, opening_tables, reply_turns, straight_lines, tables_reached, wrong_turns}
-use Rattle.run_audit.specs.Lines.{asked_of, line_of, lines_of, missed_answer, printed_table, line_answer}
-use Rattle.run_audit.specs.Rules.{became_of_line, client_reached, is_astray, was_lost}
+use Rattle.run_audit.specs.Audits.{Judged, item_of, first_other, judged, judged_in, judged_of, opening_tables, reply_turns, straight_lines}
+use Rattle.run_audit.specs.Lines.{asked_of, line_of, lines_of, printed_table, line_answer}
+use Rattle.run_audit.specs.Rules.{became_of_line, is_astray, was_lost}
 use Rattle.proof_audit.proofs.Clients.{IsClientTurn, IsClients, became_side, before_alike, heard_alike, request_not_cut, side_alike}
 use Rattle.proof_audit.proofs.Judging.{serial_is_judged}
 use Rattle.proof_audit.proofs.Losing.{leads_to_one, refused_leads}
 use Rattle.proof_audit.proofs.Printing.{no_other}
-use Rattle.proof_audit.specs.Laws.{KeptAreSerial, LinesAreSerial, MarksAgree, RefusalsKeepTables, AreSerialLines}
+use Rattle.proof_audit.specs.Laws.{KeptAreSerial, LinesAreSerial, MarksAgree, RefusalsKeepTables}
 use Rattle.proof_audit.proofs.Kept.{client_turn_kept, tell_clients}
 use Rattle.proof_audit.proofs.Rules.{keep_rules, kept_before, run_next}
 
@@ -87,7 +85,7 @@ lost_kind waits asks.Rename other = (refl, refl, refl)
 lost_kind waits asks.Poll other = (refl, refl, refl)
 lost_kind waits asks.Word other = (refl, refl, refl)
 
--- a call that was lost behind itself and refused: the line says that it wasn't done, the journal that it was
+-- a call that was refused and then lost: the line says that it wasn't done, the journal that it was
 record IsRefusedLoss (said became : Became) (side : Option Side) (missed : Option Answer) : Type 0 where
   pub number : ℕ
   pub column : Option ℕ

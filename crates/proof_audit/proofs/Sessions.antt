@@ -1,5 +1,5 @@
 -- The lines of a journal tell which actors have a session, how many turns each took, and how many commands were taken.
-use Rattle.std.proofs.Common.{◌≡◌, ℕ, ◌+◌, Bool, true, false, not, ◌&&◌, List, [], ◌∷◌, ◌++◌, fold, is_some, map, cond, Option, Some, None, refl, sym, ap, ◌∙◌}
+use Rattle.std.proofs.Common.{◌≡◌, ℕ, ◌+◌, Bool, true, false, not, ◌&&◌, List, [], ◌∷◌, ◌++◌, is_some, cond, Option, Some, None, refl, sym, ap, ◌∙◌}
 use Rattle.std.specs.Prelude.{count_by}
 use Rattle.std.proofs.lemmas.List.{map-append}
 use Rattle.std.proofs.lemmas.List.Sums.{fold-append, sum_by-cons}
@@ -84,8 +84,8 @@ pub live_more : (journal : List Entry) (entry : Entry) (actor : Actor) → live_
 unfolding live_session
 live_more journal entry actor = fold-append (session_in actor) None journal (entry ∷ [])
 
-told_alike : (entry : Entry) (actor : Actor) (old : Option ℕ) → IsLostRightly entry → session_step actor (is_some old) (line_of entry) ≡ is_some (session_in actor old entry)
-told_alike entry actor old rightly = by (same_actor entry.actor actor) where
+line_alike : (entry : Entry) (actor : Actor) (old : Option ℕ) → IsLostRightly entry → session_step actor (is_some old) (line_of entry) ≡ is_some (session_in actor old entry)
+line_alike entry actor old rightly = by (same_actor entry.actor actor) where
   by : (b : Bool) → cond b (keeps_session (asked_of entry.asked) (line_answer (is_client entry.actor) entry.side entry.answer entry.missed)) (is_some old) ≡ is_some (cond b (session_left entry.asked entry.answer entry.session) old)
   by true = left_alike (is_client entry.actor) entry.asked entry.side entry.answer entry.missed entry.session rightly.sided rightly.cut
   by false = refl
@@ -99,7 +99,7 @@ lines_tell_sessions journal actor turns = Along-keeps _ (λ before. has_session 
       ap (λ (lines : List TraceLine). has_session lines actor) (map-append line_of before (entry ∷ []))
       ∙ has_more (lines_of before) (line_of entry) actor
       ∙ ap (λ (old : Bool). session_step actor old (line_of entry)) same
-      ∙ told_alike entry actor (live_session before actor) rightly
+      ∙ line_alike entry actor (live_session before actor) rightly
       ∙ sym (ap is_some (live_more before entry actor))
 
 -- ---- counts

@@ -1,6 +1,5 @@
 -- The lines of a journal that keeps its plan keep losses and commands.
-use Rattle.std.proofs.Common.{◌≡◌, ◌≢◌, ℕ, ◌+◌, ◌<◌, ◌==◌, ◌&&◌, nat_lt, Bool, true, false, not, List, [], ◌∷◌, length, map, is_some, cond, Option, Some, None, refl, sym, ap, ◌∙◌, subst, arith}
-use Rattle.std.specs.List.{slice_get}
+use Rattle.std.proofs.Common.{◌≡◌, ◌≢◌, ℕ, ◌+◌, ◌==◌, ◌&&◌, Bool, true, false, not, List, [], ◌∷◌, length, is_some, cond, Option, Some, None, refl, ap, ◌∙◌, arith}
 use Rattle.std.proofs.lemmas.List.{length-map}
 use Rattle.std.proofs.lemmas.Bool.Decides.{nat_tests}
 use Rattle.base_script.specs.declared.actor.Actor.{Actor}
@@ -9,20 +8,18 @@ use Rattle.base_script.specs.declared.actor.Side.{Side}
 use Rattle.base_script.specs.declared.actor.Side.TheVariants.{Before, After}
 use Rattle.base_script.specs.declared.loss.Loss.{Loss}
 use Rattle.base_script.specs.declared.loss.Loss.TheVariants.{Nth, Turn}
-use Rattle.server_model.specs.declared.request.Request.{Request}
 use Rattle.server_model.specs.declared.request.Request.TheVariants as requests
 use Rattle.server_model.specs.declared.entry.Asked.{Asked}
 use Rattle.server_model.specs.declared.entry.Asked.TheVariants.{Call, Poll, Command, Cut}
 use Rattle.server_model.specs.declared.entry.Entry.{Entry}
 use Rattle.server_model.specs.Along.{Along}
-use Rattle.server_model.specs.Entries.{is_command, same_actor}
+use Rattle.server_model.specs.Entries.{same_actor}
 use Rattle.plan_data.specs.PlanData.{PlanData}
 use Rattle.tool_program.specs.JournalWords.KeptPlans.{IsStruck, cut_among, cut_by, cut_due, or_first, side_due, struck_among}
 use Rattle.tool_program.specs.JournalWords.Sessions.{live_session}
-use Rattle.run_audit.specs.declared.line.TraceLine.{TraceLine}
 use Rattle.run_audit.specs.Lines.{asked_of, line_of, lines_of}
 use Rattle.run_audit.specs.Rules.{due_cut, due_cut_among, has_session, is_cut, is_struck, next_turn, same_side, turns_in}
-use Rattle.proof_audit.proofs.Sessions.{IsLostRightly, cut_alike, lines_tell_sessions, lines_tell_turns}
+use Rattle.proof_audit.proofs.Sessions.{IsLostRightly, lines_tell_sessions, lines_tell_turns}
 
 turn_alike : (before : List Entry) → next_turn (lines_of before) ≡ length before + 1
 turn_alike before = ap (λ (n : ℕ). n + 1) (length-map before line_of)
@@ -72,7 +69,7 @@ struck_alike plan before entry None struck =
     both (not (is_cut (asked_of entry.asked))) (same_side entry.side (side_due plan before entry.actor)) (ap not (not_cut entry.asked struck.0))
     (ap (λ (side : Option Side). same_side side (side_due plan before entry.actor)) struck.1 ∙ same_side_itself (side_due plan before entry.actor))
 
--- *Losses are kept*: by a turn that the plan allows, behind turns in which sessions are lost rightly
+-- *Losses are kept*: by a turn that the plan allows, after turns in which sessions are lost rightly
 pub losses_are_kept : (plan : PlanData) (before : List Entry) (entry : Entry) → Along (λ some one. IsLostRightly one) [] before → IsStruck plan before entry (cut_due plan before)
     → is_struck (due_cut_among (lines_of before) plan.faults) (struck_among entry.actor (turns_in entry.actor (lines_of before) + 1) plan.faults) (line_of entry) ≡ true
 losses_are_kept plan before entry rightly struck =

@@ -1,19 +1,15 @@
 -- Of each transaction that is judged there are as many turns as replies, and as many replies as it has alone: a line that was
 -- answered, or that timed out, has one reply, and a lost one has none.
-use Rattle.std.proofs.Common.{◌≡◌, ℕ, suc, ◌+◌, ◌-◌, ◌≤◌, Bool, true, false, not, ◌&&◌, cond, List, [], ◌∷◌, ◌++◌, length, map, fold, unwrap_or, Option, Some, None, refl, sym, ap, ◌∙◌, subst, append_assoc, arith}
+use Rattle.std.proofs.Common.{◌≡◌, ℕ, ◌+◌, ◌-◌, ◌≤◌, Bool, true, false, not, ◌&&◌, cond, List, [], ◌∷◌, ◌++◌, length, Option, Some, None, refl, sym, ap, ◌∙◌, subst, append_assoc, arith}
 use Rattle.std.specs.Prelude.{option_to_list}
 use Rattle.std.specs.List.{AllByRecursion}
 use Rattle.std.proofs.lemmas.List.{append-nil, length-append, length-drop}
-use Rattle.std.proofs.lemmas.List.Sums.{fold-append}
 use Rattle.base_values.proofs.SchemaRules.Lists.{All-append}
 use Rattle.table_store.specs.Databases.{Database}
 use Rattle.base_script.specs.declared.actor.Actor.{Actor}
 use Rattle.base_script.specs.declared.actor.Actor.TheVariants.{Op, Insp, Copy, Apply, Lock, Ren, Client}
-use Rattle.base_script.specs.declared.actor.Side.{Side}
-use Rattle.base_script.specs.declared.actor.Side.TheVariants.{Before, After}
 use Rattle.base_script.specs.declared.script.ScriptLine.{ScriptLine}
 use Rattle.base_script.specs.declared.script.ScriptWord.{ScriptWord}
-use Rattle.base_script.specs.declared.script.ScriptWord.TheVariants as words
 use Rattle.server_model.specs.declared.answer.Answer.{Answer}
 use Rattle.server_model.specs.declared.answer.Answer.TheVariants as answers
 use Rattle.server_model.specs.declared.transaction.Mark.{Mark}
@@ -28,8 +24,7 @@ use Rattle.server_model.specs.Entries.{same_actor}
 use Rattle.server_model.specs.Operations.{after_events}
 use Rattle.plan_data.specs.PlanData.{PlanData}
 use Rattle.tool_program.specs.JournalWords.Clients.{Became, Nothing, Waits, Marked, Broken, Reached, client_after, cut_off, ends_with, is_inside, kept_unless, marked, number_of, with_line, with_reply}
-use Rattle.tool_program.specs.JournalWords.Histories.{HistoryItem, Past, Txn, Alter, breaks, client_ends, ends_so, line_ends, past_of}
-use Rattle.tool_program.specs.JournalWords.Serials.{altered_database}
+use Rattle.tool_program.specs.JournalWords.Histories.{breaks, client_ends, ends_so, line_ends, past_of}
 use Rattle.proof_journals.proofs.Actors.{same_actor_itself}
 use Rattle.proof_journals.proofs.Replies.{IsReply, line_replies_so}
 use Rattle.run_audit.specs.declared.line.LineAsked.{LineAsked}
@@ -38,7 +33,7 @@ use Rattle.run_audit.specs.declared.line.LineAnswer.{LineAnswer}
 use Rattle.run_audit.specs.declared.line.LineAnswer.TheVariants as line_answers
 use Rattle.run_audit.specs.declared.line.TraceLine.{TraceLine}
 use Rattle.run_audit.specs.Audits.{Judged, Ended, Altered, judged, judged_in, judged_of, last_of, reply_turn, reply_turn_in, reply_turns, straight_lines}
-use Rattle.run_audit.specs.Rules.{alters_in, became_by, became_of_line, client_after_line, client_reached, client_step, has_altered, is_astray, next_turn}
+use Rattle.run_audit.specs.Rules.{alters_in, became_by, became_of_line, client_after_line, client_reached, client_step, has_altered, next_turn}
 use Rattle.proof_audit.proofs.Clients.{reached_more}
 use Rattle.proof_audit.proofs.Judging.{AreTimed}
 

@@ -1,5 +1,5 @@
 -- A trace is audited yes exactly where it breaks no rule.
-use Rattle.std.proofs.Common.{◌≡◌, ◌≢◌, ℕ, suc, ◌+◌, ◌<◌, ◌≤◌, ◌==◌, ◌&&◌, ◌||◌, nat_lt, Bool, true, false, not, cond, List, [], ◌∷◌, ◌++◌, length, map, Option, Some, None, refl, sym, ap, ◌∙◌, subst, arith}
+use Rattle.std.proofs.Common.{◌≡◌, ℕ, ◌<◌, ◌≤◌, ◌&&◌, ◌||◌, nat_lt, Bool, true, false, not, cond, List, [], ◌∷◌, ◌++◌, length, map, Option, Some, None, refl, ap, ◌∙◌, arith}
 use Rattle.std.specs.Prelude.{is_some}
 use Rattle.std.specs.Str.{bytes_eq}
 use Rattle.std.proofs.lemmas.Bool.Decides.{nat_tests}
@@ -7,12 +7,10 @@ use Rattle.table_store.specs.Databases.{Database, TableRows}
 use Rattle.server_model.specs.Along.{Along, gathered}
 use Rattle.server_model.proofs.LockedRows.Tests.{are_same, same_bytes}
 use Rattle.plan_data.specs.PlanData.{PlanData}
-use Rattle.tool_program.specs.JournalWords.Serials.{Serial}
 use Rattle.run_audit.specs.declared.line.TraceLine.{TraceLine}
-use Rattle.run_audit.specs.declared.trace.Audit.{Audit}
 use Rattle.run_audit.specs.declared.trace.Audit.TheVariants as audits
 use Rattle.run_audit.specs.declared.trace.Trace.{Trace}
-use Rattle.run_audit.specs.Audits.{audited, bad_turns, first_no, first_other, is_unfinished, item_of, judged, least, least_with, opening_tables, tables_reached, unended, verdict_holds, wrong_turns}
+use Rattle.run_audit.specs.Audits.{audited, bad_turns, first_no, first_other, is_unfinished, judged, least, least_with, opening_tables, tables_reached, unended, verdict_holds, wrong_turns}
 use Rattle.run_audit.specs.Lines.{printed_table}
 use Rattle.run_audit.specs.Rules.{all_are_over, alters_in, breaks, broken_turns, has_altered, is_within, keeps_losses, keeps_script, next_turn, turn_if}
 use Rattle.proof_audit.specs.AuditedTraces.{AuditsSayYes, IsAudited}

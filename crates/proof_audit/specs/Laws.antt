@@ -1,4 +1,4 @@
--- What holds of the lines of a journal that a run keeps. The functions of the module `laws` prove each.
+-- What holds of the lines of a journal that a run keeps. (This project's rule.)
 use Rattle.std.specs.Prelude.{◌≡◌, ◌≤◌, ℕ, length, true, false, List, [], ◌∷◌, ◌++◌, map, is_some, Option, Some, None}
 use Rattle.base_script.specs.declared.actor.Actor.{Actor}
 use Rattle.base_script.specs.declared.actor.Side.TheVariants.{After}
@@ -38,13 +38,13 @@ pub record KeepsRules (plan : PlanData) (before : List Entry) (entry : Entry) : 
   pub losses : keeps_losses plan (lines_of before) (line_of entry) ≡ true
 
 abbrev pub LinesKeepRules : Type 0
-LinesKeepRules = (plan : PlanData) (before : List Entry) (entry : Entry) (behind : List Entry) → ScriptsFit plan → IsKept plan (before ++ entry ∷ behind) → KeepsRules plan before entry
+LinesKeepRules = (plan : PlanData) (before : List Entry) (entry : Entry) (later : List Entry) → ScriptsFit plan → IsKept plan (before ++ entry ∷ later) → KeepsRules plan before entry
 
 -- what a turn of the tool's adds to what is judged is what it adds to the history
 abbrev pub MarksAgree : PlanData → Type 0
 MarksAgree plan = (before : List Entry) (entry : Entry) → IsKept plan (before ++ entry ∷ []) → is_client entry.actor ≡ false → map item_of (judged_in plan (lines_of before) (line_of entry) entry.actor) ≡ entry_adds plan before entry
 
--- a call that was lost behind itself and refused changes no table
+-- a call that was refused, and whose session was lost after it, changes no table
 abbrev pub RefusalsKeepTables : PlanData → Type 0
 RefusalsKeepTables plan =
     (before : List Entry) (entry : Entry) (number : ℕ) (column : Option ℕ) → IsKept plan (before ++ entry ∷ []) → entry.side ≡ Some After → entry.missed ≡ Some (Refused number column) → (state_at plan (before ++ entry ∷ [])).tables ≡ (state_at plan before).tables
@@ -53,7 +53,7 @@ RefusalsKeepTables plan =
 abbrev pub KeptAreSerial : PlanData → Type 0
 KeptAreSerial plan = (journal : List Entry) → IsKept plan journal → IsSerial plan journal
 
--- *The lines are serial*: what they tell has no wrong turn, and the tables that they reach are those that are left, as they are
+-- *The lines are serial*: no turn is wrong, and the tables that they reach are those that are left, as they are
 -- printed.
 pub record AreSerialLines (plan : PlanData) (journal : List Entry) : Type 0 where
   pub turns : wrong_turns plan (opening_tables plan) (judged plan (lines_of journal)) ≡ []
@@ -67,7 +67,7 @@ LinesAreSerial = (plan : PlanData) (journal : List Entry) → ScriptsFit plan �
 abbrev pub LinesEnd : Type 0
 LinesEnd = (plan : PlanData) (journal : List Entry) → ScriptsFit plan → IsKept plan journal → unended plan (trace_of plan journal (verdict_of plan journal) (state_at plan journal).tables) ≡ []
 
--- *A panic is told*: its turn is the operator's, and that command is panic.
+-- *The lines tell of a panic*: its turn is the operator's, and that command is panic.
 abbrev pub LinesTellPanic : Type 0
 LinesTellPanic = (plan : PlanData) (journal : List Entry) (turn : ℕ) → IsKept plan journal → length journal ≤ plan.options.turn_limit → IsPanic plan journal turn → is_panic_at plan (lines_of journal) turn (line_at (lines_of journal) turn) ≡ true
 
@@ -75,10 +75,10 @@ LinesTellPanic = (plan : PlanData) (journal : List Entry) (turn : ℕ) → IsKep
 abbrev pub LinesTellAlters : PlanData → Type 0
 LinesTellAlters plan = (before : List Entry) (entry : Entry) → IsKept plan (before ++ entry ∷ []) → alters_in (lines_of before) (line_of entry) ≡ list_any is_alter (entry_adds plan before entry)
 
--- *Traces are audited yes*: what is told of a run that is kept and has no more turns than the plan allows, with its verdict and the
--- tables at its end.
-abbrev pub TracesAreAudited : Type 0
-TracesAreAudited =
+-- *Serial traces are audited yes*: of a plan whose kept journals are serial, the trace of one that has no more turns than the plan
+-- allows and whose cause stands, with its verdict and the tables at its end.
+abbrev pub SerialTracesAreAudited : Type 0
+SerialTracesAreAudited =
     (plan : PlanData) (journal : List Entry) → ScriptsFit plan → KeptAreSerial plan → LinesTellAlters plan → IsKept plan journal → length journal ≤ plan.options.turn_limit
     → ((cause : Cause) → verdict_of plan journal ≡ Reverted cause → Stands plan journal cause) → audited plan (trace_of plan journal (verdict_of plan journal) (state_at plan journal).tables) ≡ Yes
 
