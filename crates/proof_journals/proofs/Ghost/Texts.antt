@@ -1,9 +1,9 @@
 -- The applier's REPLACE of given values is work on the row's image, and is refused as CopyRow is.
-use Rattle.std.proofs.Common.{◌≡◌, ℕ, zero, suc, ◌+◌, ◌==◌, true, false, List, [], ◌∷◌, length, map, Option, Some, None, Result, Ok, Err, refl, sym, ap, ◌∙◌, subst, arith}
+use Rattle.std.proofs.Common.{◌≡◌, ℕ, zero, suc, ◌+◌, ◌==◌, Bool, true, false, ◌||◌, cond, List, [], ◌∷◌, length, map, Option, Some, None, Result, Ok, Err, refl, sym, ap, ◌∙◌, subst, arith}
 use Rattle.std.proofs.lemmas.Bool.Decides.{nat_tests}
-use Rattle.std.specs.Prelude.{not, position}
-use Rattle.std.proofs.lemmas.Bool.{not-true, and_parts, or_parts}
-use Rattle.std.specs.List.{list_any, slice_get}
+use Rattle.std.specs.Prelude.{position}
+use Rattle.std.proofs.lemmas.Bool.{false≢true}
+use Rattle.std.specs.List.{AllByRecursion, list_any, slice_get}
 use Rattle.base_values.specs.GhoSchema.Rows.{key_places}
 use Rattle.base_script.specs.declared.statement.Condition.TheVariants as conditions
 use Rattle.base_script.specs.declared.statement.Set.{Set}
@@ -23,6 +23,7 @@ use Rattle.proof_journals.proofs.Ghost.Applying.{all_set, at_key}
 use Rattle.proof_journals.specs.Ghost.HeldKeys.{Clustered}
 use Rattle.proof_journals.specs.Ghost.Statements.{SameColumns}
 use Rattle.server_model.specs.Answers.{refuses_value}
+use Rattle.server_model.proofs.LockedRows.Tests.{are_one}
 use Rattle.server_model.specs.Checks.{◌>>=◌, are_distinct, beside, has_columns, key_from, new_row, places_from, places_named, reach_equal, reach_of, row_from, set_first, sets_from, wanted_each, value_at, with_value, work_of}
 
 -- the values that a row gives the new columns, before they are stored
@@ -96,46 +97,41 @@ replace_refused schema cs name row at same imaged = rw (new_row_given schema cs 
 
 -- ---- DELETE and UPDATE by key
 
--- what the schema gives: the key's names find its places, once each, and the first key of just these columns is it
-pub record FindsKey (schema : Schema) (at : Clustered schema) (names : List (List ℕ)) : Type 0 where
-  pub places : places_named schema names ≡ Ok (key_places schema)
-  pub once : are_distinct (key_places schema) ≡ true
-  pub first : position (has_columns (key_places schema)) schema.uniques ≡ Some at.place
+-- what the schema gives: the names find these places, no place twice, and the first key of just these columns is the clustered one
+pub record FindsKey (schema : Schema) (at : Clustered schema) (named : List ℕ) (names : List (List ℕ)) : Type 0 where
+  pub places : places_named schema names ≡ Ok named
+  pub once : are_distinct named ≡ true
+  pub first : position (has_columns named) schema.uniques ≡ Some at.place
 
--- a value beside other places
-key_besides : (ps : List ℕ) (place : ℕ) (value : Value) (places : List ℕ) (values : List Value) → list_any (λ other. place == other) ps ≡ false → key_from ps (place ∷ places) (value ∷ values) ≡ key_from ps places values
+-- the value beside a place that is named
+beside_named : (value : ℕ → Value) (place : ℕ) (named : List ℕ) → list_any (λ other. place == other) named ≡ true → beside place named (map value named) ≡ Some (value place)
 unfolding beside
-key_besides [] place value places values none = refl
-key_besides (p ∷ ps) place value places values none =
-    let parts = or_parts (place == p) (list_any (λ other. place == other) ps) none in
-    let apart : (p == place) ≡ false = turn p place parts.0 in
-    rw apart (ap (with_value (beside p places values)) (key_besides ps place value places values parts.1)) where
-      turn : (a b : ℕ) → (b == a) ≡ false → (a == b) ≡ false
-      turn a b is = grind (arith, nat_tests)
+beside_named value place [] is = absurd (false≢true is)
+beside_named value place (first ∷ named) is = by (place == first) refl is (beside_named value place named)
+  where
+    by : (b : Bool) → (place == first) ≡ b → (b || list_any (λ other. place == other) named) ≡ true → (list_any (λ other. place == other) named ≡ true → beside place named (map value named) ≡ Some (value place))
+        → cond (place == first) (Some (value first)) (beside place named (map value named)) ≡ Some (value place)
+    by true same any rest = rw same (ap (λ (n : ℕ). Some (value n)) (sym (are_one place first same)))
+    by false same any rest = rw same (rest any)
 
-key_itself : (places : List ℕ) (values : List Value) → are_distinct places ≡ true → length values ≡ length places → key_from places places values ≡ values
-unfolding are_distinct beside
-key_itself [] [] once long = refl
-key_itself [] (value ∷ values) once long = absurd (omega (arith, long))
-key_itself (place ∷ places) [] once long = absurd (omega (arith, long))
-key_itself (place ∷ places) (value ∷ values) once long =
-    let parts = and_parts (not (list_any (λ other. place == other) places)) (are_distinct places) once in
-    let none : list_any (λ other. place == other) places ≡ false = not-true (list_any (λ other. place == other) places) parts.0 in
-    rw (same_number place) (ap (λ (k : List Value). value ∷ k) (key_besides places place value places values none ∙ key_itself places values parts.1 (omega (arith, long))))
+-- *A key's values*, where each of its places is named
+pub named_values : (value : ℕ → Value) (key named : List ℕ) → AllByRecursion (λ place. list_any (λ other. place == other) named ≡ true) key → key_from key named (map value named) ≡ map value key
+named_values value [] named all = refl
+named_values value (place ∷ key) named all = rw (beside_named value place named all.0) (ap (λ (k : List Value). value place ∷ k) (named_values value key named all.1))
 
--- *The condition by key reaches the key*, where the values given are sought as these
-pub reach_given : (schema : Schema) (at : Clustered schema) (sets : List Set) (key : Row) → FindsKey schema at (map (λ (s : Set). s.column) sets) → wanted_each schema (key_places schema) (map (λ (s : Set). s.value) sets) ≡ Ok key → length key ≡ length (key_places schema)
+-- *The condition by key reaches the key*, where the values given are sought as those of the key's places
+pub reach_given : (schema : Schema) (at : Clustered schema) (named : List ℕ) (sets : List Set) (sought key : Row) → FindsKey schema at named (map (λ (s : Set). s.column) sets) → wanted_each schema named (map (λ (s : Set). s.value) sets) ≡ Ok sought → key_from (key_places schema) named sought ≡ key
     → reach_of schema (conditions.Equal sets) ≡ Ok (at_key schema at key)
 unfolding reach_of reach_equal
-reach_given schema at sets key finds sought long =
-    let itself : key_from at.index.places (key_places schema) key ≡ key = subst (λ (p : List ℕ). key_from p (key_places schema) key ≡ key) at.its (key_itself (key_places schema) key finds.once long) in
-    rw (finds.places, finds.once, finds.first, sought, at.there, itself) refl
+reach_given schema at named sets sought key finds wanted is =
+    let own : key_from at.index.places named sought ≡ key = subst (λ (p : List ℕ). key_from p named sought ≡ key) at.its is in
+    rw (finds.places, finds.once, finds.first, wanted, at.there, own) refl
 
 -- *DELETE by key*
-pub delete_text : (schema : Schema) (at : Clustered schema) (name : List ℕ) (sets : List Set) (key : Row) → FindsKey schema at (map (λ (s : Set). s.column) sets) → wanted_each schema (key_places schema) (map (λ (s : Set). s.value) sets) ≡ Ok key → length key ≡ length (key_places schema)
+pub delete_text : (schema : Schema) (at : Clustered schema) (named : List ℕ) (name : List ℕ) (sets : List Set) (sought key : Row) → FindsKey schema at named (map (λ (s : Set). s.column) sets) → wanted_each schema named (map (λ (s : Set). s.value) sets) ≡ Ok sought → key_from (key_places schema) named sought ≡ key
     → work_of schema (statements.Delete name (conditions.Equal sets)) ≡ Delete (at_key schema at key)
 unfolding work_of
-delete_text schema at name sets key finds sought long = rw (reach_given schema at sets key finds sought long) refl
+delete_text schema at named name sets sought key finds wanted is = rw (reach_given schema at named sets sought key finds wanted is) refl
 
 -- all columns set: the image, or the first that refuses
 abbrev pub sets_or : Result Row UnfitAt → Result (List (Option Value)) UnfitAt
@@ -160,9 +156,9 @@ sets_given place (column ∷ columns) (c ∷ cs) row places values same stand =
     rw (here, same.0, same.1, rest) (one_set place (stores (source c.origin row) c.kind c.nullable) (converted_row_from (place + 1) cs row))
 
 -- *UPDATE of all columns by key*
-pub update_text : (schema : Schema) (at : Clustered schema) (cs : List MapColumn) (name : List ℕ) (row : Row) (all sets : List Set) (key : Row) → SameColumns schema.columns cs → places_named schema (map (λ (s : Set). s.column) all) ≡ Ok (places_from 0 schema.columns) → are_distinct (places_from 0 schema.columns) ≡ true → map (λ (s : Set). s.value) all ≡ given cs row
-    → FindsKey schema at (map (λ (s : Set). s.column) sets) → wanted_each schema (key_places schema) (map (λ (s : Set). s.value) sets) ≡ Ok key → length key ≡ length (key_places schema)
+pub update_text : (schema : Schema) (at : Clustered schema) (named : List ℕ) (cs : List MapColumn) (name : List ℕ) (row : Row) (all sets : List Set) (sought key : Row) → SameColumns schema.columns cs → places_named schema (map (λ (s : Set). s.column) all) ≡ Ok (places_from 0 schema.columns) → are_distinct (places_from 0 schema.columns) ≡ true → map (λ (s : Set). s.value) all ≡ given cs row
+    → FindsKey schema at named (map (λ (s : Set). s.column) sets) → wanted_each schema named (map (λ (s : Set). s.value) sets) ≡ Ok sought → key_from (key_places schema) named sought ≡ key
     → work_of schema (statements.Update name all (conditions.Equal sets)) ≡ Update (at_key schema at key) (sets_or (converted_row cs row))
 unfolding work_of
-update_text schema at cs name row all sets key same named once values finds sought long =
-    rw (named, once, reach_given schema at sets key finds sought long, values, sets_given 0 schema.columns cs row (places_from 0 schema.columns) (given cs row) same (stand_all 0 schema.columns cs row same)) refl
+update_text schema at named cs name row all sets sought key same found once values finds wanted is =
+    rw (found, once, reach_given schema at named sets sought key finds wanted is, values, sets_given 0 schema.columns cs row (places_from 0 schema.columns) (given cs row) same (stand_all 0 schema.columns cs row same)) refl

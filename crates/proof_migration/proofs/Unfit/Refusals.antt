@@ -12,7 +12,7 @@ use Rattle.base_values.specs.declared.row_conversion.map.MapColumn.{MapColumn}
 use Rattle.base_values.specs.RowConversion.ConvertedRows.{converted_row}
 use Rattle.base_values.specs.declared.event.Change.{Change}
 use Rattle.base_values.specs.declared.event.Change.TheVariants as changes
-use Rattle.base_values.specs.declared.mysql_errors.TheConstants.{ER_DUP_ENTRY, ER_NOT_SUPPORTED_YET}
+use Rattle.base_values.specs.declared.mysql_errors.TheConstants.{ER_DUP_ENTRY}
 use Rattle.table_store.specs.Databases.{TableRows, Database, find_table}
 use Rattle.base_script.specs.declared.statement.Statement.{Statement}
 use Rattle.server_model.specs.declared.answer.Answer.{Answer}
@@ -21,7 +21,7 @@ use Rattle.server_model.specs.declared.request.Request.TheVariants as requests
 use Rattle.server_model.specs.declared.work.Work.{Work}
 use Rattle.server_model.specs.declared.work.Work.TheVariants as works
 use Rattle.server_model.specs.Answers.{refuses, refuses_value}
-use Rattle.server_model.specs.Checks.{are_distinct, work_of}
+use Rattle.server_model.specs.Checks.{work_of}
 use Rattle.server_model.specs.Effects.{effect_unless, is_outside}
 use Rattle.server_model.specs.Operations.{operation_of, operation_result, result_in, table_of}
 use Rattle.server_model.specs.Rows.{change_rows, rows_met, same_row}
@@ -36,7 +36,7 @@ use Rattle.proof_journals.specs.Ghost.Statements.{by_key, delete_at, unfit_at, u
 use Rattle.proof_migration.specs.Migration.Applier.FoundColumns.{FindsRows}
 use Rattle.proof_migration.proofs.Migration.Applier.Keys.{new_at}
 use Rattle.proof_migration.proofs.Migration.Applier.Planning.{DoesRows}
-use Rattle.proof_migration.proofs.Migration.Applier.Statements.{change_unfit, change_unsaid, change_work, put_unfit, put_work, remove_unsaid, remove_work, said, said_of}
+use Rattle.proof_migration.proofs.Migration.Applier.Statements.{change_unfit, change_work, put_unfit, put_work, remove_work, said, said_of}
 use Rattle.proof_journals.specs.Machine.MigrationTables.{schema_of}
 use Rattle.proof_journals.proofs.Machine.Schemas.{schema_events}
 
@@ -109,14 +109,11 @@ module _ (m : Migration) (rows : List Row) (plan : IsPlanned m rows) (finds : Fi
 
   remove_reported : (row : Row) (view : List Row) → IsRow m.schema.columns row → Reported (Removing row) view
   unfolding tells
-  remove_reported row view fits = by (are_distinct (key_places m.new)) refl where
-    by : (once : Bool) → are_distinct (key_places m.new) ≡ once → Reported (Removing row) view
-    by true once = by_work (Removing row) view (delete_at (new_at m rows plan finds).place (key_of (key_places m.schema) row)) (remove_work m rows plan finds row fits once) tt
-    by false twice = by_work (Removing row) view (works.Refuse (refuses ER_NOT_SUPPORTED_YET)) (remove_unsaid m rows plan finds row twice) tt
+  remove_reported row view fits = by_work (Removing row) view (delete_at (new_at m rows plan finds).place (key_of (key_places m.schema) row)) (remove_work m rows plan finds row fits) tt
 
   change_reported : (old new : Row) (view : List Row) → IsRow m.schema.columns old → Reported (Changing old new) view
   unfolding tells
-  change_reported old new view fits = by (are_distinct (key_places m.new)) refl (converted_row m.columns new) refl where
+  change_reported old new view fits = by (converted_row m.columns new) refl where
     key : Row
     key = key_of (key_places m.schema) old
 
@@ -126,12 +123,11 @@ module _ (m : Migration) (rows : List Row) (plan : IsPlanned m rows) (finds : Fi
     met : List Row
     met = rows_met m.new (by_key place key) view
 
-    by : (once : Bool) → are_distinct (key_places m.new) ≡ once → (made : Result Row UnfitAt) → converted_row m.columns new ≡ made → Reported (Changing old new) view
-    by false twice made imaged = by_work (Changing old new) view (works.Refuse (refuses ER_NOT_SUPPORTED_YET)) (change_unsaid m rows plan finds old new twice) tt
-    by true once (Ok made) imaged =
-        by_work (Changing old new) view (update_at place key made) (change_work m rows plan finds old new made fits once imaged)
+    by : (made : Result Row UnfitAt) → converted_row m.columns new ≡ made → Reported (Changing old new) view
+    by (Ok made) imaged =
+        by_work (Changing old new) view (update_at place key made) (change_work m rows plan finds old new made fits imaged)
         (reported_fits m.columns new (updates m.new (map Some made) met view) (updates_fit m.columns new m.new (map Some made) met view))
-    by true once (Err at) imaged = by_work (Changing old new) view (unfit_at place key at) (change_unfit m rows plan finds old new at fits once imaged) (met_fits m.columns new m.new at met view imaged)
+    by (Err at) imaged = by_work (Changing old new) view (unfit_at place key at) (change_unfit m rows plan finds old new at fits imaged) (met_fits m.columns new m.new at met view imaged)
 
   doing_reported : (doing : Doing) (view : List Row) → DoesRows m.schema.columns doing → Reported doing view
   doing_reported (Putting row) view fits = put_reported row view

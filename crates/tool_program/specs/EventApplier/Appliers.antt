@@ -117,9 +117,14 @@ name_in (Some column) = column.name
 abbrev pub name_at : List Column → ℕ → List ℕ
 name_at columns place = name_in (slice_get columns place)
 
+-- each place once, where it comes last: a key may name a column twice, and a condition names each column of a key once
+abbrev pub each_once : List ℕ → List ℕ
+each_once [] = []
+each_once (place ∷ places) = if list_any (λ other. place == other) places then each_once places else place ∷ each_once places
+
 -- the new table's row with this row's clustered key
 abbrev pub by_key : Schema → List MapColumn → List Value → Condition
-by_key schema columns row = Equal (map (λ place. record { column = name_at schema.columns place; value = value_at (given_values columns row) place }) (key_places schema))
+by_key schema columns row = Equal (map (λ place. record { column = name_at schema.columns place; value = value_at (given_values columns row) place }) (each_once (key_places schema)))
 
 -- the statement that does it
 abbrev pub statement_of : Applier → Doing → Statement

@@ -1,6 +1,7 @@
 //! The statements on the new table.
 
-ghost use Rattle.std.specs.Prelude.{◌≡◌, IfOk};
+ghost use Rattle.std.specs.Prelude.{◌≡◌, ◌==◌, IfOk};
+ghost use Rattle.std.specs.List.{list_any};
 ghost use Rattle.base_values.specs.RowConversion.ConvertedRows.{source};
 ghost use Rattle.tool_program.specs.EventApplier.Appliers.{value_at, given_values, sets, name_at, by_key, statement_of};
 ghost use Rattle.tool_program.specs.EventApplier.BatchPlans.{meant};
@@ -51,6 +52,13 @@ fn value_at(map: &[MapColumn], row: &[Value], place: usize) -> Result<Value, All
     }
 }
 
+/// Whether the place is one of the others.
+fn is_among(place: usize, others: &[usize]) -> bool
+    ensures { result ≡ list_any (λ other. place == other) others.now }
+{
+    others.iter().any(|other| place == *other)
+}
+
 /// The new table's row with this row's clustered key.
 fn by_key(
     alloc: Global,
@@ -60,13 +68,16 @@ fn by_key(
 ) -> Result<Condition, AllocError>
     ensures { IfOk result (λ condition. condition ≡ by_key schema.now map.now row.now) }
 {
-    let places = schema.key_places();
     let mut sets = Sequence::new(alloc);
-    for place in places {
-        sets.push(Set {
-            column: name_at(alloc, schema.columns.as_slice(), *place)?,
-            value: value_at(map, row, *place)?,
-        })?;
+    let mut rest = schema.key_places();
+    while let Some((place, others)) = rest.split_first() {
+        if !is_among(*place, others) {
+            sets.push(Set {
+                column: name_at(alloc, schema.columns.as_slice(), *place)?,
+                value: value_at(map, row, *place)?,
+            })?;
+        }
+        rest = others;
     }
     Ok(Condition::Equal(sets))
 }

@@ -26,7 +26,6 @@ use Rattle.server_model.specs.declared.request.Request.TheVariants as requests
 use Rattle.server_model.specs.declared.session.Limits.{Limits}
 use Rattle.server_model.specs.declared.work.Work.TheVariants as works
 use Rattle.server_model.specs.Answers.{ok, refuses, refuses_value}
-use Rattle.server_model.specs.Checks.{are_distinct}
 use Rattle.server_model.specs.Effects.{Effect, effect, effect_within, nothing_needed, result_effect}
 use Rattle.server_model.specs.Effects.Effect.{Rests, Grows, Writes}
 use Rattle.server_model.specs.Entries.{answer_at}
@@ -37,7 +36,7 @@ use Rattle.server_model.specs.StatementResults.{tells}
 use Rattle.server_model.specs.Listings.{ReadEvent, after_last, events_read, read_from}
 use Rattle.server_model.specs.States.{State}
 use Rattle.base_values.specs.ToolNames.{log_name}
-use Rattle.base_values.specs.declared.mysql_errors.TheConstants.{ER_TABLE_NOT_LOCKED, ER_NOT_SUPPORTED_YET, ER_DUP_ENTRY}
+use Rattle.base_values.specs.declared.mysql_errors.TheConstants.{ER_TABLE_NOT_LOCKED, ER_DUP_ENTRY}
 use Rattle.tool_program.specs.JournalWords.Journals.{opens}
 use Rattle.tool_program.proofs.JournalWords.Answers.{answer_here}
 use Rattle.tool_program.specs.declared.event_applier.applier.Applier.{Applier}
@@ -77,8 +76,7 @@ use Rattle.proof_journals.proofs.Ghost.Keeping.{view_found}
 use Rattle.proof_journals.proofs.Ghost.Keys.{full_key}
 use Rattle.proof_journals.proofs.Ghost.Leaving.{effects_are_done, holds_of}
 use Rattle.proof_journals.proofs.Ghost.Reading.{reads, read_is}
-use Rattle.proof_journals.proofs.Ghost.Running.{NoPutFirst, any_kept, turn_keeps, works_at}
-use Rattle.proof_journals.proofs.Ghost.Tooling.{tool_refused}
+use Rattle.proof_journals.proofs.Ghost.Running.{any_kept, turn_keeps}
 use Rattle.proof_journals.proofs.Ghost.Turns.{writes_fit}
 use Rattle.proof_journals.proofs.Ghost.Undone.{effects_answer, undone_is_left}
 use Rattle.proof_migration.specs.Migration.Copier.CopierPlace.{moment_of}
@@ -96,18 +94,14 @@ use Rattle.proof_migration.proofs.Migration.Applier.Answers.ChangeAnswer.{counts
 use Rattle.proof_migration.proofs.Migration.Applier.Answers.UnfitAnswer.{misses, refuses_it}
 use Rattle.proof_migration.proofs.Migration.Applier.Busy.{busy_after, busy_done, busy_of, busy_waits}
 use Rattle.proof_migration.proofs.Migration.Applier.Keys.{new_at}
-use Rattle.proof_migration.proofs.Migration.Applier.Knowing.{bad_took, next_at, outside_took, plan_more, step_more, todo_more, reported_more, took_at, unfit_progress, unsaid_took, waits_took}
+use Rattle.proof_migration.proofs.Migration.Applier.Knowing.{bad_took, next_at, outside_took, plan_more, step_more, todo_more, reported_more, took_at, unfit_progress, waits_took}
 use Rattle.proof_migration.proofs.Migration.Applier.Planning.{DoesRows, NextDoing, changes_of_rows, next_doing, none_left, planned_alike, planned_rows}
-use Rattle.proof_migration.proofs.Migration.Applier.Statements.{change_unfit, change_unsaid, change_work, one_place, put_unfit, put_work, remove_unsaid, remove_work, said, said_is, said_of}
+use Rattle.proof_migration.proofs.Migration.Applier.Statements.{change_unfit, change_work, one_place, put_unfit, put_work, remove_work, said, said_is, said_of}
 
 -- the rows of a table that is found
 abbrev rows_in : Option TableRows → List Row
 rows_in None = []
 rows_in (Some table) = table.rows
-
-no_changes : (m : Migration) (view : List Row) (refusal : Answer) → (tells m.new view (works.Refuse refusal)).changes ≡ []
-unfolding tells
-no_changes m view refusal = refl
 
 some_left : (n : ℕ) → (n == 0) ≡ false → 0 < n
 some_left zero none = absurd cc
@@ -533,27 +527,6 @@ module _ (m : Migration) (at : Clustered m.schema) (rows : List Row) (place : �
         unfit : (fault : UnfitAt) → (operation_result seen operation).answer ≡ refuses_value fault → entry.answer ≡ (operation_result seen operation).answer → Goal following
         unfit fault statement_result answer = absurd (turn.fits fault.column (error_number fault.unfit) (ap (progress applier) (answer ∙ statement_result) ∙ unfit_progress applier batch count part (error_number fault.unfit) fault.column here))
 
-        -- a refusal with ER_NOT_SUPPORTED_YET changes nothing, and the statement is said again
-        unsaid : (todo : List Doing) → apply_plan m journal applier ≡ Planned batch.next todo → NoPutFirst todo → operation.work m.new ≡ works.Refuse (refuses ER_NOT_SUPPORTED_YET) → Goes
-        unsaid todo is first does same besides does_operation answer busy =
-            subst Goal (sym (ap (λ (a : Answer). took (length journal + 1) applier a) (answer ∙ refused_answer m seen seen_table operation of_new (refuses ER_NOT_SUPPORTED_YET) does) ∙ unsaid_took (length journal + 1) applier batch count part here))
-            (record {
-              stands =
-                  subst (λ (plan' : ApplyPlan). ToolStands m at rows copier number (then plan' applier.position)) (sym is ∙ sym (plan_more m journal (entry ∷ []) applier.step was.knows.step))
-                  (at_work batch.next todo refl
-                  (let kept : KeptAt m at rows copier number now (Rattle.proof_journals.specs.Ghost.Tool.ApplyState.Whole batch.next todo) = works_at m at rows copier number now batch.next todo is first was.stands in
-                  subst (λ (s : Stored). KeptTool m at rows copy (Rattle.proof_journals.specs.Ghost.Tool.ApplyState.Whole batch.next todo) applier.position copier number s (holds_of after)) (sym same)
-                  (record {
-                    progress = _;
-                    ghost = _;
-                    here = kept.here;
-                    tool = tool_refused m at rows copy kept.progress kept.ghost copier number (stored before) (holds_of before) (holds_of after) granted operation (works.Refuse (refuses ER_NOT_SUPPORTED_YET)) batch.next todo served kept.tool
-                        (record { table = of_new; does = does }) does_operation.given besides (no_changes m _ (refuses ER_NOT_SUPPORTED_YET));
-                  })));
-              knows = record { step = step_more m journal (entry ∷ []) applier.step was.knows.step; sized = was.knows.sized };
-              busy = subst (λ (s : ApplyStep). StepIsBusy s (busy_of after number)) (sym here) busy;
-            })
-
       -- REPLACE
       module _ (row : Row) (asked_so : request ≡ requests.Do (said m.new m.columns (Putting row))) (puts : (made : Row) → converted_row m.columns row ≡ Ok made → DoesWork m (operation (Putting row) asked_so) (works.Replace made) → DoesOperation m number (operation (Putting row) asked_so) (granted (Putting row) asked_so) now (then (Planned batch.next rest) applier.position) → ToolTurn m at rows place copier number now (then (Planned batch.next rest) applier.position))
           (took_so : (n : ℕ) → took (length journal + 1) applier (answers.Ok n) ≡ record applier { step = after_statements batch (count + 1) }) where
@@ -570,21 +543,20 @@ module _ (m : Migration) (at : Clustered m.schema) (rows : List Row) (place : �
         puts_row = does_statement (Putting row) asked_so (put_goes (converted_row m.columns row) refl)
 
       -- DELETE
-      module _ (row : Row) (fits : IsRow m.schema.columns row) (asked_so : request ≡ requests.Do (said m.new m.columns (Removing row))) (todo : List Doing) (is_todo : apply_plan m journal applier ≡ Planned batch.next todo) (first : NoPutFirst todo) (next_plan : ApplyPlan)
+      module _ (row : Row) (fits : IsRow m.schema.columns row) (asked_so : request ≡ requests.Do (said m.new m.columns (Removing row))) (next_plan : ApplyPlan)
           (removes : DoesWork m (operation (Removing row) asked_so) (delete_at place (key_of (key_places m.schema) row)) → DoesOperation m number (operation (Removing row) asked_so) (granted (Removing row) asked_so) now (then next_plan applier.position) → ToolTurn m at rows place copier number now (then next_plan applier.position))
           (finish : (n : ℕ) → following ≡ took (length journal + 1) applier (answers.Ok n) → ToolStands m at rows copier number (then next_plan applier.position) → busy_of after number ≡ true → Goal following) where
-        remove_goes : (once : Bool) → are_distinct (key_places m.new) ≡ once → Goes (Removing row) asked_so
-        remove_goes true once same besides does_operation answer busy =
-            let work = remove_work m rows plan finds row fits once in
+        remove_goes : Goes (Removing row) asked_so
+        remove_goes same besides does_operation answer busy =
+            let work = remove_work m rows plan finds row fits in
             let said_so : Counted (seen (Removing row) asked_so) (operation (Removing row) asked_so) =
             remove_answer m (seen (Removing row) asked_so) seen_table (operation (Removing row) asked_so) (of_new (Removing row) asked_so) (new_at m rows plan finds).place (key_of (key_places m.schema) row) work in
             finish said_so.count (ap (λ (a : Answer). took (length journal + 1) applier a) (answer ∙ said_so.is))
             (leads next_plan applier.position
             (removes (record { table = of_new (Removing row) asked_so; does = work ∙ ap (λ (p : ℕ). delete_at p (key_of (key_places m.schema) row)) (one_place m rows plan finds place is_place) }) (record { given = does_operation.given; besides = besides; stored = same }))) busy
-        remove_goes false twice same besides does_operation answer busy = unsaid (Removing row) asked_so todo is_todo first (remove_unsaid m rows plan finds row twice) same besides does_operation answer busy
 
         removes_row : Goal following
-        removes_row = does_statement (Removing row) asked_so (remove_goes (are_distinct (key_places m.new)) refl)
+        removes_row = does_statement (Removing row) asked_so remove_goes
 
       -- UPDATE
       module _ (old new : Row) (fits : IsRow m.schema.columns old) (fits_new : IsRow m.schema.columns new) (asked_so : request ≡ requests.Do (said m.new m.columns (Changing old new))) (whole : part ≡ Whole) (is_todo : apply_plan m journal applier ≡ Planned batch.next (Changing old new ∷ rest)) (todo_then : todo_of m longer batch count ≡ Changing old new ∷ rest) where
@@ -631,16 +603,15 @@ module _ (m : Migration) (at : Clustered m.schema) (rows : List Row) (place : �
             (λ view is. ap (λ (all : List Row). find (is_at (key_places m.new) key) all) (ap rows_in (sym is ∙ seen_table.is)) ∙ none) (record { given = does_operation.given; besides = besides; stored = same }) refl refl refl)) busy
         unfit_by fault work (refuses_it statement_result) same besides does_operation answer busy = unfit (Changing old new) asked_so fault statement_result answer
 
-        change_goes : (once : Bool) → are_distinct (key_places m.new) ≡ once → (made : Result Row UnfitAt) → converted_row m.columns new ≡ made → Goes (Changing old new) asked_so
-        change_goes true once (Ok made) imaged =
-            let work = change_work m rows plan finds old new made fits once imaged in
+        change_goes : (made : Result Row UnfitAt) → converted_row m.columns new ≡ made → Goes (Changing old new) asked_so
+        change_goes (Ok made) imaged =
+            let work = change_work m rows plan finds old new made fits imaged in
             change_by made imaged work (change_answer m (seen (Changing old new) asked_so) seen_table change_operation (of_new (Changing old new) asked_so) (new_at m rows plan finds) key made full (plan.fits new made fits_new imaged) work)
-        change_goes true once (Err fault) imaged =
-            let work = change_unfit m rows plan finds old new fault fits once imaged in unfit_by fault work (unfit_answer m (seen (Changing old new) asked_so) seen_table change_operation (of_new (Changing old new) asked_so) (new_at m rows plan finds) key fault full work)
-        change_goes false twice made imaged = unsaid (Changing old new) asked_so (Changing old new ∷ rest) is_todo tt (change_unsaid m rows plan finds old new twice)
+        change_goes (Err fault) imaged =
+            let work = change_unfit m rows plan finds old new fault fits imaged in unfit_by fault work (unfit_answer m (seen (Changing old new) asked_so) seen_table change_operation (of_new (Changing old new) asked_so) (new_at m rows plan finds) key fault full work)
 
         changes_row : Goal following
-        changes_row = does_statement (Changing old new) asked_so (change_goes (are_distinct (key_places m.new)) refl (converted_row m.columns new) refl)
+        changes_row = does_statement (Changing old new) asked_so (change_goes (converted_row m.columns new) refl)
 
       -- by the statement that comes next, and by its part
       next_one : NextDoing all_doings count
@@ -675,11 +646,11 @@ module _ (m : Migration) (at : Clustered m.schema) (rows : List Row) (place : �
         puts_row batch count Whole here row asked (λ made imaged does does_operation. row_is_put _ _ batch.next row made (rest batch count Whole here) is imaged does does_operation refl refl refl)
         (λ n. took_at (length journal + 1) applier (Applying batch count Whole) (answers.Ok n) here tt)
     by_part batch count Whole here (Removing row) fits asked is todo knows =
-        removes_row batch count Whole here row fits asked (Removing row ∷ rest batch count Whole here) is tt (Planned batch.next (rest batch count Whole here)) (λ does does_operation. row_is_removed _ _ batch.next row (rest batch count Whole here) is does does_operation refl refl refl)
+        removes_row batch count Whole here row fits asked (Planned batch.next (rest batch count Whole here)) (λ does does_operation. row_is_removed _ _ batch.next row (rest batch count Whole here) is does does_operation refl refl refl)
         (λ n took_so stands busy. advance batch count Whole here (took_so ∙ took_at (length journal + 1) applier (Applying batch count Whole) (answers.Ok n) here tt) stands busy)
     by_part batch count Whole here (Changing old new) fits asked is todo knows = changes_row batch count Whole here old new fits.0 fits.1 asked refl is todo
     by_part batch count Removal here (Changing old new) fits asked is todo knows =
-        removes_row batch count Removal here old fits.0 asked (Changing old new ∷ rest batch count Removal here) is tt (Returning batch.next old new (rest batch count Removal here))
+        removes_row batch count Removal here old fits.0 asked (Returning batch.next old new (rest batch count Removal here))
         (λ does does_operation. refused_row_is_removed _ _ batch.next old new (rest batch count Removal here) is does does_operation refl refl refl)
         (λ n took_so stands busy.
         goal_at (Applying batch count Return) (took_so ∙ took_at (length journal + 1) applier (Applying batch count Removal) (answers.Ok n) here tt)

@@ -23,19 +23,21 @@ use Rattle.sql_change.specs.Columns.{is_key_conversion}
 use Rattle.table_store.specs.ClusteredKeys.{HasClusteredKey}
 use Rattle.base_script.specs.declared.statement.Set.{Set}
 use Rattle.server_model.specs.declared.answer.Answer.{Answer}
-use Rattle.server_model.specs.Checks.{are_distinct, has_columns, places_named, wanted_at, wanted_each}
+use Rattle.server_model.specs.Checks.{has_columns, places_named, wanted_at, wanted_each}
+use Rattle.server_model.specs.Checks.{key_from as server_key_from}
 use Rattle.server_model.proofs.LockedRows.Tests.{are_one, same_number}
-use Rattle.tool_program.specs.EventApplier.Appliers.{given_values}
+use Rattle.tool_program.specs.EventApplier.Appliers.{each_once, given_values}
 use Rattle.tool_program.specs.EventApplier.Appliers as appliers
 use Rattle.tool_program.specs.EventApplier.BatchPlans.{key_sets}
 use Rattle.proof_journals.specs.Ghost.Rows.Moments.{Row}
 use Rattle.proof_journals.specs.Ghost.Rows.Timelines.{IsPlanned, Migration, old_places}
 use Rattle.proof_journals.specs.Ghost.HeldKeys.{Clustered}
 use Rattle.proof_journals.proofs.Ghost.Keys.{clustered}
-use Rattle.proof_journals.proofs.Ghost.Texts.{FindsKey}
+use Rattle.proof_journals.proofs.Ghost.Texts.{FindsKey, named_values}
 use Rattle.proof_schemas.proofs.Alters.Apart.{names-apart}
 use Rattle.proof_migration.specs.Migration.Applier.FoundColumns.{FindsRows, IsFrom}
 use Rattle.proof_migration.proofs.Migration.Applier.Names.{HasColumn, key_named}
+use Rattle.proof_migration.proofs.Migration.Applier.NamedOnce.{all_named, named_once, own_named, same_columns, same_position}
 
 -- VALUES OF ROWS
 
@@ -105,10 +107,25 @@ module _ (m : Migration) (row : Row) (fits : IsRow m.schema.columns row) where
       let here : wanted_at place (slice_get m.new.columns place) (Some (appliers.value_at (given_values m.columns row) place)) ≡ Ok (old_value place from).value = rw (from.here, given_at place from, wanted_of place from both.0) refl in
       rw (here, key_wanted places all.1 both.1) (ap (λ (k : Row). let r : Result Row Answer = Ok k in r) (sym (key_step place places from)))
 
-  pub key_long : (places : List ℕ) → AllByRecursion (IsFrom m) places → length (key_of (old_places m.columns places) row) ≡ length places
+  -- the key's values, place by place
+  pub key_values : (places : List ℕ) → AllByRecursion (IsFrom m) places → key_of (old_places m.columns places) row ≡ map (λ (place : ℕ). appliers.value_at (given_values m.columns row) place) places
   unfolding key_of
-  key_long [] all = refl
-  key_long (place ∷ places) all = ap (λ (k : Row). length k) (key_step place places all.0) ∙ ap suc (key_long places all.1)
+  key_values [] all = refl
+  key_values (place ∷ places) all = key_step place places all.0 ∙ ap (λ (v : Value). v ∷ key_of (old_places m.columns places) row) (sym (given_at place all.0)) ∙ ap (λ (k : Row). appliers.value_at (given_values m.columns row) place ∷ k) (key_values places all.1)
+
+  -- the columns from which those that are named come may be null where none of the key's may
+  pub full_named : {P : ℕ → Type 0} (places : List ℕ) → AllByRecursion (IsFrom m) places → AllByRecursion P (old_places m.columns places) → AllByRecursion P (old_places m.columns (each_once places))
+  full_named [] all full = tt
+  full_named {P} (place ∷ places) all full = by (list_any (λ other. place == other) places) refl (full_named {P} places all.1 both.1)
+    where
+      both : P (all.0).before × AllByRecursion P (old_places m.columns places)
+      both = subst (AllByRecursion P) (places_one place places all.0) full
+
+      by : (again : Bool) → list_any (λ other. place == other) places ≡ again → AllByRecursion P (old_places m.columns (each_once places)) → AllByRecursion P (old_places m.columns (cond (list_any (λ other. place == other) places) (each_once places) (place ∷ each_once places)))
+      by true twice rest = subst (λ (b : Bool). AllByRecursion P (old_places m.columns (cond b (each_once places) (place ∷ each_once places)))) (sym twice) rest
+      by false one rest =
+          subst (λ (b : Bool). AllByRecursion P (old_places m.columns (cond b (each_once places) (place ∷ each_once places)))) (sym one)
+          (subst (AllByRecursion P) (sym (places_one place (each_once places) all.0)) (both.0, rest))
 
 -- THE FIRST KEY OF THESE COLUMNS
 
@@ -181,16 +198,38 @@ module _ (m : Migration) (rows : List Row) (plan : IsPlanned m rows) (finds : Fi
   has_column [] all = tt
   has_column (place ∷ places) all = ((all.0.column, all.0.here), has_column places all.1)
 
-  pub names_found : (row : Row) → places_named m.new (map (λ (s : Set). s.column) (key_sets m.new m.columns row (key_places m.new))) ≡ Ok (key_places m.new)
-  names_found row = key_named m.new m.columns row (key_places m.new) (names-apart m.new.columns finds.names) (has_column (key_places m.new) key_from)
+  -- the places of the key that a condition names
+  abbrev pub named : List ℕ
+  named = each_once (key_places m.new)
 
-  pub finds_key : (row : Row) → are_distinct (key_places m.new) ≡ true → FindsKey m.new new_at (map (λ (s : Set). s.column) (key_sets m.new m.columns row (key_places m.new)))
-  finds_key row once = record { places = names_found row; once = once; first = key_first m.new new_at plan.new_key }
+  named_from : AllByRecursion (IsFrom m) named
+  named_from = all_named {P = IsFrom m} (key_places m.new) key_from
 
-  pub key_is_wanted : (row : Row) → IsRow m.schema.columns row → wanted_each m.new (key_places m.new) (map (λ (s : Set). s.value) (key_sets m.new m.columns row (key_places m.new))) ≡ Ok (key_of (key_places m.schema) row)
+  pub names_found : (row : Row) → places_named m.new (map (λ (s : Set). s.column) (key_sets m.new m.columns row named)) ≡ Ok named
+  names_found row = key_named m.new m.columns row named (names-apart m.new.columns finds.names) (has_column named named_from)
+
+  pub finds_key : (row : Row) → FindsKey m.new new_at named (map (λ (s : Set). s.column) (key_sets m.new m.columns row named))
+  finds_key row =
+      record {
+        places = names_found row;
+        once = named_once (key_places m.new);
+        first = same_position (has_columns named) (has_columns (key_places m.new)) (same_columns (key_places m.new)) m.new.uniques ∙ key_first m.new new_at plan.new_key;
+      }
+
+  -- what a condition by the key of a row compares with
+  abbrev pub wanted_of : Row → Row
+  wanted_of row = key_of (old_places m.columns named) row
+
+  pub key_is_wanted : (row : Row) → IsRow m.schema.columns row → wanted_each m.new named (map (λ (s : Set). s.value) (key_sets m.new m.columns row named)) ≡ Ok (wanted_of row)
   key_is_wanted row fits =
-      subst (λ (places : List ℕ). wanted_each m.new (key_places m.new) (map (λ (s : Set). s.value) (key_sets m.new m.columns row (key_places m.new))) ≡ Ok (key_of places row)) finds.clustered
-      (key_wanted m row fits (key_places m.new) key_from (subst (AllByRecursion (λ (p : ℕ). is_not_null (slice_get m.schema.columns p) ≡ true)) (sym finds.clustered) plan.old_key.not_null))
+      key_wanted m row fits named named_from
+      (full_named m row fits (key_places m.new) key_from (subst (AllByRecursion (λ (p : ℕ). is_not_null (slice_get m.schema.columns p) ≡ true)) (sym finds.clustered) plan.old_key.not_null))
 
-  pub key_is_long : (row : Row) → IsRow m.schema.columns row → length (key_of (key_places m.schema) row) ≡ length (key_places m.new)
-  key_is_long row fits = subst (λ (places : List ℕ). length (key_of places row) ≡ length (key_places m.new)) finds.clustered (key_long m row fits (key_places m.new) key_from)
+  -- *The key's values* are those of its places, of which each is named
+  pub key_is : (row : Row) → IsRow m.schema.columns row → server_key_from (key_places m.new) named (wanted_of row) ≡ key_of (key_places m.schema) row
+  key_is row fits =
+      let value : ℕ → Value = λ (place : ℕ). appliers.value_at (given_values m.columns row) place in
+      ap (server_key_from (key_places m.new) named) (key_values m row fits named named_from)
+      ∙ named_values value (key_places m.new) named (own_named (key_places m.new))
+      ∙ sym (key_values m row fits (key_places m.new) key_from)
+      ∙ ap (λ (places : List ℕ). key_of places row) finds.clustered

@@ -1,6 +1,6 @@
 -- What an answer makes of the applier's record, and what it then knows of the journal.
 use Rattle.std.proofs.Common.{◌≡◌, ℕ, List, ◌++◌, drop, Option, Some, None, refl, sym, ap, ◌∙◌, subst}
-use Rattle.base_values.specs.declared.mysql_errors.TheConstants.{ER_TABLE_NOT_LOCKED, ER_NOT_SUPPORTED_YET}
+use Rattle.base_values.specs.declared.mysql_errors.TheConstants.{ER_TABLE_NOT_LOCKED}
 use Rattle.server_model.specs.declared.answer.Answer.{Answer}
 use Rattle.server_model.specs.declared.answer.Answer.TheVariants as answers
 use Rattle.server_model.specs.declared.entry.Entry.{Entry}
@@ -41,7 +41,7 @@ took_at turn applier step answers.Lost here good = absurd good
 took_at turn applier step (answers.TimedOut waited) here good = absurd good
 took_at turn applier step answer here good = ap (λ (s : ApplyStep). after_answer turn applier s answer) here
 
--- a wait, and a refusal with ER_TABLE_NOT_LOCKED or ER_NOT_SUPPORTED_YET, leave the record as it is
+-- a wait, and a refusal with ER_TABLE_NOT_LOCKED, leave the record as it is
 pub waits_took : (turn : ℕ) (applier : Applier) (answer : Answer) → IsWait answer → took turn applier answer ≡ applier
 unfolding took
 waits_took turn applier (answers.Waits by) waits = at applier.step
@@ -65,9 +65,6 @@ outside_took turn applier = at applier.step refl
     at (Beginning batch) here = refl
     at (Applying batch done part) here = same_step applier (Applying batch done part) here
     at (Committing batch) here = refl
-
-pub unsaid_took : (turn : ℕ) (applier : Applier) (batch : Batch) (done : ℕ) (part : Part) → applier.step ≡ Applying batch done part → took turn applier (answers.Refused ER_NOT_SUPPORTED_YET None) ≡ applier
-unsaid_took turn applier batch done part here = took_at turn applier (Applying batch done part) (answers.Refused ER_NOT_SUPPORTED_YET None) here tt ∙ same_step applier (Applying batch done part) here
 
 -- a refusal with a column ends the batch
 pub unfit_progress : (applier : Applier) (batch : Batch) (done : ℕ) (part : Part) (number column : ℕ) → applier.step ≡ Applying batch done part → progress applier (answers.Refused number (Some column)) ≡ Unfit column number

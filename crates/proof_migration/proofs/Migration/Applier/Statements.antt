@@ -1,5 +1,4 @@
 -- What the applier's statements are to do.
-use Rattle.base_values.specs.declared.mysql_errors.TheConstants.{ER_NOT_SUPPORTED_YET}
 use Rattle.std.proofs.Common.{◌≡◌, ℕ, suc, true, false, List, [], ◌∷◌, length, Some, None, Result, Ok, Err, refl, sym, ap, ◌∙◌}
 use Rattle.base_values.specs.declared.gho_schema.schema.Column.{Column}
 use Rattle.base_values.specs.declared.gho_schema.schema.Schema.{Schema}
@@ -15,7 +14,7 @@ use Rattle.base_script.specs.declared.statement.Statement.TheVariants as stateme
 use Rattle.server_model.specs.declared.work.Work.{Work}
 use Rattle.server_model.specs.declared.work.Work.TheVariants as works
 use Rattle.server_model.specs.Answers.{refuses, refuses_value}
-use Rattle.server_model.specs.Checks.{are_distinct, reach_equal, reach_of, work_of}
+use Rattle.server_model.specs.Checks.{work_of}
 use Rattle.server_model.specs.Operations.{table_of}
 use Rattle.tool_program.specs.declared.event_applier.applier.Applier.{Applier}
 use Rattle.tool_program.specs.EventApplier.Appliers.{Doing, by_key, given_values, sets, statement_of}
@@ -27,7 +26,7 @@ use Rattle.proof_journals.specs.Ghost.HeldKeys.{Clustered}
 use Rattle.proof_journals.specs.Ghost.Statements.{SameColumns, delete_at, unfit_at, update_at}
 use Rattle.proof_journals.proofs.Ghost.Texts.{delete_text, replace_refused, replace_work, sets_or, update_text}
 use Rattle.proof_migration.specs.Migration.Applier.FoundColumns.{FindsRows}
-use Rattle.proof_migration.proofs.Migration.Applier.Keys.{finds_key, key_is_long, key_is_wanted, names_found, new_at}
+use Rattle.proof_migration.proofs.Migration.Applier.Keys.{finds_key, key_is, key_is_wanted, named, new_at, wanted_of}
 use Rattle.proof_migration.proofs.Migration.Applier.Names.{all_distinct, all_values, columns_named}
 
 -- the statement that does it, by the altered schema and its columns' map
@@ -70,33 +69,25 @@ module _ (m : Migration) (rows : List Row) (plan : IsPlanned m rows) (finds : Fi
   put_unfit row fault imaged = replace_refused m.new m.columns m.new.name row fault finds.columns imaged
 
   -- DELETE
-  pub remove_work : (row : Row) → IsRow m.schema.columns row → are_distinct (key_places m.new) ≡ true → work_for (Removing row) ≡ delete_at here.place (key_of (key_places m.schema) row)
-  remove_work row fits once =
-      delete_text m.new here m.new.name (key_sets m.new m.columns row (key_places m.new)) (key_of (key_places m.schema) row) (finds_key m rows plan finds row once) (key_is_wanted m rows plan finds row fits) (key_is_long m rows plan finds row fits)
-
-  pub remove_unsaid : (row : Row) → are_distinct (key_places m.new) ≡ false → work_for (Removing row) ≡ works.Refuse (refuses ER_NOT_SUPPORTED_YET)
-  unfolding work_of reach_of reach_equal
-  remove_unsaid row twice = rw (names_found m rows plan finds row, twice) refl
+  pub remove_work : (row : Row) → IsRow m.schema.columns row → work_for (Removing row) ≡ delete_at here.place (key_of (key_places m.schema) row)
+  remove_work row fits =
+      delete_text m.new here (named m rows plan finds) m.new.name (key_sets m.new m.columns row (named m rows plan finds)) (wanted_of m rows plan finds row) (key_of (key_places m.schema) row) (finds_key m rows plan finds row) (key_is_wanted m rows plan finds row fits) (key_is m rows plan finds row fits)
 
   -- UPDATE
   long : (row : Row) → length (given_values m.columns row) ≡ length m.new.columns
   long row = same_length m.new.columns m.columns row finds.columns
 
-  change_text : (old new : Row) → IsRow m.schema.columns old → are_distinct (key_places m.new) ≡ true → work_for (Changing old new) ≡ works.Update (record { key = here.place; span = Rattle.base_values.specs.Spans.point (key_of (key_places m.schema) old) }) (sets_or (converted_row m.columns new))
-  change_text old new fits once =
-      update_text m.new here m.columns m.new.name new (sets m.new.columns (given_values m.columns new)) (key_sets m.new m.columns old (key_places m.new)) (key_of (key_places m.schema) old) finds.columns
+  change_text : (old new : Row) → IsRow m.schema.columns old → work_for (Changing old new) ≡ works.Update (record { key = here.place; span = Rattle.base_values.specs.Spans.point (key_of (key_places m.schema) old) }) (sets_or (converted_row m.columns new))
+  change_text old new fits =
+      update_text m.new here (named m rows plan finds) m.columns m.new.name new (sets m.new.columns (given_values m.columns new)) (key_sets m.new m.columns old (named m rows plan finds)) (wanted_of m rows plan finds old) (key_of (key_places m.schema) old) finds.columns
       (columns_named m.new (given_values m.columns new) (names-apart m.new.columns finds.names) (long new)) (all_distinct 0 m.new.columns) (all_values m.new.columns (given_values m.columns new) (long new))
-      (finds_key m rows plan finds old once) (key_is_wanted m rows plan finds old fits) (key_is_long m rows plan finds old fits)
+      (finds_key m rows plan finds old) (key_is_wanted m rows plan finds old fits) (key_is m rows plan finds old fits)
 
-  pub change_work : (old new made : Row) → IsRow m.schema.columns old → are_distinct (key_places m.new) ≡ true → converted_row m.columns new ≡ Ok made → work_for (Changing old new) ≡ update_at here.place (key_of (key_places m.schema) old) made
-  change_work old new made fits once imaged = change_text old new fits once ∙ ap (λ (i : Result Row UnfitAt). works.Update (record { key = here.place; span = Rattle.base_values.specs.Spans.point (key_of (key_places m.schema) old) }) (sets_or i)) imaged
+  pub change_work : (old new made : Row) → IsRow m.schema.columns old → converted_row m.columns new ≡ Ok made → work_for (Changing old new) ≡ update_at here.place (key_of (key_places m.schema) old) made
+  change_work old new made fits imaged = change_text old new fits ∙ ap (λ (i : Result Row UnfitAt). works.Update (record { key = here.place; span = Rattle.base_values.specs.Spans.point (key_of (key_places m.schema) old) }) (sets_or i)) imaged
 
-  pub change_unfit : (old new : Row) (fault : UnfitAt) → IsRow m.schema.columns old → are_distinct (key_places m.new) ≡ true → converted_row m.columns new ≡ Err fault → work_for (Changing old new) ≡ unfit_at here.place (key_of (key_places m.schema) old) fault
-  change_unfit old new fault fits once imaged = change_text old new fits once ∙ ap (λ (i : Result Row UnfitAt). works.Update (record { key = here.place; span = Rattle.base_values.specs.Spans.point (key_of (key_places m.schema) old) }) (sets_or i)) imaged
-
-  pub change_unsaid : (old new : Row) → are_distinct (key_places m.new) ≡ false → work_for (Changing old new) ≡ works.Refuse (refuses ER_NOT_SUPPORTED_YET)
-  unfolding work_of reach_of reach_equal
-  change_unsaid old new twice = rw (columns_named m.new (given_values m.columns new) (names-apart m.new.columns finds.names) (long new), all_distinct 0 m.new.columns, names_found m rows plan finds old, twice) refl
+  pub change_unfit : (old new : Row) (fault : UnfitAt) → IsRow m.schema.columns old → converted_row m.columns new ≡ Err fault → work_for (Changing old new) ≡ unfit_at here.place (key_of (key_places m.schema) old) fault
+  change_unfit old new fault fits imaged = change_text old new fits ∙ ap (λ (i : Result Row UnfitAt). works.Update (record { key = here.place; span = Rattle.base_values.specs.Spans.point (key_of (key_places m.schema) old) }) (sets_or i)) imaged
 
   -- the place of the clustered key is this one
   pub one_place : (place : ℕ) → clustered_place m.new ≡ Some place → here.place ≡ place
