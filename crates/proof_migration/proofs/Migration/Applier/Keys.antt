@@ -114,9 +114,9 @@ module _ (m : Migration) (row : Row) (fits : IsRow m.schema.columns row) where
   key_values (place ∷ places) all = key_step place places all.0 ∙ ap (λ (v : Value). v ∷ key_of (old_places m.columns places) row) (sym (given_at place all.0)) ∙ ap (λ (k : Row). appliers.value_at (given_values m.columns row) place ∷ k) (key_values places all.1)
 
   -- the columns from which those that are named come may be null where none of the key's may
-  pub full_named : {P : ℕ → Type 0} (places : List ℕ) → AllByRecursion (IsFrom m) places → AllByRecursion P (old_places m.columns places) → AllByRecursion P (old_places m.columns (each_once places))
-  full_named [] all full = tt
-  full_named {P} (place ∷ places) all full = by (list_any (λ other. place == other) places) refl (full_named {P} places all.1 both.1)
+  pub full_named : (P : ℕ → Type 0) (places : List ℕ) → AllByRecursion (IsFrom m) places → AllByRecursion P (old_places m.columns places) → AllByRecursion P (old_places m.columns (each_once places))
+  full_named P [] all full = tt
+  full_named P (place ∷ places) all full = by (list_any (λ other. place == other) places) refl (full_named P places all.1 both.1)
     where
       both : P (all.0).before × AllByRecursion P (old_places m.columns places)
       both = subst (AllByRecursion P) (places_one place places all.0) full
@@ -203,7 +203,7 @@ module _ (m : Migration) (rows : List Row) (plan : IsPlanned m rows) (finds : Fi
   named = each_once (key_places m.new)
 
   named_from : AllByRecursion (IsFrom m) named
-  named_from = all_named {P = IsFrom m} (key_places m.new) key_from
+  named_from = all_named (IsFrom m) (key_places m.new) key_from
 
   pub names_found : (row : Row) → places_named m.new (map (λ (s : Set). s.column) (key_sets m.new m.columns row named)) ≡ Ok named
   names_found row = key_named m.new m.columns row named (names-apart m.new.columns finds.names) (has_column named named_from)
@@ -217,16 +217,16 @@ module _ (m : Migration) (rows : List Row) (plan : IsPlanned m rows) (finds : Fi
       }
 
   -- what a condition by the key of a row compares with
-  abbrev pub wanted_of : Row → Row
-  wanted_of row = key_of (old_places m.columns named) row
+  abbrev pub compared : Row → Row
+  compared row = key_of (old_places m.columns named) row
 
-  pub key_is_wanted : (row : Row) → IsRow m.schema.columns row → wanted_each m.new named (map (λ (s : Set). s.value) (key_sets m.new m.columns row named)) ≡ Ok (wanted_of row)
+  pub key_is_wanted : (row : Row) → IsRow m.schema.columns row → wanted_each m.new named (map (λ (s : Set). s.value) (key_sets m.new m.columns row named)) ≡ Ok (compared row)
   key_is_wanted row fits =
       key_wanted m row fits named named_from
-      (full_named m row fits (key_places m.new) key_from (subst (AllByRecursion (λ (p : ℕ). is_not_null (slice_get m.schema.columns p) ≡ true)) (sym finds.clustered) plan.old_key.not_null))
+      (full_named m row fits (λ (p : ℕ). is_not_null (slice_get m.schema.columns p) ≡ true) (key_places m.new) key_from (subst (AllByRecursion (λ (p : ℕ). is_not_null (slice_get m.schema.columns p) ≡ true)) (sym finds.clustered) plan.old_key.not_null))
 
   -- *The key's values* are those of its places, of which each is named
-  pub key_is : (row : Row) → IsRow m.schema.columns row → server_key_from (key_places m.new) named (wanted_of row) ≡ key_of (key_places m.schema) row
+  pub key_is : (row : Row) → IsRow m.schema.columns row → server_key_from (key_places m.new) named (compared row) ≡ key_of (key_places m.schema) row
   key_is row fits =
       let value : ℕ → Value = λ (place : ℕ). appliers.value_at (given_values m.columns row) place in
       ap (server_key_from (key_places m.new) named) (key_values m row fits named named_from)

@@ -1,5 +1,5 @@
 -- What a condition by key names: each place of a key once. Tests and facts of all places are those of the places that are named.
-use Rattle.std.proofs.Common.{◌≡◌, ℕ, ◌+◌, ◌==◌, Bool, true, false, not, ◌&&◌, ◌||◌, cond, ltb, List, [], ◌∷◌, length, Option, Some, None, refl, sym, ap, subst, ◌∙◌, tt}
+use Rattle.std.proofs.Common.{◌≡◌, ℕ, ◌+◌, ◌==◌, Bool, true, false, not, ◌&&◌, ◌||◌, cond, ltb, List, [], ◌∷◌, length, Option, Some, None, refl, sym, ap, subst, ◌∙◌}
 use Rattle.std.specs.Prelude.{position}
 use Rattle.std.specs.List.{AllByRecursion, list_all, list_any, position_or_len}
 use Rattle.std.proofs.lemmas.Bool.{and_parts, false≢true, or_right}
@@ -19,8 +19,8 @@ is_named place (first ∷ places) = by (list_any (λ other. first == other) plac
         let among : list_any (λ other. place == other) places ≡ true = subst (λ (n : ℕ). list_any (λ other. n == other) places ≡ true) (sym (are_one place first same)) twice in
         rw (twice, same) (rest ∙ among)
     by true twice false same rest = rw (twice, same) rest
-    by false one true same rest = rw (one, same) (rw same refl)
-    by false one false same rest = rw (one, same) (rw same rest)
+    by false one true same rest = rw (one, same) refl
+    by false one false same rest = rw (one, same) rest
 
 -- no place is named twice
 pub named_once : (places : List ℕ) → are_distinct (each_once places) ≡ true
@@ -33,9 +33,9 @@ named_once (first ∷ places) = by (list_any (λ other. first == other) places) 
     by false one rest = let gone : list_any (λ other. first == other) (each_once places) ≡ false = is_named first places ∙ one in rw one (rw (gone, rest) refl)
 
 -- what holds of all places holds of those that are named
-pub all_named : {P : ℕ → Type 0} (places : List ℕ) → AllByRecursion P places → AllByRecursion P (each_once places)
-all_named [] all = tt
-all_named {P} (first ∷ places) all = by (list_any (λ other. first == other) places) refl (all_named {P} places all.1)
+pub all_named : (P : ℕ → Type 0) (places : List ℕ) → AllByRecursion P places → AllByRecursion P (each_once places)
+all_named P [] all = tt
+all_named P (first ∷ places) all = by (list_any (λ other. first == other) places) refl (all_named P places all.1)
   where
     by : (again : Bool) → list_any (λ other. first == other) places ≡ again → AllByRecursion P (each_once places) → AllByRecursion P (cond (list_any (λ other. first == other) places) (each_once places) (first ∷ each_once places))
     by true twice rest = subst (λ (b : Bool). AllByRecursion P (cond b (each_once places) (first ∷ each_once places))) (sym twice) rest
@@ -56,11 +56,9 @@ member_passes : (test : ℕ → Bool) (place : ℕ) (places : List ℕ) → list
 member_passes test place [] is all = absurd (false≢true is)
 member_passes test place (first ∷ places) is all = by (place == first) refl is (member_passes test place places)
   where
-    parts = and_parts (test first) (list_all test places) all
-
     by : (same : Bool) → (place == first) ≡ same → (same || list_any (λ other. place == other) places) ≡ true → (list_any (λ other. place == other) places ≡ true → list_all test places ≡ true → test place ≡ true) → test place ≡ true
-    by true same any rest = ap test (are_one place first same) ∙ parts.0
-    by false same any rest = rest any parts.1
+    by true same any rest = ap test (are_one place first same) ∙ (and_parts (test first) (list_all test places) all).0
+    by false same any rest = rest any (and_parts (test first) (list_all test places) all).1
 
 and_false : (b : Bool) → (b && false) ≡ false
 and_false true = refl

@@ -26,7 +26,7 @@ use Rattle.proof_journals.specs.Ghost.HeldKeys.{Clustered}
 use Rattle.proof_journals.specs.Ghost.Statements.{SameColumns, delete_at, unfit_at, update_at}
 use Rattle.proof_journals.proofs.Ghost.Texts.{delete_text, replace_refused, replace_work, sets_or, update_text}
 use Rattle.proof_migration.specs.Migration.Applier.FoundColumns.{FindsRows}
-use Rattle.proof_migration.proofs.Migration.Applier.Keys.{finds_key, key_is, key_is_wanted, named, new_at, wanted_of}
+use Rattle.proof_migration.proofs.Migration.Applier.Keys.{compared, finds_key, key_is, key_is_wanted, named, new_at}
 use Rattle.proof_migration.proofs.Migration.Applier.Names.{all_distinct, all_values, columns_named}
 
 -- the statement that does it, by the altered schema and its columns' map
@@ -71,7 +71,7 @@ module _ (m : Migration) (rows : List Row) (plan : IsPlanned m rows) (finds : Fi
   -- DELETE
   pub remove_work : (row : Row) → IsRow m.schema.columns row → work_for (Removing row) ≡ delete_at here.place (key_of (key_places m.schema) row)
   remove_work row fits =
-      delete_text m.new here (named m rows plan finds) m.new.name (key_sets m.new m.columns row (named m rows plan finds)) (wanted_of m rows plan finds row) (key_of (key_places m.schema) row) (finds_key m rows plan finds row) (key_is_wanted m rows plan finds row fits) (key_is m rows plan finds row fits)
+      delete_text m.new here (named m rows plan finds) m.new.name (key_sets m.new m.columns row (named m rows plan finds)) (compared m rows plan finds row) (key_of (key_places m.schema) row) (finds_key m rows plan finds row) (key_is_wanted m rows plan finds row fits) (key_is m rows plan finds row fits)
 
   -- UPDATE
   long : (row : Row) → length (given_values m.columns row) ≡ length m.new.columns
@@ -79,7 +79,7 @@ module _ (m : Migration) (rows : List Row) (plan : IsPlanned m rows) (finds : Fi
 
   change_text : (old new : Row) → IsRow m.schema.columns old → work_for (Changing old new) ≡ works.Update (record { key = here.place; span = Rattle.base_values.specs.Spans.point (key_of (key_places m.schema) old) }) (sets_or (converted_row m.columns new))
   change_text old new fits =
-      update_text m.new here (named m rows plan finds) m.columns m.new.name new (sets m.new.columns (given_values m.columns new)) (key_sets m.new m.columns old (named m rows plan finds)) (wanted_of m rows plan finds old) (key_of (key_places m.schema) old) finds.columns
+      update_text m.new here (named m rows plan finds) m.columns m.new.name new (sets m.new.columns (given_values m.columns new)) (key_sets m.new m.columns old (named m rows plan finds)) (compared m rows plan finds old) (key_of (key_places m.schema) old) finds.columns
       (columns_named m.new (given_values m.columns new) (names-apart m.new.columns finds.names) (long new)) (all_distinct 0 m.new.columns) (all_values m.new.columns (given_values m.columns new) (long new))
       (finds_key m rows plan finds old) (key_is_wanted m rows plan finds old fits) (key_is m rows plan finds old fits)
 
