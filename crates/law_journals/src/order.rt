@@ -1,7 +1,8 @@
-//! In which order the tool works, read from the journal alone: the steps of the cut-over, and the locks of the copy.
+//! In which order the tool works, read from the journal alone: the steps of the cut-over, the locks of the copy, and how
+//! logged rows are applied.
 
-ghost use Rattle.law_journals.specs.Orders.{AcceptedRunsKeepOrder, AcceptedRunsCopyUnderLocks};
-ghost use Rattle.proof_order.specs.Laws.{KeptJournalsKeepOrder, JournalsCopyUnderLocks};
+ghost use Rattle.law_journals.specs.Orders.{AcceptedRunsKeepOrder, AcceptedRunsCopyUnderLocks, AcceptedRunsApplyInserts};
+ghost use Rattle.proof_order.specs.Laws.{KeptJournalsKeepOrder, JournalsCopyUnderLocks, JournalsApplyInserts};
 
 use crate::bounds::inspectors_never_wait;
 use crate::plans::{read_plans_are_runnable, read_plans_are_serial};
@@ -21,13 +22,21 @@ pub fn journals_copy_under_locks()
     ensures { JournalsCopyUnderLocks }
 {}
 
+/// The applier puts each row that an INSERT logged of the migrated table by REPLACE, before it commits what it read; it calls no
+/// INSERT.
+pub fn journals_apply_inserts()
+    ensures { JournalsApplyInserts }
+{}
+
 /// So it is in every run of every accepted plan.
 pub fn accepted_runs_keep_order()
     ensures order { AcceptedRunsKeepOrder }
     ensures locks { AcceptedRunsCopyUnderLocks }
+    ensures inserts { AcceptedRunsApplyInserts }
 {
     kept_journals_keep_order();
     journals_copy_under_locks();
+    journals_apply_inserts();
     read_plans_are_runnable();
     read_plans_are_serial();
 }

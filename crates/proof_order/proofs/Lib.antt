@@ -3,7 +3,10 @@ pub mod Phases
 pub mod Hints
 pub mod Waits
 pub mod Roles
+pub mod Needs
 pub mod Turns
 pub mod Orders
 pub mod Chunks
 pub mod ChunkTurns
+pub mod Batches
+pub mod BatchTurns

@@ -63,6 +63,7 @@ use Rattle.proof_order.specs.CutOverOrder.{waits_so, has_session, hints_after, H
 use Rattle.proof_order.proofs.Words.{Words, words, words_after, words_more, words_begin}
 use Rattle.proof_order.proofs.Phases.{PhaseOrder, passes_more, ended_order, drained_order}
 use Rattle.proof_order.proofs.Hints.{AppliedAt, AsksSo, calls_it, polls_it, took_applied, unfit_same, passed_more}
+use Rattle.proof_order.proofs.Needs.{NeedsNames, needs_more}
 use Rattle.proof_order.proofs.Waits.{ShownBy, show_called, shows_session}
 use Rattle.proof_order.proofs.Roles.{OrderedAt, LockerTold, lost_holds, ended_done, drained_done, locker_order, locker_lost_order, renamer_calls, renamer_polls, renamer_lost_order, renaming_off, inspector_order, inspector_lost_order}
 
@@ -82,7 +83,7 @@ ToolPhaseOrdered plan told live (Migrating work) =
     OrderedAt plan told live work.cutover.attempts work.cutover.hold work.cutover.renamer_waits work.cutover.is_asked work.cutover.drops_old work.cutover.phase work.applier
 
 pub record IsOrdered (plan : PlanData) (journal : List Entry) : Type 0 where
-  pub needs : (request : Request) → (standing_of plan journal Apply).waits ≡ Some request → needs_names request ≡ true
+  pub needs : NeedsNames plan journal
   pub tool_phase : ToolPhaseOrdered plan (words plan journal) (live_session journal Ren) (moment plan journal).tool.tool_phase
 
 -- SMALL FACTS
@@ -121,18 +122,6 @@ wait_left (Call request) (answers.Waits by) session called waits = refl
 wait_left Poll (answers.Waits by) session called waits = refl
 wait_left Cut (answers.Waits by) session called waits = refl
 wait_left asked answer session called waits = absurd (false≢true waits)
-
--- a wait leaves the request that it was about
-record IsWait (about request : Request) (answer : Answer) : Type 0 where
-  by : ℕ
-  is : answer ≡ answers.Waits by
-  same : about ≡ request
-
-waits_wait : (about request : Request) (answer : Answer) (old : Standing) → (answered about answer old).waits ≡ Some request → IsWait about request answer
-waits_wait about request (answers.Waits by) old some = record { by = by; is = refl; same = let one : about ≡ request = cc in one }
-waits_wait about request answers.Lost old some = absurd cc
-waits_wait about request (answers.TimedOut waited) old some = absurd cc
-waits_wait about request answer old some = absurd cc
 
 renamer_next : (cutover : CutOver) (phase : Phase) (request : Request) → attempts.renamer_call cutover phase ≡ Some request → (phase ≡ Attempting Drained) × (request ≡ exchange cutover.table)
 renamer_next cutover (Attempting Drained) request is = (refl, some_request (λ r. r ≡ exchange cutover.table) (exchange cutover.table) request is refl)
@@ -622,43 +611,10 @@ module _ (plan : PlanData) (journal : List Entry) (entry : Entry) (run : IsRun p
   resize_at size asks (SettingUp setup tries) eq = command_still (ChunkSize size) asks (SettingUp setup tries) eq
   resize_at size asks (Migrating work) eq = command_still (ChunkSize size) asks (Migrating work) eq
 
-  -- WHAT THE APPLIER WAITS WITH
-
-  own_needs : entry.actor ≡ Apply → (request : Request) → (now_has Apply).waits ≡ Some request → needs_names request ≡ true
-  unfolding given
-  own_needs who request some = by entry.asked refl run.followed.given where
-    lost : entry.asked ≡ Cut → needs_names request ≡ true
-    lost cut = none_some request (now_has Apply).waits (ap (λ (s : Standing). s.waits) (subst (λ (a : Actor). now_has a ≡ free) who (own_lost plan journal entry known served cut))) some
-
-    with : (called : Request) → IsAbout called (has Apply) entry.asked → needs_names request ≡ true
-    with called about =
-        let there : IsAbout called (has entry.actor) entry.asked = about_own Apply called who about in
-        let stands : now_has Apply ≡ answered called entry.answer (has Apply) = subst (λ (a : Actor). now_has a ≡ answered called entry.answer (has a)) who (own_stands plan journal entry known served called there) in
-        let wait : IsWait called request entry.answer = waits_wait called request entry.answer (has Apply) (ap (λ (s : Standing). s.waits) (sym stands) ∙ some) in
-        ap needs_names (sym wait.same) ∙ ap (answers_to called) (sym wait.is) ∙ own_fits plan journal entry known served called there
-
-    asked_so : Asking plan journal Apply entry.asked → needs_names request ≡ true
-    asked_so (calls_so called asks none call) = with called (is_called asks none)
-    asked_so (polls_so called asks waits) = with called (is_polled asks waits)
-
-    by : (asked : Asked) → entry.asked ≡ asked → IsGiven plan journal entry asked → needs_names request ≡ true
-    by Cut asks gives = lost asks
-    by (Call called) asks gives = asked_so (asking plan journal Apply entry.asked together.server (ap (given plan journal) (sym who) ∙ gives ∙ ap Some (sym asks)))
-    by Poll asks gives = asked_so (asking plan journal Apply entry.asked together.server (ap (given plan journal) (sym who) ∙ gives ∙ ap Some (sym asks)))
-    by (Command word) asks gives = absurd (no (sym (commands word asks) ∙ who)) where
-      no : Op ≡ Apply → ⊥
-      no both = cc
-
-  needs_now : (request : Request) → (now_has Apply).waits ≡ Some request → needs_names request ≡ true
-  needs_now request some = by (same_actor entry.actor Apply) refl where
-    by : (b : Bool) → same_actor entry.actor Apply ≡ b → needs_names request ≡ true
-    by true same = own_needs (same_actor_is entry.actor Apply same) request some
-    by false differ = is.needs request (ap (λ (s : Standing). s.waits) (sym (others_stand plan journal entry known served Apply differ)) ∙ some)
-
   -- *One turn more*
   pub ordered_more : IsOrdered plan more
   ordered_more = record {
-    needs = needs_now;
+    needs = needs_more plan journal entry together run is.needs;
     tool_phase =
         turn_kept plan New back journal entry drain
         (record {

@@ -7,6 +7,7 @@ use Rattle.proof_journals.specs.Machine.Runnable.{IsRunnable}
 use Rattle.proof_journals.specs.Run.Kept.{IsKept}
 use Rattle.tool_program.specs.JournalWords.Journals.{IsFaithful}
 use Rattle.tool_program.specs.Programs.{Follows}
+use Rattle.proof_order.specs.AppliedRows.{AppliesInserts}
 use Rattle.proof_order.specs.ChunkLocks.{CopiesUnderLocks}
 use Rattle.proof_order.specs.CutOverOrder.{KeepsOrder}
 
@@ -17,3 +18,7 @@ KeptJournalsKeepOrder = (plan : PlanData) (journal : List Entry) → IsRunnable 
 -- *Journals copy under locks*: so does each faithful journal that follows the program.
 abbrev pub JournalsCopyUnderLocks : Type 0
 JournalsCopyUnderLocks = (plan : PlanData) (journal : List Entry) → IsFaithful plan journal → Follows plan journal → CopiesUnderLocks plan journal
+
+-- *Journals apply inserts as REPLACE*: so does each faithful journal that follows the program.
+abbrev pub JournalsApplyInserts : Type 0
+JournalsApplyInserts = (plan : PlanData) (journal : List Entry) → IsFaithful plan journal → Follows plan journal → AppliesInserts plan journal

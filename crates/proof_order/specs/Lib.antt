@@ -1,3 +1,4 @@
+pub mod AppliedRows
 pub mod ChunkLocks
 pub mod CutOverOrder
 pub mod Laws
