@@ -1,0 +1,12 @@
+pub mod LineEvents
+pub mod Transactions
+pub mod Lines
+pub mod Linked
+pub mod Keys
+pub mod Volumes
+pub mod Views
+pub mod HintRows
+pub mod Hints
+pub mod ChunkAnswers
+pub mod Chunks
+pub mod ChunkCounts
