@@ -28,7 +28,8 @@ use Rattle.proof_bounds.specs.Parts.{OfOperator, OfClients, OfSetup, OfChunks, O
 use Rattle.proof_bounds.specs.Setups.{SetupTurnsAreFew}
 use Rattle.proof_bounds.specs.Clearings.{ClearingTurnsAreFew}
 use Rattle.proof_bounds.proofs.Going.{setups_go, clearings_go}
-use Rattle.law_journals.specs.Bounds.{OperatorIsBounded, ClientsAreBounded, SetupIsBounded, ClearingIsBounded, AreBounded, PartsBoundRuns, AcceptedSmoothRunsAreDone, RoomyRunsEnd}
+use Rattle.proof_attempts.specs.Attempts.{AttemptTurnsAreFew}
+use Rattle.law_journals.specs.Bounds.{OperatorIsBounded, ClientsAreBounded, SetupIsBounded, AttemptsAreBounded, ClearingIsBounded, TasksAreBounded, PartsBoundRuns, AcceptedSmoothRunsAreDone, RoomyRunsEnd}
 
 -- *The operator's part*
 pub operator_bounded : OperatorTurnsAreFew → OperatorIsBounded
@@ -49,23 +50,37 @@ clearings_bounded law options runnable serial plan journal was kept =
     let allowed = options was.bytes plan was.is in
     law plan journal (record { client = allowed.client; tool = allowed.tool }) (runnable plan was).fitting.scripts kept.faithful kept.planned kept.follows (clearings_go plan journal (runnable plan was) (serial was.bytes plan was.is) kept)
 
+-- *The attempts' part*
+pub attempts_bounded : AttemptTurnsAreFew → ReadOptionsAllow → ReadPlansAreRunnable → ReadPlansAreSerial → AttemptsAreBounded
+attempts_bounded law options runnable serial plan journal was kept =
+    let allowed = options was.bytes plan was.is in
+    law plan journal (record { client = allowed.client; tool = allowed.tool }) (record { some = allowed.tries; few = allowed.few }) (runnable plan was) (serial was.bytes plan was.is) kept
+
 -- THE SUM
 
 terms_sum : (m : Measures) → bound_of m ≡ term_of OfOperator m + term_of OfClients m + term_of OfSetup m + term_of OfChunks m + term_of OfBatches m + term_of OfAttempts m + term_of OfClearing m
 unfolding bound_of term_of
 terms_sum m = refl
 
-all_bounded : PartsMakeJournals → AreBounded → (plan : PlanData) (journal : List Entry) → WasRead plan → IsKept plan journal → length journal ≤ bound plan
-all_bounded make bounded plan journal was kept =
+-- the parts that are bounded, each by its law
+pub record PartsAre : Type 0 where
+  pub operator : OperatorIsBounded
+  pub clients : ClientsAreBounded
+  pub setup : SetupIsBounded
+  pub attempts : AttemptsAreBounded
+  pub clearing : ClearingIsBounded
+
+all_bounded : PartsMakeJournals → PartsAre → TasksAreBounded → (plan : PlanData) (journal : List Entry) → WasRead plan → IsKept plan journal → length journal ≤ bound plan
+all_bounded make parts tasks plan journal was kept =
     let whole = terms_sum (measures plan) in
     let sum = make plan journal in
-    let a = bounded.operator plan journal was kept in
-    let b = bounded.clients plan journal was kept in
-    let c = bounded.setup plan journal was kept in
-    let d = bounded.chunks plan journal was kept in
-    let e = bounded.batches plan journal was kept in
-    let f = bounded.attempts plan journal was kept in
-    let g = bounded.clearing plan journal was kept in
+    let a = parts.operator plan journal was kept in
+    let b = parts.clients plan journal was kept in
+    let c = parts.setup plan journal was kept in
+    let d = tasks.chunks plan journal was kept in
+    let e = tasks.batches plan journal was kept in
+    let f = parts.attempts plan journal was kept in
+    let g = parts.clearing plan journal was kept in
     omega (arith, whole, sum, a, b, c, d, e, f, g)
 
 -- ONE TURN MORE
@@ -89,13 +104,13 @@ is_due plan journal actor ready = by (cut_due plan journal) where
   by None = given_some plan journal actor (given plan journal actor) ready
 
 -- *Parts bound runs*
-pub parts_bound : PartsMakeJournals → AcceptedRunsGoOn → DueTurnsAreKept → PartsBoundRuns
-parts_bound make going kept_on bounded plan journal was kept unended =
+pub parts_bound : PartsMakeJournals → PartsAre → AcceptedRunsGoOn → DueTurnsAreKept → PartsBoundRuns
+parts_bound make parts going kept_on tasks plan journal was kept unended =
     let ready = some_of (is_ready plan journal) (actors plan) (going plan journal was kept unended) in
     let turn = is_due plan journal ready.0 ready.1 in
     let on = kept_on plan journal (state_at plan journal) ready.0 turn.0 kept (record { made = omega arith; same = refl }) turn.1 in
     let long = length_push journal (next_entry journal (state_at plan journal) turn.0) in
-    let most = all_bounded make bounded plan (journal ++ next_entry journal (state_at plan journal) turn.0 ∷ []) was on.kept in
+    let most = all_bounded make parts tasks plan (journal ++ next_entry journal (state_at plan journal) turn.0 ∷ []) was on.kept in
     omega (arith, long, most)
 
 -- THE END

@@ -24,26 +24,24 @@ ClientsAreBounded = IsBounded OfClients
 abbrev pub SetupIsBounded : Type 0
 SetupIsBounded = IsBounded OfSetup
 
+abbrev pub AttemptsAreBounded : Type 0
+AttemptsAreBounded = IsBounded OfAttempts
+
 abbrev pub ClearingIsBounded : Type 0
 ClearingIsBounded = IsBounded OfClearing
 
--- each part is
-pub record AreBounded : Type 0 where
-  pub operator : IsBounded OfOperator
-  pub clients : IsBounded OfClients
-  pub setup : IsBounded OfSetup
+-- *Tasks are bounded*: the chunks of the copy, and the batches of the events
+pub record TasksAreBounded : Type 0 where
   pub chunks : IsBounded OfChunks
   pub batches : IsBounded OfBatches
-  pub attempts : IsBounded OfAttempts
-  pub clearing : IsBounded OfClearing
 
 -- *Runs are bounded*: a run of an accepted plan that hasn't ended has fewer turns than the bound
 abbrev pub RunsAreBounded : Type 0
 RunsAreBounded = (plan : PlanData) (journal : List Entry) → WasRead plan → IsKept plan journal → has_ended plan journal ≡ false → length journal < bound plan
 
--- *Parts bound runs*: where each part is bounded so are runs, since some actor is ready until a run has ended
+-- *Parts bound runs*: where tasks are bounded each part is, and so are runs, since some actor is ready until a run has ended
 abbrev pub PartsBoundRuns : Type 0
-PartsBoundRuns = AreBounded → RunsAreBounded
+PartsBoundRuns = TasksAreBounded → RunsAreBounded
 
 -- *Smooth runs of accepted plans are done*: in which nothing hinders the tool, whoever else there is, and which have ended
 abbrev pub AcceptedSmoothRunsAreDone : Type 0

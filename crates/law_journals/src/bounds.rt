@@ -1,5 +1,6 @@
 //! How many turns a run takes, part by part: `proof_bounds` says which part a turn is of, and what each part's term is.
 
+ghost use Rattle.proof_attempts.specs.Attempts.{AttemptsGoOn, AttemptTurnsAreFew};
 ghost use Rattle.proof_bounds.specs.Attempts.{AttemptsAreFew};
 ghost use Rattle.proof_bounds.specs.Clearings.{ClearingTurnsAreFew};
 ghost use Rattle.proof_bounds.specs.Guards.{SentriesAreMadeAtOnce};
@@ -8,7 +9,7 @@ ghost use Rattle.proof_bounds.specs.Rows.{RowsAreFew, KeysAreThose};
 ghost use Rattle.proof_bounds.specs.Setups.{SetupTurnsAreFew};
 ghost use Rattle.proof_bounds.specs.Tries.{TriesAreFew};
 ghost use Rattle.proof_bounds.specs.Waits.{InspectorsNeverWait};
-ghost use Rattle.law_journals.specs.Bounds.{OperatorIsBounded, ClientsAreBounded, SetupIsBounded, ClearingIsBounded, PartsBoundRuns, AcceptedSmoothRunsAreDone, RoomyRunsEnd};
+ghost use Rattle.law_journals.specs.Bounds.{OperatorIsBounded, ClientsAreBounded, SetupIsBounded, AttemptsAreBounded, ClearingIsBounded, PartsBoundRuns, AcceptedSmoothRunsAreDone, RoomyRunsEnd};
 
 use crate::completion::smooth_runs_are_done;
 use crate::plans::{read_options_allow, read_plans_are_runnable, read_plans_are_serial};
@@ -73,6 +74,18 @@ pub fn attempts_are_few()
     ensures { AttemptsAreFew }
 {}
 
+/// In every journal of a runnable plan that is kept each call of an attempt goes on: LOCK TABLES, the RENAME and the DROP of the
+/// sentry aren't refused; the hint row is written, the listing of waits shows the RENAME, and at an attempt's end the sentry is
+/// dropped.
+pub fn attempts_go_on()
+    ensures { AttemptsGoOn }
+{}
+
+/// So such a journal has at most ten turns for each attempt that may be begun, and as many more as two waits are polled.
+pub fn attempt_turns_are_few()
+    ensures { AttemptTurnsAreFew }
+{}
+
 /// Where each turn of the setup that isn't lost goes on, a journal that keeps its plan has at most eight turns of it, and
 /// eight for each loss.
 pub fn setup_turns_are_few()
@@ -85,28 +98,31 @@ pub fn clearing_turns_are_few()
     ensures { ClearingTurnsAreFew }
 {}
 
-/// A run of an accepted plan has at most as many turns of the operator's, of its clients', of the setup, and of losses with
-/// what is cleared up, as their terms say.
+/// A run of an accepted plan has at most as many turns of the operator's, of its clients', of the setup, of attempts, and of
+/// losses with what is cleared up, as their terms say.
 pub fn some_parts_are_bounded()
     ensures operator { OperatorIsBounded }
     ensures clients { ClientsAreBounded }
     ensures setup { SetupIsBounded }
+    ensures attempts { AttemptsAreBounded }
     ensures clearing { ClearingIsBounded }
 {
     operator_turns_are_few();
     client_turns_are_few();
     setup_turns_are_few();
+    attempt_turns_are_few();
     clearing_turns_are_few();
     read_options_allow();
     read_plans_are_runnable();
     read_plans_are_serial();
 }
 
-/// Where each part is bounded, a run that hasn't ended has fewer turns than the sum of the terms.
+/// Where the parts of chunks and of batches are bounded too, a run that hasn't ended has fewer turns than the sum of the terms.
 pub fn parts_bound_runs()
     ensures { PartsBoundRuns }
 {
     parts_make_journals();
+    some_parts_are_bounded();
     accepted_runs_go_on();
     due_turns_are_kept();
 }
