@@ -13,3 +13,4 @@ pub mod Rested
 pub mod ReadLogs
 pub mod StatementAnswers
 pub mod BatchesGo
+pub mod Totals

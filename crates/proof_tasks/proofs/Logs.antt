@@ -1,6 +1,7 @@
 -- How many events of a log are left behind a position, where the log grows.
-use Rattle.std.proofs.Common.{◌≡◌, ◌≤◌, ℕ, zero, suc, ◌+◌, ◌*◌, Bool, cond, List, [], ◌∷◌, ◌++◌, length, drop, ap, ◌∙◌, arith, mul-le-mul_right}
-use Rattle.std.specs.Prelude.{count_by}
+use Rattle.std.proofs.Common.{◌≡◌, ◌≤◌, ℕ, zero, suc, ◌+◌, ◌*◌, Bool, true, false, cond, List, [], ◌∷◌, ◌++◌, length, drop, ap, ◌∙◌, arith, mul-le-mul_right}
+use Rattle.std.specs.Prelude.{◌||◌, count_by}
+use Rattle.std.specs.Str.{bytes_eq}
 use Rattle.std.proofs.lemmas.List.{drop-append-le}
 use Rattle.std.proofs.lemmas.List.Sums.{sum_by-append, sum_by-cons}
 use Rattle.base_values.specs.ToolNames.{log_name}
@@ -95,3 +96,21 @@ module _ (table : List ℕ) (log events : List RowEvent) where
 -- at a later position fewer are left
 pub left_less : (table : List ℕ) (log : List RowEvent) (position : ℕ) → left_at table log position ≤ left_at table log 0
 left_less table log position = dropped (is_of (table ∷ log_name table ∷ [])) position log
+
+-- the events of both tables are those of each
+pub both_few : (table : List ℕ) (log : List RowEvent) → left_at table log 0 ≤ count_by (is_of (table ∷ [])) log + count_by (is_of (log_name table ∷ [])) log
+both_few table [] = omega arith
+both_few table (event ∷ log) =
+    let rest = both_few table log in
+    let all = sum_by-cons (λ (e : RowEvent). cond (is_of (table ∷ log_name table ∷ []) e) 1 0) event log in
+    let own = sum_by-cons (λ (e : RowEvent). cond (is_of (table ∷ []) e) 1 0) event log in
+    let logged = sum_by-cons (λ (e : RowEvent). cond (is_of (log_name table ∷ []) e) 1 0) event log in
+    let here = by (bytes_eq event.table table) (bytes_eq event.table (log_name table)) in
+    omega (arith, rest, all, own, logged, here) where
+      by : (a b : Bool) → cond (a || (b || false)) 1 0 ≤ cond (a || false) 1 0 + cond (b || false) 1 0
+      by true b = two b where
+        two : (b : Bool) → 1 ≤ 1 + cond (b || false) 1 0
+        two true = omega arith
+        two false = omega arith
+      by false true = omega arith
+      by false false = omega arith
