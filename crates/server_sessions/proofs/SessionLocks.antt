@@ -6,6 +6,5 @@ pub mod Mentioned
 pub mod Names
 pub mod Pairs
 pub mod Places
-pub mod RowHolders
 pub mod Shown
 pub mod Waiters
