@@ -107,11 +107,13 @@ impl SessionList {
             return Ok(());
         }
         self.locks.grant(number, &need.locks)?;
-        let held = hold(alloc, &mut self.sessions, number, need, events);
-        if held.is_err() {
-            self.locks.undo(number);
+        match hold(alloc, &mut self.sessions, number, need, events) {
+            Ok(()) => Ok(()),
+            Err(error) => {
+                self.locks.undo(number);
+                Err(error)
+            }
         }
-        held
     }
 
     /// The session's transaction is over: its row locks and shared names are free. What it wrote is given.
