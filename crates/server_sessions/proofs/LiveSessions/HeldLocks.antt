@@ -1,5 +1,5 @@
 -- The row locks that sessions hold, while sessions change: the table of all has the same.
-use Rattle.std.proofs.Common.{◌≡◌, ◌⊎◌, inl, inr, ◌∙◌, ℕ, Bool, true, false, not, cond, List, [], ◌∷◌, ◌++◌, map, filter, Option, Some, None, is_some, refl, sym, ap, subst}
+use Rattle.std.proofs.Common.{◌≡◌, ◌⊎◌, inl, inr, ◌∙◌, ℕ, Bool, true, false, not, ◌||◌, cond, List, [], ◌∷◌, ◌++◌, map, filter, Option, Some, None, is_some, refl, sym, ap, subst}
 use Rattle.std.specs.Prelude.{◌==◌}
 use Rattle.std.specs.List.{AllByRecursion, list_any}
 use Rattle.std.proofs.lemmas.Bool.{true≢false, eqb-true}
@@ -58,46 +58,49 @@ pub record IsOther (number : ℕ) (locks : List HeldLock) (held : HeldLock) : Ty
   pub other : (held.session == number) ≡ false
 
 -- The locks of the table without those of a session.
-kept_there : (number : ℕ) (xs : List HeldLock) (held : HeldLock) → HasLock xs held → (held.session == number) ≡ false → HasLock (filter (λ one. not (one.session == number)) xs) held
-kept_there number [] held has other = absurd has
-kept_there number (x ∷ xs) held (inl is) other = let at : (x.session == number) ≡ false = ap (λ (one : HeldLock). one.session == number) is ∙ other in rw at (inl is)
-kept_there number (x ∷ xs) held (inr has) other = at (x.session == number) (kept_there number xs held has other) where
-  at : (b : Bool) → HasLock (filter (λ one. not (one.session == number)) xs) held → HasLock (cond (not b) (x ∷ filter (λ one. not (one.session == number)) xs) (filter (λ one. not (one.session == number)) xs)) held
-  at true has = has
-  at false has = inr has
+there_by : (number : ℕ) (x : HeldLock) (xs : List HeldLock) (held : HeldLock) (b : Bool) → (x.session == number) ≡ b → HasLock (x ∷ xs) held → (held.session == number) ≡ false → (HasLock xs held → HasLock (filter (λ (one : HeldLock). not (one.session == number)) xs) held)
+    → HasLock (cond (not b) (x ∷ filter (λ (one : HeldLock). not (one.session == number)) xs) (filter (λ (one : HeldLock). not (one.session == number)) xs)) held
+there_by number x xs held true is (inl same) other rest = absurd (true≢false (sym is ∙ ap (λ (one : HeldLock). one.session == number) same ∙ other))
+there_by number x xs held true is (inr has) other rest = rest has
+there_by number x xs held false is (inl same) other rest = inl same
+there_by number x xs held false is (inr has) other rest = inr (rest has)
 
-kept_by : (number : ℕ) (x : HeldLock) (xs : List HeldLock) (held : HeldLock) (b : Bool) → (x.session == number) ≡ b → (HasLock (filter (λ one. not (one.session == number)) xs) held → IsOther number xs held)
-    → HasLock (cond (not b) (x ∷ filter (λ one. not (one.session == number)) xs) (filter (λ one. not (one.session == number)) xs)) held → IsOther number (x ∷ xs) held
+kept_there : (number : ℕ) (xs : List HeldLock) (held : HeldLock) → HasLock xs held → (held.session == number) ≡ false → HasLock (filter (λ (one : HeldLock). not (one.session == number)) xs) held
+kept_there number [] held has other = absurd has
+kept_there number (x ∷ xs) held has other = there_by number x xs held (x.session == number) refl has other (λ there. kept_there number xs held there other)
+
+kept_by : (number : ℕ) (x : HeldLock) (xs : List HeldLock) (held : HeldLock) (b : Bool) → (x.session == number) ≡ b → (HasLock (filter (λ (one : HeldLock). not (one.session == number)) xs) held → IsOther number xs held)
+    → HasLock (cond (not b) (x ∷ filter (λ (one : HeldLock). not (one.session == number)) xs) (filter (λ (one : HeldLock). not (one.session == number)) xs)) held → IsOther number (x ∷ xs) held
 kept_by number x xs held true is rest has = let there = rest has in record { has = inr there.has; other = there.other }
 kept_by number x xs held false is rest (inl same) = record { has = inl same; other = ap (λ (one : HeldLock). one.session == number) (sym same) ∙ is }
 kept_by number x xs held false is rest (inr has) = let there = rest has in record { has = inr there.has; other = there.other }
 
-kept_here : (number : ℕ) (xs : List HeldLock) (held : HeldLock) → HasLock (filter (λ one. not (one.session == number)) xs) held → IsOther number xs held
+kept_here : (number : ℕ) (xs : List HeldLock) (held : HeldLock) → HasLock (filter (λ (one : HeldLock). not (one.session == number)) xs) held → IsOther number xs held
 kept_here number [] held has = absurd has
 kept_here number (x ∷ xs) held has = kept_by number x xs held (x.session == number) refl (kept_here number xs held) has
 
-not_first : (a b : Bool) → cond a true b ≡ false → a ≡ false
+not_first : (a b : Bool) → (a || b) ≡ false → a ≡ false
 not_first true b none = none
 not_first false b none = refl
 
-not_rest : (a b : Bool) → cond a true b ≡ false → b ≡ false
+not_rest : (a b : Bool) → (a || b) ≡ false → b ≡ false
 not_rest true b none = absurd (true≢false none)
 not_rest false b none = none
 
-none_of_session : (number : ℕ) (xs : List HeldLock) (held : HeldLock) → list_any (λ one. one.session == number) xs ≡ false → HasLock xs held → (held.session == number) ≡ false
+none_of_session : (number : ℕ) (xs : List HeldLock) (held : HeldLock) → list_any (λ (one : HeldLock). one.session == number) xs ≡ false → HasLock xs held → (held.session == number) ≡ false
 none_of_session number [] held none has = absurd has
-none_of_session number (x ∷ xs) held none (inl is) = ap (λ (one : HeldLock). one.session == number) (sym is) ∙ not_first (x.session == number) (list_any (λ one. one.session == number) xs) none
-none_of_session number (x ∷ xs) held none (inr has) = none_of_session number xs held (not_rest (x.session == number) (list_any (λ one. one.session == number) xs) none) has
+none_of_session number (x ∷ xs) held none (inl is) = ap (λ (one : HeldLock). one.session == number) (sym is) ∙ not_first (x.session == number) (list_any (λ (one : HeldLock). one.session == number) xs) none
+none_of_session number (x ∷ xs) held none (inr has) = none_of_session number xs held (not_rest (x.session == number) (list_any (λ (one : HeldLock). one.session == number) xs) none) has
 
 pub freed_there : (number : ℕ) (t : LockTable) (held : HeldLock) → HasLock t.held held → (held.session == number) ≡ false → HasLock (freed t number).held held
-freed_there number t held has other = at (list_any (λ one. one.session == number) t.held) where
+freed_there number t held has other = at (list_any (λ (one : HeldLock). one.session == number) t.held) where
   at : (b : Bool) → HasLock (freed_if b t number).held held
   at true = kept_there number t.held held has other
   at false = has
 
 pub freed_here : (number : ℕ) (t : LockTable) (held : HeldLock) → HasLock (freed t number).held held → IsOther number t.held held
-freed_here number t held has = at (list_any (λ one. one.session == number) t.held) refl has where
-  at : (b : Bool) → list_any (λ one. one.session == number) t.held ≡ b → HasLock (freed_if b t number).held held → IsOther number t.held held
+freed_here number t held has = at (list_any (λ (one : HeldLock). one.session == number) t.held) refl has where
+  at : (b : Bool) → list_any (λ (one : HeldLock). one.session == number) t.held ≡ b → HasLock (freed_if b t number).held held → IsOther number t.held held
   at true is has = kept_here number t.held held has
   at false is has = record { has = has; other = none_of_session number t.held held is has }
 
@@ -126,7 +129,7 @@ apart_by number session sessions held is (inl own) rest = own_is number session 
 apart_by number session sessions held is (inr has) rest = rest has
 
 -- sessions of other numbers hold no lock of the session's
-others_apart : (number : ℕ) (sessions : List Session) (held : HeldLock) → AllByRecursion (λ other. (other.number == number) ≡ false) sessions → HasLock (locks_held sessions) held → (held.session == number) ≡ false
+others_apart : (number : ℕ) (sessions : List Session) (held : HeldLock) → AllByRecursion (λ (other : Session). (other.number == number) ≡ false) sessions → HasLock (locks_held sessions) held → (held.session == number) ≡ false
 others_apart number [] held apart has = absurd has
 others_apart number (session ∷ sessions) held apart has = apart_by number session sessions held apart.0 (has_either (map (held_by session.number) session.row_locks) (locks_held sessions) held has) (others_apart number sessions held apart.1)
 
@@ -137,7 +140,7 @@ rest_either number session sessions left held is (inr has) rest =
     let there = rest has in
     record { has = has_second (map (held_by session.number) session.row_locks) (locks_held sessions) held there.has; other = there.other }
 
-rest_by : (number : ℕ) (session : Session) (sessions : List Session) (held : HeldLock) (b : Bool) → (session.number == number) ≡ b → AllByRecursion (λ other. (other.number == session.number) ≡ false) sessions → (HasLock (locks_held (with_session number at_rest sessions)) held → IsOther number (locks_held sessions) held)
+rest_by : (number : ℕ) (session : Session) (sessions : List Session) (held : HeldLock) (b : Bool) → (session.number == number) ≡ b → AllByRecursion (λ (other : Session). (other.number == session.number) ≡ false) sessions → (HasLock (locks_held (with_session number at_rest sessions)) held → IsOther number (locks_held sessions) held)
     → HasLock (locks_held (cond b (at_rest session ∷ sessions) (session ∷ with_session number at_rest sessions))) held → IsOther number (locks_held (session ∷ sessions)) held
 rest_by number session sessions held true is differ rest has =
     let apart = subst (λ (n : ℕ). AllByRecursion (λ (other : Session). (other.number == n) ≡ false) sessions) (eqb-true session.number number is) differ in
@@ -152,7 +155,7 @@ rested_here number (session ∷ sessions) held differ has = rest_by number sessi
 
 -- the sessions without the one of this number
 abbrev pub without : ℕ → List Session → List Session
-without number sessions = filter (λ session. not (session.number == number)) sessions
+without number sessions = filter (λ (session : Session). not (session.number == number)) sessions
 
 left_by : (number : ℕ) (session : Session) (sessions : List Session) (held : HeldLock) (b : Bool) → (session.number == number) ≡ b → HasLock (map (held_by session.number) session.row_locks) held ⊎ HasLock (locks_held sessions) held → (held.session == number) ≡ false
     → (HasLock (locks_held sessions) held → HasLock (locks_held (without number sessions)) held) → HasLock (locks_held (cond (not b) (session ∷ without number sessions) (without number sessions))) held

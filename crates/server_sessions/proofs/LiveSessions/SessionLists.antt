@@ -16,11 +16,11 @@ use Rattle.server_sessions.specs.LiveSessions.SessionLists.{Differ, HaveLocks}
 use Rattle.server_sessions.proofs.LiveSessions.HeldLocks.{has_first, has_second, has_either, freed_there, freed_here, rested_there, rested_here, without, left_there, left_here, grown_old, grown_new, grown_parts, same_locks, joined_locks}
 
 -- Numbers.
-numbers_kept : (P : ℕ → Type 0) (number : ℕ) (change : Session → Session) (sessions : List Session) → ((s : Session) → (change s).number ≡ s.number) → AllByRecursion (λ session. P session.number) sessions → AllByRecursion (λ session. P session.number) (with_session number change sessions)
+numbers_kept : (P : ℕ → Type 0) (number : ℕ) (change : Session → Session) (sessions : List Session) → ((s : Session) → (change s).number ≡ s.number) → AllByRecursion (λ (session : Session). P session.number) sessions → AllByRecursion (λ (session : Session). P session.number) (with_session number change sessions)
 unfolding with_session
 numbers_kept P number change [] numbers all = tt
 numbers_kept P number change (session ∷ sessions) numbers all = at (session.number == number) (numbers_kept P number change sessions numbers all.1) where
-  at : (b : Bool) → AllByRecursion (λ one. P one.number) (with_session number change sessions) → AllByRecursion (λ one. P one.number) (cond b (change session ∷ sessions) (session ∷ with_session number change sessions))
+  at : (b : Bool) → AllByRecursion (λ (one : Session). P one.number) (with_session number change sessions) → AllByRecursion (λ (one : Session). P one.number) (cond b (change session ∷ sessions) (session ∷ with_session number change sessions))
   at true rest = (subst P (sym (numbers session)) all.0, all.1)
   at false rest = (all.0, rest)
 
@@ -30,26 +30,26 @@ differ_kept number change [] numbers differ = tt
 differ_kept number change (session ∷ sessions) numbers differ = at (session.number == number) (differ_kept number change sessions numbers differ.1) where
   at : (b : Bool) → Differ (with_session number change sessions) → Differ (cond b (change session ∷ sessions) (session ∷ with_session number change sessions))
   at true rest = (subst (λ (n : ℕ). AllByRecursion (λ (other : Session). (other.number == n) ≡ false) sessions) (sym (numbers session)) differ.0, differ.1)
-  at false rest = (numbers_kept (λ n. (n == session.number) ≡ false) number change sessions numbers differ.0, rest)
+  at false rest = (numbers_kept (λ (n : ℕ). (n == session.number) ≡ false) number change sessions numbers differ.0, rest)
 
 differ_left : (number : ℕ) (sessions : List Session) → Differ sessions → Differ (without number sessions)
 differ_left number [] differ = tt
 differ_left number (session ∷ sessions) differ = at (session.number == number) (differ_left number sessions differ.1) where
   at : (b : Bool) → Differ (without number sessions) → Differ (cond (not b) (session ∷ without number sessions) (without number sessions))
   at true rest = rest
-  at false rest = (kept (λ other. (other.number == session.number) ≡ false) (λ one. not (one.number == number)) sessions differ.0, rest)
+  at false rest = (kept (λ (other : Session). (other.number == session.number) ≡ false) (λ (one : Session). not (one.number == number)) sessions differ.0, rest)
 
-within_more : (made : ℕ) (sessions : List Session) → AllByRecursion (λ session. session.number ≤ made) sessions → AllByRecursion (λ session. session.number ≤ made + 1) sessions
+within_more : (made : ℕ) (sessions : List Session) → AllByRecursion (λ (session : Session). session.number ≤ made) sessions → AllByRecursion (λ (session : Session). session.number ≤ made + 1) sessions
 within_more made [] within = tt
 within_more made (session ∷ sessions) within = let first = within.0 in (omega (arith, first), within_more made sessions within.1)
 
 above : (made number : ℕ) → number ≤ made → (made + 1 == number) ≡ false
 above made number within = ne_eqb (made + 1) number (λ same. absurd (omega (arith, within, same)))
 
-differ_joined : (made : ℕ) (is_tool : Bool) (sessions : List Session) → AllByRecursion (λ session. session.number ≤ made) sessions → Differ sessions → Differ (sessions ++ new_session (made + 1) is_tool ∷ [])
+differ_joined : (made : ℕ) (is_tool : Bool) (sessions : List Session) → AllByRecursion (λ (session : Session). session.number ≤ made) sessions → Differ sessions → Differ (sessions ++ new_session (made + 1) is_tool ∷ [])
 differ_joined made is_tool [] within differ = (tt, tt)
 differ_joined made is_tool (session ∷ sessions) within differ =
-    (both (λ other. (other.number == session.number) ≡ false) sessions (new_session (made + 1) is_tool ∷ []) differ.0 (above made session.number within.0, tt), differ_joined made is_tool sessions within.1 differ.1)
+    (both (λ (other : Session). (other.number == session.number) ≡ false) sessions (new_session (made + 1) is_tool ∷ []) differ.0 (above made session.number within.0, tt), differ_joined made is_tool sessions within.1 differ.1)
 
 -- no session
 pub have_none : HaveLocks 0 [] []
@@ -58,8 +58,9 @@ have_none = record { within = tt; differ = tt; locks = record { there = λ held 
 -- one session more
 pub have_joined : (made : ℕ) (is_tool : Bool) (sessions : List Session) (held : List HeldLock) → HaveLocks made sessions held → HaveLocks (made + 1) (sessions ++ new_session (made + 1) is_tool ∷ []) held
 have_joined made is_tool sessions held have =
+    let own : made + 1 ≤ made + 1 = omega arith in
     record {
-      within = both (λ session. session.number ≤ made + 1) sessions (new_session (made + 1) is_tool ∷ []) (within_more made sessions have.within) (omega arith, tt);
+      within = both (λ (session : Session). session.number ≤ made + 1) sessions (new_session (made + 1) is_tool ∷ []) (within_more made sessions have.within) (own, tt);
       differ = differ_joined made is_tool sessions have.within have.differ;
       locks = rw (joined_locks (made + 1) is_tool sessions) have.locks;
     }
@@ -68,7 +69,7 @@ have_joined made is_tool sessions held have =
 pub have_same : (made number : ℕ) (change : Session → Session) (sessions : List Session) (held : List HeldLock) → ((s : Session) → (change s).number ≡ s.number) → ((s : Session) → (change s).row_locks ≡ s.row_locks) → HaveLocks made sessions held → HaveLocks made (with_session number change sessions) held
 have_same made number change sessions held numbers locks have =
     record {
-      within = numbers_kept (λ n. n ≤ made) number change sessions numbers have.within;
+      within = numbers_kept (λ (n : ℕ). n ≤ made) number change sessions numbers have.within;
       differ = differ_kept number change sessions numbers have.differ;
       locks = rw (same_locks number change sessions numbers locks) have.locks;
     }
@@ -77,7 +78,7 @@ have_same made number change sessions held numbers locks have =
 pub have_rested : (made number : ℕ) (sessions : List Session) (t : LockTable) → HaveLocks made sessions t.held → HaveLocks made (with_session number at_rest sessions) (freed t number).held
 have_rested made number sessions t have =
     record {
-      within = numbers_kept (λ n. n ≤ made) number at_rest sessions (λ s. refl) have.within;
+      within = numbers_kept (λ (n : ℕ). n ≤ made) number at_rest sessions (λ s. refl) have.within;
       differ = differ_kept number at_rest sessions (λ s. refl) have.differ;
       locks =
           record {
@@ -87,10 +88,10 @@ have_rested made number sessions t have =
     }
 
 -- a session is gone
-pub have_less : (made number : ℕ) (sessions : List Session) (t : LockTable) → HaveLocks made sessions t.held → HaveLocks made (filter (λ session. not (session.number == number)) sessions) (freed t number).held
+pub have_less : (made number : ℕ) (sessions : List Session) (t : LockTable) → HaveLocks made sessions t.held → HaveLocks made (filter (λ (session : Session). not (session.number == number)) sessions) (freed t number).held
 have_less made number sessions t have =
     record {
-      within = kept (λ session. session.number ≤ made) (λ session. not (session.number == number)) sessions have.within;
+      within = kept (λ (session : Session). session.number ≤ made) (λ (session : Session). not (session.number == number)) sessions have.within;
       differ = differ_left number sessions have.differ;
       locks =
           record {
@@ -103,7 +104,7 @@ have_less made number sessions t have =
 pub have_grown : (made number : ℕ) (need : Need) (events : List RowEvent) (sessions : List Session) (held : List HeldLock) → is_some (session_of number sessions) ≡ true → HaveLocks made sessions held → HaveLocks made (with_session number (holding need events) sessions) (held ++ map (held_by number) need.locks)
 have_grown made number need events sessions held live have =
     record {
-      within = numbers_kept (λ n. n ≤ made) number (holding need events) sessions (λ s. refl) have.within;
+      within = numbers_kept (λ (n : ℕ). n ≤ made) number (holding need events) sessions (λ s. refl) have.within;
       differ = differ_kept number (holding need events) sessions (λ s. refl) have.differ;
       locks = record { there = λ one has. there one (has_either held (map (held_by number) need.locks) one has); here = λ one has. here one (grown_parts number need events sessions one has) };
     }
