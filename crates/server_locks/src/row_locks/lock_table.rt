@@ -33,12 +33,24 @@ struct Mark {
 }
 
 /// The row locks that sessions hold. A lock that is refused leaves no trace: who waits asks again.
-#[derive(Drop)]
 pub struct RowLocks {
     alloc: Global,
     lists: LockLists,
     next: usize,
     last: Option<Mark>,
+}
+
+// By hand, so that crates above prove it as one call.
+impl Drop for RowLocks {
+    fn drop(self) {
+        let RowLocks {
+            alloc: _,
+            lists,
+            next: _,
+            last: _,
+        } = self;
+        drop(lists);
+    }
 }
 
 impl Model for RowLocks {
