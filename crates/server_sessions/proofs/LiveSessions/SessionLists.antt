@@ -12,7 +12,7 @@ use Rattle.server_model.specs.declared.need.Need.{Need}
 use Rattle.server_model.specs.declared.session.Session.{Session}
 use Rattle.server_model.specs.PlainServer.{at_rest, holding}
 use Rattle.server_model.specs.States.{locks_held, new_session, session_of, with_session}
-use Rattle.server_sessions.specs.LiveSessions.SessionLists.{Differ, HaveLocks}
+use Rattle.server_sessions.specs.LiveSessions.SessionLists.{Differ, HaveLocks, NumberedSessions}
 use Rattle.server_sessions.proofs.LiveSessions.HeldLocks.{has_first, has_second, has_either, freed_there, freed_here, rested_there, rested_here, without, left_there, left_here, grown_old, grown_new, grown_parts, same_locks, joined_locks}
 
 -- Numbers.
@@ -130,3 +130,6 @@ not_live number change (session ∷ sessions) none = at (session.number == numbe
   at : (b : Bool) → is_some (cond b (Some session) (session_of number sessions)) ≡ false → (is_some (session_of number sessions) ≡ false → sessions ≡ with_session number change sessions) → session ∷ sessions ≡ cond b (change session ∷ sessions) (session ∷ with_session number change sessions)
   at true none rest = absurd (true≢false none)
   at false none rest = ap (λ (ss : List Session). session ∷ ss) (rest none)
+
+pub unchanged : (number : ℕ) (change : Session → Session) (list : NumberedSessions) → is_some (session_of number list.sessions) ≡ false → list ≡ record { made = list.made; sessions = with_session number change list.sessions }
+unchanged number change list none = ap (λ (sessions : List Session). record list { sessions = sessions }) (not_live number change list.sessions none)
