@@ -1,4 +1,3 @@
 pub mod HeldLocks
-pub mod LockIndex
-pub mod LockOrder
 pub mod LockTable
+pub mod SameBlockers

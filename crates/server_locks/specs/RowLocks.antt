@@ -1,6 +1,7 @@
 pub mod Grants
+pub mod SameLocks
 pub mod LockTable
-pub mod LockIndex
+pub mod Points
 pub mod ListOrders
 pub mod LockLists
 pub mod Blockers

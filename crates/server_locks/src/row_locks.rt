@@ -1,7 +1,6 @@
 //! Locks on spans of a key's values: who holds which, and who refuses whom.
 
 mod conflicts;
-pub mod held_locks;
 pub mod laws;
 mod lock;
 mod lock_table;

@@ -3,7 +3,7 @@
 use crate::held_names::HeldNames;
 use crate::request::Request;
 use base_values::{Events, Name};
-use server_locks::row_locks::held_locks::HeldLocks;
+use server_locks::row_locks::LockSet;
 
 /// How often a waiting session is polled before its wait times out.
 #[derive(Clone, Copy)]
@@ -33,8 +33,8 @@ pub struct Session {
     pub in_transaction: bool,
     /// What its transaction wrote so far.
     pub writes: Events,
-    /// The row locks that it holds.
-    pub row_locks: HeldLocks,
+    /// The row locks that it holds, in the order in which they were granted.
+    pub row_locks: LockSet,
     /// The names of tables that it holds.
     pub names: HeldNames,
     /// How often its waiting request was polled.

@@ -1,4 +1,6 @@
+pub mod HeldLocks
 pub mod OpenEvents
 pub mod Polls
 pub mod Ready
 pub mod RowLog
+pub mod SessionLists

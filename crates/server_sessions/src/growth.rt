@@ -65,8 +65,7 @@ pub fn grow(
     let held = session.names.len();
     let written = session.writes.len();
     write_more(alloc, session, need.names, events)?;
-    // The locks come last, so that none has to be taken out of their index.
-    match session.row_locks.append(need.locks) {
+    match append(alloc, &mut session.row_locks, need.locks) {
         Ok(()) => {
             session.in_transaction = true;
             Ok(())

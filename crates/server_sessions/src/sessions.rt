@@ -7,7 +7,6 @@ ghost use Rattle.server_model.specs.PlainServer.{at_rest, counting, holding, loc
 use crate::growth::grow;
 use crate::lookup::place_of;
 use base_values::{Events, Names, Sequence};
-use server_locks::row_locks::held_locks::HeldLocks;
 use server_model::{HeldNames, Need, Session};
 use std::alloc::{AllocError, Global};
 use std::mem;
@@ -27,7 +26,7 @@ pub fn connect(
         is_tool,
         in_transaction: false,
         writes: Sequence::new(alloc),
-        row_locks: HeldLocks::new(alloc),
+        row_locks: Sequence::new(alloc),
         names: HeldNames::new(alloc),
         polls: 0,
     })?;
@@ -65,7 +64,7 @@ fn rest_one(alloc: Global, session: &mut Session) -> Events
 {
     session.names.keep_exclusive();
     session.in_transaction = false;
-    session.row_locks = HeldLocks::new(alloc);
+    session.row_locks = Sequence::new(alloc);
     mem::replace(&mut session.writes, Sequence::new(alloc))
 }
 

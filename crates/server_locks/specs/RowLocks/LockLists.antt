@@ -5,12 +5,12 @@ use Rattle.slab.specs.Slab.{Slab, get, slab_len, HasRoomFor}
 use Rattle.base_values.specs.Spans.{point}
 use Rattle.base_page_list.specs.Pages.{flat}
 use Rattle.server_locks.specs.declared.row_locks.lock.HeldLock.{HeldLock}
-use Rattle.server_locks.specs.RowLocks.LockIndex.{is_point}
 use Rattle.server_locks.specs.declared.row_locks.lock_table.granted_lock.GrantedLock.{GrantedLock}
 use Rattle.server_locks.specs.declared.row_locks.lock_table.granted_lock.ListOrder.{ListOrder}
 use Rattle.server_locks.specs.declared.row_locks.lock_table.granted_lock.ListOrder.TheVariants.{Grant, Owner, Span}
 use Rattle.server_locks.specs.declared.row_locks.lock_table.lock_lists.LockLists.{LockLists}
 use Rattle.base_page_list.specs.Orders.{Ascending, Has}
+use Rattle.server_locks.specs.RowLocks.Points.{is_point}
 use Rattle.server_locks.specs.RowLocks.ListOrders.{compare_slots, slots_of}
 
 -- what an empty slot would hold

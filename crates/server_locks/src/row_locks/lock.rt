@@ -2,7 +2,7 @@
 
 ghost use Rattle.std.specs.Prelude.{◌≡◌, map, IfOk};
 ghost use Rattle.server_locks.specs.RowLocks.LockTable.{held_by};
-ghost use Rattle.server_locks.specs.RowLocks.LockIndex.{is_point};
+ghost use Rattle.server_locks.specs.RowLocks.Points.{is_point};
 
 use base_values::{Bound, Duplicate, Name, Sequence, Span};
 use std::alloc::{AllocError, Global};

@@ -9,11 +9,11 @@ mod lock_lists;
 mod releases;
 
 ghost use Rattle.std.specs.Prelude.{◌≡◌, [], None, IfOk, OnOk, OnErr};
-ghost use Rattle.server_locks.specs.RowLocks.Grants.{answer_to};
+ghost use Rattle.server_locks.specs.RowLocks.Grants.{answer_to, blocker_of_set};
 ghost use Rattle.server_locks.specs.RowLocks.HeldSpans.{AreOn};
 ghost use Rattle.server_locks.specs.RowLocks.LockTable.{IsLastAskOf, granted, asked, freed, undone};
 
-use crate::row_locks::lock::{LockAnswer, LockSet};
+use crate::row_locks::lock::{Lock, LockAnswer, LockSet};
 use crate::row_locks::lock_table::blockers::blocker_of_set;
 use crate::row_locks::lock_table::grants::{held_back, put_all};
 use crate::row_locks::lock_table::held_spans::{HeldSpans, held_on};
@@ -33,12 +33,24 @@ struct Mark {
 }
 
 /// The row locks that sessions hold. A lock that is refused leaves no trace: who waits asks again.
-#[derive(Drop)]
 pub struct RowLocks {
     alloc: Global,
     lists: LockLists,
     next: usize,
     last: Option<Mark>,
+}
+
+// By hand, so that crates above prove it as one call.
+impl Drop for RowLocks {
+    fn drop(self) {
+        let RowLocks {
+            alloc: _,
+            lists,
+            next: _,
+            last: _,
+        } = self;
+        drop(lists);
+    }
 }
 
 impl Model for RowLocks {
@@ -66,11 +78,18 @@ impl RowLocks {
         }
     }
 
+    /// The least session that refuses one of the locks.
+    pub fn blocker(&self, session: u32, set: &[Lock]) -> Option<u32>
+        ensures { result ≡ blocker_of_set self.now.held session set.now }
+    {
+        blocker_of_set(&self.lists, session, set)
+    }
+
     /// What `ask` would answer.
     pub fn test(&self, session: u32, set: &LockSet) -> LockAnswer
         ensures { result ≡ answer_to self.now.held session set.now }
     {
-        match blocker_of_set(&self.lists, session, set.as_slice()) {
+        match self.blocker(session, set.as_slice()) {
             None => LockAnswer::Granted,
             Some(by) => LockAnswer::Waits { by },
         }

@@ -1,4 +1,4 @@
--- A desk stays ready, while sessions change.
+-- The sessions stay ready, while one of them changes.
 use Rattle.std.proofs.Common.{◌≡◌, ℕ, ◌+◌, ◌≤◌, ◌<◌, Bool, List, [], ◌∷◌, ◌++◌, length, filter, Result, Ok, Err, OnOk, OnErr, refl, arith}
 use Rattle.base_values.specs.declared.event.RowEvent.{RowEvent}
 use Rattle.server_model.specs.declared.need.Need.{Need}
@@ -7,6 +7,7 @@ use Rattle.server_model.specs.declared.session.Session.{Session}
 use Rattle.server_model.specs.PlainServer.{at_rest, counting, holding, limit_if}
 use Rattle.server_model.specs.States.{is_of_tool, new_session, session_of, with_session, writes_of}
 use Rattle.server_sessions.specs.LiveSessions.Rooms.{open_events, IsReady}
+use Rattle.server_sessions.specs.LiveSessions.SessionLists.{NumberedSessions}
 use Rattle.server_sessions.proofs.LiveSessions.OpenEvents.{same_room, more_room, rest_room, less_room, joined_room}
 use Rattle.server_sessions.proofs.LiveSessions.Polls.{same_polls, counted_polls, limit_some, less_polls, joined_polls}
 
@@ -118,6 +119,6 @@ ready_logged limits sessions number more spare first second third ready rooms =
     }
 
 -- a change that was made or wasn't
-pub ready_either : {E : Type 0} (result : Result (Unit {0}) E) (limits : Limits) (old changed new : List Session) (spare : ℕ) → OnOk result (new ≡ changed) → OnErr result (new ≡ old) → IsReady limits changed spare → IsReady limits old spare → IsReady limits new spare
+pub ready_either : {A E : Type 0} (result : Result A E) (limits : Limits) (old changed new : NumberedSessions) (spare : ℕ) → OnOk result (new ≡ changed) → OnErr result (new ≡ old) → IsReady limits changed.sessions spare → IsReady limits old.sessions spare → IsReady limits new.sessions spare
 ready_either (Ok done) limits old changed new spare ok err then now = rw ok then
 ready_either (Err fault) limits old changed new spare ok err then now = rw err now

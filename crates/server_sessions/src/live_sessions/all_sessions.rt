@@ -11,15 +11,16 @@ ghost use Rattle.server_sessions.specs.LiveSessions.Rooms.{logs};
 
 use crate::live_sessions::room::make_room;
 use crate::live_sessions::row_log::Log;
-use crate::session_locks::{blocker, is_exclusive, is_outside, names_in, waits_shown};
+use crate::live_sessions::session_list::SessionList;
+use crate::session_locks::{is_exclusive, is_outside, names_blocker, names_in, waits_shown};
 use crate::{
-    begin_wait, connect, count_polls, disconnect, end_wait, hold, holds_tables, is_in_transaction,
-    is_live, is_of_tool, is_waiting, lock_tables, polls_of, rest, session_of, unlock_tables,
-    waiting_of,
+    begin_wait, end_wait, holds_tables, is_in_transaction, is_live, is_of_tool, is_waiting,
+    polls_of, session_of, waiting_of,
 };
 use base_values::{Duplicate, Events, Names, Sequence};
+use server_locks::least_session::least;
 use server_locks::row_locks::{Lock, LockSet};
-use server_model::{Answer, Limits, Need, Request, Session, ShownWaiters, Waiting};
+use server_model::{Answer, Limits, Need, Request, ShownWaiters, Waiting};
 use std::alloc::{AllocError, Global};
 use std::marker::Model;
 
@@ -28,10 +29,9 @@ use std::marker::Model;
 pub struct Sessions {
     alloc: Global,
     limits: Limits,
-    made: u32,
     log: Log,
     waiting: Vec<Waiting>,
-    sessions: Vec<Session>,
+    sessions: SessionList,
 }
 
 // By hand: crates above then take it as one call, and don't prove the drop of each part again.
@@ -40,7 +40,6 @@ impl Drop for Sessions {
         let Sessions {
             alloc: _,
             limits: _,
-            made: _,
             log,
             waiting,
             sessions,
@@ -58,9 +57,9 @@ impl Model for Sessions {
 
     ghost Value = { State };
 
-    ghost view = { λ d. record { limits = d.limits; made = d.made; tables = []; log = d.log.events; waiting = d.waiting.items; sessions = d.sessions.items } };
+    ghost view = { λ d. record { limits = d.limits; made = d.sessions.made; tables = []; log = d.log.events; waiting = d.waiting.items; sessions = d.sessions.sessions } };
 
-    ghost invariant = { λ d. IsReady d.limits d.sessions.items d.log.spare };
+    ghost invariant = { λ d. IsReady d.limits d.sessions.sessions d.log.spare };
 }
 
 /// What the request needs, with these row locks.
@@ -84,10 +83,9 @@ impl Sessions {
         Sessions {
             alloc,
             limits,
-            made: 0,
             log: Log::new(alloc, watched),
             waiting: Vec::new(alloc),
-            sessions: Vec::new(alloc),
+            sessions: SessionList::new(alloc),
         }
     }
 
@@ -103,12 +101,7 @@ impl Sessions {
         ensures ok { OnOk result (self.new ≡ connected (self.old.made + 1) is_tool self.old) }
         ensures err { OnErr result (self.new ≡ self.old) }
     {
-        // Numbers rise, and need not be next to one another in a journal: a session that was made for a turn without memory
-        // has used one up.
-        let number = self.made + 1;
-        connect(self.alloc, &mut self.sessions, number, is_tool)?;
-        self.made = number;
-        Ok(number)
+        self.sessions.connect(self.alloc, is_tool)
     }
 
     /// The session is gone, with all that it holds, and with its request that waits.
@@ -117,7 +110,7 @@ impl Sessions {
         ensures { self.new ≡ loses session self.old }
     {
         end_wait(&mut self.waiting, session);
-        disconnect(&mut self.sessions, session);
+        self.sessions.disconnect(session);
     }
 
     /// The session's transaction goes on, or begins, with the names that the request mentions, with these row locks and
@@ -134,14 +127,14 @@ impl Sessions {
     {
         let need = need_of(self.alloc, request, locks)?;
         make_room(&mut self.log, self.sessions.as_slice(), events.len())?;
-        hold(self.alloc, &mut self.sessions, session, need, events)
+        self.sessions.hold(self.alloc, session, need, events)
     }
 
     /// What the session wrote is logged, and its transaction is over.
     pub fn commit(&mut self, session: u32)
         ensures { self.new ≡ logs session [] self.old }
     {
-        let writes = rest(self.alloc, &mut self.sessions, session);
+        let writes = self.sessions.rest(self.alloc, session);
         self.log.append(writes);
     }
 
@@ -151,7 +144,7 @@ impl Sessions {
         ensures err { OnErr result (self.new ≡ self.old) }
     {
         make_room(&mut self.log, self.sessions.as_slice(), events.len())?;
-        let writes = rest(self.alloc, &mut self.sessions, session);
+        let writes = self.sessions.rest(self.alloc, session);
         self.log.append(writes);
         self.log.append(events);
         Ok(())
@@ -161,7 +154,7 @@ impl Sessions {
     pub fn forget(&mut self, session: u32)
         ensures { self.new ≡ forgets session self.old }
     {
-        let _ = rest(self.alloc, &mut self.sessions, session);
+        let _ = self.sessions.rest(self.alloc, session);
     }
 
     /// The session holds these names exclusively too (LOCK TABLES).
@@ -169,14 +162,14 @@ impl Sessions {
         ensures ok { OnOk result (self.new ≡ record self.old { sessions = with_session session (locking names.now) self.old.sessions }) }
         ensures err { OnErr result (self.new ≡ self.old) }
     {
-        lock_tables(&mut self.sessions, session, names.copy()?)
+        self.sessions.lock_tables(session, names.copy()?)
     }
 
     /// The session holds no name exclusively from now on (UNLOCK TABLES).
     pub fn unlock(&mut self, session: u32)
         ensures { self.new ≡ record self.old { sessions = with_session session unlocking self.old.sessions } }
     {
-        unlock_tables(&mut self.sessions, session);
+        self.sessions.unlock_tables(session);
     }
 
     /// The session's request waits after all others, and wasn't polled yet.
@@ -185,7 +178,7 @@ impl Sessions {
         ensures err { OnErr result (self.new ≡ self.old) }
     {
         begin_wait(&mut self.waiting, session, request)?;
-        count_polls(&mut self.sessions, session, 0);
+        self.sessions.count_polls(session, 0);
         Ok(())
     }
 
@@ -217,10 +210,10 @@ impl Sessions {
         let waited = polls + 1;
         if waited == limit {
             end_wait(&mut self.waiting, session);
-            let _ = rest(self.alloc, &mut self.sessions, session);
+            let _ = self.sessions.rest(self.alloc, session);
             Answer::TimedOut { waited }
         } else {
-            count_polls(&mut self.sessions, session, waited);
+            self.sessions.count_polls(session, waited);
             Answer::Waits { by }
         }
     }
@@ -274,13 +267,13 @@ impl Sessions {
     pub fn blocker(&self, session: u32, request: &Request, locks: &[Lock]) -> Option<u32>
         ensures { result ≡ blocker self.now session (record { exclusive = is_exclusive request.now; names = names_in request.now; locks = locks.now }) }
     {
-        blocker(
+        let names = names_blocker(
             self.sessions.as_slice(),
             self.waiting.as_slice(),
             session,
             request,
-            locks,
-        )
+        );
+        least(names, self.sessions.blocker(session, locks))
     }
 
     /// How many events the log has.

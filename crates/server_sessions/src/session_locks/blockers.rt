@@ -3,16 +3,12 @@
 ghost use Rattle.std.specs.Prelude.{◌≡◌, true, false};
 ghost use Rattle.server_locks.specs.MetadataLocks.Grants.{blocker_of_name, blocker_of_names};
 ghost use Rattle.server_model.specs.States.{is_exclusive, names_held, names_in, pair_names, waiters};
-ghost use Rattle.server_model.specs.Blockers.{blocker};
-ghost use Rattle.server_sessions.specs.SessionLocks.Bare.{bare};
 
 use crate::session_locks::holders::{holds, least_holder};
 use crate::session_locks::mentions::table_of;
-use crate::session_locks::rows::blocker_of_set;
 use crate::session_locks::waits::{ahead_of, least_waiter};
 use base_values::Name;
 use server_locks::least_session::least;
-use server_locks::row_locks::Lock;
 use server_model::{Request, Session, Waiting};
 use table_store::Pair;
 
@@ -140,20 +136,4 @@ pub fn names_blocker(
         Request::Rename(pairs) => blocker_of_pairs(sessions, waiting, number, pairs.as_slice()),
         _ => None,
     }
-}
-
-/// The least session that blocks one of the names that the request mentions, or one of these row locks.
-pub fn blocker(
-    sessions: &[Session],
-    waiting: &[Waiting],
-    number: u32,
-    request: &Request,
-    locks: &[Lock],
-) -> Option<u32>
-    ensures { result ≡ blocker (bare sessions.now waiting.now) number (record { exclusive = is_exclusive request.now; names = names_in request.now; locks = locks.now }) }
-{
-    least(
-        names_blocker(sessions, waiting, number, request),
-        blocker_of_set(sessions, number, locks),
-    )
 }

@@ -1,11 +1,10 @@
-//! Calls on the row locks that one session holds, with semicolons between them: `hold X t.0 [5,5]` gives it an exclusive lock on
+//! Calls on the row locks that session 1 holds, with semicolons between them: `hold X t.0 [5,5]` gives it an exclusive lock on
 //! the key 0 of the table `t`, or more locks at once, and `each S t.0 1 200` a shared lock on each number from 1 to 200.
-//! `test X t.0 [5,5]` says whether one of those that are held conflicts with the lock.
+//! `test X t.0 [5,5]` says whether one of those that are held refuses the lock to session 2.
 
-use crate::lock_calls::lock_words::{lock_in, lock_of, set_in};
+use crate::lock_calls::lock_words::{lock_of, set_in};
 use base_values::{Sequence, Text};
-use server_locks::row_locks::held_locks::HeldLocks;
-use server_locks::row_locks::{Lock, LockSet};
+use server_locks::row_locks::{Lock, LockSet, RowLocks};
 use std::alloc::Global;
 use test_lines::{CallFault, say, unsigned_of};
 
@@ -44,21 +43,21 @@ fn each_in(alloc: Global, words: &str) -> Result<LockSet, CallFault> {
     )
 }
 
-fn hold(held: &mut HeldLocks, set: LockSet) -> Result<(), CallFault> {
-    held.append(set)?;
+fn hold(held: &mut RowLocks, set: LockSet) -> Result<(), CallFault> {
+    held.grant(1, &set)?;
     Ok(())
 }
 
-fn test(alloc: Global, held: &HeldLocks, words: &str, output: &mut Text) -> Result<(), CallFault> {
-    let lock = lock_in(alloc, words)?;
-    let conflicts = held.any_conflicts(&lock);
-    say(output, if conflicts { "yes" } else { "no" })?;
+fn test(alloc: Global, held: &RowLocks, words: &str, output: &mut Text) -> Result<(), CallFault> {
+    let set = set_in(alloc, words)?;
+    let refused = held.blocker(2, set.as_slice()).is_some();
+    say(output, if refused { "yes" } else { "no" })?;
     Ok(())
 }
 
 fn take(
     alloc: Global,
-    held: &mut HeldLocks,
+    held: &mut RowLocks,
     call: &str,
     output: &mut Text,
 ) -> Result<(), CallFault> {
@@ -73,7 +72,7 @@ fn take(
 
 fn take_each(
     alloc: Global,
-    held: &mut HeldLocks,
+    held: &mut RowLocks,
     calls: &str,
     output: &mut Text,
 ) -> Result<(), CallFault> {
@@ -85,7 +84,7 @@ fn take_each(
 
 /// What the calls answer.
 pub fn answers(alloc: Global, input: &str) -> Result<Text, CallFault> {
-    let mut held = HeldLocks::new(alloc);
+    let mut held = RowLocks::new(alloc);
     let mut output = Text::new(alloc);
     take_each(alloc, &mut held, input, &mut output)?;
     Ok(output)

@@ -18,13 +18,6 @@ pub fn lock_of(alloc: Global, strength: &str, key: &str, span: &str) -> Result<L
     })
 }
 
-/// The lock of three words, as `X t.0 [5,5]`.
-pub fn lock_in(alloc: Global, words: &str) -> Result<Lock, CallFault> {
-    let (strength, rest) = words.split_once(' ').ok_or(CallFault::Unread)?;
-    let (key, span) = rest.split_once(' ').ok_or(CallFault::Unread)?;
-    lock_of(alloc, strength, key, span)
-}
-
 fn set_of(alloc: Global, words: &[&str]) -> Result<LockSet, CallFault> {
     let mut set = Sequence::new(alloc);
     let mut rest = words;

@@ -18,11 +18,11 @@ use Rattle.server_locks.proofs.LeastSession.Sessions.{least-least, least-none}
 use Rattle.base_page_list.specs.Pages.{FailsOn, between}
 use Rattle.server_locks.specs.declared.row_locks.lock.Lock.{Lock}
 use Rattle.server_locks.specs.RowLocks.Grants.{same_place, conflict, refusal, blocker_of_lock}
-use Rattle.server_locks.specs.RowLocks.LockIndex.{is_point, are_one_key}
 use Rattle.server_locks.specs.declared.row_locks.lock_table.granted_lock.GrantedLock.{GrantedLock}
 use Rattle.server_locks.specs.declared.row_locks.lock_table.granted_lock.ListOrder.TheVariants.{Span}
 use Rattle.base_page_list.specs.Orders.{Ascending, Has}
 use Rattle.server_locks.specs.RowLocks.ListOrders.{compare_lows, compare_places, compare_starts, compare_owners, compare_slots, slots_of, is_on_earlier_key}
+use Rattle.server_locks.specs.RowLocks.Points.{is_point, are_one_key}
 use Rattle.server_locks.specs.RowLocks.LockLists.{AreLists, is_wide, held_in, locks_of}
 use Rattle.server_locks.specs.RowLocks.Blockers.{least_of, refusal_in, refusal_at, starts_before, by_room, begins_within}
 use Rattle.base_page_list.proofs.Ascending.{fails_map}

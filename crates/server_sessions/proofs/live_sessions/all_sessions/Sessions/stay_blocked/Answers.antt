@@ -7,18 +7,18 @@ use Rattle.server_sessions.proofs.live_sessions.all_sessions.Sessions.stay_block
 
 pub overflow_add-waited : goal.overflow_add-waited
 overflow_add-waited c =
-    let under = polls_under c.self.inside.limits c.args.session c.self.inside.sessions.items c.self.invariant.clients c.self.invariant.polls in
+    let under = polls_under c.self.inside.limits c.args.session c.self.inside.sessions.sessions c.self.invariant.clients c.self.invariant.polls in
     let polls = rw c.as_slice.ensures.value at c.polls_of-polls.ensures in
     let limit = rw (← c.self.view_is) at c.limit-limit.ensures in
     omega (arith, under, polls, limit, c.limit-limit.type_inv)
 
 pub invariant_of-self : goal.invariant_of-self
-invariant_of-self c = rw c.rest.ensures.sessions (ready_forgets c.self.inside.limits c.args.session c.self.inside.sessions.items c.self.inside.log.spare c.self.invariant)
+invariant_of-self c = rw c.rest.ensures.sessions (ready_forgets c.self.inside.limits c.args.session c.self.inside.sessions.sessions c.self.inside.log.spare c.self.invariant)
 
 pub invariant_of-self-else-waited-limit : goal.invariant_of-self-else-waited-limit
 invariant_of-self-else-waited-limit c =
-    let under = polls_under c.self.inside.limits c.args.session c.self.inside.sessions.items c.self.invariant.clients c.self.invariant.polls in
+    let under = polls_under c.self.inside.limits c.args.session c.self.inside.sessions.sessions c.self.invariant.clients c.self.invariant.polls in
     let polls = rw c.as_slice.ensures.value at c.polls_of-polls.ensures in
     let limit = rw (← c.self.view_is) at c.limit-limit.ensures in
-    let less : c.polls_of-polls.result + 1 < limit_if (is_of_tool (session_of c.args.session c.self.inside.sessions.items)) c.self.inside.limits = omega (arith, under, polls, limit, c.if-waited-limit.false) in
-    rw c.count_polls.ensures (ready_counts c.self.inside.limits c.args.session (c.polls_of-polls.result + 1) c.self.inside.sessions.items c.self.inside.log.spare less c.self.invariant)
+    let less : c.polls_of-polls.result + 1 < limit_if (is_of_tool (session_of c.args.session c.self.inside.sessions.sessions)) c.self.inside.limits = omega (arith, under, polls, limit, c.if-waited-limit.false) in
+    rw c.count_polls.ensures (ready_counts c.self.inside.limits c.args.session (c.polls_of-polls.result + 1) c.self.inside.sessions.sessions c.self.inside.log.spare less c.self.invariant)

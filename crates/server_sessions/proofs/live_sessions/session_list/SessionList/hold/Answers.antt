@@ -1,0 +1,15 @@
+use Rattle.std.proofs.Common.{◌≡◌, Bool, true, false, is_some, rules}
+use Rattle.server_model.specs.PlainServer.{holding}
+use Rattle.server_model.specs.States.{session_of}
+use Rattle.server_sessions.proofs.LiveSessions.SessionLists.{have_grown, unchanged}
+use Rattle.server_sessions.proofs.live_sessions.session_list.SessionList.hold.Goals as goal
+
+pub returns-then-not-is_live-clause-ok : goal.returns-then-not-is_live-clause-ok
+returns-then-not-is_live-clause-ok c =
+    let none : is_some (session_of c.args.number c.args.self.now.sessions) ≡ false = search rules in
+    unchanged c.args.number (holding c.args.need c.args.events) c.args.self.now none
+
+pub invariant_of-self-in-Ok : goal.invariant_of-self-in-Ok
+invariant_of-self-in-Ok c =
+    let live : is_some (session_of c.args.number c.self.inside.sessions.items) ≡ true = search rules in
+    rw (c.in-Ok.ensures.ok, c.in_ok-grant.ensures.ok) (have_grown c.self.inside.made c.args.number c.args.need c.args.events c.self.inside.sessions.items c.self.inside.locks.held live c.self.invariant)
