@@ -1,22 +1,18 @@
 -- No row that doesn't fit comes before the turn in which the cause of a verdict stands.
-use Rattle.std.proofs.Common.{◌≡◌, ◌⊎◌, ◌≤◌, ◌<◌, ℕ, ◌+◌, ◌-◌, Bool, true, false, cond, List, [], ◌∷◌, ◌++◌, Option, Some, None, refl, sym, ap, ◌∙◌, subst, inl, inr}
+use Rattle.std.proofs.Common.{◌≡◌, ◌⊎◌, ℕ, ◌+◌, ◌-◌, Bool, true, false, cond, List, [], ◌∷◌, ◌++◌, Option, Some, None, refl, sym, ap, ◌∙◌, subst, inl, inr}
 use Rattle.std.specs.Prelude.{Result, Ok, Err, take}
 use Rattle.std.proofs.lemmas.Bool.{true≢false, false≢true}
-use Rattle.std.proofs.lemmas.Option.{none-some}
 use Rattle.base_values.specs.declared.value.Value.{Value}
 use Rattle.base_script.specs.declared.actor.Actor.{Actor}
 use Rattle.base_script.specs.declared.actor.Actor.TheVariants.{Op, Insp, Copy, Apply, Lock, Ren, Client}
 use Rattle.base_script.specs.declared.actor.Side.{Side}
-use Rattle.base_script.specs.declared.operator.OperatorWord.{OperatorWord}
 use Rattle.server_model.specs.declared.answer.Answer.{Answer}
 use Rattle.server_model.specs.declared.answer.Answer.TheVariants as answers
 use Rattle.server_model.specs.declared.entry.Asked.{Asked}
 use Rattle.server_model.specs.declared.entry.Asked.TheVariants.{Call, Poll, Command, Cut}
 use Rattle.server_model.specs.declared.entry.Entry.{Entry}
-use Rattle.server_model.specs.declared.outcome.Cause.{Cause}
 use Rattle.server_model.specs.declared.outcome.Progress.{Progress}
 use Rattle.server_model.specs.declared.outcome.Progress.TheVariants.{Unfit}
-use Rattle.server_model.specs.declared.outcome.Verdict.TheVariants as verdicts
 use Rattle.server_model.specs.declared.request.Request.{Request}
 use Rattle.server_model.specs.declared.request.Request.TheVariants as requests
 use Rattle.server_model.specs.Chunks.{keys_of, ends_of, chunk_end, span_keys}
@@ -37,24 +33,20 @@ use Rattle.tool_program.specs.declared.event_applier.applier.Applier.{Applier}
 use Rattle.tool_program.specs.declared.event_applier.applier.ApplyStep.{ApplyStep}
 use Rattle.tool_program.specs.declared.event_applier.applier.ApplyStep.TheVariants as applying
 use Rattle.tool_program.specs.EventApplier.Appliers as appliers
-use Rattle.tool_program.specs.Failures.{IsTurn, IsUnfit, concerned, applied_row}
+use Rattle.tool_program.specs.Failures.{concerned}
 use Rattle.tool_program.specs.Programs.{given, IsGiven, tool_call}
 use Rattle.tool_program.specs.Tools.{Work, ToolPhase, SettingUp, Migrating, Reason, CopyUnfit, ApplyUnfit, Tool, Moment, first_reason, stopped, is_renamed, reverts, is_reverting, copy_after, apply_after, actor_took, turn_counts, asked_took, took, moment}
-use Rattle.tool_program.specs.Verdicts.{verdict_of}
-use Rattle.proof_journals.specs.Machine.FormedPlans.{IsFitting}
-use Rattle.proof_journals.specs.Machine.MigrationTables.{TableExists}
 use Rattle.proof_journals.specs.Machine.Machines.{ToolPhaseStands, WorkStands, SetupStands, copier_asks, applier_asks}
-use Rattle.proof_journals.specs.Machine.Standings.{Standing, free, standing_of, IsAbout, is_called, is_polled}
+use Rattle.proof_journals.specs.Machine.Standings.{Standing, free, standing_of, IsAbout}
 use Rattle.proof_journals.specs.Run.Kept.{IsKept}
 use Rattle.proof_journals.proofs.Machine.Journals.{IsRun, IsTogether, Asking, calls_so, polls_so, asking, all_together, copy_about, apply_about}
 use Rattle.proof_journals.proofs.Machine.Lifting.{first_some}
 use Rattle.proof_journals.proofs.Machine.Seated.{IsKnown, IsServed, own_given, own_missed}
 use Rattle.proof_journals.proofs.Sentry.Inductions.{moment_more}
 use Rattle.proof_migration.proofs.Program.Turns.Follows.{kept_front, kept_run}
-use Rattle.proof_migration.proofs.ToolPhase.Hearing.{IsFoundBy, HoldsUndone, own_answer}
+use Rattle.proof_migration.proofs.ToolPhase.Hearing.{HoldsUndone, own_answer}
 use Rattle.proof_migration.proofs.ToolPhase.Owners.{commands_operator}
 use Rattle.proof_migration.proofs.ToolPhase.ToolPhaseTurns.{gives_asked}
-use Rattle.proof_order.specs.LeastCauses.{last_turn}
 use Rattle.proof_order.specs.Laws.{UnfitRowsAreLate}
 use Rattle.proof_order.proofs.Grounds.{Follows, counts_holds}
 use Rattle.proof_order.proofs.Least.{stays, late_at, unrenamed_at}
