@@ -1,2 +1,3 @@
+pub mod HintRows
 pub mod Refusals
 pub mod Sums

@@ -1,15 +1,13 @@
 -- What is logged as inserted is applied as REPLACE, along every journal that follows the program.
 use Rattle.std.proofs.Common.{◌≡◌, ◌⊎◌, ℕ, ◌+◌, Bool, true, false, cond, List, [], ◌∷◌, ◌++◌, length, Option, Some, None, refl, sym, ap, ◌∙◌, subst, inl, inr}
-use Rattle.std.proofs.lemmas.Bool.{true≢false, false≢true}
+use Rattle.std.proofs.lemmas.Bool.{true≢false}
 use Rattle.std.proofs.lemmas.List.Sums.{fold-append}
 use Rattle.base_script.specs.declared.actor.Actor.{Actor}
 use Rattle.base_script.specs.declared.actor.Actor.TheVariants.{Op, Insp, Copy, Apply, Lock, Ren, Client}
-use Rattle.base_script.specs.declared.actor.Side.{Side}
 use Rattle.base_script.specs.declared.operator.OperatorWord.{OperatorWord}
 use Rattle.base_script.specs.declared.operator.OperatorWord.TheVariants.{ChunkSize}
 use Rattle.server_model.specs.Along.{Along}
 use Rattle.server_model.specs.Entries.{same_actor, request_in, answer_at}
-use Rattle.server_model.specs.PlainServer.{serves}
 use Rattle.server_model.specs.declared.answer.Answer.{Answer}
 use Rattle.server_model.specs.declared.answer.Answer.TheVariants as answers
 use Rattle.server_model.specs.declared.entry.Asked.{Asked}
@@ -17,11 +15,8 @@ use Rattle.server_model.specs.declared.entry.Asked.TheVariants.{Call, Poll, Comm
 use Rattle.server_model.specs.declared.entry.Entry.{Entry}
 use Rattle.server_model.specs.declared.outcome.Progress.TheVariants.{Unfit}
 use Rattle.server_model.specs.declared.request.Request.{Request}
-use Rattle.server_model.specs.declared.request.Request.TheVariants as requests
-use Rattle.server_model.specs.States.{has_work}
 use Rattle.plan_data.specs.PlanData.{PlanData}
 use Rattle.tool_program.proofs.JournalWords.Answers.{answer_here}
-use Rattle.tool_program.specs.JournalWords.Journals.{state_at, opens, IsFaithful}
 use Rattle.tool_program.specs.JournalWords.Sessions.{live_session}
 use Rattle.tool_program.specs.EventApplier.Appliers as appliers
 use Rattle.tool_program.specs.CutoverCore.CutOvers.{is_wait}
@@ -34,10 +29,10 @@ use Rattle.proof_journals.specs.Machine.Standings.{Standing, free, standing_of, 
 use Rattle.proof_journals.proofs.Actors.{same_actor_is}
 use Rattle.proof_journals.proofs.Machine.Calling.{reverting_or}
 use Rattle.proof_journals.proofs.Machine.Journals.{IsRun, IsTogether, Asking, calls_so, polls_so, asking, apply_called, all_runs, apply_about, together_more, together_begins}
-use Rattle.proof_journals.proofs.Machine.Seated.{IsKnown, IsServed, others_stand, own_stands, own_given, own_lost, own_missed}
+use Rattle.proof_journals.proofs.Machine.Seated.{IsKnown, IsServed, others_stand, own_stands, own_lost}
 use Rattle.proof_journals.proofs.Machine.Tabling.{back_quiet}
 use Rattle.proof_migration.proofs.ToolPhase.Owners.{commands_operator}
-use Rattle.proof_migration.proofs.ToolPhase.ToolPhaseTurns.{Kept, UnfitKeeps, CopyKeeps, ApplyKeeps, SetupKeeps, AnswerKeeps, ResizeKeeps, turn_kept, gives_asked}
+use Rattle.proof_migration.proofs.ToolPhase.ToolPhaseTurns.{Kept, UnfitKeeps, ApplyKeeps, SetupKeeps, AnswerKeeps, ResizeKeeps, turn_kept, gives_asked}
 use Rattle.proof_order.specs.AppliedRows.{AppliedBatch, batch_after, batch_at, IsAppliedCall, IsAppliedTurn, AppliesInserts}
 use Rattle.proof_order.specs.Laws.{JournalsApplyInserts}
 use Rattle.proof_order.proofs.Batches.{ApplierAt, AsksNext, calls_it, polls_it, applier_more, took_batch, unfit_batch, applier_applies}

@@ -1,5 +1,5 @@
 -- The applier's step is what the journal tells of the batch at hand.
-use Rattle.std.proofs.Common.{◌≡◌, ◌⊎◌, ℕ, zero, suc, ◌+◌, ◌<◌, ◌==◌, Bool, true, false, cond, List, [], ◌∷◌, ◌++◌, length, Option, Some, None, refl, sym, ap, ◌∙◌, subst, inl, inr, arith}
+use Rattle.std.proofs.Common.{◌≡◌, ℕ, zero, suc, ◌+◌, ◌<◌, ◌==◌, Bool, true, false, cond, List, [], ◌∷◌, ◌++◌, length, Option, Some, None, refl, sym, ap, ◌∙◌, subst, inl, inr, arith}
 use Rattle.std.specs.List.{slice_get, flat_map}
 use Rattle.std.specs.Str.{bytes_eq}
 use Rattle.std.proofs.lemmas.Bool.{false≢true}
@@ -8,7 +8,6 @@ use Rattle.std.proofs.lemmas.Option.{slice_get_within}
 use Rattle.base_script.specs.declared.actor.Actor.TheVariants.{Apply}
 use Rattle.base_script.specs.declared.statement.Statement.{Statement}
 use Rattle.base_script.specs.declared.statement.Statement.TheVariants as statements
-use Rattle.base_values.specs.declared.event.Change.{Change}
 use Rattle.base_values.specs.declared.event.Change.TheVariants.{Write}
 use Rattle.base_values.specs.declared.event.RowEvent.{RowEvent}
 use Rattle.base_values.specs.declared.gho_schema.schema.Schema.{Schema}
@@ -35,7 +34,7 @@ use Rattle.tool_program.specs.declared.event_applier.applier.ApplyStep.TheVarian
 use Rattle.tool_program.specs.declared.event_applier.applier.Batch.{Batch}
 use Rattle.tool_program.specs.declared.event_applier.applier.Part.{Part}
 use Rattle.tool_program.specs.declared.event_applier.applier.Part.TheVariants.{Whole, Removal, Return}
-use Rattle.tool_program.specs.EventApplier.Appliers.{Doing, Putting, Removing, Changing, doings, events_of, planned, given_values, in_part, doing_in, doing_at, statement_of, statement_result, call_at, next, batch_of, moved, read_batch, after_statements, after_part, after_refusal, took, progress, progress_at, nothing_planned}
+use Rattle.tool_program.specs.EventApplier.Appliers.{Doing, Putting, Removing, Changing, doings, events_of, planned, given_values, in_part, doing_in, doing_at, statement_of, statement_result, call_at, next, batch_of, moved, read_batch, after_statements, after_part, took, progress, progress_at, nothing_planned}
 use Rattle.tool_program.specs.CutoverCore.CutOvers.{is_wait}
 use Rattle.proof_journals.specs.Machine.Machines.{applier_asks}
 use Rattle.proof_journals.specs.Machine.Standings.{needs_names}

@@ -10,3 +10,6 @@ pub mod Chunks
 pub mod ChunkTurns
 pub mod Batches
 pub mod BatchTurns
+pub mod Grounds
+pub mod Least
+pub mod LeastUnfit

@@ -214,12 +214,12 @@ module _ (plan : PlanData) (told : Words) (live : Option ℕ) (attempts : ℕ) (
     }
 
   -- the sentry's CREATE begins an attempt
-  begins : (table : List ℕ) → Old Nothing Resting → New (Call (requests.Create (sentry_schema table))) Nothing Resting
-  begins table old = record {
+  begins : (table : List ℕ) → waits ≡ false → Old Nothing Resting → New (Call (requests.Create (sentry_schema table))) Nothing Resting
+  begins table off old = record {
     begun = ap (λ (n : ℕ). n + 1) old.begun;
     locker = guard_told table answer;
     renamer = old.renamer;
-    session = old.session;
+    session = λ on. absurd (true≢false (sym on ∙ off));
     phase_is = begun_order plan told.hints.passed told.renaming told.listed attempts false answer (rests_unheld told.renaming asks old.phase_is.holds);
     applied = old.applied;
     may_drop = old.may_drop;
@@ -252,38 +252,38 @@ module _ (plan : PlanData) (told : Words) (live : Option ℕ) (attempts : ℕ) (
   with_asked hold phase asked one same is = subst (λ (a : Asked). New a hold phase) (sym same) is
 
   -- *An answer to the locker*
-  pub locker_order : (table : List ℕ) (hold : Hold) (phase : Phase) (request : Request) (asked : Asked) → IsAbout request (held table hold) asked → LockerAsks table hold phase request → PhaseHolds phase hold → answers_to request answer ≡ true → (request ≡ requests.Drop (old_name table) → IsPrompt answer)
+  pub locker_order : (table : List ℕ) (hold : Hold) (phase : Phase) (request : Request) (asked : Asked) → IsAbout request (held table hold) asked → LockerAsks table hold phase request → PhaseHolds phase hold → answers_to request answer ≡ true → (request ≡ requests.Drop (old_name table) → IsPrompt answer) → (phase ≡ Resting → waits ≡ false)
       → Old hold phase → New asked hold phase
-  locker_order table Nothing Resting request asked (is_called asks none) kind at fits prompt old = with_asked Nothing Resting asked (Call (requests.Create (sentry_schema table))) (asks ∙ ap Call kind) (begins table old)
-  locker_order table Nothing (Attempting Locking) request asked (is_called asks none) kind at fits prompt old =
+  locker_order table Nothing Resting request asked (is_called asks none) kind at fits prompt off old = with_asked Nothing Resting asked (Call (requests.Create (sentry_schema table))) (asks ∙ ap Call kind) (begins table (off refl) old)
+  locker_order table Nothing (Attempting Locking) request asked (is_called asks none) kind at fits prompt off old =
       with_asked Nothing (Attempting Locking) asked (Call (requests.LockTables (both_names table))) (asks ∙ ap Call kind)
       (goes (Call (requests.LockTables (both_names table))) Nothing (Attempting Locking) (λ same. cc)
       (record { none = refl; same = refl; holds = lock_told (Some (requests.LockTables (both_names table))) answer tt; done = attempt_done Locking answer (hold_of_lock answer) waits told.renamed }) old)
-  locker_order table Nothing phase request asked (is_polled asks some) kind at fits prompt old = absurd cc
-  locker_order table Nothing phase request asked (is_called asks none) kind at fits prompt old = absurd kind
-  locker_order table WaitsToGuard phase request asked (is_called asks none) kind at fits prompt old = absurd cc
-  locker_order table WaitsToGuard phase request asked (is_polled asks some) kind at fits prompt old =
+  locker_order table Nothing phase request asked (is_polled asks some) kind at fits prompt off old = absurd cc
+  locker_order table Nothing phase request asked (is_called asks none) kind at fits prompt off old = absurd kind
+  locker_order table WaitsToGuard phase request asked (is_called asks none) kind at fits prompt off old = absurd cc
+  locker_order table WaitsToGuard phase request asked (is_polled asks some) kind at fits prompt off old =
       with_asked WaitsToGuard phase asked Poll asks
       (goes Poll WaitsToGuard phase (not_resting WaitsToGuard phase at guard_some)
       (record { none = refl; same = refl; holds = guarded_told told.call answer old.locker; done = polled_done WaitsToGuard phase guard_some (not_resting WaitsToGuard phase at guard_some) old.done }) old)
-  locker_order table WaitsToLock phase request asked (is_called asks none) kind at fits prompt old = absurd cc
-  locker_order table WaitsToLock phase request asked (is_polled asks some) kind at fits prompt old =
+  locker_order table WaitsToLock phase request asked (is_called asks none) kind at fits prompt off old = absurd cc
+  locker_order table WaitsToLock phase request asked (is_polled asks some) kind at fits prompt off old =
       with_asked WaitsToLock phase asked Poll asks
       (goes Poll WaitsToLock phase (not_resting WaitsToLock phase at lock_some)
       (record { none = refl; same = refl; holds = lock_told told.call answer old.locker; done = polled_done WaitsToLock phase lock_some (not_resting WaitsToLock phase at lock_some) old.done }) old)
-  locker_order table Locks phase request asked (is_polled asks some) kind at fits prompt old = absurd cc
-  locker_order table Locks (Attempting Dropping) request asked (is_called asks none) kind at fits prompt old =
+  locker_order table Locks phase request asked (is_polled asks some) kind at fits prompt off old = absurd cc
+  locker_order table Locks (Attempting Dropping) request asked (is_called asks none) kind at fits prompt off old =
       with_asked Locks (Attempting Dropping) asked (Call (requests.Drop (old_name table))) (asks ∙ ap Call kind)
       (goes (Call (requests.Drop (old_name table))) Locks (Attempting Dropping) (λ same. cc)
       (record { none = refl; same = refl; holds = drop_told (old_name table) answer (prompt kind); done = attempt_done Dropping answer (hold_under (Attempting Dropping) answer) waits told.renamed }) old)
-  locker_order table Locks (Attempting Unlocking) request asked (is_called asks none) kind at fits prompt old =
+  locker_order table Locks (Attempting Unlocking) request asked (is_called asks none) kind at fits prompt off old =
       with_asked Locks (Attempting Unlocking) asked (Call requests.Unlock) (asks ∙ ap Call kind)
       (goes (Call requests.Unlock) Locks (Attempting Unlocking) (λ same. cc)
       (record { none = refl; same = refl; holds = unlock_told answer (ap (λ (r : Request). answers_to r answer) (sym kind) ∙ fits); done = attempt_done Unlocking answer Nothing waits told.renamed }) old)
-  locker_order table Locks (Ending clearing) request asked (is_called asks none) kind at fits prompt old =
+  locker_order table Locks (Ending clearing) request asked (is_called asks none) kind at fits prompt off old =
       with_asked Locks (Ending clearing) asked (Call requests.Unlock) (asks ∙ ap Call kind)
       (goes (Call requests.Unlock) Locks (Ending clearing) (λ same. cc) (record { none = refl; same = refl; holds = unlock_told answer (ap (λ (r : Request). answers_to r answer) (sym kind) ∙ fits); done = tt }) old)
-  locker_order table Locks phase request asked (is_called asks none) kind at fits prompt old = absurd kind
+  locker_order table Locks phase request asked (is_called asks none) kind at fits prompt off old = absurd kind
 
 -- its session is lost between calls, where it had work
 pub locker_lost_order : (plan : PlanData) (told : Words) (live : Option ℕ) (attempts : ℕ) (hold : Hold) (waits asks drops_old : Bool) (phase : Phase) (applier : Applier) (session : ℕ) → (phase ≡ Resting → ⊥) → OrderedAt plan told live attempts hold waits asks drops_old phase applier

@@ -46,14 +46,14 @@ use Rattle.tool_program.specs.Tools.{Work, ToolPhase, SettingUp, Migrating, Tool
 use Rattle.tool_program.proofs.OnlineCalls.Machines.{ToolPhaseIsNamed, named}
 use Rattle.proof_journals.specs.Turns.{request_of}
 use Rattle.proof_journals.specs.Machine.Machines.{ToolPhaseStands, WorkStands, SetupStands, applier_asks, both_names, held, renaming}
-use Rattle.proof_journals.specs.Machine.Standings.{Standing, free, standing_in, standing_of, answered, answers_to, needs_names, IsAbout, is_called, is_polled}
-use Rattle.proof_journals.proofs.Actors.{Placed, Commands, GoesOn, Begins, live_more, placed, same_actor_is, same_actor_itself}
+use Rattle.proof_journals.specs.Machine.Standings.{Standing, free, standing_in, standing_of, answers_to, IsAbout, is_called, is_polled}
+use Rattle.proof_journals.proofs.Actors.{Placed, Commands, GoesOn, Begins, live_more, placed, same_actor_itself}
 use Rattle.proof_journals.proofs.Journals.{opened_waits}
 use Rattle.proof_journals.proofs.Machine.Asking.{idle_stands, some_request}
 use Rattle.proof_journals.proofs.Machine.CuttingOver.{LockerAsks}
 use Rattle.proof_journals.proofs.Machine.Fitting.{IsPrompt}
 use Rattle.proof_journals.proofs.Machine.Journals.{IsRun, IsTogether, Asking, calls_so, polls_so, asking, lock_about, apply_about}
-use Rattle.proof_journals.proofs.Machine.Seated.{IsKnown, IsServed, others_stand, own_stands, own_fits, own_given, own_lost, own_missed, own_prompt, own_session}
+use Rattle.proof_journals.proofs.Machine.Seated.{IsKnown, IsServed, own_fits, own_given, own_missed, own_prompt, own_session}
 use Rattle.proof_journals.proofs.Machine.Tabling.{back_quiet, free_idle}
 use Rattle.proof_migration.proofs.Attempt.Stages.{RenamerAt, StandsAt}
 use Rattle.proof_migration.proofs.Attempt.Standing.{IsStanding, ToolPhaseAt, no_asking}
@@ -411,7 +411,8 @@ module _ (plan : PlanData) (journal : List Entry) (entry : Entry) (run : IsRun p
       lock_about plan journal entry together run work eq at asks (New (is_reverting tool.reason) (Migrating (record work { cutover = cutovers.took Locker work.cutover entry.answer; attempt_tries = tries })))
       (λ request about kind. leaves Lock entry.asked entry.answer who refl refl refl (Migrating (record work { cutover = cutovers.took Locker work.cutover entry.answer; attempt_tries = tries }))
       (locker_order plan told live work.cutover.attempts work.cutover.renamer_waits work.cutover.is_asked work.cutover.drops_old work.applier entry.session entry.answer work.cutover.table work.cutover.hold work.cutover.phase request entry.asked
-      (subst (λ (s : Standing). IsAbout request s entry.asked) at.locker about) kind at.phase (fits Lock request who about) (λ drops. prompt work request who at about kind drops) (old_at (Migrating work) eq)))
+      (subst (λ (s : Standing). IsAbout request s entry.asked) at.locker about) kind at.phase (fits Lock request who about) (λ drops. prompt work request who at about kind drops)
+      (λ rests. subst (λ (p : Phase). RenamerAt p work.cutover.renamer_waits) rests (work_at work eq).renamer) (old_at (Migrating work) eq)))
 
   -- who has work isn't free
   worked_free : {A : Type 0} → entry.asked ≡ Cut → has_work now.server entry.session ≡ true → has entry.actor ≡ free → A

@@ -7,7 +7,7 @@ use Rattle.base_values.specs.declared.event.RowEvent.{RowEvent}
 use Rattle.base_values.specs.declared.value.Value.{Value}
 use Rattle.base_values.specs.ToolNames.{ghost_name}
 use Rattle.base_script.specs.declared.actor.Actor.{Actor}
-use Rattle.base_script.specs.declared.actor.Actor.TheVariants.{Apply, Client}
+use Rattle.base_script.specs.declared.actor.Actor.TheVariants.{Apply}
 use Rattle.base_script.specs.declared.statement.Statement.{Statement}
 use Rattle.base_script.specs.declared.statement.Statement.TheVariants as statements
 use Rattle.server_model.specs.Along.{Along}

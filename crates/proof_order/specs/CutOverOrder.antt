@@ -80,7 +80,7 @@ begun_after actor asked count = if begins actor asked then count + 1 else count
 unfoldable pub attempts_begun : List Entry → ℕ
 attempts_begun journal = fold (λ count entry. begun_after entry.actor entry.asked count) 0 journal
 
--- in which session the RENAME was called last, and whether a listing of waits had it since the attempt began
+-- in which session the RENAME of the attempt was called, 0 where it wasn't yet; and whether a listing of waits had it
 pub record Shown : Type 0 where
   pub session : ℕ
   pub shown : Bool
@@ -89,7 +89,7 @@ abbrev pub has_session : ℕ → List ShownWaiter → Bool
 has_session session waiters = list_any (λ waiter. waiter.session == session) waiters
 
 abbrev pub shown_after : Actor → ℕ → Asked → Answer → Shown → Shown
-shown_after Lock session (Call (requests.Create schema)) answer shown = record shown { shown = false }
+shown_after Lock session (Call (requests.Create schema)) answer shown = record { session = 0; shown = false }
 shown_after Ren session (Call (requests.Rename pairs)) answer shown = record shown { session = session }
 shown_after Insp session asked (answers.Waiting waiters) shown = record shown { shown = shown.shown || has_session shown.session waiters }
 shown_after actor session asked answer shown = shown

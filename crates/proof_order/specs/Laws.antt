@@ -1,5 +1,13 @@
 -- What holds of the order of the tool's calls in every kept journal.
-use Rattle.std.specs.Prelude.{List}
+use Rattle.std.specs.Prelude.{◌≡◌, ◌≤◌, ℕ, List}
+use Rattle.base_values.specs.declared.value.Value.{Value}
+use Rattle.server_model.specs.declared.outcome.Cause.{Cause}
+use Rattle.server_model.specs.declared.outcome.Verdict.TheVariants.{Reverted}
+use Rattle.tool_program.specs.Failures.{IsPanic, IsUnfit}
+use Rattle.tool_program.specs.Verdicts.{verdict_of}
+use Rattle.proof_journals.specs.Machine.FormedPlans.{IsFitting}
+use Rattle.proof_journals.specs.Machine.MigrationTables.{TableExists}
+use Rattle.proof_order.specs.LeastCauses.{last_turn}
 use Rattle.server_model.specs.declared.entry.Entry.{Entry}
 use Rattle.plan_data.specs.PlanData.{PlanData}
 use Rattle.proof_journals.specs.Plans.{IsSerialPlan}
@@ -22,3 +30,12 @@ JournalsCopyUnderLocks = (plan : PlanData) (journal : List Entry) → IsFaithful
 -- *Journals apply inserts as REPLACE*: so does each faithful journal that follows the program.
 abbrev pub JournalsApplyInserts : Type 0
 JournalsApplyInserts = (plan : PlanData) (journal : List Entry) → IsFaithful plan journal → Follows plan journal → AppliesInserts plan journal
+
+-- *Panics are late*: where all was reverted, no panic was commanded before the turn in which the verdict's cause stands.
+abbrev pub PanicsAreLate : Type 0
+PanicsAreLate = (plan : PlanData) (journal : List Entry) (turn : ℕ) (cause : Cause) → IsFitting plan → TableExists plan → IsKept plan journal → IsPanic plan journal turn → verdict_of plan journal ≡ Reverted cause → last_turn cause ≤ turn
+
+-- *Rows that don't fit are late*: nor was a value refused, of a row that can't be converted, before that turn.
+abbrev pub UnfitRowsAreLate : Type 0
+UnfitRowsAreLate =
+    (plan : PlanData) (journal : List Entry) (turn : ℕ) (key : List Value) (column : List ℕ) (number : ℕ) (cause : Cause) → IsFitting plan → TableExists plan → IsKept plan journal → IsUnfit plan journal turn key column number → verdict_of plan journal ≡ Reverted cause → last_turn cause ≤ turn
