@@ -2,7 +2,7 @@
 #![tactic(auto)]
 
 ghost use Rattle.law_traces.specs.Laws.{TracesAreAudited};
-ghost use Rattle.proof_audit.specs.AuditedTraces.{AuditsSayYes};
+ghost use Rattle.proof_audit.specs.AuditedTraces.{AuditsNameTheFirst, AuditsSayYes, LinesDecideTables};
 ghost use Rattle.proof_audit.specs.Laws.{LinesTellClients, LinesTellSessions};
 
 use law_journals::plans::{read_plans_are_runnable, read_plans_are_serial, read_plans_are_worded};
@@ -18,6 +18,17 @@ pub fn lines_tell_actors()
 /// history of the lines is serial and leads to the printed tables, and the verdict holds.
 pub fn audits_say_yes()
     ensures { AuditsSayYes }
+{}
+
+/// Any other answer names the first that is wrong: the least turn that breaks a rule of turns, else the first table that isn't
+/// printed in its place, else the verdict.
+pub fn audits_name_the_first()
+    ensures { AuditsNameTheFirst }
+{}
+
+/// Two traces of one plan with the same lines that are both audited yes have the same tables printed.
+pub fn lines_decide_tables()
+    ensures { LinesDecideTables }
 {}
 
 /// The trace of every run of every accepted plan is audited yes.

@@ -1,6 +1,7 @@
 pub mod Audited
 pub mod Clients
 pub mod Ended
+pub mod First
 pub mod Idle
 pub mod Judging
 pub mod Kept

@@ -28,7 +28,7 @@ least_some turn None is = cc
 least_some turn (Some other) is = cc
 
 -- the least of no turns is none
-least_none : (turns : List ℕ) → least turns ≡ None → turns ≡ []
+pub least_none : (turns : List ℕ) → least turns ≡ None → turns ≡ []
 unfolding least
 least_none [] is = refl
 least_none (turn ∷ turns) is = absurd (least_some turn (least turns) is)
