@@ -1,4 +1,4 @@
-use Rattle.std.proofs.Common.{◌≡◌, Bool, true, false, is_some, rules}
+use Rattle.std.proofs.Common.{◌≡◌, true, false, is_some, rules}
 use Rattle.server_model.specs.PlainServer.{holding}
 use Rattle.server_model.specs.States.{session_of}
 use Rattle.server_sessions.proofs.LiveSessions.SessionLists.{have_grown, unchanged}
