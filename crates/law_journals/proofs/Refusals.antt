@@ -87,6 +87,7 @@ module _ (state : State) (number : ℕ) (outside : is_in_transaction (session_of
 
   -- a transaction that goes on with nothing more written
   held_writes : (need : Need) (sessions : List Session) → writes_of (session_of number (with_session number (holding need []) sessions)) ≡ writes_of (session_of number sessions)
+  unfolding with_session
   held_writes need [] = refl
   held_writes need (session ∷ sessions) = by (held_writes need sessions) (session.number == number) refl where
     by : writes_of (session_of number (with_session number (holding need []) sessions)) ≡ writes_of (session_of number sessions) → (b : Bool) → (session.number == number) ≡ b
@@ -96,6 +97,7 @@ module _ (state : State) (number : ℕ) (outside : is_in_transaction (session_of
 
   -- one that is over
   rested_writes : (sessions : List Session) → writes_of (session_of number (with_session number at_rest sessions)) ≡ []
+  unfolding with_session
   rested_writes [] = refl
   rested_writes (session ∷ sessions) = by (rested_writes sessions) (session.number == number) refl where
     by : writes_of (session_of number (with_session number at_rest sessions)) ≡ [] → (b : Bool) → (session.number == number) ≡ b → writes_of (session_of number (cond b (at_rest session ∷ sessions) (session ∷ with_session number at_rest sessions))) ≡ []
