@@ -404,8 +404,8 @@ module _ (plan : PlanData) (runs : IsRunnable plan) (serial : IsSerialPlan plan)
         }
         by (polls_so request asks some) = record { request = request; is_about = about_so request (is_polled asks some); call = tables.waits request some }
 
-      told : (position : ℕ) → setup ≡ Reaching position → RangeSays keys entry.answer
-      told position is =
+      said_range : (position : ℕ) → setup ≡ Reaching position → RangeSays keys entry.answer
+      said_range position is =
           let one : requests.Ends plan.table ≡ insp_asks.request = same_request (ap (setup_call plan) (sym is) ∙ insp_asks.call) in
           range_said plan journal entry turn.together.known turn.served keys all_known well (subst (λ (r : Request). IsAbout r (has entry.actor) entry.asked) (sym one) insp_asks.is_about) where
             same_request : Some (requests.Ends plan.table) ≡ Some insp_asks.request → requests.Ends plan.table ≡ insp_asks.request
@@ -434,7 +434,7 @@ module _ (plan : PlanData) (runs : IsRunnable plan) (serial : IsSerialPlan plan)
       steps MakingLog is (answers.Ok count) said = tt
       steps MakingGhost is (answers.Ok count) said = tt
       steps Marking is (answers.At position) said = tt
-      steps (Reaching position) is (answers.Ends range) said = ready position range (subst (RangeSays keys) said (told position is))
+      steps (Reaching position) is (answers.Ends range) said = ready position range (subst (RangeSays keys) said (said_range position is))
       steps s is answer said = keeps s is
 
       heard_setup : SetupKeeps plan New entry.answer tool setup tries

@@ -198,11 +198,11 @@ module _ (journal : List Entry) (entry : Entry) (keys more : List Row) where
           end_now low range.top high turn answer here (ap (is_in keys) old ∙ was.among) (ap (above low) old ∙ was.past) (ap (λ (k : Row). is_le (compare_keys k range.top)) old ∙ was.within)
           (subst (λ (a : Answer). EndsIn keys low high (end_in (Some a))) (sym same) ends)
 
-      told : answer_at later turn ≡ Some (answers.Keys some end)
-      told = here ∙ ap Some same
+      found : answer_at later turn ≡ Some (answers.Keys some end)
+      found = here ∙ ap Some same
 
       is_chunk : IsChunk later all low range chunk
-      is_chunk = record { end = now_end; last = ap (λ (a : Option Answer). is_top (Some range) (end_in a)) (sym told ∙ now_end.is) }
+      is_chunk = record { end = now_end; last = ap (λ (a : Option Answer). is_top (Some range) (end_in a)) (sym found ∙ now_end.is) }
 
       by : (b : Bool) → StepCounted later all low range (cond b (Committing chunk) (Copying chunk 0))
       by true = is_chunk

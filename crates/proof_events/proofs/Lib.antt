@@ -1,7 +1,7 @@
 pub mod LineEvents
 pub mod Transactions
 pub mod Lines
-pub mod Linked
+pub mod ClientSessions
 pub mod Keys
 pub mod Volumes
 pub mod Views

@@ -131,9 +131,6 @@ pub record HasGrown (scene : Scene) (name : List ℕ) (most lines had logged : �
 alike_then : (names : List (List ℕ)) (a b c : Database) → FoundAlike names a b → FoundAlike names b c → FoundAlike names a c
 alike_then names a b c one two = record { each = λ name is. one.each name is ∙ two.each name is }
 
-alike_back : (names : List (List ℕ)) (a b : Database) → FoundAlike names a b → FoundAlike names b a
-alike_back names a b alike = record { each = λ name is. sym (alike.each name is) }
-
 module _ (scene : Scene) (name : List ℕ) (most : ℕ) where
   pub serial_few : (before after : Stored) (items : List PlainItem) (tables : Database) (rows events : ℕ) → AllByRecursion IsTxn items → Serial scene before items after → IsWellFormedDatabase tables → FoundAlike scene.mine tables before.tables
       → row_count name tables ≤ rows → count_of name before.log ≤ events → rows + ended_lines items ≤ most → HasGrown scene name most (ended_lines items) rows events after

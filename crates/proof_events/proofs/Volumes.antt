@@ -34,7 +34,7 @@ use Rattle.proof_events.specs.Laws.{CommittedRowsAreFew, EventsAreFew}
 use Rattle.proof_events.proofs.Keys.{all_ever, ever_puts, ever_rows, is_in, puts_filtered}
 use Rattle.proof_events.proofs.LineEvents.{count_of, row_count}
 use Rattle.proof_events.proofs.Lines.{all_lines, open_lines}
-use Rattle.proof_events.proofs.Linked.{run_holds}
+use Rattle.proof_events.proofs.ClientSessions.{run_holds}
 use Rattle.proof_events.proofs.Transactions.{HasGrown, LeadsByEvents, ended_lines, logged_count, serial_few, serial_leads}
 
 plain_lines : (items : List HistoryItem) → ended_lines (map plain items) ≡ all_lines items

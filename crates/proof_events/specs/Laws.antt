@@ -28,12 +28,12 @@ events_in name plan journal = count_by (is_of (name ∷ [])) (state_at plan jour
 abbrev pub CommittedRowsAreFew : Type 0
 CommittedRowsAreFew = (plan : PlanData) (journal : List Entry) → IsRunnable plan → IsSerialPlan plan → IsKept plan journal → IsUnaltered plan journal → length (rows_of plan.table (state_at plan journal).tables) ≤ keys (measures plan)
 
--- *Views are few*: and no session sees more of them, with what its own transaction wrote
+-- *Seen rows are few*: no session sees more rows of it, with what its own transaction wrote
 abbrev pub ViewsAreFew : Type 0
 ViewsAreFew = (plan : PlanData) (journal : List Entry) → IsRunnable plan → IsSerialPlan plan → IsKept plan journal → IsUnaltered plan journal → (n : ℕ) → length (rows_of plan.table (view n (state_at plan journal))) ≤ keys (measures plan)
 
--- *Events are few*: until its RENAME is done, the log has at most as many events of the migrated table as lines write: each one
--- for every row that it can meet, and one more
+-- *Events are few*: until its RENAME is done, the log has at most as many events of the migrated table as all lines can write: a
+-- line one for each row that there may be, and one more
 abbrev pub EventsAreFew : Type 0
 EventsAreFew = (plan : PlanData) (journal : List Entry) → IsRunnable plan → IsSerialPlan plan → IsKept plan journal → IsUnaltered plan journal → events_in plan.table plan journal ≤ events (measures plan)
 
@@ -42,7 +42,7 @@ EventsAreFew = (plan : PlanData) (journal : List Entry) → IsRunnable plan → 
 abbrev pub HintsAreFew : Type 0
 HintsAreFew = (plan : PlanData) (journal : List Entry) → 1 ≤ plan.options.default_retries → IsRunnable plan → IsSerialPlan plan → IsKept plan journal → IsUnaltered plan journal → events_in (log_name plan.table) plan journal ≤ plan.options.default_retries
 
--- *What is read is little*: the applier reads the two together
+-- *Read events are few*: the applier reads both, and so the log has at most as many of the two tables together
 abbrev pub ReadEventsAreFew : Type 0
 ReadEventsAreFew =
     (plan : PlanData) (journal : List Entry) → 1 ≤ plan.options.default_retries → IsRunnable plan → IsSerialPlan plan → IsKept plan journal → IsUnaltered plan journal → count_by (is_of (plan.table ∷ log_name plan.table ∷ [])) (state_at plan journal).log ≤ events (measures plan) + (measures plan).tries
@@ -54,7 +54,7 @@ ChunksAreFew =
     (plan : PlanData) (journal : List Entry) (work : Work) → IsRunnable plan → IsSerialPlan plan → IsKept plan journal → IsUnaltered plan journal → (moment plan journal).tool.tool_phase ≡ Migrating work
     → work.copier.number ≤ (measures plan).rows + events (measures plan) + (if work.copier.is_copied then 1 else 0)
 
--- *Chunks stay few*: and after the RENAME no more are begun
+-- *Chunks stay few*: so it is after every journal, since after the RENAME no chunk is begun
 abbrev pub ChunksStayFew : Type 0
 ChunksStayFew =
     (plan : PlanData) (journal : List Entry) (work : Work) → IsRunnable plan → IsSerialPlan plan → IsKept plan journal → (moment plan journal).tool.tool_phase ≡ Migrating work → work.copier.number ≤ (measures plan).rows + events (measures plan) + (if work.copier.is_copied then 1 else 0)
