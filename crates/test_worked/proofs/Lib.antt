@@ -2,7 +2,7 @@ pub mod Computing
 pub mod SmallPlans1
 mod SmallPlans2
 pub mod Plans1
-mod Reports
+pub mod Reports
 mod Plans2
 mod Plans3
 mod Plans4
@@ -14,4 +14,5 @@ mod Sequences3
 mod Sequences4
 pub mod SerialRun
 mod Scenes
+mod Traces
 pub mod WorkedExamples

@@ -22,7 +22,7 @@ use Rattle.test_worked.proofs.SmallPlans2.{plan_empty, journal_empty, plan_cut_t
 use Rattle.test_worked.proofs.SmallPlans1.{plan_after_chunk, journal_after_chunk, plan_after_lock, journal_after_lock, plan_lost_lock, journal_lost_lock, plan_lost_drop, journal_lost_drop, plan_one_try, journal_one_try}
 
 -- what a proof by computing opens of a report
-unfoldable printing : Bool
+unfoldable pub printing : Bool
 unfolding y0.printed y0.listed y0.printed_row y1.in_byte_order y1.spaced y1.names_line y2.more_names y2.column_names y2.table_line y2.row_lines y3.past_text y3.history_line y4.reply_text y4.numbered_text y4.client_text y4.clients_from y5.report y6.rows_text y6.tables_text y7.actor_word y7.turns_taken y7.joined y7.runs_of y7.run_text y7.order_text y7.turns_text y8.task_text y8.spaced_turns y8.cause_text y8.verdict_line
 printing = true
 
