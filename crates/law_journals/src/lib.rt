@@ -5,7 +5,8 @@
 //! is what such plans have. Of every history: `histories`, `turns`, `machines`, `server_turns`, `server_states`. The ghost
 //! relation stands in `ghost_relation`, `ghost_rows` and `ghost_turns`, the sentry relation in `sentry`. Of every journal
 //! that follows the program: `migration`, `chunks`, `program`, `cut_over`, `hints`, `sessions`, `attempts`, `causes` and
-//! `progress`; and so `unaltered`, `marked` and `reverts`, by which kept journals are serial. `bounds` counts turns.
+//! `progress`; and so `unaltered`, `marked` and `reverts`, by which kept journals are serial. `bounds` counts turns, and
+//! `volumes` rows, events and chunks.
 #![tactic(auto)]
 
 pub mod attempts;
@@ -33,3 +34,4 @@ pub mod server_turns;
 pub mod sessions;
 pub mod turns;
 pub mod unaltered;
+pub mod volumes;

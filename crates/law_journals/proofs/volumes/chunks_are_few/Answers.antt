@@ -1,0 +1,5 @@
+use Rattle.proof_events.proofs.ChunkCounts.{chunks_few}
+use Rattle.law_journals.proofs.volumes.chunks_are_few.Goals as goal
+
+pub returns : goal.returns
+returns c = chunks_few

@@ -1,0 +1,13 @@
+pub mod LineEvents
+pub mod Transactions
+pub mod Lines
+pub mod ClientSessions
+pub mod Keys
+pub mod Volumes
+pub mod Views
+pub mod HintRows
+pub mod Hints
+pub mod ChunkAnswers
+pub mod Chunks
+pub mod ChunkCounts
+pub mod LaterChunks
