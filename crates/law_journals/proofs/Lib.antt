@@ -1,1 +1,3 @@
+pub mod HintRows
+pub mod Refusals
 pub mod Sums

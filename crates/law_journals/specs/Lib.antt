@@ -1,1 +1,4 @@
 pub mod Bounds
+pub mod HintRows
+pub mod Orders
+pub mod Refusals

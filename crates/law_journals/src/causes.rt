@@ -1,8 +1,9 @@
-//! That the cause which a verdict names is in the journal.
+//! That the cause which a verdict names is in the journal, and that no panic and no row that doesn't fit comes before it.
 
 ghost use Rattle.proof_migration.specs.Attempt.Verdicts.{PanicsStand, SpentTasksStand, SpentAttemptsStand};
 ghost use Rattle.proof_migration.specs.Attempt.Causes.{SpentCutOversStand};
 ghost use Rattle.proof_migration.specs.Unfit.{UnfitRowsStand};
+ghost use Rattle.proof_order.specs.Laws.{PanicsAreLate, UnfitRowsAreLate};
 
 use crate::plans::alterable_plans_are_runnable;
 use base_values::laws::stored_values_store_again;
@@ -37,3 +38,13 @@ pub fn unfit_rows_stand()
     stored_values_store_again();
     alterable_plans_are_runnable();
 }
+
+/// Where all was reverted, no panic was commanded before the turn in which the verdict's cause stands.
+pub fn panics_are_late()
+    ensures { PanicsAreLate }
+{}
+
+/// Nor was a value refused, of a row that can't be converted, before that turn.
+pub fn unfit_rows_are_late()
+    ensures { UnfitRowsAreLate }
+{}

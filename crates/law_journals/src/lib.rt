@@ -5,8 +5,8 @@
 //! is what such plans have. Of every history: `histories`, `turns`, `machines`, `server_turns`, `server_states`. The ghost
 //! relation stands in `ghost_relation`, `ghost_rows` and `ghost_turns`, the sentry relation in `sentry`. Of every journal
 //! that follows the program: `migration`, `chunks`, `program`, `cut_over`, `hints`, `sessions`, `attempts`, `causes` and
-//! `progress`; and so `unaltered`, `marked` and `reverts`, by which kept journals are serial. `bounds` counts turns, and
-//! `volumes` rows, events and chunks.
+//! `progress`; and so `unaltered`, `marked` and `reverts`, by which kept journals are serial. `order` says in which order the
+//! tool works, `bounds` counts turns, and `volumes` rows, events and chunks.
 #![tactic(auto)]
 
 pub mod attempts;
@@ -23,6 +23,7 @@ pub mod histories;
 pub mod machines;
 pub mod marked;
 pub mod migration;
+pub mod order;
 pub mod plans;
 pub mod program;
 pub mod progress;

@@ -1,0 +1,15 @@
+pub mod Words
+pub mod Phases
+pub mod Hints
+pub mod Waits
+pub mod Roles
+pub mod Needs
+pub mod Turns
+pub mod Orders
+pub mod Chunks
+pub mod ChunkTurns
+pub mod Batches
+pub mod BatchTurns
+pub mod Grounds
+pub mod Least
+pub mod LeastUnfit
