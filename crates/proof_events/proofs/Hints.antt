@@ -1,7 +1,10 @@
 -- Each attempt to exchange the tables logs one event of the changelog at most: its hint row, which the inspector inserts while the
 -- attempt has none. Nobody else's turn logs any, and the inspector never waits, so no INSERT outlives its attempt.
 use Rattle.std.proofs.Common.{◌≡◌, ◌≤◌, ◌<◌, ◌⊎◌, inl, inr, ℕ, ◌+◌, Bool, true, false, cond, List, [], ◌∷◌, ◌++◌, Option, Some, None, refl, sym, ap, ◌∙◌, subst, arith, append_assoc, append-nil}
+use Rattle.std.specs.Prelude.{count_by, ◌||◌}
+use Rattle.std.specs.Str.{bytes_eq}
 use Rattle.std.proofs.lemmas.Bool.{true≢false, false≢true}
+use Rattle.std.proofs.lemmas.List.Sums.{sum_by-cons}
 use Rattle.base_script.specs.declared.actor.Actor.{Actor}
 use Rattle.base_script.specs.declared.actor.Actor.TheVariants.{Op, Insp, Copy, Apply, Lock, Ren, Client}
 use Rattle.base_script.specs.declared.operator.OperatorWord.{OperatorWord}
@@ -16,7 +19,7 @@ use Rattle.server_model.specs.declared.entry.Entry.{Entry}
 use Rattle.server_model.specs.declared.request.Request.{Request}
 use Rattle.server_model.specs.declared.request.Request.TheVariants as requests
 use Rattle.server_model.specs.Entries.{is_cut, same_actor}
-use Rattle.server_model.specs.States.{State}
+use Rattle.server_model.specs.States.{State, is_of}
 use Rattle.plan_data.specs.PlanData.{PlanData}
 use Rattle.tool_program.specs.declared.cutover_core.cutover.Clearing.{Clearing}
 use Rattle.tool_program.specs.declared.cutover_core.cutover.Clearing.TheVariants.{Looking, Drops}
@@ -29,6 +32,7 @@ use Rattle.tool_program.specs.declared.cutover_core.cutover.Stage.TheVariants.{G
 use Rattle.tool_program.specs.CutoverCore.Attempts as attempts
 use Rattle.tool_program.specs.CutoverCore.CutOvers as cutovers
 use Rattle.tool_program.specs.CutoverCore.CutOvers.{attempts_after, begun, inspector_phase, is_bad, locker_phase, locker_stage, renamer_phase}
+use Rattle.tool_program.specs.JournalWords.Bounds.{measures}
 use Rattle.tool_program.specs.JournalWords.Journals.{opens, state_after, state_at}
 use Rattle.tool_program.specs.Programs.{IsGiven, tool_call}
 use Rattle.tool_program.specs.Setups.{Setup, Listing, Clearing as Clears, MakingLog, MakingGhost, Marking, Reaching, Ready, setup_after}
@@ -58,9 +62,10 @@ use Rattle.proof_migration.proofs.ToolPhase.ToolPhaseTurns.{AnswerKeeps, ApplyKe
 use Rattle.proof_migration.proofs.ToolPhase.Unaltered.Away.{unaltered_front}
 use Rattle.proof_bounds.proofs.Attempts.{attempts_few}
 use Rattle.proof_bounds.proofs.Going.{never_waits}
-use Rattle.proof_events.specs.Laws.{HintsAreFew}
+use Rattle.proof_events.specs.Laws.{HintsAreFew, ReadEventsAreFew}
 use Rattle.proof_events.proofs.HintRows.{away_count, hint_grows}
 use Rattle.proof_events.proofs.LineEvents.{count_both, count_of}
+use Rattle.proof_events.proofs.Volumes.{events_few}
 
 -- WHAT IS COUNTED
 
@@ -403,3 +408,29 @@ hints_few plan journal some runs serial kept off = by (moment plan journal).tool
   by : (tool_phase : ToolPhase) → (moment plan journal).tool.tool_phase ≡ tool_phase → Counted plan.table (state_at plan journal).log tool_phase → count_of (log_name plan.table) (state_at plan journal).log ≤ plan.options.default_retries
   by (SettingUp setup tries) eq counted = omega (arith, counted, some)
   by (Migrating work) eq counted = let most = attempts_few plan journal work some kept.faithful kept.follows eq in omega (arith, counted, most)
+
+-- THE TWO TOGETHER
+
+both_most : (one two : List ℕ) (log : List RowEvent) → count_by (is_of (one ∷ two ∷ [])) log ≤ count_of one log + count_of two log
+both_most one two [] = omega arith
+both_most one two (event ∷ log) =
+    let a = sum_by-cons (λ (e : RowEvent). cond (is_of (one ∷ two ∷ []) e) 1 0) event log in
+    let b = sum_by-cons (λ (e : RowEvent). cond (is_of (one ∷ []) e) 1 0) event log in
+    let c = sum_by-cons (λ (e : RowEvent). cond (is_of (two ∷ []) e) 1 0) event log in
+    let d = both_most one two log in
+    let e = by (bytes_eq event.table one) (bytes_eq event.table two) in
+    omega (arith, a, b, c, d, e) where
+      by : (p q : Bool) → cond (p || (q || false)) 1 0 ≤ cond (p || false) 1 0 + cond (q || false) 1 0
+      by true true = omega arith
+      by true false = omega arith
+      by false true = omega arith
+      by false false = omega arith
+
+-- *What is read is little*
+pub read_few : ReadEventsAreFew
+unfolding measures
+read_few plan journal some runs serial kept off =
+    let a = both_most plan.table (log_name plan.table) (state_at plan journal).log in
+    let b = events_few plan journal runs serial kept off in
+    let c = hints_few plan journal some runs serial kept off in
+    omega (arith, a, b, c)

@@ -10,3 +10,4 @@ pub mod Hints
 pub mod ChunkAnswers
 pub mod Chunks
 pub mod ChunkCounts
+pub mod LaterChunks

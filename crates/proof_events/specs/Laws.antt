@@ -42,9 +42,19 @@ EventsAreFew = (plan : PlanData) (journal : List Entry) → IsRunnable plan → 
 abbrev pub HintsAreFew : Type 0
 HintsAreFew = (plan : PlanData) (journal : List Entry) → 1 ≤ plan.options.default_retries → IsRunnable plan → IsSerialPlan plan → IsKept plan journal → IsUnaltered plan journal → events_in (log_name plan.table) plan journal ≤ plan.options.default_retries
 
+-- *What is read is little*: the applier reads the two together
+abbrev pub ReadEventsAreFew : Type 0
+ReadEventsAreFew =
+    (plan : PlanData) (journal : List Entry) → 1 ≤ plan.options.default_retries → IsRunnable plan → IsSerialPlan plan → IsKept plan journal → IsUnaltered plan journal → count_by (is_of (plan.table ∷ log_name plan.table ∷ [])) (state_at plan journal).log ≤ events (measures plan) + (measures plan).tries
+
 -- *Chunks are few*: until the RENAME is done, at most as many chunks are begun as the migrated table had rows at first and events
 -- since, since each ends at another key of these; and one more is numbered where all are copied
 abbrev pub ChunksAreFew : Type 0
 ChunksAreFew =
     (plan : PlanData) (journal : List Entry) (work : Work) → IsRunnable plan → IsSerialPlan plan → IsKept plan journal → IsUnaltered plan journal → (moment plan journal).tool.tool_phase ≡ Migrating work
     → work.copier.number ≤ (measures plan).rows + events (measures plan) + (if work.copier.is_copied then 1 else 0)
+
+-- *Chunks stay few*: and after the RENAME no more are begun
+abbrev pub ChunksStayFew : Type 0
+ChunksStayFew =
+    (plan : PlanData) (journal : List Entry) (work : Work) → IsRunnable plan → IsSerialPlan plan → IsKept plan journal → (moment plan journal).tool.tool_phase ≡ Migrating work → work.copier.number ≤ (measures plan).rows + events (measures plan) + (if work.copier.is_copied then 1 else 0)
