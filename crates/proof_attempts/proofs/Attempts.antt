@@ -70,7 +70,7 @@ use Rattle.proof_bounds.proofs.Leftovers.{WorkFits}
 use Rattle.proof_bounds.proofs.Waits.{IsCounted, counted_more, counted_begins, waited_by, idle_waited, waits_on, waits_end, waits_cut, waits_short, others_wait}
 use Rattle.proof_attempts.specs.Attempts.{IsOk, ShowsWait, TurnGoes, AttemptTurnsAreFew}
 use Rattle.proof_attempts.proofs.Calls.{attempts_go}
-use Rattle.proof_attempts.proofs.Potentials.{hold_left, rename_left, clear_left, phase_left, stage_ends, whole_left, begun_left, waits_after, hold_waits, rename_waits, ended_left, drained_left, unseated_left, locker_pays, locker_lost, renamer_pays, renamer_lost, waits_left}
+use Rattle.proof_attempts.proofs.Potentials.{hold_left, rename_left, clear_left, attempt_left, stage_ends, whole_left, begun_left, waits_after, hold_waits, rename_waits, ended_left, drained_left, unseated_left, locker_pays, locker_lost, renamer_pays, renamer_lost, waits_left}
 
 -- WHOSE TURN IT IS
 
@@ -105,22 +105,19 @@ beside_part tool_phase live side Insp Poll beside = absurd beside
 beside_part tool_phase live side Lock Poll beside = absurd beside
 beside_part tool_phase live side Ren Poll beside = absurd beside
 
-cut_part : (tool_phase : ToolPhase) (live : Option ℕ) (side : Option Side) (actor : Actor) → same_part OfAttempts (part_by tool_phase live side actor Cut) ≡ false
-cut_part tool_phase live side actor = refl
-
 -- the inspector's call at an attempt's end: where its session is lost before it, or in it, it isn't the attempt's
 again_part : (live : Option ℕ) (side : Option Side) (request : Request) → is_again live side ≡ true → same_part OfAttempts (ending_part live side (Call request)) ≡ false
 again_part live side request again = ap (λ (b : Bool). same_part OfAttempts (cond b OfClearing OfAttempts)) again
 
 -- WHAT THE PHASES LEAVE
 
-finishing_left : (w : ℕ) (live : Bool) (hold : Hold) (renames : Bool) (left : Leftovers) → phase_left w live hold renames (finishing left) ≡ 0
+finishing_left : (w : ℕ) (live : Bool) (hold : Hold) (renames : Bool) (left : Leftovers) → attempt_left w live hold renames (finishing left) ≡ 0
 finishing_left w live hold renames left = by (is_clear left) where
-  by : (b : Bool) → phase_left w live hold renames (cond b Finished (Finishing (Drops left))) ≡ 0
+  by : (b : Bool) → attempt_left w live hold renames (cond b Finished (Finishing (Drops left))) ≡ 0
   by true = refl
   by false = refl
 
-finished_left : (w : ℕ) (live : Bool) (hold : Hold) (renames : Bool) (cutover : CutOver) (cleared : Cleared) (answer : Answer) → phase_left w live hold renames (finishing_after cutover cleared answer) ≡ 0
+finished_left : (w : ℕ) (live : Bool) (hold : Hold) (renames : Bool) (cutover : CutOver) (cleared : Cleared) (answer : Answer) → attempt_left w live hold renames (finishing_after cutover cleared answer) ≡ 0
 finished_left w live hold renames cutover cleared answers.Lost = refl
 finished_left w live hold renames cutover cleared (answers.TimedOut waited) = refl
 finished_left w live hold renames cutover Looking (answers.Tables tables) = finishing_left w live hold renames (left_at_end cutover tables)
@@ -128,9 +125,9 @@ finished_left w live hold renames cutover Looking answer = refl
 finished_left w live hold renames cutover (Drops left) (answers.Ok count) = finishing_left w live hold renames (without_first left)
 finished_left w live hold renames cutover (Drops left) answer = refl
 
-seen_left : (w : ℕ) (live : Bool) (hold : Hold) (renames : Bool) (cutover : CutOver) (tables : List TableName) → phase_left w live hold renames (seen cutover tables) ≤ hold_left w hold + rename_left w renames + 1
+seen_left : (w : ℕ) (live : Bool) (hold : Hold) (renames : Bool) (cutover : CutOver) (tables : List TableName) → attempt_left w live hold renames (seen cutover tables) ≤ hold_left w hold + rename_left w renames + 1
 seen_left w live hold renames cutover tables = by (not (has_name (ghost_name cutover.table) tables)) (has_sentry cutover.table tables) where
-  by : (a b : Bool) → phase_left w live hold renames (cond a (finishing (left_at_end cutover tables)) (cond b (Ending (Drops sentry_alone)) Resting)) ≤ hold_left w hold + rename_left w renames + 1
+  by : (a b : Bool) → attempt_left w live hold renames (cond a (finishing (left_at_end cutover tables)) (cond b (Ending (Drops sentry_alone)) Resting)) ≤ hold_left w hold + rename_left w renames + 1
   by true b = let none = finishing_left w live hold renames (left_at_end cutover tables) in omega (arith, none)
   by false true = omega arith
   by false false = omega arith
@@ -148,7 +145,7 @@ begun_times w attempts Finished = omega arith
 abbrev Paid : PlanData → ℕ → Bool → ℕ → ToolPhase → Type 0
 Paid plan turns live waited (SettingUp setup tries) = turns ≤ waited
 Paid plan turns live waited (Migrating work) =
-    turns + phase_left plan.options.tool_wait live work.cutover.hold work.cutover.renamer_waits work.cutover.phase ≤ work.cutover.attempts * whole_left plan.options.tool_wait + waited
+    turns + attempt_left plan.options.tool_wait live work.cutover.hold work.cutover.renamer_waits work.cutover.phase ≤ work.cutover.attempts * whole_left plan.options.tool_wait + waited
 
 abbrev turns_at : PlanData → List Entry → ℕ
 turns_at plan journal = turns_of_part OfAttempts plan journal
@@ -344,7 +341,7 @@ module _ (plan : PlanData) (may : MayWait plan) (runs : IsRunnable plan) (journa
     at : StandsAt plan (state_at plan journal).tables (has Insp).waits phase hold renames work.cutover.is_asked
     at = work_at plan journal is.counted going work eq
 
-    old_paid : turns_at plan journal + phase_left w (live_at journal) hold renames phase ≤ work.cutover.attempts * whole_left w + (waited_by plan journal Lock + waited_by plan journal Ren)
+    old_paid : turns_at plan journal + attempt_left w (live_at journal) hold renames phase ≤ work.cutover.attempts * whole_left w + (waited_by plan journal Lock + waited_by plan journal Ren)
     old_paid = was_paid (Migrating work) eq
 
     -- THE LOCKER
@@ -361,7 +358,7 @@ module _ (plan : PlanData) (may : MayWait plan) (runs : IsRunnable plan) (journa
         let pays = locker_pays w (live_at journal) renames work.cutover.table request (waited_by plan journal Lock) hold phase entry.answer stands.phase at.renamer (guarded work eq).hold (hold_done plan journal is.counted going work eq) kind (lock_waits plan journal is.counted going work eq) (λ locking. (goes work eq called uncut).locks locking same) (λ dropping. (goes work eq called uncut).drops dropping same) in
         let waits : waited_by plan more Lock ≡ waits_after entry.answer (waited_by plan journal Lock) = ap (waited_by plan more) (sym same) ∙ own_waits called uncut ∙ ap (λ (a : Actor). waits_after entry.answer (waited_by plan journal a)) same in
         let other = waits_there Ren (ap (λ (a : Actor). same_actor a Ren) same) in
-        rw (live, waits) (lock_join (turns_at plan journal) (turns_at plan more) (phase_left w (live_at journal) (hold_after hold phase entry.answer) renames (locker_phase phase entry.answer)) (phase_left w (live_at journal) hold renames phase) (begun_left w phase) (work.cutover.attempts * whole_left w) (attempts_after phase work.cutover.attempts * whole_left w) (waited_by plan journal Lock) (waited_by plan journal Ren) (waits_after entry.answer (waited_by plan journal Lock)) (waited_by plan more Ren)
+        rw (live, waits) (lock_join (turns_at plan journal) (turns_at plan more) (attempt_left w (live_at journal) (hold_after hold phase entry.answer) renames (locker_phase phase entry.answer)) (attempt_left w (live_at journal) hold renames phase) (begun_left w phase) (work.cutover.attempts * whole_left w) (attempts_after phase work.cutover.attempts * whole_left w) (waited_by plan journal Lock) (waited_by plan journal Ren) (waits_after entry.answer (waited_by plan journal Lock)) (waited_by plan more Ren)
         one_more pays old_paid (begun_times w work.cutover.attempts phase) other))
 
     lost_join : (t s x y b a k l r l' r' : ℕ) → s ≡ t → x + l ≤ y + b → t + y ≤ a + (l + r) → k ≡ a + b → l' ≡ 0 → r' ≡ r → s + x ≤ k + (l' + r')
@@ -374,7 +371,7 @@ module _ (plan : PlanData) (may : MayWait plan) (runs : IsRunnable plan) (journa
         let pays = locker_lost w (live_at journal) renames work.cutover.table requests.Unlock (waited_by plan journal Lock) hold phase stands.phase (guarded work eq).hold (hold_done plan journal is.counted going work eq) (lock_waits plan journal is.counted going work eq) in
         let over : waited_by plan more Lock ≡ 0 = ap (waited_by plan more) (sym same) ∙ cut_waits cut in
         let other = waits_there Ren (ap (λ (a : Actor). same_actor a Ren) same) in
-        rw live (lost_join (turns_at plan journal) (turns_at plan more) (phase_left w (live_at journal) (hold_after hold phase answers.Lost) renames (locker_phase phase answers.Lost)) (phase_left w (live_at journal) hold renames phase) (begun_left w phase) (work.cutover.attempts * whole_left w) (attempts_after phase work.cutover.attempts * whole_left w) (waited_by plan journal Lock) (waited_by plan journal Ren) (waited_by plan more Lock) (waited_by plan more Ren)
+        rw live (lost_join (turns_at plan journal) (turns_at plan more) (attempt_left w (live_at journal) (hold_after hold phase answers.Lost) renames (locker_phase phase answers.Lost)) (attempt_left w (live_at journal) hold renames phase) (begun_left w phase) (work.cutover.attempts * whole_left w) (attempts_after phase work.cutover.attempts * whole_left w) (waited_by plan journal Lock) (waited_by plan journal Ren) (waited_by plan more Lock) (waited_by plan more Ren)
         (cut_same cut) pays old_paid (begun_times w work.cutover.attempts phase) over other)
 
     -- THE RENAMER
@@ -389,7 +386,7 @@ module _ (plan : PlanData) (may : MayWait plan) (runs : IsRunnable plan) (journa
         let pays = renamer_pays w (live_at journal) hold (waited_by plan journal Ren) renames phase entry.answer at.renamer (asks_at plan journal entry going.standing run work eq asks) (renames_done plan journal is.counted going work eq) (ren_waits plan journal is.counted going work eq) (λ drained. (goes work eq called uncut).renames drained same) in
         let waits : waited_by plan more Ren ≡ waits_after entry.answer (waited_by plan journal Ren) = ap (waited_by plan more) (sym same) ∙ own_waits called uncut ∙ ap (λ (a : Actor). waits_after entry.answer (waited_by plan journal a)) same in
         let other = waits_there Lock (ap (λ (a : Actor). same_actor a Lock) same) in
-        rw (live, waits) (ren_join (turns_at plan journal) (turns_at plan more) (phase_left w (live_at journal) hold (is_wait entry.answer) (renamer_phase phase entry.answer)) (phase_left w (live_at journal) hold renames phase) (work.cutover.attempts * whole_left w) (waited_by plan journal Lock) (waited_by plan journal Ren) (waited_by plan more Lock) (waits_after entry.answer (waited_by plan journal Ren))
+        rw (live, waits) (ren_join (turns_at plan journal) (turns_at plan more) (attempt_left w (live_at journal) hold (is_wait entry.answer) (renamer_phase phase entry.answer)) (attempt_left w (live_at journal) hold renames phase) (work.cutover.attempts * whole_left w) (waited_by plan journal Lock) (waited_by plan journal Ren) (waited_by plan more Lock) (waits_after entry.answer (waited_by plan journal Ren))
         one_more pays old_paid other)
 
     gone_join : (t s x y a l r l' r' : ℕ) → s ≡ t → x + r ≤ y → t + y ≤ a + (l + r) → l' ≡ l → r' ≡ 0 → s + x ≤ a + (l' + r')
@@ -402,14 +399,14 @@ module _ (plan : PlanData) (may : MayWait plan) (runs : IsRunnable plan) (journa
         let pays = renamer_lost w (live_at journal) hold (waited_by plan journal Ren) renames phase at.renamer (renames_done plan journal is.counted going work eq) (ren_waits plan journal is.counted going work eq) in
         let over : waited_by plan more Ren ≡ 0 = ap (waited_by plan more) (sym same) ∙ cut_waits cut in
         let other = waits_there Lock (ap (λ (a : Actor). same_actor a Lock) same) in
-        rw live (gone_join (turns_at plan journal) (turns_at plan more) (phase_left w (live_at journal) hold false (failed phase)) (phase_left w (live_at journal) hold renames phase) (work.cutover.attempts * whole_left w) (waited_by plan journal Lock) (waited_by plan journal Ren) (waited_by plan more Lock) (waited_by plan more Ren)
+        rw live (gone_join (turns_at plan journal) (turns_at plan more) (attempt_left w (live_at journal) hold false (failed phase)) (attempt_left w (live_at journal) hold renames phase) (work.cutover.attempts * whole_left w) (waited_by plan journal Lock) (waited_by plan journal Ren) (waited_by plan more Lock) (waited_by plan more Ren)
         (cut_same cut) pays old_paid other over)
 
     -- THE INSPECTOR
 
     module _ (same : entry.actor ≡ Insp) where
       abbrev Pays : Phase → Phase → Type 0
-      Pays before after = turns_at plan more + phase_left w (live_at more) hold renames after ≤ turns_at plan journal + phase_left w (live_at journal) hold renames before
+      Pays before after = turns_at plan more + attempt_left w (live_at more) hold renames after ≤ turns_at plan journal + attempt_left w (live_at journal) hold renames before
 
       -- what is heard, or the session is lost in the turn
       heard_or : (P : Answer → Type 0) → (entry.side ≡ None → P entry.answer) → ((side : Side) → entry.side ≡ Some side → P answers.Lost) → P entry.answer
@@ -511,7 +508,7 @@ module _ (plan : PlanData) (may : MayWait plan) (runs : IsRunnable plan) (journa
       unfolding cutovers.took attempts.next
       insp_turn called uncut (polls_so request asks some) tries = none_some request (has Insp).waits going.idle some
       insp_turn called uncut (calls_so request asks idle call) tries =
-          insp_join (turns_at plan journal) (turns_at plan more) (phase_left w (live_at more) hold renames (inspector_phase work.cutover phase entry.answer)) (phase_left w (live_at journal) hold renames phase) (work.cutover.attempts * whole_left w) (waited_at plan journal) (waited_at plan more)
+          insp_join (turns_at plan journal) (turns_at plan more) (attempt_left w (live_at more) hold renames (inspector_phase work.cutover phase entry.answer)) (attempt_left w (live_at journal) hold renames phase) (work.cutover.attempts * whole_left w) (waited_at plan journal) (waited_at plan more)
           (insp_pays called uncut phase refl request asks (about_own plan journal entry going.standing run Insp request same (is_called asks going.idle)) (ap (λ (c : ToolPhase). tool_call plan now.server journal now.tool c Insp) (sym eq) ∙ call)) old_paid
           (both_there (ap (λ (a : Actor). same_actor a Lock) same) (ap (λ (a : Actor). same_actor a Ren) same))
 
@@ -716,6 +713,6 @@ attempt_turns_few plan journal may tries runs serial kept = by (moment plan jour
         none_of t l r k paid lock ren = omega (arith, paid, lock, ren)
   by (Migrating work) eq paid =
       let most = times work.cutover.attempts plan.options.default_retries (whole_left plan.options.tool_wait) (attempts_few plan journal work tries.some kept.faithful kept.follows eq) in
-      join (turns_at plan journal) (phase_left plan.options.tool_wait (live_at journal) work.cutover.hold work.cutover.renamer_waits work.cutover.phase) (work.cutover.attempts * whole_left plan.options.tool_wait) (plan.options.default_retries * whole_left plan.options.tool_wait) (waited_by plan journal Lock) (waited_by plan journal Ren) (hold_waits plan.options.tool_wait work.cutover.hold) (rename_waits plan.options.tool_wait work.cutover.renamer_waits)
+      join (turns_at plan journal) (attempt_left plan.options.tool_wait (live_at journal) work.cutover.hold work.cutover.renamer_waits work.cutover.phase) (work.cutover.attempts * whole_left plan.options.tool_wait) (plan.options.default_retries * whole_left plan.options.tool_wait) (waited_by plan journal Lock) (waited_by plan journal Ren) (hold_waits plan.options.tool_wait work.cutover.hold) (rename_waits plan.options.tool_wait work.cutover.renamer_waits)
       paid most (lock_waits plan journal is.counted going work eq) (ren_waits plan journal is.counted going work eq)
       (waits_left plan.options.tool_wait (live_at journal) work.cutover.hold work.cutover.renamer_waits work.cutover.phase (work_stands plan journal is.counted going work eq).phase (work_at plan journal is.counted going work eq).renamer (sentries_made plan journal work runs serial kept eq).hold (hold_done plan journal is.counted going work eq) (renames_done plan journal is.counted going work eq))

@@ -55,12 +55,12 @@ stage_left w hold renames Unlocking = 3 + hold_left w hold + rename_left w renam
 stage_left w hold renames Exchanging = 3 + hold_left w hold + rename_left w renames
 
 -- *Left* in a phase: `w` is how often a wait of the tool's is polled
-abbrev pub phase_left : ℕ → Bool → Hold → Bool → Phase → ℕ
-phase_left w live hold renames Resting = 0
-phase_left w live hold renames (Attempting stage) = stage_left w hold renames stage
-phase_left w live hold renames (Ending cleared) = hold_left w hold + rename_left w renames + clear_left live cleared
-phase_left w live hold renames (Finishing cleared) = 0
-phase_left w live hold renames Finished = 0
+abbrev pub attempt_left : ℕ → Bool → Hold → Bool → Phase → ℕ
+attempt_left w live hold renames Resting = 0
+attempt_left w live hold renames (Attempting stage) = stage_left w hold renames stage
+attempt_left w live hold renames (Ending cleared) = hold_left w hold + rename_left w renames + clear_left live cleared
+attempt_left w live hold renames (Finishing cleared) = 0
+attempt_left w live hold renames Finished = 0
 
 -- the sentry's CREATE begins an attempt, which has so many
 abbrev pub whole_left : ℕ → ℕ
@@ -105,7 +105,7 @@ hold_most w WaitsToLock = omega arith
 hold_most w Locks = omega arith
 
 -- an attempt that fails: its end leaves fewer by three than its stage had
-pub stage_ends : (w : ℕ) (live : Bool) (hold : Hold) (renames : Bool) (stage : Stage) → 1 + phase_left w live hold renames (Ending Looking) ≤ stage_left w hold renames stage
+pub stage_ends : (w : ℕ) (live : Bool) (hold : Hold) (renames : Bool) (stage : Stage) → 1 + attempt_left w live hold renames (Ending Looking) ≤ stage_left w hold renames stage
 stage_ends w live hold renames Guarding = let a = clear_two live Looking in let b = rename_most w renames in let c = hold_most w hold in omega (arith, a, b, c)
 stage_ends w live hold renames Locking = let a = clear_two live Looking in let b = rename_most w renames in let c = hold_most w hold in omega (arith, a, b, c)
 stage_ends w live hold renames Hinting = let a = clear_two live Looking in omega (arith, a)
@@ -120,20 +120,20 @@ less_of : (a b : ℕ) → 1 + a ≤ b → a ≤ b
 less_of a b less = omega (arith, less)
 
 -- a revert, and the drain, leave no more
-pub ended_left : (w : ℕ) (live : Bool) (hold : Hold) (renames : Bool) (phase : Phase) → phase_left w live hold renames (ended phase) ≤ phase_left w live hold renames phase
+pub ended_left : (w : ℕ) (live : Bool) (hold : Hold) (renames : Bool) (phase : Phase) → attempt_left w live hold renames (ended phase) ≤ attempt_left w live hold renames phase
 ended_left w live hold renames (Attempting Unlocking) = omega arith
 ended_left w live hold renames (Attempting Exchanging) = omega arith
-ended_left w live hold renames (Attempting stage) = less_of (phase_left w live hold renames (Ending Looking)) (stage_left w hold renames stage) (stage_ends w live hold renames stage)
+ended_left w live hold renames (Attempting stage) = less_of (attempt_left w live hold renames (Ending Looking)) (stage_left w hold renames stage) (stage_ends w live hold renames stage)
 ended_left w live hold renames Resting = omega arith
 ended_left w live hold renames (Ending cleared) = omega arith
 ended_left w live hold renames (Finishing cleared) = omega arith
 ended_left w live hold renames Finished = omega arith
 
-pub drained_left : (w : ℕ) (live : Bool) (hold : Hold) (renames : Bool) (cutover : CutOver) (hint : ℕ) (phase : Phase) → phase_left w live hold renames (drained cutover hint phase) ≤ phase_left w live hold renames phase
+pub drained_left : (w : ℕ) (live : Bool) (hold : Hold) (renames : Bool) (cutover : CutOver) (hint : ℕ) (phase : Phase) → attempt_left w live hold renames (drained cutover hint phase) ≤ attempt_left w live hold renames phase
 drained_left w live hold renames cutover hint (Attempting (Draining turns)) = by (hint == cutover.attempts) (nat_le cutover.drain_limit (turns + 1)) where
-  by : (a b : Bool) → phase_left w live hold renames (cond a (Attempting Drained) (cond b (Ending Looking) (Attempting (Draining (turns + 1))))) ≤ stage_left w hold renames (Draining turns)
+  by : (a b : Bool) → attempt_left w live hold renames (cond a (Attempting Drained) (cond b (Ending Looking) (Attempting (Draining (turns + 1))))) ≤ stage_left w hold renames (Draining turns)
   by true b = omega arith
-  by false true = less_of (phase_left w live hold renames (Ending Looking)) (stage_left w hold renames (Draining turns)) (stage_ends w live hold renames (Draining turns))
+  by false true = less_of (attempt_left w live hold renames (Ending Looking)) (stage_left w hold renames (Draining turns)) (stage_ends w live hold renames (Draining turns))
   by false false = omega arith
 drained_left w live hold renames cutover hint (Attempting stage) = omega arith
 drained_left w live hold renames cutover hint Resting = omega arith
@@ -142,7 +142,7 @@ drained_left w live hold renames cutover hint (Finishing cleared) = omega arith
 drained_left w live hold renames cutover hint Finished = omega arith
 
 -- without a session the inspector has no more
-pub unseated_left : (w : ℕ) (live : Bool) (hold : Hold) (renames : Bool) (phase : Phase) → phase_left w false hold renames phase ≤ phase_left w live hold renames phase
+pub unseated_left : (w : ℕ) (live : Bool) (hold : Hold) (renames : Bool) (phase : Phase) → attempt_left w false hold renames phase ≤ attempt_left w live hold renames phase
 unseated_left w live hold renames Resting = omega arith
 unseated_left w live hold renames (Attempting stage) = omega arith
 unseated_left w true hold renames (Ending Looking) = omega arith
@@ -156,7 +156,7 @@ unseated_left w live hold renames Finished = omega arith
 module _ (w : ℕ) (live : Bool) (renames : Bool) (table : List ℕ) (request : Request) (waited : ℕ) where
   -- one turn of the locker's, heard so
   abbrev pub LockerPays : Hold → Phase → Answer → Type 0
-  LockerPays hold phase answer = 1 + phase_left w live (hold_after hold phase answer) renames (locker_phase phase answer) + waited ≤ phase_left w live hold renames phase + begun_left w phase + waits_after answer waited
+  LockerPays hold phase answer = 1 + attempt_left w live (hold_after hold phase answer) renames (locker_phase phase answer) + waited ≤ attempt_left w live hold renames phase + begun_left w phase + waits_after answer waited
 
   begins : (answer : Answer) → waited ≤ 0 → LockerPays Nothing Resting answer
   begins (answers.Ok count) none = omega (arith, none)
@@ -166,7 +166,7 @@ module _ (w : ℕ) (live : Bool) (renames : Bool) (table : List ℕ) (request : 
   locks : (hold : Hold) (answer : Answer) → hold_after hold (Attempting Locking) answer ≡ hold_after Nothing (Attempting Locking) answer → waited ≤ w → renames ≡ false → IsNotRefused answer → LockerPays hold (Attempting Locking) answer
   locks hold answer same most off goes = rw same (rw off (by answer goes)) where
     by : (answer : Answer) → IsNotRefused answer
-        → 1 + phase_left w live (hold_after Nothing (Attempting Locking) answer) false (locker_phase (Attempting Locking) answer) + waited ≤ 2 * w + 9 + 0 + waits_after answer waited
+        → 1 + attempt_left w live (hold_after Nothing (Attempting Locking) answer) false (locker_phase (Attempting Locking) answer) + waited ≤ 2 * w + 9 + 0 + waits_after answer waited
     by (answers.Ok count) goes = omega (arith, most)
     by (answers.Waits other) goes = omega (arith, most)
     by (answers.TimedOut n) goes = let a = clear_two live Looking in omega (arith, a, most)
@@ -229,9 +229,9 @@ module _ (w : ℕ) (live : Bool) (renames : Bool) (table : List ℕ) (request : 
   locker_pays Locks phase answer holds renamer guarded done asks most locked dropped = absurd asks
 
   -- *Its session is lost* between calls
-  lost_stage : (hold : Hold) (stage : Stage) → hold_after hold (Attempting stage) answers.Lost ≡ Nothing → WaitsForNoSentry hold → waited ≤ hold_waits w hold → phase_left w live (hold_after hold (Attempting stage) answers.Lost) renames (Ending Looking) + waited ≤ stage_left w hold renames stage
+  lost_stage : (hold : Hold) (stage : Stage) → hold_after hold (Attempting stage) answers.Lost ≡ Nothing → WaitsForNoSentry hold → waited ≤ hold_waits w hold → attempt_left w live (hold_after hold (Attempting stage) answers.Lost) renames (Ending Looking) + waited ≤ stage_left w hold renames stage
   lost_stage hold stage nothing guarded most = rw nothing (by hold guarded most (stage_ends w live hold renames stage)) where
-    by : (hold : Hold) → WaitsForNoSentry hold → waited ≤ hold_waits w hold → 1 + phase_left w live hold renames (Ending Looking) ≤ stage_left w hold renames stage → phase_left w live Nothing renames (Ending Looking) + waited ≤ stage_left w hold renames stage
+    by : (hold : Hold) → WaitsForNoSentry hold → waited ≤ hold_waits w hold → 1 + attempt_left w live hold renames (Ending Looking) ≤ stage_left w hold renames stage → attempt_left w live Nothing renames (Ending Looking) + waited ≤ stage_left w hold renames stage
     by Nothing guarded most ends = omega (arith, most, ends)
     by WaitsToGuard guarded most ends = absurd guarded
     by WaitsToLock guarded most ends = omega (arith, most, ends)
@@ -245,7 +245,7 @@ module _ (w : ℕ) (live : Bool) (renames : Bool) (table : List ℕ) (request : 
   lost_nothing Locks Dropping = refl
   lost_nothing Locks stage = refl
 
-  lost_end : (hold : Hold) (cleared : Cleared) → WaitsForNoSentry hold → waited ≤ hold_waits w hold → phase_left w live (hold_after hold (Ending cleared) answers.Lost) renames (Ending cleared) + waited ≤ phase_left w live hold renames (Ending cleared)
+  lost_end : (hold : Hold) (cleared : Cleared) → WaitsForNoSentry hold → waited ≤ hold_waits w hold → attempt_left w live (hold_after hold (Ending cleared) answers.Lost) renames (Ending cleared) + waited ≤ attempt_left w live hold renames (Ending cleared)
   lost_end Nothing cleared guarded most = omega (arith, most)
   lost_end WaitsToGuard cleared guarded most = absurd guarded
   lost_end WaitsToLock cleared guarded most = omega (arith, most)
@@ -257,7 +257,7 @@ module _ (w : ℕ) (live : Bool) (renames : Bool) (table : List ℕ) (request : 
     subst_most same = Rattle.std.proofs.Common.subst (λ (h : Hold). waited ≤ hold_waits w h) same most
 
   pub locker_lost : (hold : Hold) (phase : Phase) → PhaseHolds phase hold → WaitsForNoSentry hold → (is_done phase ≡ true → hold ≡ Nothing) → waited ≤ hold_waits w hold
-      → phase_left w live (hold_after hold phase answers.Lost) renames (locker_phase phase answers.Lost) + waited ≤ phase_left w live hold renames phase + begun_left w phase
+      → attempt_left w live (hold_after hold phase answers.Lost) renames (locker_phase phase answers.Lost) + waited ≤ attempt_left w live hold renames phase + begun_left w phase
   locker_lost hold Resting holds guarded done most =
       let none = none_done hold holds most in
       let a = clear_two live Looking in
@@ -275,7 +275,7 @@ module _ (w : ℕ) (live : Bool) (renames : Bool) (table : List ℕ) (request : 
 
 module _ (w : ℕ) (live : Bool) (hold : Hold) (waited : ℕ) where
   abbrev pub RenamerPays : Bool → Phase → Answer → Type 0
-  RenamerPays renames phase answer = 1 + phase_left w live hold (is_wait answer) (renamer_phase phase answer) + waited ≤ phase_left w live hold renames phase + waits_after answer waited
+  RenamerPays renames phase answer = 1 + attempt_left w live hold (is_wait answer) (renamer_phase phase answer) + waited ≤ attempt_left w live hold renames phase + waits_after answer waited
 
   -- a poll, in each phase in which the RENAME may wait
   polls_showing : (answer : Answer) → waited ≤ w → RenamerPays true (Attempting Showing) answer
@@ -343,11 +343,11 @@ module _ (w : ℕ) (live : Bool) (hold : Hold) (waited : ℕ) where
   renamer_pays true (Attempting Drained) answer at asks done most goes = absurd (true≢false at)
 
   -- *Its session is lost* between calls
-  lost_fails : (renames : Bool) (stage : Stage) → waited ≤ rename_waits w renames → phase_left w live hold false (Ending Looking) + waited ≤ stage_left w hold renames stage
+  lost_fails : (renames : Bool) (stage : Stage) → waited ≤ rename_waits w renames → attempt_left w live hold false (Ending Looking) + waited ≤ stage_left w hold renames stage
   lost_fails true stage most = let a = stage_ends w live hold true stage in omega (arith, a, most)
   lost_fails false stage most = let a = stage_ends w live hold false stage in omega (arith, a, most)
 
-  lost_ends : (renames : Bool) (cleared : Cleared) → waited ≤ rename_waits w renames → phase_left w live hold false (Ending cleared) + waited ≤ phase_left w live hold renames (Ending cleared)
+  lost_ends : (renames : Bool) (cleared : Cleared) → waited ≤ rename_waits w renames → attempt_left w live hold false (Ending cleared) + waited ≤ attempt_left w live hold renames (Ending cleared)
   lost_ends true cleared most = omega (arith, most)
   lost_ends false cleared most = omega (arith, most)
 
@@ -355,7 +355,7 @@ module _ (w : ℕ) (live : Bool) (hold : Hold) (waited : ℕ) where
   none_renames true off most = absurd (true≢false off)
   none_renames false off most = most
 
-  pub renamer_lost : (renames : Bool) (phase : Phase) → RenamerAt phase renames → (is_done phase ≡ true → renames ≡ false) → waited ≤ rename_waits w renames → phase_left w live hold false (failed phase) + waited ≤ phase_left w live hold renames phase
+  pub renamer_lost : (renames : Bool) (phase : Phase) → RenamerAt phase renames → (is_done phase ≡ true → renames ≡ false) → waited ≤ rename_waits w renames → attempt_left w live hold false (failed phase) + waited ≤ attempt_left w live hold renames phase
   renamer_lost renames (Attempting stage) at done most = lost_fails renames stage most
   renamer_lost renames (Ending cleared) at done most = lost_ends renames cleared most
   renamer_lost renames Resting at done most = let a = none_renames renames at most in omega (arith, a)
@@ -385,7 +385,7 @@ module _ (w : ℕ) (live : Bool) (hold : Hold) (renames : Bool) where
   stage_paid : WaitsForNoSentry hold → (stage : Stage) → hold_waits w hold + rename_waits w renames ≤ stage_left w hold renames stage
   stage_paid guarded stage = let a = hold_paid guarded in let b = rename_paid in let c = stage_ends w live hold renames stage in omega (arith, a, b, c)
 
-  pub waits_left : (phase : Phase) → PhaseHolds phase hold → RenamerAt phase renames → WaitsForNoSentry hold → (is_done phase ≡ true → hold ≡ Nothing) → (is_done phase ≡ true → renames ≡ false) → hold_waits w hold + rename_waits w renames ≤ phase_left w live hold renames phase
+  pub waits_left : (phase : Phase) → PhaseHolds phase hold → RenamerAt phase renames → WaitsForNoSentry hold → (is_done phase ≡ true → hold ≡ Nothing) → (is_done phase ≡ true → renames ≡ false) → hold_waits w hold + rename_waits w renames ≤ attempt_left w live hold renames phase
   waits_left Resting holds renamer guarded done renamed = free_paid holds renamer
   waits_left (Attempting stage) holds renamer guarded done renamed = stage_paid guarded stage
   waits_left (Ending cleared) holds renamer guarded done renamed = let a = hold_paid guarded in let b = rename_paid in omega (arith, a, b)

@@ -179,9 +179,6 @@ drops_done name found number inside there =
     subst (λ (b : Bool). IsNotRefused (does (effect_unless b (is_in_transaction (session_of number found.sessions)) (view number found) found (requests.Drop name)) found number).answer) (sym inside)
     (subst (λ (b : Bool). IsNotRefused (does (defined (dropped b name found.tables)) found number).answer) (sym there) tt)
 
-none_beyond : (names : List (List ℕ)) → is_beyond [] names ≡ false
-none_beyond names = refl
-
 old_within : (t : List ℕ) → is_beyond (both_names t) (old_name t ∷ []) ≡ false
 old_within t = rw (same_bytes (old_name t), or-true (bytes_eq (old_name t) t)) refl
 
