@@ -10,6 +10,7 @@ use Rattle.proof_plans.specs.Complete.Laws.{IsSmoothRun}
 use Rattle.proof_bounds.specs.Parts.{Part, OfOperator, OfClients, OfSetup, OfChunks, OfBatches, OfAttempts, OfClearing, turns_of_part}
 use Rattle.tool_program.specs.JournalWords.Bounds.{measures, bound}
 use Rattle.proof_bounds.specs.Terms.{term_of}
+use Rattle.proof_tasks.specs.Batches.{NamesOnce}
 
 -- *A part is bounded*: any journal that a run of an accepted plan keeps has at most as many turns of it as its term
 abbrev pub IsBounded : Part → Type 0
@@ -24,33 +25,30 @@ ClientsAreBounded = IsBounded OfClients
 abbrev pub SetupIsBounded : Type 0
 SetupIsBounded = IsBounded OfSetup
 
+abbrev pub AttemptsAreBounded : Type 0
+AttemptsAreBounded = IsBounded OfAttempts
+
 abbrev pub ClearingIsBounded : Type 0
 ClearingIsBounded = IsBounded OfClearing
 
--- each part is
-pub record AreBounded : Type 0 where
-  pub operator : IsBounded OfOperator
-  pub clients : IsBounded OfClients
-  pub setup : IsBounded OfSetup
-  pub chunks : IsBounded OfChunks
-  pub batches : IsBounded OfBatches
-  pub attempts : IsBounded OfAttempts
-  pub clearing : IsBounded OfClearing
+abbrev pub ChunksAreBounded : Type 0
+ChunksAreBounded = IsBounded OfChunks
 
--- *Runs are bounded*: a run of an accepted plan that hasn't ended has fewer turns than the bound
+-- *Batches are bounded*, of a plan whose new table's clustered key names no column twice: where it does, as MySQL allows no key to,
+-- the applier's DELETE and UPDATE by the key are refused for ever
+abbrev pub BatchesAreBounded : Type 0
+BatchesAreBounded = (plan : PlanData) (journal : List Entry) → WasRead plan → NamesOnce plan → IsKept plan journal → turns_of_part OfBatches plan journal ≤ term_of OfBatches (measures plan)
+
+-- *Runs are bounded*: a run of such an accepted plan that hasn't ended has fewer turns than the bound, since each part is bounded and
+-- some actor is ready until a run has ended
 abbrev pub RunsAreBounded : Type 0
-RunsAreBounded = (plan : PlanData) (journal : List Entry) → WasRead plan → IsKept plan journal → has_ended plan journal ≡ false → length journal < bound plan
-
--- *Parts bound runs*: where each part is bounded so are runs, since some actor is ready until a run has ended
-abbrev pub PartsBoundRuns : Type 0
-PartsBoundRuns = AreBounded → RunsAreBounded
+RunsAreBounded = (plan : PlanData) (journal : List Entry) → WasRead plan → NamesOnce plan → IsKept plan journal → has_ended plan journal ≡ false → length journal < bound plan
 
 -- *Smooth runs of accepted plans are done*: in which nothing hinders the tool, whoever else there is, and which have ended
 abbrev pub AcceptedSmoothRunsAreDone : Type 0
 AcceptedSmoothRunsAreDone = (plan : PlanData) (journal : List Entry) → WasRead plan → IsKept plan journal → IsSmoothRun plan journal → has_ended plan journal ≡ true → verdict_of plan journal ≡ Done
 
--- *With room*: where the plan allows as many turns as the bound, a run that is over, ended or with all its turns taken, has ended;
+-- *With room*: where such a plan allows as many turns as the bound, a run that is over, ended or with all its turns taken, has ended;
 -- so it is done, where nothing hinders the tool
 abbrev pub RoomyRunsEnd : Type 0
-RoomyRunsEnd =
-    RunsAreBounded → (plan : PlanData) (journal : List Entry) → WasRead plan → IsKept plan journal → bound plan ≤ plan.options.turn_limit → (has_ended plan journal ≡ true) ⊎ (length journal ≡ plan.options.turn_limit) → has_ended plan journal ≡ true
+RoomyRunsEnd = (plan : PlanData) (journal : List Entry) → WasRead plan → NamesOnce plan → IsKept plan journal → bound plan ≤ plan.options.turn_limit → (has_ended plan journal ≡ true) ⊎ (length journal ≡ plan.options.turn_limit) → has_ended plan journal ≡ true

@@ -1,4 +1,5 @@
--- A plan that is read lets a session wait once at least, and allows one turn at least.
+-- A plan that is read lets a session wait once at least, allows one turn at least, and lets a task be tried from once to a thousand
+-- times.
 use Rattle.std.proofs.Common.{◌≡◌, ◌≤◌, ℕ, Bool, true, false, not, ◌||◌, cond, List, length, Result, Ok, Err, refl, subst, arith}
 use Rattle.std.specs.Prelude.{ℤ, pos, negsuc, int_lt, nat_lt}
 use Rattle.std.proofs.lemmas.Bool.{or_parts}
@@ -34,6 +35,14 @@ once high n (pos m) is =
     subst (λ (k : ℕ). 1 ≤ k) kept.1 (grind (arith, nat_tests, low))
 once high n (negsuc m) is = absurd cc
 
+most : (high n : ℕ) (number : ℤ) → within 1 high number ≡ Ok n → n ≤ high
+unfolding within
+most high n (pos m) is =
+    let kept = kept_out (int_lt (pos m) (pos 1) || int_lt (pos high) (pos m)) m n keys.OutOfRange is in
+    let low = or_parts (int_lt (pos m) (pos 1)) (int_lt (pos high) (pos m)) kept.0 in
+    subst (λ (k : ℕ). k ≤ high) kept.1 (grind (arith, nat_tests, low))
+most high n (negsuc m) is = absurd cc
+
 allowed_within : (numbers : NumberKeys) (truths : TruthKeys) (options : Options) → options_within numbers truths ≡ Ok options → IsAllowed options
 unfolding options_within
 allowed_within numbers truths options is =
@@ -50,6 +59,8 @@ allowed_within numbers truths options is =
       client = once 100000 of_client.0 numbers.client_wait of_client.1;
       tool = once 100000 of_tool.0 numbers.tool_wait of_tool.1;
       turns = once 1000000 turns.0 numbers.turn_limit turns.1;
+      tries = once 1000 failures.0 numbers.default_retries failures.1;
+      few = most 1000 failures.0 numbers.default_retries failures.1;
     })
 
 allowed_in : (typed : TypedData) (found : KeyData) → in_range typed ≡ Ok found → IsAllowed found.options

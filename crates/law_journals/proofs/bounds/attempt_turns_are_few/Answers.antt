@@ -1,0 +1,5 @@
+use Rattle.proof_attempts.proofs.Attempts.{attempt_turns_few}
+use Rattle.law_journals.proofs.bounds.attempt_turns_are_few.Goals as goal
+
+pub returns : goal.returns
+returns c = attempt_turns_few

@@ -1,0 +1,5 @@
+use Rattle.proof_attempts.proofs.Calls.{attempts_go}
+use Rattle.law_journals.proofs.bounds.attempts_go_on.Goals as goal
+
+pub returns : goal.returns
+returns c = attempts_go

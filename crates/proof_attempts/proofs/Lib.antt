@@ -1,0 +1,10 @@
+pub mod Potentials
+pub mod Listings
+pub mod Blocked
+pub mod Sentries
+pub mod HintRows
+pub mod HintInserts
+pub mod ChangelogTurns
+pub mod Changelogs
+pub mod Calls
+pub mod Attempts

@@ -1,0 +1,16 @@
+pub mod TurnRule
+pub mod Paying
+pub mod Logs
+pub mod Growing
+pub mod Past
+pub mod OwnTurns
+pub mod ChunkSteps
+pub mod BatchSteps
+pub mod Chunks
+pub mod ChunksGo
+pub mod Batches
+pub mod Rested
+pub mod ReadLogs
+pub mod StatementAnswers
+pub mod BatchesGo
+pub mod Totals

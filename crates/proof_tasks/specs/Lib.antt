@@ -1,0 +1,4 @@
+pub mod Answers
+pub mod Chunks
+pub mod Batches
+pub mod Totals
