@@ -31,7 +31,6 @@ use Rattle.proof_bounds.specs.Clearings.{ClearingTurnsAreFew}
 use Rattle.proof_bounds.proofs.Going.{setups_go, clearings_go}
 use Rattle.proof_attempts.specs.Attempts.{AttemptTurnsAreFew}
 use Rattle.proof_events.specs.Laws.{ChunksAreFew, CommittedRowsAreFew, EventsAreFew, HintsAreFew}
-use Rattle.proof_tasks.specs.Batches.{NamesOnce}
 use Rattle.proof_tasks.proofs.BatchesGo.{ServerLaws}
 use Rattle.proof_tasks.proofs.Logs.{both_few}
 use Rattle.proof_tasks.proofs.Totals.{batches_stay, chunks_stay}
@@ -78,11 +77,11 @@ chunks_bounded again defined rows chunks options runnable serial plan journal wa
 -- *The batches' part*
 pub batches_bounded : ServerLaws → EventsAreFew → HintsAreFew → ReadOptionsAllow → ReadPlansAreRunnable → ReadPlansAreSerial → ReadPlansAreAlterable → BatchesAreBounded
 unfolding measures
-batches_bounded laws events hints options runnable serial alterable plan journal was once kept =
+batches_bounded laws events hints options runnable serial alterable plan journal was kept =
     let allowed = options was.bytes plan was.is in
     let runs = runnable plan was in
     let whole = serial was.bytes plan was.is in
-    batches_stay laws plan (alterable was.bytes plan was.is) runs whole (record { client = allowed.client; tool = allowed.tool }) allowed.tries once
+    batches_stay laws plan (alterable was.bytes plan was.is) runs whole (record { client = allowed.client; tool = allowed.tool }) allowed.tries
     (λ before one off.
     let both = both_few plan.table (state_at plan before).log in
     let own = events plan before runs whole one off in
@@ -105,15 +104,15 @@ pub record PartsAre : Type 0 where
   pub chunks : ChunksAreBounded
   pub batches : BatchesAreBounded
 
-all_bounded : PartsMakeJournals → PartsAre → (plan : PlanData) (journal : List Entry) → WasRead plan → NamesOnce plan → IsKept plan journal → length journal ≤ bound plan
-all_bounded make parts plan journal was once kept =
+all_bounded : PartsMakeJournals → PartsAre → (plan : PlanData) (journal : List Entry) → WasRead plan → IsKept plan journal → length journal ≤ bound plan
+all_bounded make parts plan journal was kept =
     let whole = terms_sum (measures plan) in
     let sum = make plan journal in
     let a = parts.operator plan journal was kept in
     let b = parts.clients plan journal was kept in
     let c = parts.setup plan journal was kept in
     let d = parts.chunks plan journal was kept in
-    let e = parts.batches plan journal was once kept in
+    let e = parts.batches plan journal was kept in
     let f = parts.attempts plan journal was kept in
     let g = parts.clearing plan journal was kept in
     omega (arith, whole, sum, a, b, c, d, e, f, g)
@@ -140,12 +139,12 @@ is_due plan journal actor ready = by (cut_due plan journal) where
 
 -- *Runs are bounded*
 pub runs_bounded : PartsMakeJournals → PartsAre → AcceptedRunsGoOn → DueTurnsAreKept → RunsAreBounded
-runs_bounded make parts going kept_on plan journal was once kept unended =
+runs_bounded make parts going kept_on plan journal was kept unended =
     let ready = some_of (is_ready plan journal) (actors plan) (going plan journal was kept unended) in
     let turn = is_due plan journal ready.0 ready.1 in
     let on = kept_on plan journal (state_at plan journal) ready.0 turn.0 kept (record { made = omega arith; same = refl }) turn.1 in
     let long = length_push journal (next_entry journal (state_at plan journal) turn.0) in
-    let most = all_bounded make parts plan (journal ++ next_entry journal (state_at plan journal) turn.0 ∷ []) was once on.kept in
+    let most = all_bounded make parts plan (journal ++ next_entry journal (state_at plan journal) turn.0 ∷ []) was on.kept in
     omega (arith, long, most)
 
 -- THE END
@@ -154,10 +153,10 @@ pub smooth_done : SmoothRunsAreDone → ReadPlansAreRunnable → AcceptedSmoothR
 smooth_done law runnable plan journal was kept smooth ended = let is = runnable plan was in law plan journal is.fitting is.stands kept.faithful kept.follows smooth ended
 
 pub roomy_end : RunsAreBounded → RoomyRunsEnd
-roomy_end bounded plan journal was once kept room (inl ended) = ended
-roomy_end bounded plan journal was once kept room (inr full) = by (has_ended plan journal) refl where
+roomy_end bounded plan journal was kept room (inl ended) = ended
+roomy_end bounded plan journal was kept room (inr full) = by (has_ended plan journal) refl where
   by : (b : Bool) → has_ended plan journal ≡ b → b ≡ true
   by true ended = refl
-  by false unended = let less = bounded plan journal was once kept unended in absurd (never less) where
+  by false unended = let less = bounded plan journal was kept unended in absurd (never less) where
     never : length journal < bound plan → ⊥
     never less = omega (arith, less, room, full)

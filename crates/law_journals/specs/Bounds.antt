@@ -10,7 +10,6 @@ use Rattle.proof_plans.specs.Complete.Laws.{IsSmoothRun}
 use Rattle.proof_bounds.specs.Parts.{Part, OfOperator, OfClients, OfSetup, OfChunks, OfBatches, OfAttempts, OfClearing, turns_of_part}
 use Rattle.tool_program.specs.JournalWords.Bounds.{measures, bound}
 use Rattle.proof_bounds.specs.Terms.{term_of}
-use Rattle.proof_tasks.specs.Batches.{NamesOnce}
 
 -- *A part is bounded*: any journal that a run of an accepted plan keeps has at most as many turns of it as its term
 abbrev pub IsBounded : Part → Type 0
@@ -34,21 +33,19 @@ ClearingIsBounded = IsBounded OfClearing
 abbrev pub ChunksAreBounded : Type 0
 ChunksAreBounded = IsBounded OfChunks
 
--- *Batches are bounded*, of a plan whose new table's clustered key names no column twice: where it does, as MySQL allows no key to,
--- the applier's DELETE and UPDATE by the key are refused for ever
 abbrev pub BatchesAreBounded : Type 0
-BatchesAreBounded = (plan : PlanData) (journal : List Entry) → WasRead plan → NamesOnce plan → IsKept plan journal → turns_of_part OfBatches plan journal ≤ term_of OfBatches (measures plan)
+BatchesAreBounded = IsBounded OfBatches
 
--- *Runs are bounded*: a run of such an accepted plan that hasn't ended has fewer turns than the bound, since each part is bounded and
+-- *Runs are bounded*: a run of an accepted plan that hasn't ended has fewer turns than the bound, since each part is bounded and
 -- some actor is ready until a run has ended
 abbrev pub RunsAreBounded : Type 0
-RunsAreBounded = (plan : PlanData) (journal : List Entry) → WasRead plan → NamesOnce plan → IsKept plan journal → has_ended plan journal ≡ false → length journal < bound plan
+RunsAreBounded = (plan : PlanData) (journal : List Entry) → WasRead plan → IsKept plan journal → has_ended plan journal ≡ false → length journal < bound plan
 
 -- *Smooth runs of accepted plans are done*: in which nothing hinders the tool, whoever else there is, and which have ended
 abbrev pub AcceptedSmoothRunsAreDone : Type 0
 AcceptedSmoothRunsAreDone = (plan : PlanData) (journal : List Entry) → WasRead plan → IsKept plan journal → IsSmoothRun plan journal → has_ended plan journal ≡ true → verdict_of plan journal ≡ Done
 
--- *With room*: where such a plan allows as many turns as the bound, a run that is over, ended or with all its turns taken, has ended;
+-- *With room*: where a plan allows as many turns as the bound, a run that is over, ended or with all its turns taken, has ended;
 -- so it is done, where nothing hinders the tool
 abbrev pub RoomyRunsEnd : Type 0
-RoomyRunsEnd = (plan : PlanData) (journal : List Entry) → WasRead plan → NamesOnce plan → IsKept plan journal → bound plan ≤ plan.options.turn_limit → (has_ended plan journal ≡ true) ⊎ (length journal ≡ plan.options.turn_limit) → has_ended plan journal ≡ true
+RoomyRunsEnd = (plan : PlanData) (journal : List Entry) → WasRead plan → IsKept plan journal → bound plan ≤ plan.options.turn_limit → (has_ended plan journal ≡ true) ⊎ (length journal ≡ plan.options.turn_limit) → has_ended plan journal ≡ true

@@ -141,9 +141,8 @@ pub fn chunk_turns_are_few()
     ensures none { NoChunksYet }
 {}
 
-/// In every journal of a runnable plan that is kept the applying goes on, where the new table's clustered key names no
-/// column twice: each of the applier's calls is done, but a statement may wait, and is refused for a value that doesn't fit,
-/// or as an UPDATE for another row's key. Once the RENAME is done the applier has no turn.
+/// In every journal of a runnable plan that is kept the applying goes on: each of the applier's calls is done, but a
+/// statement may wait, and is refused for a value that doesn't fit, or as an UPDATE for another row's key. Once the RENAME is done the applier has no turn.
 pub fn batches_go_on()
     ensures { BatchesAlwaysGoOn }
 {
@@ -161,8 +160,7 @@ pub fn batch_turns_are_few()
     definitions_are_done();
 }
 
-/// A run of an accepted plan has at most as many turns of chunks as their term says; and of batches, where the new table's
-/// clustered key names no column twice.
+/// A run of an accepted plan has at most as many turns of chunks, and of batches, as their terms say.
 pub fn tasks_are_bounded()
     ensures chunks { ChunksAreBounded }
     ensures batches { BatchesAreBounded }
@@ -180,7 +178,7 @@ pub fn tasks_are_bounded()
     read_plans_are_serial();
 }
 
-/// A run of such a plan that hasn't ended has fewer turns than the sum of the terms.
+/// A run of an accepted plan that hasn't ended has fewer turns than the sum of the terms.
 pub fn runs_are_bounded()
     ensures { RunsAreBounded }
 {
@@ -191,8 +189,8 @@ pub fn runs_are_bounded()
     due_turns_are_kept();
 }
 
-/// A run of an accepted plan in which nothing hinders the tool, and that has ended, is done; and one of such a plan, which the
-/// plan allows as many turns as the bound, has ended once it is over.
+/// A run of an accepted plan in which nothing hinders the tool, and that has ended, is done; and one which the plan allows as
+/// many turns as the bound, has ended once it is over.
 pub fn smooth_runs_end()
     ensures smooth { AcceptedSmoothRunsAreDone }
     ensures roomy { RoomyRunsEnd }

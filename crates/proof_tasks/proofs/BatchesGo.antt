@@ -16,7 +16,6 @@ use Rattle.base_values.specs.ToolNames.{log_name}
 use Rattle.base_values.specs.declared.event.RowEvent.{RowEvent}
 use Rattle.table_store.specs.Databases.{Database, TableRows}
 use Rattle.server_model.specs.Blockers.{blocker, need}
-use Rattle.server_model.specs.Checks.{are_distinct}
 use Rattle.server_model.specs.EarlierAnswers.{events_in}
 use Rattle.server_model.specs.Effects.{effect_unless, is_outside}
 use Rattle.server_model.specs.Entries.{answer_at, is_client, is_command, is_cut, same_actor}
@@ -96,7 +95,7 @@ use Rattle.proof_migration.proofs.ToolPhase.Hearing.{IsFoundBy, opened_tables, o
 use Rattle.proof_migration.proofs.Unfit.Known.{IsKnownTurn, known_turn}
 use Rattle.proof_bounds.proofs.Holders.{IsHeldWell, all_held_well}
 use Rattle.proof_tasks.specs.Answers.{BatchAnswer, IsChange, IsClash, left_at}
-use Rattle.proof_tasks.specs.Batches.{BatchesGoOn, NamesOnce, doings_at, statements_most}
+use Rattle.proof_tasks.specs.Batches.{BatchesGoOn, doings_at, statements_most}
 use Rattle.proof_tasks.proofs.BatchSteps.{PartFits, plans_of}
 use Rattle.proof_tasks.proofs.Growing.{unaltered_so}
 use Rattle.proof_tasks.proofs.OwnTurns.{own_asking}
@@ -145,7 +144,7 @@ part_so Return doing rest knows = is_change doing rest knows
 
 -- THE TURN
 
-module _ (defined : DefinitionsAreDone) (plan : PlanData) (m : Migration) (at : Clustered m.schema) (rows : List Row) (of : IsMigrationOf plan m rows) (once : are_distinct (key_places m.new) ≡ true) (journal : List Entry) (entry : Entry) (kept_more : IsKept plan (journal ++ entry ∷ [])) (work : Work)
+module _ (defined : DefinitionsAreDone) (plan : PlanData) (m : Migration) (at : Clustered m.schema) (rows : List Row) (of : IsMigrationOf plan m rows) (journal : List Entry) (entry : Entry) (kept_more : IsKept plan (journal ++ entry ∷ [])) (work : Work)
     (eq : (moment plan journal).tool.tool_phase ≡ Migrating work) (going : is_reverting (moment plan journal).tool.reason ≡ false) (off : IsUnaltered plan journal) (goes : Goes plan m at rows journal work) (who : entry.actor ≡ Apply) (called : is_command entry.asked ≡ false) (uncut : is_cut entry.asked ≡ false) where
   abbrev more : List Entry
   more = journal ++ entry ∷ []
@@ -389,7 +388,7 @@ module _ (defined : DefinitionsAreDone) (plan : PlanData) (m : Migration) (at : 
     said_so : StatementAnswer part next_one.doing entry.answer
     said_so =
         own_answer (StatementAnswer part next_one.doing) (record { waits = λ by. tt; timed = λ waited. tt; lost = tt }) plan journal entry together.known served (requests.Do (said m.new m.columns (in_part part next_one.doing))) (about_own (requests.Do (said m.new m.columns (in_part part next_one.doing))) about_statement)
-        (λ found is. done_so m rows of.planned of.finds once found entry.session (subst (TableSeen m) (sym (same_view found is)) seen_table) part next_one.doing does_rows parted
+        (λ found is. done_so m rows of.planned of.finds found entry.session (subst (TableSeen m) (sym (same_view found is)) seen_table) part next_one.doing does_rows parted
         (ap (λ sessions. is_outside (session_of entry.session sessions) (requests.Do (said m.new m.columns (in_part part next_one.doing)))) is.sessions ∙ unlocked (requests.Do (said m.new m.columns (in_part part next_one.doing)))))
 
     applied : BatchAnswer (statements_most plan) plan.table log_now work.applier.position (plans_of work.applier) (planned work.applier (events_in (answer_at journal batch.read))) (Applying batch count part) entry.answer
@@ -421,17 +420,14 @@ pub record ServerLaws : Type 0 where
   pub reported : WaitsAreReported
   pub turned : JournalsAreTurned
 
--- *The applying goes on*, where the new table's clustered key names no column twice
-pub batches_go : ServerLaws → (plan : PlanData) (alterable : IsAlterable plan) → IsRunnable plan → IsSerialPlan plan → NamesOnce plan → BatchesGoOn plan
-batches_go laws plan alterable runs serial once journal entry kept_more = record { answered = answered; over = over } where
+-- *The applying goes on*
+pub batches_go : ServerLaws → (plan : PlanData) (alterable : IsAlterable plan) → IsRunnable plan → IsSerialPlan plan → BatchesGoOn plan
+batches_go laws plan alterable runs serial journal entry kept_more = record { answered = answered; over = over } where
   of : IsMigrationOf plan (migration_of alterable.table.schema alterable.new) alterable.table.rows
   of = migration plan alterable laws.again runs serial
 
   kept : IsKept plan journal
   kept = kept_front plan journal (entry ∷ []) kept_more
-
-  once_new : are_distinct (key_places (migration_of alterable.table.schema alterable.new).new) ≡ true
-  once_new = subst (λ (s : Schema). are_distinct (key_places s) ≡ true) (sym of.of.new) once
 
   same_work : (one other : Work) → Migrating one ≡ Migrating other → one ≡ other
   same_work one other same = cc
@@ -444,7 +440,7 @@ batches_go laws plan alterable runs serial once journal entry kept_more = record
   answered : (work : Work) → (moment plan journal).tool.tool_phase ≡ Migrating work → is_reverting (moment plan journal).tool.reason ≡ false → IsUnaltered plan journal → entry.actor ≡ Apply → is_command entry.asked ≡ false → is_cut entry.asked ≡ false
       → BatchAnswer (statements_most plan) plan.table (state_at plan (journal ++ entry ∷ [])).log work.applier.position (λ read. planned work.applier read) (doings_at journal work.applier work.applier.step) work.applier.step entry.answer
   answered work eq going off who called uncut =
-      answered_so laws.defined plan (migration_of alterable.table.schema alterable.new) (clustered alterable.table.schema of.planned.old_key) alterable.table.rows of once_new journal entry kept_more work eq going off (going_so work eq going off) who called uncut
+      answered_so laws.defined plan (migration_of alterable.table.schema alterable.new) (clustered alterable.table.schema of.planned.old_key) alterable.table.rows of journal entry kept_more work eq going off (going_so work eq going off) who called uncut
 
   over : (work : Work) → (moment plan journal).tool.tool_phase ≡ Migrating work → is_reverting (moment plan journal).tool.reason ≡ false → list_any is_alter (history plan journal) ≡ true → entry.actor ≡ Apply → is_command entry.asked ≡ false → is_cut entry.asked ≡ false → ⊥
   over work eq going done who called uncut = no_turns laws.alone laws.defined laws.reported laws.turned plan runs serial journal entry kept_more work eq going done who uncut

@@ -9,7 +9,6 @@ use Rattle.base_values.specs.declared.row_conversion.conversion_fault.UnfitAt.{U
 use Rattle.base_values.specs.RowConversion.ConvertedRows.{converted_row}
 use Rattle.table_store.specs.Databases.{Database, TableRows, find_table}
 use Rattle.server_model.specs.Answers.{refuses_value}
-use Rattle.server_model.specs.Checks.{are_distinct}
 use Rattle.server_model.specs.Effects.{effect_unless, is_outside}
 use Rattle.server_model.specs.LockedRows.Databases.{IsWellFormedDatabase}
 use Rattle.server_model.specs.Operations.{Operation, operation_of, operation_result}
@@ -53,7 +52,7 @@ seen_so m seen well_formed stands = by (find_table m.new.name seen) refl stands 
       let same : table.schema ≡ m.new = cc in
       table_seen m seen table.rows well_formed (there ∙ ap (λ (s : Schema). Some (record { schema = s; rows = table.rows })) same)
 
-module _ (m : Migration) (rows : List Row) (plan : IsPlanned m rows) (finds : FindsRows m) (once : are_distinct (key_places m.new) ≡ true) (seen : Database) (there : TableSeen m seen) where
+module _ (m : Migration) (rows : List Row) (plan : IsPlanned m rows) (finds : FindsRows m) (seen : Database) (there : TableSeen m seen) where
   abbrev operation : Doing → Operation
   operation doing = operation_of (said m.new m.columns doing)
 
@@ -73,7 +72,7 @@ module _ (m : Migration) (rows : List Row) (plan : IsPlanned m rows) (finds : Fi
     by (Err fault) converted = unfit part whole (Putting row) fault (refused_answer m seen there (operation (Putting row)) (said_of m (Putting row)) (refuses_value fault) (put_unfit m rows plan finds row fault converted))
 
   removes : (part : Part) (whole : Doing) (row : Row) → DoesRows m.schema.columns (Removing row) → Says part whole (Removing row)
-  removes part whole row fits = counted part whole (Removing row) (remove_answer m seen there (operation (Removing row)) (said_of m (Removing row)) (new_at m rows plan finds).place (key_of (key_places m.schema) row) (remove_work m rows plan finds row fits once))
+  removes part whole row fits = counted part whole (Removing row) (remove_answer m seen there (operation (Removing row)) (said_of m (Removing row)) (new_at m rows plan finds).place (key_of (key_places m.schema) row) (remove_work m rows plan finds row fits))
 
   changes : (old new : Row) → DoesRows m.schema.columns (Changing old new) → Says Whole (Changing old new) (Changing old new)
   changes old new fits = by (converted_row m.columns new) refl where
@@ -94,10 +93,10 @@ module _ (m : Migration) (rows : List Row) (plan : IsPlanned m rows) (finds : Fi
     by : (made : Result Row UnfitAt) → converted_row m.columns new ≡ made → Says Whole (Changing old new) (Changing old new)
     by (Ok made) converted =
         changed made
-        (change_answer m seen there (operation (Changing old new)) (said_of m (Changing old new)) (new_at m rows plan finds) (key_of (key_places m.schema) old) made full (plan.fits new made fits.1 converted) (change_work m rows plan finds old new made fits.0 once converted))
+        (change_answer m seen there (operation (Changing old new)) (said_of m (Changing old new)) (new_at m rows plan finds) (key_of (key_places m.schema) old) made full (plan.fits new made fits.1 converted) (change_work m rows plan finds old new made fits.0 converted))
     by (Err fault) converted =
         refused fault
-        (unfit_answer m seen there (operation (Changing old new)) (said_of m (Changing old new)) (new_at m rows plan finds) (key_of (key_places m.schema) old) fault full (change_unfit m rows plan finds old new fault fits.0 once converted))
+        (unfit_answer m seen there (operation (Changing old new)) (said_of m (Changing old new)) (new_at m rows plan finds) (key_of (key_places m.schema) old) fault full (change_unfit m rows plan finds old new fault fits.0 converted))
 
   -- *What is done in this part*
   pub says_so : (part : Part) (doing : Doing) → DoesRows m.schema.columns doing → PartFits part (Some doing) → StatementAnswer part doing (operation_result seen (operation_of (said m.new m.columns (in_part part doing)))).answer
@@ -112,12 +111,12 @@ module _ (m : Migration) (rows : List Row) (plan : IsPlanned m rows) (finds : Fi
   says_so Return (Removing row) fits parted = absurd parted
 
 -- *What is done of it*, where its session locked no table
-pub done_so : (m : Migration) (rows : List Row) → IsPlanned m rows → FindsRows m → are_distinct (key_places m.new) ≡ true → (found : State) (number : ℕ) → TableSeen m (view number found) → (part : Part) (doing : Doing) → DoesRows m.schema.columns doing → PartFits part (Some doing)
+pub done_so : (m : Migration) (rows : List Row) → IsPlanned m rows → FindsRows m → (found : State) (number : ℕ) → TableSeen m (view number found) → (part : Part) (doing : Doing) → DoesRows m.schema.columns doing → PartFits part (Some doing)
     → is_outside (session_of number found.sessions) (requests.Do (said m.new m.columns (in_part part doing))) ≡ false → StatementAnswer part doing (done found number (requests.Do (said m.new m.columns (in_part part doing)))).answer
 unfolding done
-done_so m rows plan finds once found number there part doing fits parted inside =
+done_so m rows plan finds found number there part doing fits parted inside =
     subst (λ (b : Bool). StatementAnswer part doing (does (effect_unless b (is_in_transaction (session_of number found.sessions)) (view number found) found (requests.Do (said m.new m.columns (in_part part doing)))) found number).answer) (sym inside)
     (by (is_in_transaction (session_of number found.sessions))) where
       by : (busy : Bool) → StatementAnswer part doing (does (effect_unless false busy (view number found) found (requests.Do (said m.new m.columns (in_part part doing)))) found number).answer
-      by true = says_so m rows plan finds once (view number found) there part doing fits parted
-      by false = says_so m rows plan finds once (view number found) there part doing fits parted
+      by true = says_so m rows plan finds (view number found) there part doing fits parted
+      by false = says_so m rows plan finds (view number found) there part doing fits parted

@@ -162,6 +162,6 @@ batches_term events tries each = grind arith
 
 pub batches_stay : ServerLaws → BatchesStayWithin
 unfolding term_of
-batches_stay laws plan alterable runs serial may some once logs journal kept =
+batches_stay laws plan alterable runs serial may some logs journal kept =
     subst (λ (n : ℕ). turns_of_part OfBatches plan journal ≤ n) (batches_term (events (measures plan)) (measures plan).tries (3 * (measures plan).batch * (1 + (measures plan).tool_wait) + 3))
-    (batch_few laws.defined plan journal runs serial may some (batches_go laws plan alterable runs serial once) logs kept)
+    (batch_few laws.defined plan journal runs serial may some (batches_go laws plan alterable runs serial) logs kept)

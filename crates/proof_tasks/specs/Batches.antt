@@ -3,7 +3,6 @@ use Rattle.std.specs.Prelude.{◌≡◌, ◌≤◌, ◌+◌, ◌*◌, ℕ, true,
 use Rattle.std.specs.List.{list_any}
 use Rattle.base_script.specs.declared.actor.Actor.TheVariants.{Apply}
 use Rattle.base_values.specs.GhoSchema.Rows.{key_places}
-use Rattle.server_model.specs.Checks.{are_distinct}
 use Rattle.server_model.specs.EarlierAnswers.{events_in}
 use Rattle.server_model.specs.Entries.{answer_at, is_command, is_cut}
 use Rattle.server_model.specs.declared.entry.Entry.{Entry}
@@ -44,10 +43,6 @@ pub record BatchGoes (plan : PlanData) (before : List Entry) (entry : Entry) : T
 -- so it does along every journal that is kept
 abbrev pub BatchesGoOn : PlanData → Type 0
 BatchesGoOn plan = (before : List Entry) (entry : Entry) → IsKept plan (before ++ entry ∷ []) → BatchGoes plan before entry
-
--- the new table's clustered key names no column twice, so that its rows are met by it
-abbrev pub NamesOnce : PlanData → Type 0
-NamesOnce plan = are_distinct (key_places (ghost_schema plan)) ≡ true
 
 -- until the RENAME is done, the log has at most as many events of the migrated table and of the changelog as are counted for it
 abbrev pub LogsAreFew : PlanData → Type 0

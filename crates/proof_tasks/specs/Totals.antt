@@ -12,7 +12,7 @@ use Rattle.proof_migration.specs.ToolPhase.Unaltered.{IsUnaltered}
 use Rattle.proof_bounds.specs.Laws.{MayWait}
 use Rattle.proof_bounds.specs.Parts.{OfBatches, OfChunks, turns_of_part}
 use Rattle.proof_bounds.specs.Terms.{term_of}
-use Rattle.proof_tasks.specs.Batches.{BatchesGoOn, LogsAreFew, NamesOnce}
+use Rattle.proof_tasks.specs.Batches.{BatchesGoOn, LogsAreFew}
 use Rattle.proof_tasks.specs.Chunks.{ChunksGoOn, RowsStayFew}
 
 -- until the RENAME is done, at most as many chunks are begun as are counted for it, and one more is numbered where all are copied
@@ -24,9 +24,9 @@ NumbersStayFew plan =
 abbrev pub ChunksAlwaysGoOn : Type 0
 ChunksAlwaysGoOn = (plan : PlanData) → IsRunnable plan → IsSerialPlan plan → RowsStayFew plan → ChunksGoOn plan
 
--- *The applying always goes on*, of a runnable plan whose new table's clustered key names no column twice
+-- *The applying always goes on*, of a runnable plan
 abbrev pub BatchesAlwaysGoOn : Type 0
-BatchesAlwaysGoOn = (plan : PlanData) → IsAlterable plan → IsRunnable plan → IsSerialPlan plan → NamesOnce plan → BatchesGoOn plan
+BatchesAlwaysGoOn = (plan : PlanData) → IsAlterable plan → IsRunnable plan → IsSerialPlan plan → BatchesGoOn plan
 
 -- *Chunks stay within their term*, where rows and chunks are few
 abbrev pub ChunksStayWithin : Type 0
@@ -35,4 +35,4 @@ ChunksStayWithin = (plan : PlanData) → IsRunnable plan → IsSerialPlan plan �
 -- *Batches stay within their term*, where the log is small
 abbrev pub BatchesStayWithin : Type 0
 BatchesStayWithin =
-    (plan : PlanData) → IsAlterable plan → IsRunnable plan → IsSerialPlan plan → MayWait plan → 1 ≤ plan.options.default_retries → NamesOnce plan → LogsAreFew plan → (journal : List Entry) → IsKept plan journal → turns_of_part OfBatches plan journal ≤ term_of OfBatches (measures plan)
+    (plan : PlanData) → IsAlterable plan → IsRunnable plan → IsSerialPlan plan → MayWait plan → 1 ≤ plan.options.default_retries → LogsAreFew plan → (journal : List Entry) → IsKept plan journal → turns_of_part OfBatches plan journal ≤ term_of OfBatches (measures plan)
