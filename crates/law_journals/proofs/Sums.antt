@@ -29,11 +29,11 @@ use Rattle.proof_bounds.specs.Parts.{OfOperator, OfClients, OfSetup, OfChunks, O
 use Rattle.proof_bounds.specs.Setups.{SetupTurnsAreFew}
 use Rattle.proof_bounds.specs.Clearings.{ClearingTurnsAreFew}
 use Rattle.proof_bounds.proofs.Going.{setups_go, clearings_go}
-use Rattle.proof_attempts.specs.Attempts.{AttemptTurnsAreFew}
-use Rattle.proof_events.specs.Laws.{ChunksAreFew, CommittedRowsAreFew, EventsAreFew, HintsAreFew}
-use Rattle.proof_tasks.proofs.BatchesGo.{ServerLaws}
-use Rattle.proof_tasks.proofs.Logs.{both_few}
-use Rattle.proof_tasks.proofs.Totals.{batches_stay, chunks_stay}
+use Rattle.proof_bounds.specs.AttemptTurns.Attempts.{AttemptTurnsAreFew}
+use Rattle.proof_bounds.specs.Volumes.Laws.{ChunksAreFew, CommittedRowsAreFew, EventsAreFew, HintsAreFew}
+use Rattle.proof_bounds.proofs.TaskTurns.BatchesGo.{ServerLaws}
+use Rattle.proof_bounds.proofs.TaskTurns.Logs.{both_few}
+use Rattle.proof_bounds.proofs.TaskTurns.Totals.{batches_stay, chunks_stay}
 use Rattle.base_values.specs.Laws.{StoresAgain}
 use Rattle.proof_journals.specs.ServerTurns.Others.{DefinitionsAreDone}
 use Rattle.table_store.specs.Databases.{TableRows}

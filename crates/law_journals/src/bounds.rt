@@ -1,6 +1,6 @@
 //! How many turns a run takes, part by part: `proof_bounds` says which part a turn is of, and what each part's term is.
 
-ghost use Rattle.proof_attempts.specs.Attempts.{AttemptsGoOn, AttemptTurnsAreFew};
+ghost use Rattle.proof_bounds.specs.AttemptTurns.Attempts.{AttemptsGoOn, AttemptTurnsAreFew};
 ghost use Rattle.proof_bounds.specs.Attempts.{AttemptsAreFew};
 ghost use Rattle.proof_bounds.specs.Clearings.{ClearingTurnsAreFew};
 ghost use Rattle.proof_bounds.specs.Guards.{SentriesAreMadeAtOnce};
@@ -9,9 +9,9 @@ ghost use Rattle.proof_bounds.specs.Rows.{RowsAreFew, KeysAreThose};
 ghost use Rattle.proof_bounds.specs.Setups.{SetupTurnsAreFew};
 ghost use Rattle.proof_bounds.specs.Tries.{TriesAreFew};
 ghost use Rattle.proof_bounds.specs.Waits.{InspectorsNeverWait};
-ghost use Rattle.proof_tasks.specs.Batches.{BatchTurnsAreFew};
-ghost use Rattle.proof_tasks.specs.Chunks.{ChunkTurnsAreFew, NoChunksYet};
-ghost use Rattle.proof_tasks.specs.Totals.{BatchesAlwaysGoOn, ChunksAlwaysGoOn};
+ghost use Rattle.proof_bounds.specs.TaskTurns.Batches.{BatchTurnsAreFew};
+ghost use Rattle.proof_bounds.specs.TaskTurns.Chunks.{ChunkTurnsAreFew, NoChunksYet};
+ghost use Rattle.proof_bounds.specs.TaskTurns.Totals.{BatchesAlwaysGoOn, ChunksAlwaysGoOn};
 ghost use Rattle.law_journals.specs.Bounds.{OperatorIsBounded, ClientsAreBounded, SetupIsBounded, AttemptsAreBounded, ClearingIsBounded, ChunksAreBounded, BatchesAreBounded, RunsAreBounded, AcceptedSmoothRunsAreDone, RoomyRunsEnd};
 
 use crate::completion::smooth_runs_are_done;

@@ -1,4 +1,4 @@
-use Rattle.proof_tasks.proofs.Batches.{batch_few}
+use Rattle.proof_bounds.proofs.TaskTurns.Batches.{batch_few}
 use Rattle.law_journals.proofs.bounds.batch_turns_are_few.Goals as goal
 
 pub returns : goal.returns

@@ -1,4 +1,4 @@
-use Rattle.proof_tasks.proofs.BatchesGo.{batches_go}
+use Rattle.proof_bounds.proofs.TaskTurns.BatchesGo.{batches_go}
 use Rattle.law_journals.proofs.bounds.batches_go_on.Goals as goal
 
 pub returns : goal.returns

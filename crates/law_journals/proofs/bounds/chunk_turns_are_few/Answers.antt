@@ -1,4 +1,4 @@
-use Rattle.proof_tasks.proofs.Chunks.{chunk_few, chunk_none}
+use Rattle.proof_bounds.proofs.TaskTurns.Chunks.{chunk_few, chunk_none}
 use Rattle.law_journals.proofs.bounds.chunk_turns_are_few.Goals as goal
 
 pub returns : goal.returns

@@ -1,4 +1,4 @@
-use Rattle.proof_tasks.proofs.ChunksGo.{chunks_go}
+use Rattle.proof_bounds.proofs.TaskTurns.ChunksGo.{chunks_go}
 use Rattle.law_journals.proofs.bounds.chunks_go_on.Goals as goal
 
 pub returns : goal.returns
