@@ -1,6 +1,7 @@
 -- The parts together, and what follows for a run's end.
-use Rattle.std.proofs.Common.{◌≡◌, ◌≤◌, ◌<◌, ◌+◌, Bool, true, false, ◌||◌, List, [], ◌∷◌, ◌++◌, length, Option, Some, None, refl, inl, inr, arith}
-use Rattle.std.specs.Prelude.{is_some}
+use Rattle.std.proofs.Common.{◌≡◌, ◌≤◌, ◌<◌, ◌+◌, Bool, true, false, ◌||◌, List, [], ◌∷◌, ◌++◌, length, Option, Some, None, refl, subst, inl, inr, arith}
+use Rattle.std.specs.Prelude.{is_some, unwrap_or}
+use Rattle.std.specs.Option.{option_map}
 use Rattle.std.specs.List.{list_any}
 use Rattle.std.proofs.lemmas.Bool.{false≢true}
 use Rattle.std.proofs.lemmas.List.{length_push}
@@ -14,7 +15,7 @@ use Rattle.tool_program.specs.Orders.{actors, is_ready}
 use Rattle.tool_program.specs.Programs.{given}
 use Rattle.tool_program.specs.Verdicts.{has_ended}
 use Rattle.proof_journals.specs.Run.Kept.{IsKept}
-use Rattle.proof_plans.specs.ReadPlans.Laws.{WasRead, ReadPlansAreRunnable, ReadPlansAreSerial}
+use Rattle.proof_plans.specs.ReadPlans.Laws.{WasRead, ReadPlansAreAlterable, ReadPlansAreRunnable, ReadPlansAreSerial}
 use Rattle.proof_plans.specs.ReadPlans.Options.{ReadOptionsAllow}
 use Rattle.proof_plans.specs.Complete.Laws.{SmoothRunsAreDone}
 use Rattle.proof_plans.specs.Laws.{AcceptedRunsGoOn}
@@ -22,14 +23,21 @@ use Rattle.run_turns.specs.declared.due_turns.migration_run.turn.Turn.{Turn}
 use Rattle.run_turns.specs.DueTurns.Due.{due, due_by, given_turn, own_turn, cut_turn, next_entry}
 use Rattle.run_turns.specs.DueTurns.Laws.{DueTurnsAreKept}
 use Rattle.proof_bounds.specs.Laws.{PartsMakeJournals, OperatorTurnsAreFew, ClientTurnsAreFew}
-use Rattle.tool_program.specs.JournalWords.Bounds.{Measures, measures, bound_of, bound}
+use Rattle.tool_program.specs.JournalWords.Bounds.{Measures, keys, measures, bound_of, bound}
 use Rattle.proof_bounds.specs.Terms.{term_of}
 use Rattle.proof_bounds.specs.Parts.{OfOperator, OfClients, OfSetup, OfChunks, OfBatches, OfAttempts, OfClearing}
 use Rattle.proof_bounds.specs.Setups.{SetupTurnsAreFew}
 use Rattle.proof_bounds.specs.Clearings.{ClearingTurnsAreFew}
 use Rattle.proof_bounds.proofs.Going.{setups_go, clearings_go}
-use Rattle.proof_attempts.specs.Attempts.{AttemptTurnsAreFew}
-use Rattle.law_journals.specs.Bounds.{OperatorIsBounded, ClientsAreBounded, SetupIsBounded, AttemptsAreBounded, ClearingIsBounded, TasksAreBounded, PartsBoundRuns, AcceptedSmoothRunsAreDone, RoomyRunsEnd}
+use Rattle.proof_bounds.specs.AttemptTurns.Attempts.{AttemptTurnsAreFew}
+use Rattle.proof_bounds.specs.Volumes.Laws.{ChunksAreFew, CommittedRowsAreFew, EventsAreFew, HintsAreFew}
+use Rattle.proof_bounds.proofs.TaskTurns.BatchesGo.{ServerLaws}
+use Rattle.proof_bounds.proofs.TaskTurns.Logs.{both_few}
+use Rattle.proof_bounds.proofs.TaskTurns.Totals.{batches_stay, chunks_stay}
+use Rattle.base_values.specs.Laws.{StoresAgain}
+use Rattle.proof_journals.specs.ServerTurns.Others.{DefinitionsAreDone}
+use Rattle.table_store.specs.Databases.{TableRows}
+use Rattle.law_journals.specs.Bounds.{OperatorIsBounded, ClientsAreBounded, SetupIsBounded, AttemptsAreBounded, ClearingIsBounded, ChunksAreBounded, BatchesAreBounded, RunsAreBounded, AcceptedSmoothRunsAreDone, RoomyRunsEnd}
 
 -- *The operator's part*
 pub operator_bounded : OperatorTurnsAreFew → OperatorIsBounded
@@ -56,6 +64,30 @@ attempts_bounded law options runnable serial plan journal was kept =
     let allowed = options was.bytes plan was.is in
     law plan journal (record { client = allowed.client; tool = allowed.tool }) (record { some = allowed.tries; few = allowed.few }) (runnable plan was) (serial was.bytes plan was.is) kept
 
+-- *The chunks' part*
+pub chunks_bounded : StoresAgain → DefinitionsAreDone → CommittedRowsAreFew → ChunksAreFew → ReadOptionsAllow → ReadPlansAreRunnable → ReadPlansAreSerial → ChunksAreBounded
+chunks_bounded again defined rows chunks options runnable serial plan journal was kept =
+    let allowed = options was.bytes plan was.is in
+    let runs = runnable plan was in
+    let whole = serial was.bytes plan was.is in
+    chunks_stay again defined plan runs whole (record { client = allowed.client; tool = allowed.tool }) allowed.tries
+    (λ before one off table found. subst (λ (t : Option TableRows). length (unwrap_or (option_map (λ (other : TableRows). other.rows) t) []) ≤ keys (measures plan)) found (rows plan before runs whole one off))
+    (λ before one off work eq. chunks plan before work runs whole one off eq) journal kept
+
+-- *The batches' part*
+pub batches_bounded : ServerLaws → EventsAreFew → HintsAreFew → ReadOptionsAllow → ReadPlansAreRunnable → ReadPlansAreSerial → ReadPlansAreAlterable → BatchesAreBounded
+unfolding measures
+batches_bounded laws events hints options runnable serial alterable plan journal was kept =
+    let allowed = options was.bytes plan was.is in
+    let runs = runnable plan was in
+    let whole = serial was.bytes plan was.is in
+    batches_stay laws plan (alterable was.bytes plan was.is) runs whole (record { client = allowed.client; tool = allowed.tool }) allowed.tries
+    (λ before one off.
+    let both = both_few plan.table (state_at plan before).log in
+    let own = events plan before runs whole one off in
+    let hinted = hints plan before allowed.tries runs whole one off in
+    omega (arith, both, own, hinted)) journal kept
+
 -- THE SUM
 
 terms_sum : (m : Measures) → bound_of m ≡ term_of OfOperator m + term_of OfClients m + term_of OfSetup m + term_of OfChunks m + term_of OfBatches m + term_of OfAttempts m + term_of OfClearing m
@@ -69,16 +101,18 @@ pub record PartsAre : Type 0 where
   pub setup : SetupIsBounded
   pub attempts : AttemptsAreBounded
   pub clearing : ClearingIsBounded
+  pub chunks : ChunksAreBounded
+  pub batches : BatchesAreBounded
 
-all_bounded : PartsMakeJournals → PartsAre → TasksAreBounded → (plan : PlanData) (journal : List Entry) → WasRead plan → IsKept plan journal → length journal ≤ bound plan
-all_bounded make parts tasks plan journal was kept =
+all_bounded : PartsMakeJournals → PartsAre → (plan : PlanData) (journal : List Entry) → WasRead plan → IsKept plan journal → length journal ≤ bound plan
+all_bounded make parts plan journal was kept =
     let whole = terms_sum (measures plan) in
     let sum = make plan journal in
     let a = parts.operator plan journal was kept in
     let b = parts.clients plan journal was kept in
     let c = parts.setup plan journal was kept in
-    let d = tasks.chunks plan journal was kept in
-    let e = tasks.batches plan journal was kept in
+    let d = parts.chunks plan journal was kept in
+    let e = parts.batches plan journal was kept in
     let f = parts.attempts plan journal was kept in
     let g = parts.clearing plan journal was kept in
     omega (arith, whole, sum, a, b, c, d, e, f, g)
@@ -103,14 +137,14 @@ is_due plan journal actor ready = by (cut_due plan journal) where
   by (Some other) = (cut_turn other, refl)
   by None = given_some plan journal actor (given plan journal actor) ready
 
--- *Parts bound runs*
-pub parts_bound : PartsMakeJournals → PartsAre → AcceptedRunsGoOn → DueTurnsAreKept → PartsBoundRuns
-parts_bound make parts going kept_on tasks plan journal was kept unended =
+-- *Runs are bounded*
+pub runs_bounded : PartsMakeJournals → PartsAre → AcceptedRunsGoOn → DueTurnsAreKept → RunsAreBounded
+runs_bounded make parts going kept_on plan journal was kept unended =
     let ready = some_of (is_ready plan journal) (actors plan) (going plan journal was kept unended) in
     let turn = is_due plan journal ready.0 ready.1 in
     let on = kept_on plan journal (state_at plan journal) ready.0 turn.0 kept (record { made = omega arith; same = refl }) turn.1 in
     let long = length_push journal (next_entry journal (state_at plan journal) turn.0) in
-    let most = all_bounded make parts tasks plan (journal ++ next_entry journal (state_at plan journal) turn.0 ∷ []) was on.kept in
+    let most = all_bounded make parts plan (journal ++ next_entry journal (state_at plan journal) turn.0 ∷ []) was on.kept in
     omega (arith, long, most)
 
 -- THE END
@@ -118,7 +152,7 @@ parts_bound make parts going kept_on tasks plan journal was kept unended =
 pub smooth_done : SmoothRunsAreDone → ReadPlansAreRunnable → AcceptedSmoothRunsAreDone
 smooth_done law runnable plan journal was kept smooth ended = let is = runnable plan was in law plan journal is.fitting is.stands kept.faithful kept.follows smooth ended
 
-pub roomy_end : RoomyRunsEnd
+pub roomy_end : RunsAreBounded → RoomyRunsEnd
 roomy_end bounded plan journal was kept room (inl ended) = ended
 roomy_end bounded plan journal was kept room (inr full) = by (has_ended plan journal) refl where
   by : (b : Bool) → has_ended plan journal ≡ b → b ≡ true

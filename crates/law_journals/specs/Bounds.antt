@@ -30,25 +30,22 @@ AttemptsAreBounded = IsBounded OfAttempts
 abbrev pub ClearingIsBounded : Type 0
 ClearingIsBounded = IsBounded OfClearing
 
--- *Tasks are bounded*: the chunks of the copy, and the batches of the events
-pub record TasksAreBounded : Type 0 where
-  pub chunks : IsBounded OfChunks
-  pub batches : IsBounded OfBatches
+abbrev pub ChunksAreBounded : Type 0
+ChunksAreBounded = IsBounded OfChunks
 
--- *Runs are bounded*: a run of an accepted plan that hasn't ended has fewer turns than the bound
+abbrev pub BatchesAreBounded : Type 0
+BatchesAreBounded = IsBounded OfBatches
+
+-- *Runs are bounded*: a run of an accepted plan that hasn't ended has fewer turns than the bound, since each part is bounded and
+-- some actor is ready until a run has ended
 abbrev pub RunsAreBounded : Type 0
 RunsAreBounded = (plan : PlanData) (journal : List Entry) → WasRead plan → IsKept plan journal → has_ended plan journal ≡ false → length journal < bound plan
-
--- *Parts bound runs*: where tasks are bounded each part is, and so are runs, since some actor is ready until a run has ended
-abbrev pub PartsBoundRuns : Type 0
-PartsBoundRuns = TasksAreBounded → RunsAreBounded
 
 -- *Smooth runs of accepted plans are done*: in which nothing hinders the tool, whoever else there is, and which have ended
 abbrev pub AcceptedSmoothRunsAreDone : Type 0
 AcceptedSmoothRunsAreDone = (plan : PlanData) (journal : List Entry) → WasRead plan → IsKept plan journal → IsSmoothRun plan journal → has_ended plan journal ≡ true → verdict_of plan journal ≡ Done
 
--- *With room*: where the plan allows as many turns as the bound, a run that is over, ended or with all its turns taken, has ended;
+-- *With room*: where a plan allows as many turns as the bound, a run that is over, ended or with all its turns taken, has ended;
 -- so it is done, where nothing hinders the tool
 abbrev pub RoomyRunsEnd : Type 0
-RoomyRunsEnd =
-    RunsAreBounded → (plan : PlanData) (journal : List Entry) → WasRead plan → IsKept plan journal → bound plan ≤ plan.options.turn_limit → (has_ended plan journal ≡ true) ⊎ (length journal ≡ plan.options.turn_limit) → has_ended plan journal ≡ true
+RoomyRunsEnd = (plan : PlanData) (journal : List Entry) → WasRead plan → IsKept plan journal → bound plan ≤ plan.options.turn_limit → (has_ended plan journal ≡ true) ⊎ (length journal ≡ plan.options.turn_limit) → has_ended plan journal ≡ true

@@ -1,6 +1,6 @@
 //! How many turns a run takes, part by part: `proof_bounds` says which part a turn is of, and what each part's term is.
 
-ghost use Rattle.proof_attempts.specs.Attempts.{AttemptsGoOn, AttemptTurnsAreFew};
+ghost use Rattle.proof_bounds.specs.AttemptTurns.Attempts.{AttemptsGoOn, AttemptTurnsAreFew};
 ghost use Rattle.proof_bounds.specs.Attempts.{AttemptsAreFew};
 ghost use Rattle.proof_bounds.specs.Clearings.{ClearingTurnsAreFew};
 ghost use Rattle.proof_bounds.specs.Guards.{SentriesAreMadeAtOnce};
@@ -9,11 +9,19 @@ ghost use Rattle.proof_bounds.specs.Rows.{RowsAreFew, KeysAreThose};
 ghost use Rattle.proof_bounds.specs.Setups.{SetupTurnsAreFew};
 ghost use Rattle.proof_bounds.specs.Tries.{TriesAreFew};
 ghost use Rattle.proof_bounds.specs.Waits.{InspectorsNeverWait};
-ghost use Rattle.law_journals.specs.Bounds.{OperatorIsBounded, ClientsAreBounded, SetupIsBounded, AttemptsAreBounded, ClearingIsBounded, PartsBoundRuns, AcceptedSmoothRunsAreDone, RoomyRunsEnd};
+ghost use Rattle.proof_bounds.specs.TaskTurns.Batches.{BatchTurnsAreFew};
+ghost use Rattle.proof_bounds.specs.TaskTurns.Chunks.{ChunkTurnsAreFew, NoChunksYet};
+ghost use Rattle.proof_bounds.specs.TaskTurns.Totals.{BatchesAlwaysGoOn, ChunksAlwaysGoOn};
+ghost use Rattle.law_journals.specs.Bounds.{OperatorIsBounded, ClientsAreBounded, SetupIsBounded, AttemptsAreBounded, ClearingIsBounded, ChunksAreBounded, BatchesAreBounded, RunsAreBounded, AcceptedSmoothRunsAreDone, RoomyRunsEnd};
 
 use crate::completion::smooth_runs_are_done;
+use crate::cut_over::journals_are_turned;
 use crate::plans::{read_options_allow, read_plans_are_runnable, read_plans_are_serial};
 use crate::runs::accepted_runs_go_on;
+use crate::server_turns::{definitions_are_done, exclusive_is_alone};
+use crate::sessions::waits_are_reported;
+use crate::volumes::{chunks_are_few, events_stay_few, rows_stay_few};
+use base_values::laws::stored_values_store_again;
 use run_turns::due_turns::due_turns_are_kept;
 
 /// Each turn of a journal is of one part.
@@ -117,22 +125,77 @@ pub fn some_parts_are_bounded()
     read_plans_are_serial();
 }
 
-/// Where the parts of chunks and of batches are bounded too, a run that hasn't ended has fewer turns than the sum of the terms.
-pub fn parts_bound_runs()
-    ensures { PartsBoundRuns }
+/// In every journal of a runnable plan that is kept the copy goes on, where the migrated table's rows are few: each of the
+/// copier's calls is done, but the chunk's keys and a row's copy may wait, and a row that doesn't fit is refused.
+pub fn chunks_go_on()
+    ensures { ChunksAlwaysGoOn }
+{
+    stored_values_store_again();
+    definitions_are_done();
+}
+
+/// Where the copy goes on, a journal has at most as many turns of it as the chunks that were begun take with all tries, and
+/// none before the first.
+pub fn chunk_turns_are_few()
+    ensures few { ChunkTurnsAreFew }
+    ensures none { NoChunksYet }
+{}
+
+/// In every journal of a runnable plan that is kept the applying goes on: each of the applier's calls is done, but a
+/// statement may wait, and is refused for a value that doesn't fit, or as an UPDATE for another row's key. Once the RENAME is done the applier has no turn.
+pub fn batches_go_on()
+    ensures { BatchesAlwaysGoOn }
+{
+    stored_values_store_again();
+    exclusive_is_alone();
+    definitions_are_done();
+    waits_are_reported();
+    journals_are_turned();
+}
+
+/// Where the applying goes on, a journal has at most as many turns of it as the events to apply take with all tries.
+pub fn batch_turns_are_few()
+    ensures { BatchTurnsAreFew }
+{
+    definitions_are_done();
+}
+
+/// A run of an accepted plan has at most as many turns of chunks, and of batches, as their terms say.
+pub fn tasks_are_bounded()
+    ensures chunks { ChunksAreBounded }
+    ensures batches { BatchesAreBounded }
+{
+    stored_values_store_again();
+    exclusive_is_alone();
+    definitions_are_done();
+    waits_are_reported();
+    journals_are_turned();
+    rows_stay_few();
+    chunks_are_few();
+    events_stay_few();
+    read_options_allow();
+    read_plans_are_runnable();
+    read_plans_are_serial();
+}
+
+/// A run of an accepted plan that hasn't ended has fewer turns than the sum of the terms.
+pub fn runs_are_bounded()
+    ensures { RunsAreBounded }
 {
     parts_make_journals();
     some_parts_are_bounded();
+    tasks_are_bounded();
     accepted_runs_go_on();
     due_turns_are_kept();
 }
 
-/// A run of an accepted plan in which nothing hinders the tool, and that has ended, is done; and where runs are bounded,
-/// one that the plan allows as many turns as the bound has ended once it is over.
+/// A run of an accepted plan in which nothing hinders the tool, and that has ended, is done; and one which the plan allows as
+/// many turns as the bound, has ended once it is over.
 pub fn smooth_runs_end()
     ensures smooth { AcceptedSmoothRunsAreDone }
     ensures roomy { RoomyRunsEnd }
 {
     smooth_runs_are_done();
+    runs_are_bounded();
     read_plans_are_runnable();
 }

@@ -1,7 +1,7 @@
-//! How many rows, events and chunks a run can make of the migrated table until its RENAME is done: `proof_events` says what is
+//! How many rows, events and chunks a run can make of the migrated table until its RENAME is done: `proof_bounds::Volumes` says what is
 //! counted.
 
-ghost use Rattle.proof_events.specs.Laws.{CommittedRowsAreFew, ViewsAreFew, EventsAreFew, HintsAreFew, ReadEventsAreFew, ChunksAreFew, ChunksStayFew};
+ghost use Rattle.proof_bounds.specs.Volumes.Laws.{CommittedRowsAreFew, ViewsAreFew, EventsAreFew, HintsAreFew, ReadEventsAreFew, ChunksAreFew, ChunksStayFew};
 
 use crate::cut_over::journals_are_turned;
 use crate::server_turns::{definitions_are_done, exclusive_is_alone};

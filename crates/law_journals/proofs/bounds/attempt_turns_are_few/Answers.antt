@@ -1,4 +1,4 @@
-use Rattle.proof_attempts.proofs.Attempts.{attempt_turns_few}
+use Rattle.proof_bounds.proofs.AttemptTurns.Attempts.{attempt_turns_few}
 use Rattle.law_journals.proofs.bounds.attempt_turns_are_few.Goals as goal
 
 pub returns : goal.returns

@@ -1,4 +1,4 @@
-use Rattle.proof_events.proofs.ChunkCounts.{chunks_few}
+use Rattle.proof_bounds.proofs.Volumes.ChunkCounts.{chunks_few}
 use Rattle.law_journals.proofs.volumes.chunks_are_few.Goals as goal
 
 pub returns : goal.returns

@@ -1,4 +1,4 @@
-use Rattle.proof_events.proofs.LaterChunks.{stay_few}
+use Rattle.proof_bounds.proofs.Volumes.LaterChunks.{stay_few}
 use Rattle.law_journals.proofs.volumes.chunks_stay_few.Goals as goal
 
 pub returns : goal.returns

@@ -1,0 +1,151 @@
+-- Each call of an attempt goes on.
+use Rattle.std.proofs.Common.{◌≡◌, ℕ, false, List, [], ◌∷◌, ◌++◌, Option, Some, None, refl, sym, ap, ◌∙◌, subst}
+use Rattle.std.proofs.lemmas.Bool.{true≢false}
+use Rattle.base_script.specs.declared.actor.Actor.{Actor}
+use Rattle.base_script.specs.declared.actor.Actor.TheVariants.{Insp, Lock, Ren}
+use Rattle.server_model.specs.declared.entry.Asked.TheVariants.{Call}
+use Rattle.server_model.specs.declared.entry.Entry.{Entry}
+use Rattle.server_model.specs.declared.request.Request.{Request}
+use Rattle.server_model.specs.declared.request.Request.TheVariants as requests
+use Rattle.server_model.specs.Entries.{is_command, is_cut}
+use Rattle.plan_data.specs.PlanData.{PlanData}
+use Rattle.tool_program.specs.JournalWords.Journals.{state_at}
+use Rattle.tool_program.specs.declared.cutover_core.cutover.Hold.TheVariants.{Locks}
+use Rattle.tool_program.specs.declared.cutover_core.cutover.Phase.{Phase}
+use Rattle.tool_program.specs.declared.cutover_core.cutover.Phase.TheVariants.{Attempting}
+use Rattle.tool_program.specs.declared.cutover_core.cutover.Stage.TheVariants.{Hinting, Drained, Showing}
+use Rattle.tool_program.specs.CutoverCore.Attempts as attempts
+use Rattle.tool_program.specs.CutoverCore.Attempts.{exchange, writes_hint}
+use Rattle.tool_program.specs.Programs.{tool_call, given}
+use Rattle.tool_program.specs.Tools.{Work, ToolPhase, Migrating, Moment, is_reverting, moment}
+use Rattle.tool_program.proofs.OnlineCalls.Machines.{ToolPhaseIsNamed, named}
+use Rattle.proof_journals.specs.Plans.{IsSerialPlan}
+use Rattle.proof_journals.specs.Run.Kept.{IsKept}
+use Rattle.proof_journals.specs.Machine.Machines.{ToolPhaseStands, WorkStands, PhaseHolds, both_names, held, renaming}
+use Rattle.proof_journals.specs.Machine.Runnable.{IsRunnable}
+use Rattle.proof_journals.specs.Machine.Standings.{Standing, standing_of, IsAbout, is_called, is_polled}
+use Rattle.proof_journals.proofs.Machine.Asking.{some_request}
+use Rattle.proof_journals.proofs.Machine.Journals.{IsRun, IsTogether, Asking, calls_so, polls_so, asking, ren_about}
+use Rattle.proof_migration.proofs.Attempt.Stages.{RenamerAt, StandsAt}
+use Rattle.proof_migration.proofs.Attempt.Standing.{ToolPhaseAt, about_own, renamer_unlocked}
+use Rattle.proof_migration.proofs.Program.Turns.Follows.{kept_front, kept_run}
+use Rattle.proof_migration.proofs.ToolPhase.ToolPhaseTurns.{gives_asked}
+use Rattle.proof_bounds.specs.Guards.{HasSentryAtOnce}
+use Rattle.proof_bounds.proofs.Going.{IsGoing, all_going}
+use Rattle.proof_bounds.proofs.Guards.{sentries_made}
+use Rattle.proof_bounds.specs.AttemptTurns.Attempts.{IsNotRefused, IsOk, ShowsWait, AttemptGoes, MayTry, AttemptsGoOn}
+use Rattle.proof_bounds.proofs.AttemptTurns.Blocked.{rename_goes, listing_shows}
+use Rattle.proof_bounds.proofs.AttemptTurns.Changelogs.{hint_goes}
+use Rattle.proof_bounds.proofs.AttemptTurns.Sentries.{ToolPhaseSentry, all_sentried, locks_go, drops_go, clears_ok}
+
+module _ (plan : PlanData) (runs : IsRunnable plan) (serial : IsSerialPlan plan) (journal : List Entry) (entry : Entry) (tries : MayTry plan) (kept_more : IsKept plan (journal ++ entry ∷ [])) where
+  abbrev now : Moment
+  now = moment plan journal
+
+  abbrev has : Actor → Standing
+  has = standing_of plan journal
+
+  kept : IsKept plan journal
+  kept = kept_front plan journal (entry ∷ []) kept_more
+
+  run : IsRun plan journal entry
+  run = kept_run plan journal entry kept_more
+
+  going : IsGoing plan journal
+  going = all_going plan journal runs serial kept
+
+  together : IsTogether plan journal
+  together = going.standing.tabled.all.tool
+
+  guarded : (work : Work) → now.tool.tool_phase ≡ Migrating work → HasSentryAtOnce work
+  guarded work eq = sentries_made plan journal work runs serial kept eq
+
+  sentry : ToolPhaseSentry plan (state_at plan journal).tables now.tool.tool_phase
+  sentry = all_sentried plan journal runs serial kept
+
+  module _ (work : Work) (eq : now.tool.tool_phase ≡ Migrating work) (called : is_command entry.asked ≡ false) (uncut : is_cut entry.asked ≡ false) where
+    abbrev phase : Phase
+    phase = work.cutover.phase
+
+    stands : WorkStands journal (is_reverting now.tool.reason) has work
+    stands = subst (ToolPhaseStands journal has (is_reverting now.tool.reason)) eq together.stands
+
+    at : StandsAt plan (state_at plan journal).tables (has Insp).waits phase work.cutover.hold work.cutover.renamer_waits work.cutover.is_asked
+    at = subst (ToolPhaseAt plan (state_at plan journal).tables (has Insp).waits) eq going.standing.tool_phase
+
+    own_table : work.cutover.table ≡ plan.table
+    own_table = (subst (ToolPhaseIsNamed plan) eq (named plan journal)).cutover
+
+    gives : given plan journal entry.actor ≡ Some entry.asked
+    gives = gives_asked plan journal entry entry.asked run.followed.given refl (λ cut. true≢false (sym (ap is_cut cut) ∙ uncut))
+
+    lock_asking : entry.actor ≡ Lock → Asking plan journal Lock entry.asked
+    unfolding given
+    lock_asking same = asking plan journal Lock entry.asked together.server (subst (λ (a : Actor). given plan journal a ≡ Some entry.asked) same gives)
+
+    ren_asking : entry.actor ≡ Ren → Asking plan journal Ren entry.asked
+    unfolding given
+    ren_asking same = asking plan journal Ren entry.asked together.server (subst (λ (a : Actor). given plan journal a ≡ Some entry.asked) same gives)
+
+    insp_asking : entry.actor ≡ Insp → Asking plan journal Insp entry.asked
+    unfolding given
+    insp_asking same = asking plan journal Insp entry.asked together.server (subst (λ (a : Actor). given plan journal a ≡ Some entry.asked) same gives)
+
+    -- the locker has locked both names
+    locked : work.cutover.hold ≡ Locks → (has Lock).locked ≡ both_names plan.table
+    locked locks = ap (λ (s : Standing). s.locked) (stands.locker ∙ ap (held work.cutover.table) locks) ∙ ap both_names own_table
+
+    none_some : {A : Type 0} (request : Request) (waits : Option Request) → waits ≡ None → waits ≡ Some request → A
+    none_some request waits none some = absurd (no (sym none ∙ some)) where
+      no : None ≡ Some request → ⊥
+      no same = cc
+
+    -- the inspector calls
+    insp_calls : (P : Type 0) → entry.actor ≡ Insp → ((request : Request) → entry.asked ≡ Call request → attempts.inspector_call work.cutover phase ≡ Some request → P) → P
+    unfolding attempts.next
+    insp_calls P same then = by (insp_asking same) where
+      by : Asking plan journal Insp entry.asked → P
+      by (polls_so request asks some) = none_some request (has Insp).waits going.idle some
+      by (calls_so request asks idle call) = then request asks (ap (λ (c : ToolPhase). tool_call plan now.server journal now.tool c Insp) (sym eq) ∙ call)
+
+    renames : phase ≡ Attempting Drained → entry.actor ≡ Ren → IsNotRefused entry.answer
+    renames drained same =
+        ren_about plan journal entry together run work eq stands (ren_asking same) (IsNotRefused entry.answer)
+        (λ request about kind. by (subst (λ (r : Request). IsAbout r (has Ren) entry.asked) (kind ∙ ap exchange own_table) about)) where
+          by : IsAbout (exchange plan.table) (has Ren) entry.asked → IsNotRefused entry.answer
+          by (is_polled asks some) = none_some (exchange plan.table) (has Ren).waits (ap (λ (s : Standing). s.waits) (stands.renamer ∙ ap (renaming work.cutover.table) (subst (λ (p : Phase). RenamerAt p work.cutover.renamer_waits) drained at.renamer))) some
+          by (is_called asks idle) = rename_goes plan journal entry kept run going (locked (subst (λ (p : Phase). PhaseHolds p work.cutover.hold) drained stands.phase)) same asks (renamer_unlocked plan journal entry going.standing run work eq)
+
+    shows : phase ≡ Attempting Showing → entry.actor ≡ Insp → entry.side ≡ None → ShowsWait entry.answer
+    shows showing same none = insp_calls (ShowsWait entry.answer) same (λ request asks call. by request asks (subst (λ (p : Phase). attempts.inspector_call work.cutover p ≡ Some request) showing call)) where
+      waits : (has Ren).waits ≡ Some (exchange plan.table)
+      waits = ap (λ (s : Standing). s.waits) (stands.renamer ∙ ap (renaming work.cutover.table) (subst (λ (p : Phase). RenamerAt p work.cutover.renamer_waits) showing at.renamer)) ∙ ap (λ (t : List ℕ). Some (exchange t)) own_table
+
+      by : (request : Request) → entry.asked ≡ Call request → Some requests.ShowWaiting ≡ Some request → ShowsWait entry.answer
+      by request asks call =
+          some_request (λ (r : Request). entry.asked ≡ Call r → ShowsWait entry.answer) requests.ShowWaiting request call
+          (λ asks_it. listing_shows plan journal entry kept run going (locked (subst (λ (p : Phase). PhaseHolds p work.cutover.hold) showing stands.phase)) waits (renamer_unlocked plan journal entry going.standing run work eq)
+          (about_own plan journal entry going.standing run Insp requests.ShowWaiting same (is_called asks_it going.idle)) asks_it none) asks
+
+    hints : phase ≡ Attempting Hinting → entry.actor ≡ Insp → entry.side ≡ None → IsOk entry.answer
+    hints hinting same none = insp_calls (IsOk entry.answer) same (λ request asks call. by request asks (subst (λ (p : Phase). attempts.inspector_call work.cutover p ≡ Some request) hinting call)) where
+      by : (request : Request) → entry.asked ≡ Call request → Some (writes_hint work.cutover.table work.cutover.attempts) ≡ Some request → IsOk entry.answer
+      by request asks call =
+          some_request (λ (r : Request). entry.asked ≡ Call r → IsOk entry.answer) (writes_hint work.cutover.table work.cutover.attempts) request call
+          (λ asks_it. hint_goes plan journal entry work runs serial tries.some tries.few kept_more eq hinting same (asks_it ∙ ap (λ (t : List ℕ). Call (writes_hint t work.cutover.attempts)) own_table) none) asks
+
+    goes_on : AttemptGoes work entry
+    goes_on = record {
+      locks = λ locking same. locks_go plan runs journal entry kept run going guarded sentry work eq called locking same (lock_asking same);
+      hints = hints;
+      renames = renames;
+      shows = shows;
+      drops = λ dropping same. drops_go plan runs journal entry kept run going guarded sentry work eq called dropping same (lock_asking same);
+      clears = λ left ending same none.
+          insp_calls (IsOk entry.answer) same
+          (λ request asks call. subst IsOk (sym (clears_ok plan runs journal entry kept run going guarded sentry work eq same request asks left ending (subst (λ (p : Phase). attempts.inspector_call work.cutover p ≡ Some request) ending call) none)) tt);
+    }
+
+-- *Attempts go on*
+pub attempts_go : AttemptsGoOn
+attempts_go plan before entry tries runs serial kept work eq called uncut = goes_on plan runs serial before entry tries kept work eq called uncut

@@ -1,0 +1,505 @@
+-- The number of an attempt's hint row is new: after every kept journal, until the RENAME is done, the changelog's rows have the
+-- numbers of hint rows that are logged.
+use Rattle.std.proofs.Common.{◌≡◌, ◌⊎◌, ◌≤◌, ◌<◌, ℕ, ◌+◌, Bool, true, false, cond, not, List, [], ◌∷◌, ◌++◌, length, take, Option, Some, None, refl, sym, ap, ◌∙◌, subst, inl, inr, arith}
+use Rattle.std.specs.Prelude.{is_some}
+use Rattle.std.specs.List.{list_any}
+use Rattle.std.specs.Option.{option_map}
+use Rattle.std.specs.Str.{bytes_eq}
+use Rattle.std.proofs.Math.Seq.{take-length}
+use Rattle.std.proofs.lemmas.Bool.{true≢false, false≢true}
+use Rattle.std.proofs.lemmas.List.Sums.{fold-append}
+use Rattle.std.proofs.lemmas.Option.{none-some}
+use Rattle.base_script.specs.declared.actor.Actor.{Actor}
+use Rattle.base_script.specs.declared.actor.Actor.TheVariants.{Op, Insp, Copy, Apply, Lock, Ren, Client}
+use Rattle.base_script.specs.declared.actor.Side.{Side}
+use Rattle.base_script.specs.declared.actor.Side.TheVariants.{Before, After}
+use Rattle.base_values.specs.declared.event.RowEvent.{RowEvent}
+use Rattle.base_values.specs.declared.gho_schema.schema.Schema.{Schema}
+use Rattle.base_values.specs.ToolNames.{log_name}
+use Rattle.table_store.specs.Databases.{Database, TableRows, find_table}
+use Rattle.server_model.specs.Blockers.{need, blocker}
+use Rattle.server_model.specs.declared.answer.Answer.{Answer}
+use Rattle.server_model.specs.declared.answer.Answer.TheVariants as answers
+use Rattle.server_model.specs.declared.entry.Asked.{Asked}
+use Rattle.server_model.specs.declared.entry.Asked.TheVariants.{Call, Poll, Command, Cut}
+use Rattle.server_model.specs.declared.entry.Entry.{Entry}
+use Rattle.server_model.specs.declared.request.Request.{Request}
+use Rattle.server_model.specs.declared.session.Session.{Session}
+use Rattle.server_model.specs.Effects.{is_outside}
+use Rattle.server_model.specs.Entries.{same_actor, is_client, is_command}
+use Rattle.server_model.specs.PlainServer.{done, called_unless, calls, leaves, loses, serves}
+use Rattle.server_model.specs.States.{State, is_in_transaction, session_of, writes_of}
+use Rattle.plan_data.specs.PlanData.{PlanData}
+use Rattle.tool_changelog.specs.Hints.{hint_in, last_hint}
+use Rattle.tool_changelog.specs.ToolTables.{log_schema}
+use Rattle.tool_program.specs.JournalWords.Histories as histories
+use Rattle.tool_program.specs.JournalWords.Histories.{is_alter}
+use Rattle.tool_program.specs.JournalWords.Journals.{opens, opens_if, state_at}
+use Rattle.tool_program.specs.declared.cutover_core.cutover.Clearing.{Clearing as Cleared}
+use Rattle.tool_program.specs.declared.cutover_core.cutover.Clearing.TheVariants.{Looking, Drops}
+use Rattle.tool_program.specs.declared.cutover_core.cutover.Leftovers.{Leftovers}
+use Rattle.tool_program.specs.declared.cutover_core.cutover.Phase.{Phase}
+use Rattle.tool_program.specs.declared.cutover_core.cutover.Phase.TheVariants.{Resting, Attempting, Ending, Finishing, Finished}
+use Rattle.tool_program.specs.declared.cutover_core.cutover.Stage.TheVariants.{Hinting, Showing}
+use Rattle.tool_program.specs.CutoverCore.Attempts as attempts
+use Rattle.tool_program.specs.CutoverCore.Attempts.{clears, first_name, is_clear, is_free, without_first, writes_hint}
+use Rattle.tool_program.specs.CutoverCore.CutOvers.{applier_turn}
+use Rattle.tool_program.specs.Programs.{tool_call, given}
+use Rattle.tool_program.specs.Setups.{Setup, Listing, Clearing, MakingLog, MakingGhost, Marking, Reaching, Ready, clearing, listed, setup_call, setup_after, setup_step}
+use Rattle.tool_program.specs.Tools.{Work, ToolPhase, SettingUp, Migrating, Tool, Moment, stopped, is_reverting, tool_phase_of, moment}
+use Rattle.tool_program.proofs.OnlineCalls.Machines.{ToolPhaseIsNamed, named}
+use Rattle.proof_journals.specs.Holdings.{face_in, stored}
+use Rattle.proof_journals.specs.Plans.{IsSerialPlan}
+use Rattle.proof_journals.specs.Scenes.{SessionHold, Stored, no_hold}
+use Rattle.proof_journals.specs.Turns.{about}
+use Rattle.proof_journals.specs.Run.Kept.{IsKept}
+use Rattle.proof_journals.specs.Machine.Runnable.{IsRunnable}
+use Rattle.proof_journals.specs.Machine.Standings.{Standing, free, standing_in, standing_of, answered, is_called}
+use Rattle.proof_journals.proofs.Actors.{Placed, Commands, GoesOn, Begins, placed, same_actor_is}
+use Rattle.proof_journals.proofs.Journals.{stored_opened}
+use Rattle.proof_journals.proofs.Machine.Asking.{some_request, unless_called}
+use Rattle.proof_journals.proofs.Machine.Journals.{IsRun, Asking, calls_so, polls_so, asking}
+use Rattle.proof_journals.proofs.Machine.Seated.{IsKnown, IsServed, IsOpen, is_open, opened_new, opened_old, own_given, own_stands, state_more}
+use Rattle.proof_migration.specs.Attempt.Renamed.{IsRenamedAt, ToolPhaseRenamed}
+use Rattle.proof_migration.specs.Program.Hints.{IsBegun, is_unhinted}
+use Rattle.proof_migration.specs.ToolPhase.Unaltered.{IsUnaltered}
+use Rattle.proof_migration.proofs.Attempt.Leaving.{has_is}
+use Rattle.proof_migration.proofs.Attempt.Renamed.Seen.{all_seen}
+use Rattle.proof_migration.proofs.Attempt.Standing.{about_own}
+use Rattle.proof_migration.proofs.Migration.Leaves.{WritesAway}
+use Rattle.proof_migration.proofs.Program.Hints.Asked.{insp_from, known}
+use Rattle.proof_migration.proofs.Program.Hints.Known.{hints_go, hints_known}
+use Rattle.proof_migration.proofs.Program.Hints.Logging.{NoneWrote, watched}
+use Rattle.proof_migration.proofs.Program.Hints.Writes.{away_hint}
+use Rattle.proof_migration.proofs.Program.InspectorTurns.Keeping.{past_log, LogStands, ToolPhaseFits as LogFits, all_fit}
+use Rattle.proof_migration.proofs.Program.Turns.Asked.{waits_with}
+use Rattle.proof_migration.proofs.Program.Turns.Follows.{kept_front, kept_run}
+use Rattle.proof_migration.proofs.ToolPhase.CopyAnswers.{not_outside}
+use Rattle.proof_migration.proofs.ToolPhase.ToolPhaseTurns.{Kept, SetupKeeps, AnswerKeeps, ResizeKeeps, turn_kept, gives_asked}
+use Rattle.proof_migration.proofs.ToolPhase.Unaltered.Away.{unaltered_front}
+use Rattle.proof_bounds.proofs.Attempts.{attempts_few}
+use Rattle.proof_bounds.proofs.Going.{IsGoing, ToolPhaseFits, all_going, insp_free}
+use Rattle.proof_bounds.proofs.Holders.{each_kept}
+use Rattle.proof_bounds.proofs.Leftovers.{SetupFits}
+use Rattle.proof_bounds.specs.AttemptTurns.Attempts.{IsOk, most_tries}
+use Rattle.proof_bounds.proofs.AttemptTurns.ChangelogTurns.{others_away, rows_left, logs_left}
+use Rattle.proof_bounds.proofs.AttemptTurns.HintInserts.{AllNumbered, HintDone, hint_done, hint_numbered}
+use Rattle.proof_bounds.proofs.AttemptTurns.HintRows.{AllBelow, more_below}
+
+-- THE CHANGELOG WAS MADE
+
+abbrev is_past : ToolPhase → Bool
+is_past (SettingUp setup tries) = past_log setup
+is_past (Migrating work) = true
+
+abbrev IsNumbered : PlanData → List Entry → Type 0
+IsNumbered plan journal = is_past (moment plan journal).tool.tool_phase ≡ true → AllNumbered plan.table (state_at plan journal).tables (state_at plan journal).log
+
+none_found : (found : Option TableRows) → is_some (option_map (λ (table : TableRows). table.schema) found) ≡ false → found ≡ None
+none_found None none = refl
+none_found (Some table) none = absurd (true≢false none)
+
+found_some : (found : Option TableRows) (schema : Schema) → option_map (λ (table : TableRows). table.schema) found ≡ Some schema → (table : TableRows) × (found ≡ Some table) × (table.schema ≡ schema)
+found_some None schema none = absurd cc
+found_some (Some table) schema some = (table, refl, cc)
+
+-- while the tables are cleared it isn't
+clearing_not : (left : Leftovers) → past_log (clearing left) ≡ true → ⊥
+clearing_not left = by (is_clear left) where
+  by : (b : Bool) → past_log (cond b MakingLog (Clearing left)) ≡ true → ⊥
+  by true past = false≢true past
+  by false past = false≢true past
+
+step_past : (table : List ℕ) (setup : Setup) (answer : Answer) → past_log (setup_step table setup answer) ≡ true → (past_log setup ≡ true) ⊎ (setup ≡ MakingLog)
+step_past table Listing (answers.Tables tables) past = absurd (clearing_not (listed table tables) past)
+step_past table Listing answer past = absurd (false≢true past)
+step_past table (Clearing left) (answers.Ok count) past = absurd (clearing_not (without_first left) past)
+step_past table (Clearing left) answer past = absurd (false≢true past)
+step_past table MakingLog answer past = inr refl
+step_past table MakingGhost answer past = inl refl
+step_past table Marking answer past = inl refl
+step_past table (Reaching position) answer past = inl refl
+step_past table (Ready position range) answer past = inl refl
+
+-- the setup writes no row of it
+setup_away : (plan : PlanData) (t : List ℕ) (setup : Setup) (request : Request) → setup_call plan setup ≡ Some request → WritesAway (watched t) request
+setup_away plan t Listing request is = some_request (WritesAway (watched t)) _ request is tt
+setup_away plan t (Clearing left) request is = some_request (WritesAway (watched t)) _ request is tt
+setup_away plan t MakingLog request is = some_request (WritesAway (watched t)) _ request is tt
+setup_away plan t MakingGhost request is = some_request (WritesAway (watched t)) _ request is tt
+setup_away plan t Marking request is = some_request (WritesAway (watched t)) _ request is tt
+setup_away plan t (Reaching position) request is = some_request (WritesAway (watched t)) _ request is tt
+setup_away plan t (Ready position range) request is = absurd cc
+
+-- the hint row comes next
+
+abbrev hints : Phase → Bool
+hints (Attempting Hinting) = true
+hints phase = false
+
+abbrev is_hinting : ToolPhase → Bool
+is_hinting (SettingUp setup tries) = false
+is_hinting (Migrating work) = hints work.cutover.phase
+
+hints_so : (phase : Phase) → hints phase ≡ true → phase ≡ Attempting Hinting
+hints_so (Attempting Hinting) hinting = refl
+hints_so (Attempting stage) hinting = absurd (false≢true hinting)
+hints_so Resting hinting = absurd (false≢true hinting)
+hints_so (Ending cleared) hinting = absurd (false≢true hinting)
+hints_so (Finishing cleared) hinting = absurd (false≢true hinting)
+hints_so Finished hinting = absurd (false≢true hinting)
+
+-- ONE TURN
+
+module _ (plan : PlanData) (runs : IsRunnable plan) (serial : IsSerialPlan plan) (some : 1 ≤ plan.options.default_retries) (few : plan.options.default_retries ≤ most_tries) (journal : List Entry) (entry : Entry) (kept_more : IsKept plan (journal ++ entry ∷ [])) where
+  abbrev t : List ℕ
+  t = plan.table
+
+  abbrev more : List Entry
+  more = journal ++ entry ∷ []
+
+  abbrev now : Moment
+  now = moment plan journal
+
+  abbrev tool : Tool
+  tool = record now.tool { turns = now.tool.turns + 1 }
+
+  abbrev before : State
+  before = state_at plan journal
+
+  abbrev after : State
+  after = state_at plan more
+
+  abbrev open_now : State
+  open_now = opens entry before
+
+  abbrev has : Actor → Standing
+  has = standing_of plan journal
+
+  kept : IsKept plan journal
+  kept = kept_front plan journal (entry ∷ []) kept_more
+
+  run : IsRun plan journal entry
+  run = kept_run plan journal entry kept_more
+
+  going : IsGoing plan journal
+  going = all_going plan journal runs serial kept
+
+  known_now : IsKnown plan journal
+  known_now = going.standing.tabled.all.tool.known
+
+  served : IsServed plan journal entry
+  served = record { answered = run.answered; seated = record { session = run.followed.session } }
+
+  none_some : {A : Type 0} (request : Request) (waits : Option Request) → waits ≡ None → waits ≡ Some request → A
+  none_some request waits none some = absurd (no (sym none ∙ some)) where
+    no : None ≡ Some request → ⊥
+    no same = cc
+
+  -- WHETHER IT WAS MADE BEFORE
+
+  abbrev Was : Type 0
+  Was = (is_past now.tool.tool_phase ≡ true) ⊎ (find_table (log_name t) before.tables ≡ None)
+
+  abbrev New : Kept
+  New = λ b tool_phase. is_past tool_phase ≡ true → Was
+
+  same_past : (tool_phase : ToolPhase) → now.tool.tool_phase ≡ tool_phase → is_past tool_phase ≡ true → Was
+  same_past tool_phase eq past = inl (ap is_past eq ∙ past)
+
+  back : (b : Bool) (tool_phase : ToolPhase) → New b tool_phase → New true (stopped tool_phase)
+  back b (SettingUp setup tries) one = one
+  back b (Migrating work) one = one
+
+  drain : (b : Bool) (work : Work) (tries : List ℕ) → New b (Migrating work) → New b (Migrating (record work { cutover = applier_turn work.applier.hint work.cutover; attempt_tries = tries }))
+  drain b work tries one = one
+
+  none_yet : (setup : Setup) (tries : List ℕ) → now.tool.tool_phase ≡ SettingUp setup tries → setup ≡ MakingLog → find_table (log_name t) before.tables ≡ None
+  none_yet setup tries eq making =
+      let fits : SetupFits plan before.tables MakingLog = subst (SetupFits plan before.tables) making (subst (ToolPhaseFits plan before.tables) eq going.fits) in
+      none_found (find_table (log_name t) before.tables) (sym (has_is (log_name t) before.tables) ∙ fits.0)
+
+  begins : (size : ℕ) (tries : List ℕ) (setup next : Setup) (old : List ℕ) → now.tool.tool_phase ≡ SettingUp setup old → (past_log next ≡ true → (past_log setup ≡ true) ⊎ (setup ≡ MakingLog)) → New false (tool_phase_of plan size next tries)
+  begins size tries setup next old eq from = by next from where
+    either : (past_log setup ≡ true) ⊎ (setup ≡ MakingLog) → Was
+    either (inl past) = inl (ap is_past eq ∙ past)
+    either (inr making) = inr (none_yet setup old eq making)
+
+    by : (next : Setup) → (past_log next ≡ true → (past_log setup ≡ true) ⊎ (setup ≡ MakingLog)) → New false (tool_phase_of plan size next tries)
+    by (Ready position range) from past = either (from refl)
+    by Listing from past = either (from past)
+    by (Clearing left) from past = either (from past)
+    by MakingLog from past = either (from past)
+    by MakingGhost from past = either (from past)
+    by Marking from past = either (from past)
+    by (Reaching position) from past = either (from past)
+
+  setup_so : (answer : Answer) (setup : Setup) (tries : List ℕ) → now.tool.tool_phase ≡ SettingUp setup tries → SetupKeeps plan New answer tool setup tries
+  setup_so answer setup tries eq = record {
+    reverting = λ reverting. same_past (SettingUp setup tries) eq;
+    again = λ onward bad more_tries past. absurd (false≢true past);
+    goes = λ onward good. begins tool.operator.size tries setup (setup_after t setup answer) tries eq (λ past. step_past t setup answer (subst (λ (b : Bool). past_log (cond b Listing (setup_step t setup answer)) ≡ true) good past));
+  }
+
+  answer_so : (answer : Answer) (actor : Actor) (tool_phase : ToolPhase) → now.tool.tool_phase ≡ tool_phase → AnswerKeeps plan New answer tool actor tool_phase
+  answer_so answer Insp (SettingUp setup tries) eq = setup_so answer setup tries eq
+  answer_so answer Insp (Migrating work) eq = λ tries past. inl (ap is_past eq)
+  answer_so answer Lock (Migrating work) eq = λ tries past. inl (ap is_past eq)
+  answer_so answer Ren (Migrating work) eq = λ tries past. inl (ap is_past eq)
+  answer_so answer Copy (Migrating work) eq = record { reverting = λ reverting past. inl (ap is_past eq); unfit = λ onward place number unfit. record { renamed = λ renamed past. inl (ap is_past eq); reverts = λ past. inl (ap is_past eq) }; took = λ onward fits tries past. inl (ap is_past eq) }
+  answer_so answer Apply (Migrating work) eq = record { reverting = λ reverting past. inl (ap is_past eq); unfit = λ onward place number unfit. record { renamed = λ renamed past. inl (ap is_past eq); reverts = λ past. inl (ap is_past eq) }; took = λ onward fits tries past. inl (ap is_past eq) }
+  answer_so answer Op (Migrating work) eq = same_past (Migrating work) eq
+  answer_so answer (Client c) (Migrating work) eq = same_past (Migrating work) eq
+  answer_so answer Lock (SettingUp setup tries) eq = same_past (SettingUp setup tries) eq
+  answer_so answer Ren (SettingUp setup tries) eq = same_past (SettingUp setup tries) eq
+  answer_so answer Copy (SettingUp setup tries) eq = same_past (SettingUp setup tries) eq
+  answer_so answer Apply (SettingUp setup tries) eq = same_past (SettingUp setup tries) eq
+  answer_so answer Op (SettingUp setup tries) eq = same_past (SettingUp setup tries) eq
+  answer_so answer (Client c) (SettingUp setup tries) eq = same_past (SettingUp setup tries) eq
+
+  resize_so : (size : ℕ) (tool_phase : ToolPhase) → now.tool.tool_phase ≡ tool_phase → ResizeKeeps New tool size tool_phase
+  resize_so size (SettingUp setup tries) eq = same_past (SettingUp setup tries) eq
+  resize_so size (Migrating work) eq = λ past. inl (ap is_past eq)
+
+  was_made : is_past (moment plan more).tool.tool_phase ≡ true → Was
+  was_made =
+      turn_kept plan New back journal entry drain
+      (record {
+        commanded = λ word asks unsized. same_past now.tool.tool_phase refl;
+        resized = λ size asks. resize_so size now.tool.tool_phase refl;
+        idle = λ asks none. same_past now.tool.tool_phase refl;
+        lost = λ asks worked. answer_so answers.Lost entry.actor now.tool.tool_phase refl;
+        heard = λ called commanded. answer_so entry.answer entry.actor now.tool.tool_phase refl;
+      })
+
+  -- A TURN THAT WRITES NO HINT ROW
+
+  module _ (off : IsUnaltered plan more) (is : IsNumbered plan journal) where
+    none : NoneWrote t before
+    none = (hints_go plan journal runs serial kept (unaltered_front plan journal (entry ∷ []) off)).none
+
+    abbrev About : Request → Type 0
+    About request = about open_now entry.session entry.asked ≡ Some request
+
+    quiet : ((request : Request) → About request → WritesAway (watched t) request) → IsNumbered plan more
+    quiet writes past table found = by (rows_left plan runs serial journal entry kept_more off none writes table found) where
+      same_hint : last_hint t 0 after.log ≡ last_hint t 0 before.log
+      same_hint =
+          let logs = logs_left plan runs serial journal entry kept_more off none writes in
+          ap (last_hint t 0) logs.log ∙ fold-append (λ (old : ℕ) (event : RowEvent). cond (bytes_eq event.table (log_name t)) (hint_in old event.change) old) 0 before.log logs.events ∙ away_hint t (last_hint t 0 before.log) logs.events logs.away
+
+      old : find_table (log_name t) before.tables ≡ Some table → Was → AllBelow (last_hint t 0 after.log + 1) table.rows
+      old there (inl past_before) = subst (λ (n : ℕ). AllBelow (n + 1) table.rows) (sym same_hint) (is past_before table there)
+      old there (inr gone) = absurd (none-some table (sym gone ∙ there))
+
+      by : (find_table (log_name t) before.tables ≡ Some table) ⊎ (table.rows ≡ []) → AllBelow (last_hint t 0 after.log + 1) table.rows
+      by (inl there) = old there (was_made past)
+      by (inr empty) = subst (AllBelow (last_hint t 0 after.log + 1)) (sym empty) refl
+
+    -- the inspector's request waits never
+    insp_waits : entry.actor ≡ Insp → (request : Request) → (has entry.actor).waits ≡ Some request → WritesAway (watched t) request
+    insp_waits same request waits = none_some request (has Insp).waits going.idle (ap (λ (a : Actor). (has a).waits) (sym same) ∙ waits)
+
+    uncalled : entry.actor ≡ Insp → is_command entry.asked ≡ false → (request : Request) → about open_now entry.session Poll ≡ Some request → WritesAway (watched t) request
+    uncalled same called request is_about = insp_waits same request (waits_with plan serial runs.fitting journal entry (known plan runs serial journal entry kept_more off) run off called request is_about)
+
+    call_away : (work : Work) → (work.cutover.phase ≡ Attempting Hinting → ⊥) → (request : Request) → attempts.inspector_call work.cutover work.cutover.phase ≡ Some request → WritesAway (watched t) request
+    call_away work unhinted request call = by work.cutover.phase refl call where
+      cleared : (one : Cleared) → clears work.cutover.table one ≡ Some request → WritesAway (watched t) request
+      cleared Looking call = some_request (WritesAway (watched t)) _ request call tt
+      cleared (Drops left) call = some_request (WritesAway (watched t)) _ request call tt
+
+      ends : (b : Bool) (one : Cleared) → cond b (clears work.cutover.table one) None ≡ Some request → WritesAway (watched t) request
+      ends true one call = cleared one call
+      ends false one call = absurd cc
+
+      by : (phase : Phase) → work.cutover.phase ≡ phase → attempts.inspector_call work.cutover phase ≡ Some request → WritesAway (watched t) request
+      by (Attempting Hinting) at call = absurd (unhinted at)
+      by (Attempting Showing) at call = some_request (WritesAway (watched t)) _ request call tt
+      by (Attempting stage) at call = absurd cc
+      by (Ending one) at call = ends (is_free work.cutover.hold work.cutover.renamer_waits) one call
+      by (Finishing one) at call = cleared one call
+      by Resting at call = absurd cc
+      by Finished at call = absurd cc
+
+    insp_away : entry.actor ≡ Insp → ((work : Work) → now.tool.tool_phase ≡ Migrating work → work.cutover.phase ≡ Attempting Hinting → ⊥) → (request : Request) → About request → WritesAway (watched t) request
+    unfolding attempts.next
+    insp_away same unhinted request is_about =
+        insp_from plan runs serial journal entry kept_more off (WritesAway (watched t) request) request same is_about (λ call. by now.tool.tool_phase refl call) (λ waits. insp_waits same request (ap (λ (a : Actor). (has a).waits) same ∙ waits)) where
+          by : (tool_phase : ToolPhase) → now.tool.tool_phase ≡ tool_phase → tool_call plan now.server journal now.tool tool_phase Insp ≡ Some request → WritesAway (watched t) request
+          by (SettingUp setup tries) eq call = setup_away plan t setup request (unless_called (is_reverting now.tool.reason) (setup_call plan setup) request call)
+          by (Migrating work) eq call = call_away work (unhinted work eq) request call
+
+  -- THE HINT ROW
+
+  module _ (off_now : IsUnaltered plan journal) (is : IsNumbered plan journal) (work : Work) (eq : now.tool.tool_phase ≡ Migrating work) (hinting : work.cutover.phase ≡ Attempting Hinting) (same : entry.actor ≡ Insp) (asks : entry.asked ≡ Call (writes_hint t work.cutover.attempts)) where
+    abbrev n : ℕ
+    n = work.cutover.attempts
+
+    begun : last_hint t 0 before.log < n
+    begun = subst (λ (l : List RowEvent). last_hint t 0 l < n) (take-length before.log) (subst (λ (phase : Phase). IsBegun (is_unhinted phase) n (last_hint t 0 (take (length before.log) before.log))) hinting ((hints_known plan journal work runs serial kept off_now eq).begun (length before.log)))
+
+    log_stands : LogStands plan before.tables
+    log_stands = (subst (LogFits plan before.tables (has Insp).waits) eq (all_fit plan journal runs serial kept off_now)).log
+
+    found : (table : TableRows) × (find_table (log_name t) before.tables ≡ Some table) × (table.schema ≡ log_schema t)
+    found = found_some (find_table (log_name t) before.tables) (log_schema t) log_stands
+
+    most : n ≤ most_tries
+    most = let less = attempts_few plan journal work some kept.faithful kept.follows eq in omega (arith, less, few)
+
+    least : 1 ≤ n
+    least = let less = begun in omega (arith, less)
+
+    below : AllBelow n found.0.rows
+    below = more_below (last_hint t 0 before.log + 1) n found.0.rows (let less = begun in omega (arith, less)) (is (ap is_past eq) found.0 found.1)
+
+    stored_now : stored open_now ≡ stored before
+    stored_now = stored_opened (is_command entry.asked) (not (is_client entry.actor)) entry.session before
+
+    open_found : find_table (log_name t) open_now.tables ≡ Some found.0
+    open_found = ap (λ (s : Stored). find_table (log_name t) s.tables) stored_now ∙ found.1
+
+    opened : IsOpen plan journal entry known_now served
+    opened = is_open plan journal entry known_now served (ap is_command asks)
+
+    own_free : has entry.actor ≡ free
+    own_free = ap has same ∙ insp_free plan runs journal entry kept run going
+
+    inside : is_outside (session_of entry.session open_now.sessions) (writes_hint t n) ≡ false
+    inside = not_outside (session_of entry.session open_now.sessions) (writes_hint t n) (ap (λ (o : Option Session). (face_in o).locked) opened.is ∙ ap (λ (s : Standing). s.locked) (sym opened.stands ∙ own_free))
+
+    resting : is_in_transaction (session_of entry.session open_now.sessions) ≡ false
+    resting = ap is_in_transaction opened.is ∙ ap (λ (s : Standing). s.busy) (sym opened.stands ∙ own_free)
+
+    wrote_none : writes_of (session_of entry.session open_now.sessions) ≡ []
+    wrote_none = by (placed journal entry served.seated) where
+      hold_writes : (o : Option Session) → (face_in o).hold ≡ no_hold → writes_of o ≡ []
+      hold_writes None rests = refl
+      hold_writes (Some s) rests = ap (λ (h : SessionHold). h.writes) rests
+
+      by : Placed journal entry → writes_of (session_of entry.session open_now.sessions) ≡ []
+      by (Commands command zero) = absurd (true≢false (sym command ∙ ap is_command asks))
+      by (GoesOn calls live) =
+          ap (λ (s : State). writes_of (session_of entry.session s.sessions)) (opened_old (is_command entry.asked) (not (is_client entry.actor)) entry.session before (known_now.live entry.actor entry.session live))
+          ∙ hold_writes (session_of entry.session before.sessions) ((going.names.serving.own entry.session).rests (ap (λ (o : Option ℕ). (standing_in before o).busy) (sym live) ∙ ap (λ (s : Standing). s.busy) own_free))
+      by (Begins calls uncut live above) =
+          ap (λ (b : Bool). writes_of (session_of entry.session (opens_if b (not (is_client entry.actor)) entry.session before).sessions)) (ap is_command asks)
+          ∙ ap writes_of (opened_new (not (is_client entry.actor)) entry.session before (known_now.fresh entry.session above))
+
+    done_so : HintDone t n open_now (done open_now entry.session (writes_hint t n))
+    done_so = hint_done t n open_now entry.session found.0 inside resting wrote_none open_found found.2 most below
+
+    abbrev Numbered : State → Type 0
+    Numbered state = AllNumbered t state.tables state.log
+
+    open_numbered : Numbered open_now
+    open_numbered = subst (λ (s : Stored). AllNumbered t s.tables s.log) (sym stored_now) (is (ap is_past eq))
+
+    served_numbered : (blocked : Option ℕ) → Numbered (called_unless blocked open_now entry.session (writes_hint t n)).after
+    served_numbered (Some other) = open_numbered
+    served_numbered None =
+        subst (λ (tables : Database). AllNumbered t tables (done open_now entry.session (writes_hint t n)).after.log) (sym done_so.tables)
+        (subst (AllNumbered t _) (sym done_so.log) (hint_numbered t n open_now.tables open_now.log found.0 open_found found.2 least below))
+
+    -- so the next attempt's number is new
+    hint_more : IsNumbered plan more
+    unfolding calls loses
+    hint_more past = subst Numbered (sym (state_more plan journal entry)) (by entry.side) where
+      now_served : Numbered (serves open_now entry.session entry.asked).after
+      now_served = subst (λ (a : Asked). Numbered (serves open_now entry.session a).after) (sym asks) (served_numbered (blocker open_now entry.session (need open_now entry.session (writes_hint t n))))
+
+      by : (side : Option Side) → Numbered (leaves side open_now entry.session entry.asked)
+      by None = now_served
+      by (Some Before) = open_numbered
+      by (Some After) = now_served
+
+    -- *The hint row is written*
+    hint_ok : entry.side ≡ None → IsOk entry.answer
+    unfolding calls
+    hint_ok no_side = by (blocker open_now entry.session (need open_now entry.session (writes_hint t n))) refl where
+      given_so : (blocked : Option ℕ) → blocker open_now entry.session (need open_now entry.session (writes_hint t n)) ≡ blocked → (called_unless blocked open_now entry.session (writes_hint t n)).answer ≡ entry.answer
+      given_so blocked at = sym (ap (λ (b : Option ℕ). (called_unless b open_now entry.session (writes_hint t n)).answer) at) ∙ ap (λ (a : Asked). (serves open_now entry.session a).answer) (sym asks) ∙ own_given plan journal entry known_now served no_side
+
+      waits : (other : ℕ) → answers.Waits other ≡ entry.answer → (standing_of plan more Insp).waits ≡ Some (writes_hint t n)
+      waits other is_wait =
+          ap (λ (a : Actor). (standing_of plan more a).waits) (sym same)
+          ∙ ap (λ (s : Standing). s.waits) (own_stands plan journal entry known_now served (writes_hint t n) (about_own plan journal entry going.standing run Insp (writes_hint t n) same (is_called asks going.idle)))
+          ∙ ap (λ (a : Answer). (answered (writes_hint t n) a (has entry.actor)).waits) (sym is_wait)
+
+      by : (blocked : Option ℕ) → blocker open_now entry.session (need open_now entry.session (writes_hint t n)) ≡ blocked → IsOk entry.answer
+      by None at = subst IsOk (sym done_so.answer ∙ given_so None at) tt
+      by (Some other) at = none_some (writes_hint t n) (standing_of plan more Insp).waits (all_going plan more runs serial kept_more).idle (waits other (given_so (Some other) at))
+
+  -- EVERY TURN
+
+  asked_hint : (work : Work) → now.tool.tool_phase ≡ Migrating work → work.cutover.phase ≡ Attempting Hinting → (request : Request) → tool_call plan now.server journal now.tool now.tool.tool_phase Insp ≡ Some request → request ≡ writes_hint t work.cutover.attempts
+  unfolding attempts.next
+  asked_hint work eq hinting request call =
+      some_request (λ (r : Request). r ≡ writes_hint t work.cutover.attempts) (writes_hint work.cutover.table work.cutover.attempts) request
+      (ap (attempts.inspector_call work.cutover) (sym hinting) ∙ ap (λ (c : ToolPhase). tool_call plan now.server journal now.tool c Insp) (sym eq) ∙ call)
+      (ap (λ (name : List ℕ). writes_hint name work.cutover.attempts) (subst (ToolPhaseIsNamed plan) eq (named plan journal)).cutover)
+
+  numbered_more : IsUnaltered plan more → IsNumbered plan journal → IsNumbered plan more
+  unfolding given
+  numbered_more off is = by (same_actor entry.actor Insp) refl where
+    off_now : IsUnaltered plan journal
+    off_now = unaltered_front plan journal (entry ∷ []) off
+
+    unhinted : is_hinting now.tool.tool_phase ≡ false → (work : Work) → now.tool.tool_phase ≡ Migrating work → work.cutover.phase ≡ Attempting Hinting → ⊥
+    unhinted none work eq hinting = true≢false (sym (ap is_hinting eq ∙ ap hints hinting) ∙ none)
+
+    polled : entry.actor ≡ Insp → is_command entry.asked ≡ false → ((request : Request) → about open_now entry.session entry.asked ≡ Some request → about open_now entry.session Poll ≡ Some request) → IsNumbered plan more
+    polled same called waits = quiet off is (λ request is_about. uncalled off is same called request (waits request is_about))
+
+    hinted : entry.actor ≡ Insp → (request : Request) → entry.asked ≡ Call request → (tool_phase : ToolPhase) → now.tool.tool_phase ≡ tool_phase → is_hinting tool_phase ≡ true → IsNumbered plan more
+    hinted same request asks (SettingUp setup tries) eq none = absurd (false≢true none)
+    hinted same request asks (Migrating work) eq some_hint = with (asking plan journal Insp entry.asked going.standing.tabled.all.tool.server (subst (λ (a : Actor). given plan journal a ≡ Some entry.asked) same (gives_asked plan journal entry entry.asked run.followed.given refl (λ cut. no (sym asks ∙ cut))))) where
+      no : Call request ≡ Cut → ⊥
+      no both = cc
+
+      hinting : work.cutover.phase ≡ Attempting Hinting
+      hinting = hints_so work.cutover.phase some_hint
+
+      with : Asking plan journal Insp entry.asked → IsNumbered plan more
+      with (polls_so other asks_it waits) = none_some other (has Insp).waits going.idle waits
+      with (calls_so other asks_it idle call) = hint_more off_now is work eq hinting same (asks_it ∙ ap Call (asked_hint work eq hinting other call))
+
+    called_so : entry.actor ≡ Insp → (request : Request) → entry.asked ≡ Call request → (b : Bool) → is_hinting now.tool.tool_phase ≡ b → IsNumbered plan more
+    called_so same request asks false none = quiet off is (insp_away off is same (unhinted none))
+    called_so same request asks true some_hint = hinted same request asks now.tool.tool_phase refl some_hint
+
+    own : entry.actor ≡ Insp → (asked : Asked) → entry.asked ≡ asked → IsNumbered plan more
+    own same (Call request) asks = called_so same request asks (is_hinting now.tool.tool_phase) refl
+    own same Poll asks = polled same (ap is_command asks) (λ request is_about. subst (λ (a : Asked). about open_now entry.session a ≡ Some request) asks is_about)
+    own same Cut asks = polled same (ap is_command asks) (λ request is_about. subst (λ (a : Asked). about open_now entry.session a ≡ Some request) asks is_about)
+    own same (Command word) asks = quiet off is (λ request is_about. absurd (none-some request (subst (λ (a : Asked). about open_now entry.session a ≡ Some request) asks is_about)))
+
+    by : (b : Bool) → same_actor entry.actor Insp ≡ b → IsNumbered plan more
+    by false differ = quiet off is (others_away plan runs serial journal entry kept_more off differ)
+    by true same = own (same_actor_is entry.actor Insp same) entry.asked refl
+
+-- EVERY JOURNAL
+
+numbered_begins : (plan : PlanData) → IsNumbered plan []
+unfolding moment
+numbered_begins plan past = absurd (false≢true past)
+
+all_numbered : (plan : PlanData) (journal : List Entry) → IsRunnable plan → IsSerialPlan plan → 1 ≤ plan.options.default_retries → plan.options.default_retries ≤ most_tries → IsKept plan journal → IsUnaltered plan journal → IsNumbered plan journal
+all_numbered plan journal runs serial some few kept =
+    each_kept plan (λ before. IsUnaltered plan before → IsNumbered plan before) (λ before entry one is off. numbered_more plan runs serial some few before entry one off (is (unaltered_front plan before (entry ∷ []) off))) journal kept (λ off. numbered_begins plan)
+
+-- while an attempt may succeed the RENAME isn't done
+attempt_unaltered : (plan : PlanData) (journal : List Entry) (work : Work) → IsRunnable plan → IsSerialPlan plan → IsKept plan journal → (moment plan journal).tool.tool_phase ≡ Migrating work → work.cutover.phase ≡ Attempting Hinting → IsUnaltered plan journal
+attempt_unaltered plan journal work runs serial kept eq hinting = by (list_any is_alter (histories.history plan journal)) refl where
+  by : (b : Bool) → list_any is_alter (histories.history plan journal) ≡ b → b ≡ false
+  by false off = refl
+  by true marked = absurd (subst (IsRenamedAt plan (state_at plan journal).tables) hinting (subst (ToolPhaseRenamed plan (state_at plan journal).tables) eq (all_seen plan journal runs serial kept.faithful kept.follows marked)))
+
+-- *The hint row goes on*
+pub hint_goes : (plan : PlanData) (before : List Entry) (entry : Entry) (work : Work) → IsRunnable plan → IsSerialPlan plan → 1 ≤ plan.options.default_retries → plan.options.default_retries ≤ most_tries → IsKept plan (before ++ entry ∷ []) → (moment plan before).tool.tool_phase ≡ Migrating work → work.cutover.phase ≡ Attempting Hinting → entry.actor ≡ Insp
+    → entry.asked ≡ Call (writes_hint plan.table work.cutover.attempts) → entry.side ≡ None → IsOk entry.answer
+hint_goes plan before entry work runs serial some few kept eq hinting same asks none =
+    let front : IsKept plan before = kept_front plan before (entry ∷ []) kept in
+    let off : IsUnaltered plan before = attempt_unaltered plan before work runs serial front eq hinting in
+    hint_ok plan runs serial some few before entry kept off (all_numbered plan before runs serial some few front off) work eq hinting same asks none
