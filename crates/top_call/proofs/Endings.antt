@@ -103,7 +103,7 @@ module _ (words : List (List ℕ)) (source : Taking) (sink : Giving) (turns : Li
         record {
           runs = runs_of laws chosen source (Some printed) turns journal was plan said taken;
           taken = is_taken plan journal (laws.allow was.bytes plan said).turns taken.reports.over;
-          over = ends_as plan journal verdict tells taken.reports.over sound.bound same;
+          over = ends_as plan journal verdict sound.ends tells taken.reports.over sound.bound same;
           verdict_is = same;
           tells = tells;
           given = text_given printed _ (taken.reports.text_is ∙ ap (λ (v : Verdict). report plan journal v (state_at plan journal).tables) same) given;

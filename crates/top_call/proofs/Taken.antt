@@ -1,5 +1,5 @@
 -- A run that is over: turns were taken, and it ended as its verdict says.
-use Rattle.std.proofs.Common.{◌≡◌, ℕ, suc, ◌==◌, ◌≤◌, nat_le, Bool, true, false, ◌||◌, if◌then◌else◌, List, [], ◌∷◌, length, refl, sym, ap, ◌∙◌, arith}
+use Rattle.std.proofs.Common.{◌≡◌, ℕ, suc, ◌==◌, ◌≤◌, ◌<◌, nat_le, Bool, true, false, ◌||◌, if◌then◌else◌, List, [], ◌∷◌, length, refl, sym, ap, ◌∙◌, arith}
 use Rattle.std.specs.List.{list_any}
 use Rattle.std.proofs.lemmas.Bool.{true≢false}
 use Rattle.std.proofs.lemmas.Bool.Decides.{nat_tests}
@@ -8,6 +8,7 @@ use Rattle.server_model.specs.declared.outcome.Cause.{Cause}
 use Rattle.server_model.specs.declared.outcome.Verdict.{Verdict}
 use Rattle.server_model.specs.declared.outcome.Verdict.TheVariants as verdicts
 use Rattle.plan_data.specs.PlanData.{PlanData}
+use Rattle.tool_program.specs.JournalWords.Bounds.{bound}
 use Rattle.tool_program.specs.JournalWords.Histories.{history, is_alter}
 use Rattle.tool_program.specs.JournalWords.Journals.{IsFaithful}
 use Rattle.tool_program.specs.Programs.{Follows}
@@ -17,12 +18,12 @@ use Rattle.proof_journals.specs.Run.Kept.{IsKept}
 use Rattle.proof_journals.specs.Machine.Laws.{TellsAlter}
 use Rattle.proof_plans.specs.ReadPlans.Laws.{WasRead}
 use Rattle.run_turns.specs.Runs.{is_over}
-use Rattle.top_call.specs.WholeReplays.SoundRuns.{IsSoundRun}
+use Rattle.top_call.specs.WholeReplays.SoundRuns.{IsSoundRun, EndsInTime}
 use Rattle.top_endings.specs.declared.command.PlanCommand.{PlanCommand}
 use Rattle.top_endings.specs.declared.command.PlanCommand.TheVariants.{Check, Replay, Run}
 use Rattle.top_endings.specs.declared.turn.Turn.{Turn}
 use Rattle.top_call.specs.Outcomes.{Takes}
-use Rattle.top_call.specs.Promises.{Completes, EndsBy, IsDoneWhereSmooth}
+use Rattle.top_call.specs.Promises.{Completes, EndsBy, IsDoneWhereSmooth, IsDoneWithRoom}
 use Rattle.top_call.specs.TopLaws.{Laws}
 
 pub tells_alter : Laws → (plan : PlanData) (journal : List Entry) → WasRead plan → IsFaithful plan journal → Follows plan journal → has_ended plan journal ≡ true → TellsAlter plan journal
@@ -64,10 +65,18 @@ spent plan journal is over = by (has_ended plan journal) is over where
   by true is over = absurd (true≢false is)
   by false is over = over
 
-as_unended : (plan : PlanData) (journal : List Entry) (verdict : Verdict) → has_ended plan journal ≡ false → is_over plan journal ≡ true → length journal ≤ plan.options.turn_limit → verdicts.Unfinished ≡ verdict → EndsBy plan journal verdict
-as_unended plan journal verdicts.Unfinished is over bound same = (is, at_limit plan.options.turn_limit (length journal) (spent plan journal is over) bound)
-as_unended plan journal verdicts.Done is over bound same = absurd (not_done same)
-as_unended plan journal (verdicts.Reverted cause) is over bound same = absurd (not_reverted cause same)
+-- the bound is more than the turns that the plan allows, of which there is none left
+past_limit : (limit count most : ℕ) → nat_le limit count ≡ true → count < most → limit < most
+past_limit limit count most full few = grind (arith, nat_tests, full, few)
+
+no_room : (limit count most : ℕ) → nat_le limit count ≡ true → count < most → most ≤ limit → ⊥
+no_room limit count most full few room = grind (arith, nat_tests, full, few, room)
+
+as_unended : (plan : PlanData) (journal : List Entry) (verdict : Verdict) → EndsInTime plan journal → has_ended plan journal ≡ false → is_over plan journal ≡ true → length journal ≤ plan.options.turn_limit → verdicts.Unfinished ≡ verdict → EndsBy plan journal verdict
+as_unended plan journal verdicts.Unfinished ends is over few same =
+    (is, at_limit plan.options.turn_limit (length journal) (spent plan journal is over) few, past_limit plan.options.turn_limit (length journal) (bound plan) (spent plan journal is over) (ends is))
+as_unended plan journal verdicts.Done ends is over few same = absurd (not_done same)
+as_unended plan journal (verdicts.Reverted cause) ends is over few same = absurd (not_reverted cause same)
 
 chosen : (plan : PlanData) (journal : List Entry) → TellsAlter plan journal → verdict_of plan journal ≡ verdicts.Unfinished → ⊥
 chosen plan journal tells is = by (list_any is_alter (history plan journal)) refl where
@@ -81,11 +90,18 @@ as_ended plan journal verdicts.Done ended tells same = ended
 as_ended plan journal (verdicts.Reverted cause) ended tells same = ended
 
 -- *Ended as its verdict says*
-pub ends_as : (plan : PlanData) (journal : List Entry) (verdict : Verdict) → (has_ended plan journal ≡ true → TellsAlter plan journal) → is_over plan journal ≡ true → length journal ≤ plan.options.turn_limit → verdict_of plan journal ≡ verdict → EndsBy plan journal verdict
-ends_as plan journal verdict tells over bound same = by (has_ended plan journal) refl where
+pub ends_as : (plan : PlanData) (journal : List Entry) (verdict : Verdict) → EndsInTime plan journal → (has_ended plan journal ≡ true → TellsAlter plan journal) → is_over plan journal ≡ true → length journal ≤ plan.options.turn_limit → verdict_of plan journal ≡ verdict → EndsBy plan journal verdict
+ends_as plan journal verdict ends tells over few same = by (has_ended plan journal) refl where
   by : (b : Bool) → has_ended plan journal ≡ b → EndsBy plan journal verdict
   by true is = as_ended plan journal verdict is (tells is) same
-  by false is = as_unended plan journal verdict is over bound (sym (unended plan journal is) ∙ same)
+  by false is = as_unended plan journal verdict ends is over few (sym (unended plan journal is) ∙ same)
+
+-- *Done with room*
+pub done_with_room : Laws → (plan : PlanData) (journal : List Entry) → WasRead plan → IsSoundRun plan journal → IsDoneWithRoom plan journal
+done_with_room laws plan journal was sound room smooth over = by (has_ended plan journal) refl where
+  by : (b : Bool) → has_ended plan journal ≡ b → verdict_of plan journal ≡ verdicts.Done
+  by true is = done_where_smooth laws plan journal was sound.kept smooth is
+  by false is = absurd (no_room plan.options.turn_limit (length journal) (bound plan) (spent plan journal is over) (sound.ends is) room)
 
 begins_going : (plan : PlanData) → has_ended plan [] ≡ false
 unfolding has_ended moment

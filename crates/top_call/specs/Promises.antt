@@ -1,5 +1,5 @@
 -- What the top call promises under each status.
-use Rattle.std.specs.Prelude.{◌≡◌, ℕ, ◌==◌, true, false, List, [], length, Option, Some, None, Ok, Err}
+use Rattle.std.specs.Prelude.{◌≡◌, ℕ, ◌==◌, ◌≤◌, ◌<◌, true, false, List, [], length, Option, Some, None, Ok, Err}
 use Rattle.std.specs.Io.KnownBytes.{Appends, Consumes}
 use Rattle.base_edges.specs.Edges.{Rose}
 use Rattle.base_edges.specs.Whole.{ReadsWhole, GivesPart}
@@ -11,12 +11,14 @@ use Rattle.plan_data.specs.PlanData.{PlanData}
 use Rattle.plan_reader.specs.declared.limits.TheConstants.{PLAN_LIMIT}
 use Rattle.plan_reader.specs.declared.fault.PlanRefusal.{PlanRefusal}
 use Rattle.plan_reader.specs.Plans.{read}
+use Rattle.tool_program.specs.JournalWords.Bounds.{bound}
 use Rattle.tool_program.specs.JournalWords.Journals.{state_at}
 use Rattle.tool_program.specs.Failures.{Stands}
 use Rattle.tool_program.specs.Verdicts.{has_ended, verdict_of}
 use Rattle.proof_journals.specs.Machine.Laws.{TellsAlter}
 use Rattle.proof_plans.specs.Complete.Laws.{IsSmoothRun}
 use Rattle.proof_plans.specs.Complete.Quiet.{IsQuiet, RowsHaveConvertedRows, IsWithinLimits}
+use Rattle.run_turns.specs.Runs.{is_over}
 use Rattle.top_report.specs.Reports.{report}
 use Rattle.top_words.specs.Commands.{command}
 use Rattle.top_words.specs.declared.command.Command.{Command}
@@ -44,6 +46,10 @@ Completes plan journal = IsQuiet plan → RowsHaveConvertedRows plan → IsWithi
 abbrev pub IsDoneWhereSmooth : PlanData → List Entry → Type 0
 IsDoneWhereSmooth plan journal = IsSmoothRun plan journal → has_ended plan journal ≡ true → verdict_of plan journal ≡ verdicts.Done
 
+-- *Done with room*: and where the plan allows as many turns as its bound, such a run that is over is done.
+abbrev pub IsDoneWithRoom : PlanData → List Entry → Type 0
+IsDoneWithRoom plan journal = bound plan ≤ plan.options.turn_limit → IsSmoothRun plan journal → is_over plan journal ≡ true → verdict_of plan journal ≡ verdicts.Done
+
 -- *The headline*, of the turns that a call leaves: the source was read whole, its bytes are an accepted plan, and the turns are
 -- those of a sound replay of the plan, or of a sound run of it by this many workers, as the command says.
 pub record Runs (chosen : PlanCommand) (source : Taking) (turns : List Turn) (journal : List Entry) : Type 0 where
@@ -54,6 +60,7 @@ pub record Runs (chosen : PlanCommand) (source : Taking) (turns : List Turn) (jo
   pub takes : Takes chosen plan turns journal
   pub completes : Completes plan journal
   pub smooth : IsDoneWhereSmooth plan journal
+  pub roomy : IsDoneWithRoom plan journal
 
 -- the same of the command that the words are
 pub record RunsBy (words : List (List ℕ)) (source : Taking) (turns : List Turn) (journal : List Entry) : Type 0 where
@@ -62,9 +69,9 @@ pub record RunsBy (words : List (List ℕ)) (source : Taking) (turns : List Turn
   pub runs : Runs chosen source turns journal
 
 -- Where the verdict is done or reverted, the run has ended; where it is unfinished, the run hasn't, and took as many turns
--- as the plan allows.
+-- as the plan allows, which are fewer than the plan's bound.
 abbrev pub EndsBy : PlanData → List Entry → Verdict → Type 0
-EndsBy plan journal verdicts.Unfinished = (has_ended plan journal ≡ false) × (length journal ≡ plan.options.turn_limit)
+EndsBy plan journal verdicts.Unfinished = (has_ended plan journal ≡ false) × (length journal ≡ plan.options.turn_limit) × (plan.options.turn_limit < bound plan)
 EndsBy plan journal verdict = has_ended plan journal ≡ true
 
 -- The report is given: turns were taken, the run is over as this verdict says, which is that of the journal and tells whether

@@ -1,18 +1,24 @@
 -- Kept runs of accepted plans are sound.
 use Rattle.proof_plans.specs.Laws.{AcceptedRunsAreSerial, AcceptedRenamesFindTheAltered, AcceptedRunsFindTheTable, AcceptedRunsKeepTheOldTable, AcceptedRunsAreOnline, AcceptedCausesStand}
+use Rattle.law_journals.specs.Bounds.{RunsAreBounded}
+use Rattle.law_journals.specs.Orders.{AcceptedRunsApplyInserts, AcceptedRunsCopyUnderLocks, AcceptedRunsKeepOrder}
 use Rattle.top_call.specs.WholeReplays.SoundRuns.{KeptRunsAreSound}
 
 -- *Kept runs are sound*
-pub sound : AcceptedRunsAreSerial → AcceptedRenamesFindTheAltered → AcceptedRunsFindTheTable → AcceptedRunsKeepTheOldTable → AcceptedRunsAreOnline → AcceptedCausesStand → KeptRunsAreSound
+pub sound : AcceptedRunsAreSerial → AcceptedRenamesFindTheAltered → AcceptedRunsFindTheTable → AcceptedRunsKeepTheOldTable → AcceptedRunsAreOnline → AcceptedRunsKeepOrder → AcceptedRunsCopyUnderLocks → AcceptedRunsApplyInserts → AcceptedCausesStand → RunsAreBounded → KeptRunsAreSound
 unfolding KeptRunsAreSound
-sound serial altered found old online causes plan journal was kept bound stops = record {
+sound serial altered found old online order locks inserts causes bounded plan journal was kept bound stops = record {
   kept = kept;
   bound = bound;
   stops = stops;
+  ends = λ going. bounded plan journal was kept going;
   serial = serial plan journal was kept;
   altered = λ before entry following table new is rename stands alters. altered plan table new before entry was stands alters rename;
   found = found plan journal was kept;
   old = old plan journal was kept;
   online = online plan journal was kept;
+  order = order plan journal was kept;
+  locks = locks plan journal was kept;
+  inserts = inserts plan journal was kept;
   causes = λ cause is. causes plan journal cause was kept is;
 }

@@ -1,19 +1,23 @@
 -- *Sound run* of a plan: what holds of a journal in whatever order its turns go. (This project's rule.)
-use Rattle.std.specs.Prelude.{◌≡◌, ◌≤◌, List, ◌∷◌, ◌++◌, length, Some}
+use Rattle.std.specs.Prelude.{◌≡◌, ◌≤◌, ◌<◌, false, List, ◌∷◌, ◌++◌, length, Some}
 use Rattle.table_store.specs.Databases.{TableRows, find_table}
 use Rattle.server_model.specs.declared.entry.Entry.{Entry}
 use Rattle.server_model.specs.declared.outcome.Cause.{Cause}
 use Rattle.server_model.specs.declared.outcome.Verdict.TheVariants.{Reverted}
 use Rattle.plan_data.specs.PlanData.{PlanData, Altered, altered_by}
+use Rattle.tool_program.specs.JournalWords.Bounds.{bound}
 use Rattle.tool_program.specs.JournalWords.Journals.{state_at}
 use Rattle.tool_program.specs.JournalWords.Serials.{IsSerial}
 use Rattle.tool_program.specs.Failures.{Stands}
 use Rattle.tool_program.specs.Online.{IsOnline}
-use Rattle.tool_program.specs.Verdicts.{verdict_of}
+use Rattle.tool_program.specs.Verdicts.{verdict_of, has_ended}
 use Rattle.proof_journals.specs.Ghost.Copies.{IsAltered}
 use Rattle.proof_journals.specs.Run.Kept.{IsKept}
 use Rattle.proof_migration.specs.Migration.Planning.{migration_of}
 use Rattle.proof_migration.specs.CutOver.{IsRename}
+use Rattle.proof_order.specs.AppliedRows.{AppliesInserts}
+use Rattle.proof_order.specs.ChunkLocks.{CopiesUnderLocks}
+use Rattle.proof_order.specs.CutOverOrder.{KeepsOrder}
 use Rattle.proof_plans.specs.ReadPlans.Laws.{WasRead}
 use Rattle.proof_plans.specs.Tables.{FindsTable, KeepsOldTable}
 use Rattle.run_turns.specs.Runs.{Stops}
@@ -25,21 +29,30 @@ FindsAltered plan journal =
     (before : List Entry) (entry : Entry) (following : List Entry) (table : TableRows) (new : Altered) → journal ≡ before ++ entry ∷ following → IsRename plan before entry → find_table plan.table plan.tables ≡ Some table → altered_by plan table.schema ≡ Some new
     → IsAltered (migration_of table.schema new) (state_at plan before).tables
 
+-- *Ends in time*: until the run has ended, the journal has fewer turns than the plan's bound
+abbrev pub EndsInTime : PlanData → List Entry → Type 0
+EndsInTime plan journal = has_ended plan journal ≡ false → length journal < bound plan
+
 -- *Sound run*. Each answer is the plain server's; clients take the lines of their scripts in order, and sessions are lost where
 -- the plan says; each turn asks what was given, in its actor's session. There are no more turns than the plan allows, and none
--- is taken of a run that is over. What clients got and the tables that are left are those of their ended transactions, one at a
--- time, with the ALTER at one instant or not at all. The RENAME finds the altered table; what names the migrated one alone
--- finds it, and the old one is kept as it was. The migrated one is used while the migration goes on. Where the verdict is a
--- revert, the cause is in the journal.
+-- is taken of a run that is over; until it has ended, there are fewer than the plan's bound. What clients got and the tables that
+-- are left are those of their ended transactions, one at a time, with the ALTER at one instant or not at all. The RENAME finds
+-- the altered table; what names the migrated one alone finds it, and the old one is kept as it was. The migrated one is used
+-- while the migration goes on. The steps of the cut-over come in their order, rows are copied under locks, and logged inserts
+-- are applied as REPLACE. Where the verdict is a revert, the cause is in the journal.
 pub record IsSoundRun (plan : PlanData) (journal : List Entry) : Type 0 where
   pub kept : IsKept plan journal
   pub bound : length journal ≤ plan.options.turn_limit
   pub stops : Stops plan journal
+  pub ends : EndsInTime plan journal
   pub serial : IsSerial plan journal
   pub altered : FindsAltered plan journal
   pub found : FindsTable plan journal
   pub old : KeepsOldTable plan journal
   pub online : IsOnline plan journal
+  pub order : KeepsOrder plan journal
+  pub locks : CopiesUnderLocks plan journal
+  pub inserts : AppliesInserts plan journal
   pub causes : (cause : Cause) → verdict_of plan journal ≡ Reverted cause → Stands plan journal cause
 
 -- *Kept runs are sound*: each journal of an accepted plan that is kept, has no more turns than the plan allows and none after
