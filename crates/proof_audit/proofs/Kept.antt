@@ -1,0 +1,162 @@
+-- Of a journal that is kept each client's turn is one of a client that lives, and what it hears is a client's.
+use Rattle.std.proofs.Common.{◌≡◌, ◌≢◌, ℕ, Bool, true, false, List, [], ◌∷◌, ◌++◌, is_some, Option, Some, None, refl, sym, ap, ◌∙◌, subst}
+use Rattle.base_script.specs.declared.actor.Actor.{Actor}
+use Rattle.base_script.specs.declared.actor.Actor.TheVariants.{Client}
+use Rattle.base_script.specs.declared.actor.Side.{Side}
+use Rattle.base_script.specs.declared.actor.Side.TheVariants.{Before}
+use Rattle.base_script.specs.declared.script.ScriptLine.{ScriptLine}
+use Rattle.base_script.specs.declared.script.ScriptWord.{ScriptWord}
+use Rattle.base_script.specs.declared.script.ScriptWord.TheVariants as words
+use Rattle.server_model.specs.declared.request.Request.{Request}
+use Rattle.server_model.specs.declared.answer.Answer.{Answer}
+use Rattle.server_model.specs.declared.answer.Answer.TheVariants as answers
+use Rattle.server_model.specs.declared.entry.Asked.{Asked}
+use Rattle.server_model.specs.declared.entry.Asked.TheVariants.{Call, Poll, Command, Cut}
+use Rattle.server_model.specs.declared.entry.Entry.{Entry}
+use Rattle.server_model.specs.Along.{Along}
+use Rattle.server_model.specs.PlainServer.{given_at, serves}
+use Rattle.server_model.specs.States.{State}
+use Rattle.plan_data.specs.PlanData.{PlanData}
+use Rattle.tool_program.specs.JournalWords.Clients.{client_asks, client_at, word_asks}
+use Rattle.tool_program.specs.JournalWords.Journals.{IsAnswered, IsFaithful, heard, inner_answer, may_lose, opens, state_at}
+use Rattle.tool_program.specs.JournalWords.KeptPlans.{IsPlanned, KeepsPlan, TakesNext}
+use Rattle.tool_program.specs.JournalWords.Sessions.{live_session}
+use Rattle.tool_program.specs.Programs.{Follows, IsFollowed}
+use Rattle.proof_journals.specs.Machine.Scripts.{ScriptsFit}
+use Rattle.proof_journals.specs.Machine.Standings.{IsAbout, is_called, is_polled, serves_to, standing_of}
+use Rattle.proof_journals.specs.Run.Kept.{IsKept}
+use Rattle.proof_journals.proofs.Ghost.Turns.{along_next}
+use Rattle.proof_journals.proofs.Machine.ClientJournals.{ClientsTogether, clients_begin, clients_more}
+use Rattle.proof_journals.proofs.Machine.Clients.{ClientStands, Next, calls_line, polls_line, client_next}
+use Rattle.proof_journals.proofs.Machine.Journals.{IsRun, all_runs}
+use Rattle.proof_journals.proofs.Machine.Seated.{IsServed, own_heard}
+use Rattle.run_audit.specs.Lines.{lines_of}
+use Rattle.run_audit.specs.Rules.{client_reached, has_session}
+use Rattle.proof_audit.proofs.Clients.{AreClientTurns, IsClientTurn, IsClients, IsTimeout, NoBegin, lines_tell_clients}
+use Rattle.proof_audit.proofs.Lost.{IsLosing, LostHaveNone, lost_before, lost_step}
+use Rattle.proof_audit.proofs.Sessions.{IsLostRightly, lines_tell_sessions}
+use Rattle.proof_audit.specs.Laws.{LinesTellClients, LinesTellSessions}
+
+-- where a session is lost the answer is lost
+cut_lost : (state : State) (entry : Entry) → IsAnswered state entry → entry.asked ≡ Cut → entry.answer ≡ answers.Lost
+unfolding inner_answer
+cut_lost state entry is cut =
+    is.answer
+    ∙ ap (λ (asked : Asked). heard entry.side (given_at entry.side asked (serves (opens entry state) entry.session entry.asked).answer)) cut
+    ∙ ap (λ (side : Option Side). heard side None) (is.sides (ap may_lose cut))
+
+pub lost_rightly : (state : State) (entry : Entry) → IsAnswered state entry → IsLostRightly entry
+lost_rightly state entry is = record {
+  sided = λ side at. is.answer ∙ ap (λ (s : Option Side). heard s (inner_answer state entry)) at;
+  cut = cut_lost state entry is;
+}
+
+-- what the server answers to a line is a client's
+served_client : (word : ScriptWord) (answer : Answer) → serves_to (word_asks word) answer ≡ true → IsClients answer
+served_client word (answers.Ok count) fits = tt
+served_client word (answers.Rows rows) fits = tt
+served_client word (answers.Refused number column) fits = tt
+served_client word (answers.Waits by) fits = tt
+served_client word (answers.TimedOut waited) fits = tt
+served_client words.Begin answer fits = absurd cc
+served_client words.Commit answer fits = absurd cc
+served_client words.Rollback answer fits = absurd cc
+served_client (words.Do statement) answer fits = absurd cc
+
+-- a BEGIN doesn't time out
+served_begin : (word : ScriptWord) (answer : Answer) → serves_to (word_asks word) answer ≡ true → IsTimeout answer → word ≢ words.Begin
+served_begin words.Begin (answers.TimedOut waited) fits is same = absurd cc
+served_begin words.Begin answer fits is same = is
+served_begin words.Commit answer fits is same = cc
+served_begin words.Rollback answer fits is same = cc
+served_begin (words.Do statement) answer fits is same = cc
+
+-- it hears what the server may answer to its line
+heard_line : (plan : PlanData) (before : List Entry) (entry : Entry) (c : ℕ) → ClientsTogether plan before → IsRun plan before entry → entry.actor ≡ Client c → client_asks plan before c ≡ Some entry.asked → entry.side ≡ None
+    → (line : ScriptLine) × (lines : List ScriptLine) × ((client_at plan before c).left ≡ line ∷ lines) × (serves_to (word_asks line.word) entry.answer ≡ true)
+heard_line plan before entry c is run same asks none = by (client_next plan before c entry.asked asks) where
+  served : IsServed plan before entry
+  served = record { answered = run.answered; seated = record { session = run.followed.session } }
+
+  fits : (request : Request) → IsAbout request (standing_of plan before (Client c)) entry.asked → serves_to request entry.answer ≡ true
+  fits request about = own_heard plan before entry is.known served request (subst (λ (a : Actor). IsAbout request (standing_of plan before a) entry.asked) (sym same) about) none
+
+  stands : ClientStands (client_at plan before c) (standing_of plan before (Client c))
+  stands = is.each c
+
+  by : Next (client_at plan before c) entry.asked → (line : ScriptLine) × (lines : List ScriptLine) × ((client_at plan before c).left ≡ line ∷ lines) × (serves_to (word_asks line.word) entry.answer ≡ true)
+  by (calls_line line lines going off left called) = (line, lines, left, fits (word_asks line.word) (is_called called (stands.free off)))
+  by (polls_line going on polled) = let held = stands.held on in (held.0, held.1, held.2, fits (word_asks held.0.word) (is_polled polled held.3))
+
+heard_clients : (plan : PlanData) (before : List Entry) (entry : Entry) (c : ℕ) → ClientsTogether plan before → IsRun plan before entry → entry.actor ≡ Client c → client_asks plan before c ≡ Some entry.asked → entry.side ≡ None → IsClients entry.answer
+heard_clients plan before entry c is run same asks none = let line = heard_line plan before entry c is run same asks none in served_client line.0.word entry.answer line.3
+
+first_line : (one other : ScriptLine) (lines more : List ScriptLine) → one ∷ lines ≡ other ∷ more → one ≡ other
+first_line one other lines more is = cc
+
+heard_no_begin : (plan : PlanData) (before : List Entry) (entry : Entry) (c : ℕ) → ClientsTogether plan before → IsRun plan before entry → entry.actor ≡ Client c → client_asks plan before c ≡ Some entry.asked → entry.side ≡ None → NoBegin (client_at plan before c).left entry.answer
+heard_no_begin plan before entry c is run same asks none one more left over =
+    let line = heard_line plan before entry c is run same asks none in
+    subst (λ (l : ScriptLine). l.word ≢ words.Begin) (first_line line.0 one line.1 more (sym line.2 ∙ left)) (served_begin line.0.word entry.answer line.3 over)
+
+pub takes_asks : (plan : PlanData) (before : List Entry) (c : ℕ) (asked : Asked) → asked ≢ Cut → TakesNext plan before (Client c) asked → client_asks plan before c ≡ Some asked
+takes_asks plan before c Cut other takes = absurd (other refl)
+takes_asks plan before c (Call request) other takes = takes
+takes_asks plan before c Poll other takes = takes
+takes_asks plan before c (Command word) other takes = takes
+
+losing : (plan : PlanData) (before : List Entry) (entry : Entry) → IsRun plan before entry → IsPlanned plan before entry → IsLosing plan before entry
+losing plan before entry run planned = record { rightly = lost_rightly (state_at plan before) entry run.answered; planned = planned }
+
+pub client_lives : (plan : PlanData) (before : List Entry) (entry : Entry) (c : ℕ) → LostHaveNone plan before → IsRun plan before entry → IsPlanned plan before entry → entry.actor ≡ Client c → (client_at plan before c).is_lost ≡ false
+client_lives plan before entry c none run planned same = by (client_at plan before c).is_lost refl where
+  by : (b : Bool) → (client_at plan before c).is_lost ≡ b → b ≡ false
+  by false lives = refl
+  by true lost = absurd (lost_before plan before entry c (losing plan before entry run planned) none same lost)
+
+client_turn : (plan : PlanData) (before : List Entry) (entry : Entry) (c : ℕ) → ClientsTogether plan before → LostHaveNone plan before → IsRun plan before entry → IsPlanned plan before entry → entry.actor ≡ Client c → IsClientTurn plan before entry c
+client_turn plan before entry c is none run planned same = record {
+  lives = client_lives plan before entry c none run planned same;
+  heard = λ other side. heard_clients plan before entry c is run same (takes_asks plan before c entry.asked other (subst (λ (a : Actor). TakesNext plan before a entry.asked) same planned.next)) side;
+  timed = λ other side. heard_no_begin plan before entry c is run same (takes_asks plan before c entry.asked other (subst (λ (a : Actor). TakesNext plan before a entry.asked) same planned.next)) side;
+  lost = λ at. (lost_rightly (state_at plan before) entry run.answered).sided Before at;
+}
+
+client_turns : (plan : PlanData) (before journal : List Entry) → ClientsTogether plan before → LostHaveNone plan before → Along (IsRun plan) before journal → Along (IsPlanned plan) before journal
+    → Along (λ some entry. (c : ℕ) → entry.actor ≡ Client c → IsClientTurn plan some entry c) before journal
+client_turns plan before [] is none runs planned = tt
+client_turns plan before (entry ∷ journal) is none runs planned = (
+  λ c same. client_turn plan before entry c is none runs.0 planned.0 same,
+  client_turns plan (before ++ entry ∷ []) journal (clients_more plan before entry is runs.0) (lost_step plan before entry (losing plan before entry runs.0 planned.0) none) runs.1 planned.1,
+)
+
+lost_turns : (plan : PlanData) (before journal : List Entry) → Along (IsRun plan) before journal → Along (λ some entry. IsLostRightly entry) before journal
+lost_turns plan before [] runs = tt
+lost_turns plan before (entry ∷ journal) runs = (lost_rightly (state_at plan before) entry runs.0.answered, lost_turns plan (before ++ entry ∷ []) journal runs.1)
+
+pub kept_runs : (plan : PlanData) (journal : List Entry) → IsKept plan journal → Along (IsRun plan) [] journal
+unfolding Follows
+kept_runs plan journal kept = all_runs plan [] journal kept.faithful kept.follows
+
+pub kept_lost : (plan : PlanData) (journal : List Entry) → IsKept plan journal → Along (λ some entry. IsLostRightly entry) [] journal
+kept_lost plan journal kept = lost_turns plan [] journal (kept_runs plan journal kept)
+
+none_lost : (plan : PlanData) → LostHaveNone plan []
+unfolding live_session
+none_lost plan c lost = refl
+
+pub kept_clients : (plan : PlanData) (journal : List Entry) → ScriptsFit plan → IsKept plan journal → AreClientTurns plan journal
+unfolding KeepsPlan
+kept_clients plan journal fit kept = client_turns plan [] journal (clients_begin plan fit) (none_lost plan) (kept_runs plan journal kept) kept.planned
+
+-- *The lines tell how far clients are*
+pub tell_clients : LinesTellClients
+tell_clients plan journal c fit kept = lines_tell_clients plan journal c (kept_clients plan journal fit kept)
+
+-- *The lines tell who has a session*
+pub tell_sessions : LinesTellSessions
+tell_sessions plan journal actor kept = lines_tell_sessions journal actor (kept_lost plan journal kept)
+
+-- *A client's turn* of a journal that is kept
+pub client_turn_kept : (plan : PlanData) (before : List Entry) (entry : Entry) (c : ℕ) → ScriptsFit plan → IsKept plan (before ++ entry ∷ []) → entry.actor ≡ Client c → IsClientTurn plan before entry c
+client_turn_kept plan before entry c fit kept same = along_next (λ some one. (c : ℕ) → one.actor ≡ Client c → IsClientTurn plan some one c) [] before entry [] (kept_clients plan (before ++ entry ∷ []) fit kept) c same

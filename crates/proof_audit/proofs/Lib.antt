@@ -1,0 +1,16 @@
+pub mod Audited
+pub mod Clients
+pub mod Ended
+pub mod Idle
+pub mod Judging
+pub mod Kept
+pub mod Losing
+pub mod Lost
+pub mod Printing
+pub mod Refusals
+pub mod Renaming
+pub mod Rules
+pub mod Serials
+pub mod Sessions
+pub mod Struck
+pub mod Verdicts

@@ -1,0 +1,160 @@
+-- A client that was lost has no session any more.
+use Rattle.std.proofs.Common.{◌≡◌, ◌≢◌, ℕ, ◌+◌, ◌==◌, ◌&&◌, Bool, true, false, List, [], ◌∷◌, ◌++◌, is_some, length, cond, Option, Some, None, refl, sym, ap, ◌∙◌, subst, ◌⊎◌, inl, inr}
+use Rattle.base_script.specs.declared.actor.Actor.{Actor}
+use Rattle.base_script.specs.declared.actor.Actor.TheVariants.{Client}
+use Rattle.base_script.specs.declared.actor.Side.{Side}
+use Rattle.base_script.specs.declared.loss.Loss.{Loss}
+use Rattle.base_script.specs.declared.loss.Loss.TheVariants.{Nth, Turn}
+use Rattle.base_script.specs.declared.script.ScriptLine.{ScriptLine}
+use Rattle.server_model.specs.declared.transaction.Mark.{Mark}
+use Rattle.server_model.specs.declared.transaction.Mark.TheVariants as marks
+use Rattle.server_model.specs.declared.transaction.Reply.{Reply}
+use Rattle.server_model.specs.declared.answer.Answer.{Answer}
+use Rattle.server_model.specs.declared.answer.Answer.TheVariants as answers
+use Rattle.server_model.specs.declared.entry.Asked.{Asked}
+use Rattle.server_model.specs.declared.entry.Asked.TheVariants.{Call, Poll, Command, Cut}
+use Rattle.server_model.specs.declared.entry.Entry.{Entry}
+use Rattle.server_model.specs.Alone.{reply_of}
+use Rattle.server_model.specs.Along.{Along, Along-keeps}
+use Rattle.server_model.specs.Entries.{same_actor}
+use Rattle.plan_data.specs.PlanData.{PlanData}
+use Rattle.tool_program.specs.JournalWords.Clients.{Became, Nothing, Waits, Marked, Broken, Reached, after_turn, became_in, became_of, client_after, client_asks, client_at, cut_off, is_loss, line_asks, lost_side, marked}
+use Rattle.tool_program.specs.JournalWords.KeptPlans.{IsPlanned, IsStruck, cut_among, cut_by, cut_due, or_first, TakesNext}
+use Rattle.tool_program.specs.JournalWords.Sessions.{live_session, session_in, session_left}
+use Rattle.proof_audit.proofs.Clients.{at_more, same_client}
+use Rattle.proof_audit.proofs.Sessions.{IsLostRightly, live_more}
+
+-- ---- what loses a client
+
+record Loses (asked : Asked) (side : Option Side) : Type 0 where
+  pub how : (asked ≡ Cut) ⊎ ((one : Side) × (side ≡ Some one))
+
+marked_lost : (client : Reached) (mark : Mark) (reply : Option Reply) (left : List ScriptLine) → is_loss mark ≡ false → client.is_lost ≡ false → (marked client mark reply left).is_lost ≡ true → ⊥
+marked_lost client mark reply [] keeps lives lost = cc
+marked_lost client mark reply (line ∷ lines) keeps lives lost = cc
+
+heard_lost : (client : Reached) (answer : Answer) → client.is_lost ≡ false → (client_after (became_of answer) client).is_lost ≡ true → ⊥
+heard_lost client (answers.Ok count) lives lost = marked_lost client marks.Answered (reply_of (answers.Ok count)) client.left refl lives lost
+heard_lost client (answers.Rows rows) lives lost = marked_lost client marks.Answered (reply_of (answers.Rows rows)) client.left refl lives lost
+heard_lost client (answers.Refused number column) lives lost = marked_lost client marks.Answered (reply_of (answers.Refused number column)) client.left refl lives lost
+heard_lost client (answers.TimedOut waited) lives lost = marked_lost client marks.TimedOut (reply_of (answers.TimedOut waited)) client.left refl lives lost
+heard_lost client (answers.Waits by) lives lost = cc
+heard_lost client answer lives lost = cc
+
+loses : (client : Reached) (asked : Asked) (side : Option Side) (answer : Answer) (missed : Option Answer) → client.is_lost ≡ false → (client_after (became_in client.waits asked side answer missed) client).is_lost ≡ true → Loses asked side
+loses client Cut side answer missed lives lost = record { how = inl refl }
+loses client asked (Some side) answer missed lives lost = record { how = inr (side, refl) }
+loses client (Call request) None answer missed lives lost = absurd (heard_lost client answer lives lost)
+loses client Poll None answer missed lives lost = absurd (heard_lost client answer lives lost)
+loses client (Command word) None answer missed lives lost = absurd (heard_lost client answer lives lost)
+
+lost_left : (asked : Asked) (session : ℕ) → session_left asked answers.Lost session ≡ None
+lost_left (Command word) session = refl
+lost_left (Call request) session = refl
+lost_left Poll session = refl
+lost_left Cut session = refl
+
+-- ---- a loss between calls takes a session that is there
+
+taken_live : (b : Bool) (actor other : Actor) → cond b (Some actor) None ≡ Some other → (b ≡ true) × (actor ≡ other)
+taken_live true actor other is = (refl, cc)
+taken_live false actor other is = absurd cc
+
+and_last : (b c : Bool) → (b && c) ≡ true → c ≡ true
+and_last true c is = is
+and_last false c is = absurd cc
+
+one_live : (before : List Entry) (turn : ℕ) (loss : Loss) (actor : Actor) → cut_by before turn loss ≡ Some actor → is_some (live_session before actor) ≡ true
+one_live before turn (Nth other n side) actor is = absurd cc
+one_live before turn (Turn number other) actor is =
+    let taken = taken_live ((number == turn) && is_some (live_session before other)) other actor is in
+    subst (λ (a : Actor). is_some (live_session before a) ≡ true) taken.1 (and_last (number == turn) (is_some (live_session before other)) taken.0)
+
+among_here : (before : List Entry) (loss : Loss) (losses : List Loss) (actor : Actor) (found : Option Actor) → cut_by before (length before + 1) loss ≡ found → or_first found (cut_among before losses) ≡ Some actor
+    → (cut_among before losses ≡ Some actor → is_some (live_session before actor) ≡ true) → is_some (live_session before actor) ≡ true
+among_here before loss losses actor None none first rest = rest first
+among_here before loss losses actor (Some one) some first rest = one_live before (length before + 1) loss actor (some ∙ first)
+
+among_live : (before : List Entry) (losses : List Loss) (actor : Actor) → cut_among before losses ≡ Some actor → is_some (live_session before actor) ≡ true
+unfolding cut_among
+among_live before [] actor is = absurd cc
+among_live before (loss ∷ losses) actor is = among_here before loss losses actor (cut_by before (length before + 1) loss) refl is (among_live before losses actor)
+
+struck_live : (plan : PlanData) (before : List Entry) (entry : Entry) (due : Option Actor) → cut_due plan before ≡ due → IsStruck plan before entry due → entry.asked ≡ Cut → is_some (live_session before entry.actor) ≡ true
+struck_live plan before entry None is struck cut = absurd (struck.0 cut)
+struck_live plan before entry (Some actor) is struck cut = subst (λ (a : Actor). is_some (live_session before a) ≡ true) (sym struck.0) (among_live before plan.faults actor is)
+
+none_live : (live : Option ℕ) → live ≡ None → is_some live ≡ true → ⊥
+none_live None none is = cc
+none_live (Some session) none is = cc
+
+asks_none : (b : Bool) (asks : Option Asked) (asked : Asked) → b ≡ true → cond b None asks ≡ Some asked → ⊥
+asks_none true asks asked is some = cc
+asks_none false asks asked is some = cc
+
+-- a client that was lost takes no turn
+lost_takes : (plan : PlanData) (before : List Entry) (c : ℕ) (asked : Asked) → TakesNext plan before (Client c) asked → asked ≢ Cut → (client_at plan before c).is_lost ≡ true → ⊥
+unfolding client_asks
+lost_takes plan before c Cut takes other lost = other refl
+lost_takes plan before c (Call request) takes other lost = asks_none (client_at plan before c).is_lost _ (Call request) lost takes
+lost_takes plan before c Poll takes other lost = asks_none (client_at plan before c).is_lost _ Poll lost takes
+lost_takes plan before c (Command word) takes other lost = asks_none (client_at plan before c).is_lost _ (Command word) lost takes
+
+-- what is asked of each turn
+pub record IsLosing (plan : PlanData) (before : List Entry) (entry : Entry) : Type 0 where
+  pub rightly : IsLostRightly entry
+  pub planned : IsPlanned plan before entry
+
+abbrev pub LostHaveNone : PlanData → List Entry → Type 0
+LostHaveNone plan journal = (c : ℕ) → (client_at plan journal c).is_lost ≡ true → live_session journal (Client c) ≡ None
+
+-- a turn of a client that was lost before it
+pub lost_before : (plan : PlanData) (before : List Entry) (entry : Entry) (c : ℕ) → IsLosing plan before entry → LostHaveNone plan before → entry.actor ≡ Client c → (client_at plan before c).is_lost ≡ true → ⊥
+lost_before plan before entry c turn none is lost = by entry.asked refl where
+  live : entry.asked ≡ Cut → is_some (live_session before (Client c)) ≡ true
+  live cut = subst (λ (a : Actor). is_some (live_session before a) ≡ true) is (struck_live plan before entry (cut_due plan before) refl turn.planned.struck cut)
+
+  takes : TakesNext plan before (Client c) entry.asked
+  takes = subst (λ (a : Actor). TakesNext plan before a entry.asked) is turn.planned.next
+
+  by : (asked : Asked) → entry.asked ≡ asked → ⊥
+  by Cut cut = none_live (live_session before (Client c)) (none c lost) (live cut)
+  by (Call request) call = lost_takes plan before c entry.asked takes (λ cut. let no : Call request ≡ Cut = sym call ∙ cut in absurd (cc no)) lost
+  by Poll poll = lost_takes plan before c entry.asked takes (λ cut. let no : Poll ≡ Cut = sym poll ∙ cut in absurd (cc no)) lost
+  by (Command word) command = lost_takes plan before c entry.asked takes (λ cut. let no : Command word ≡ Cut = sym command ∙ cut in absurd (cc no)) lost
+
+-- a client's turn leaves it lost without a session
+left_none : (entry : Entry) → IsLostRightly entry → Loses entry.asked entry.side → session_left entry.asked entry.answer entry.session ≡ None
+left_none entry rightly loses = by loses.how where
+  by : (entry.asked ≡ Cut) ⊎ ((one : Side) × (entry.side ≡ Some one)) → session_left entry.asked entry.answer entry.session ≡ None
+  by (inl cut) = ap (λ (a : Answer). session_left entry.asked a entry.session) (rightly.cut cut) ∙ lost_left entry.asked entry.session
+  by (inr sided) = ap (λ (a : Answer). session_left entry.asked a entry.session) (rightly.sided sided.0 sided.1) ∙ lost_left entry.asked entry.session
+
+pub lost_step : (plan : PlanData) (before : List Entry) (entry : Entry) → IsLosing plan before entry → LostHaveNone plan before → LostHaveNone plan (before ++ entry ∷ [])
+lost_step plan before entry turn none c lost = by (same_actor entry.actor (Client c)) refl where
+  Goal : Type 0
+  Goal = live_session (before ++ entry ∷ []) (Client c) ≡ None
+
+  own : entry.actor ≡ Client c → (b : Bool) → (client_at plan before c).is_lost ≡ b → (after_turn c (client_at plan before c) entry).is_lost ≡ true → same_actor entry.actor (Client c) ≡ true → session_left entry.asked entry.answer entry.session ≡ None
+  own is true was after same = absurd (lost_before plan before entry c turn none is was)
+  own is false lives after same =
+      left_none entry turn.rightly
+      (loses (client_at plan before c) entry.asked entry.side entry.answer entry.missed lives
+      (sym (ap (λ (b : Bool). (cond b (client_after (became_in (client_at plan before c).waits entry.asked entry.side entry.answer entry.missed) (client_at plan before c)) (client_at plan before c)).is_lost) same) ∙ after))
+
+  by : (b : Bool) → same_actor entry.actor (Client c) ≡ b → Goal
+  by true same =
+      live_more before entry (Client c)
+      ∙ ap (λ (b : Bool). cond b (session_left entry.asked entry.answer entry.session) (live_session before (Client c))) same
+      ∙ own (same_client entry.actor c same) (client_at plan before c).is_lost refl (ap (λ (client : Reached). client.is_lost) (sym (at_more plan before entry c)) ∙ lost) same
+  by false other =
+      live_more before entry (Client c)
+      ∙ ap (λ (b : Bool). cond b (session_left entry.asked entry.answer entry.session) (live_session before (Client c))) other
+      ∙ none c
+      (sym (ap (λ (b : Bool). (cond b (client_after (became_in (client_at plan before c).waits entry.asked entry.side entry.answer entry.missed) (client_at plan before c)) (client_at plan before c)).is_lost) other)
+      ∙ ap (λ (client : Reached). client.is_lost) (sym (at_more plan before entry c)) ∙ lost)
+
+-- *Lost clients have no session*
+pub lost_have_none : (plan : PlanData) (journal : List Entry) → Along (IsLosing plan) [] journal → LostHaveNone plan journal
+unfolding live_session client_at
+lost_have_none plan journal turns = Along-keeps (IsLosing plan) (LostHaveNone plan) (lost_step plan) [] journal turns (λ c lost. refl)

@@ -1,0 +1,186 @@
+-- No line of a journal that is kept breaks a rule of scripts, losses or commands.
+use Rattle.std.proofs.Common.{◌≡◌, ◌≢◌, ℕ, ◌<◌, ◌&&◌, ◌||◌, nat_lt, Bool, true, false, not, cond, List, [], ◌∷◌, ◌++◌, length, Option, Some, None, refl, sym, ap, ◌∙◌, subst, arith}
+use Rattle.std.specs.List.{slice_get}
+use Rattle.std.proofs.lemmas.Bool.Decides.{nat_tests}
+use Rattle.std.proofs.lemmas.Option.{slice_get_within}
+use Rattle.base_script.specs.declared.actor.Actor.{Actor}
+use Rattle.base_script.specs.declared.actor.Actor.TheVariants.{Op, Insp, Copy, Apply, Lock, Ren, Client}
+use Rattle.base_script.specs.declared.operator.OperatorWord.{OperatorWord}
+use Rattle.base_script.specs.declared.script.ScriptLine.{ScriptLine}
+use Rattle.base_script.specs.declared.script.ScriptWord.{ScriptWord}
+use Rattle.base_script.specs.declared.script.ScriptWord.TheVariants as words
+use Rattle.server_model.specs.declared.request.Request.{Request}
+use Rattle.server_model.specs.declared.request.Request.TheVariants as requests
+use Rattle.server_model.specs.declared.entry.Asked.{Asked}
+use Rattle.server_model.specs.declared.entry.Asked.TheVariants.{Call, Poll, Command, Cut}
+use Rattle.server_model.specs.declared.entry.Entry.{Entry}
+use Rattle.server_model.specs.Along.{Along}
+use Rattle.server_model.specs.Entries.{is_command}
+use Rattle.plan_data.specs.PlanData.{PlanData}
+use Rattle.tool_program.specs.JournalWords.Clients.{Reached, client_asks, client_at, line_asks, word_asks}
+use Rattle.tool_program.specs.JournalWords.Journals.{IsAnswered, state_at}
+use Rattle.tool_program.specs.JournalWords.KeptPlans.{IsPlanned, KeepsPlan, TakesNext, commands_taken, words_of}
+use Rattle.tool_program.specs.JournalWords.Sessions.{IsSeated, KeepsSessions}
+use Rattle.tool_program.specs.Programs.{Follows, IsFollowed}
+use Rattle.proof_journals.specs.Machine.Scripts.{ScriptsFit}
+use Rattle.proof_journals.specs.Run.Kept.{IsKept}
+use Rattle.proof_journals.proofs.Ghost.Turns.{along_next}
+use Rattle.proof_journals.proofs.Machine.Journals.{IsRun}
+use Rattle.proof_journals.proofs.ServerTurns.Agreements.{along_front}
+use Rattle.run_audit.specs.declared.line.LineAsked.{LineAsked}
+use Rattle.run_audit.specs.declared.line.LineAsked.TheVariants as asks
+use Rattle.run_audit.specs.declared.line.TraceLine.{TraceLine}
+use Rattle.run_audit.specs.Lines.{asked_of, line_of, lines_of}
+use Rattle.run_audit.specs.Rules.{asks_next, client_reached, commands_in, is_astray, keeps_commands, keeps_losses, keeps_script, was_lost}
+use Rattle.proof_audit.proofs.Lost.{IsLosing, lost_have_none}
+use Rattle.proof_audit.proofs.Sessions.{lines_tell_commands}
+use Rattle.proof_audit.proofs.Struck.{both, losses_are_kept}
+use Rattle.proof_audit.specs.Laws.{KeepsRules, LinesKeepRules}
+use Rattle.proof_audit.proofs.Kept.{client_lives, kept_lost, kept_runs, lost_rightly, takes_asks, tell_clients}
+
+-- ---- prefixes
+
+pub kept_before : (plan : PlanData) (before behind : List Entry) → IsKept plan (before ++ behind) → IsKept plan before
+unfolding KeepsPlan Follows KeepsSessions
+kept_before plan before behind kept = record {
+  faithful = along_front (λ some entry. IsAnswered (state_at plan some) entry) [] before behind kept.faithful;
+  planned = along_front (IsPlanned plan) [] before behind kept.planned;
+  follows = along_front (IsFollowed plan) [] before behind kept.follows;
+  sessions = along_front IsSeated [] before behind kept.sessions;
+}
+
+pub planned_next : (plan : PlanData) (before : List Entry) (entry : Entry) (behind : List Entry) → IsKept plan (before ++ entry ∷ behind) → IsPlanned plan before entry
+unfolding KeepsPlan
+planned_next plan before entry behind kept = along_next (IsPlanned plan) [] before entry behind kept.planned
+
+pub run_next : (plan : PlanData) (before : List Entry) (entry : Entry) (behind : List Entry) → IsKept plan (before ++ entry ∷ behind) → IsRun plan before entry
+run_next plan before entry behind kept = along_next (IsRun plan) [] before entry behind (kept_runs plan (before ++ entry ∷ behind) kept)
+
+all_losing : (plan : PlanData) (before journal : List Entry) → Along (IsRun plan) before journal → Along (IsPlanned plan) before journal → Along (IsLosing plan) before journal
+all_losing plan before [] runs planned = tt
+all_losing plan before (entry ∷ journal) runs planned =
+    (record { rightly = lost_rightly (state_at plan before) entry runs.0.answered; planned = planned.0 }, all_losing plan (before ++ entry ∷ []) journal runs.1 planned.1)
+
+kept_losing : (plan : PlanData) (journal : List Entry) → IsKept plan journal → Along (IsLosing plan) [] journal
+unfolding KeepsPlan
+kept_losing plan journal kept = all_losing plan [] journal (kept_runs plan journal kept) kept.planned
+
+-- ---- scripts
+
+word_kind : (word : ScriptWord) → asked_of (Call (word_asks word)) ≡ asks.Call
+word_kind words.Begin = refl
+word_kind words.Commit = refl
+word_kind words.Rollback = refl
+word_kind (words.Do statement) = refl
+
+next_so : (waits : Bool) (left : List ScriptLine) (asked : Asked) → line_asks waits left ≡ Some asked → asks_next waits left (asked_of asked) ≡ true
+next_so waits [] asked is = absurd cc
+next_so true (line ∷ lines) asked is = let one : Poll ≡ asked = cc in subst (λ (other : Asked). asks_next true (line ∷ lines) (asked_of other) ≡ true) one refl
+next_so false (line ∷ lines) asked is =
+    let one : Call (word_asks line.word) ≡ asked = cc in
+    subst (λ (other : Asked). asks_next false (line ∷ lines) (asked_of other) ≡ true) one (ap (asks_next false (line ∷ lines)) (word_kind line.word))
+
+pub asks_so : (lost : Bool) (next : Option Asked) (asked : Asked) → cond lost None next ≡ Some asked → next ≡ Some asked
+asks_so true next asked is = absurd cc
+asks_so false next asked is = is
+
+client_next_so : (plan : PlanData) (before : List Entry) (c : ℕ) (asked : Asked) → TakesNext plan before (Client c) asked → asks_next (client_at plan before c).waits (client_at plan before c).left (asked_of asked) ≡ true
+unfolding client_asks
+client_next_so plan before c Cut takes = refl
+client_next_so plan before c (Call request) takes = next_so (client_at plan before c).waits (client_at plan before c).left (Call request) (asks_so (client_at plan before c).is_lost (line_asks (client_at plan before c).waits (client_at plan before c).left) (Call request) takes)
+client_next_so plan before c Poll takes = next_so (client_at plan before c).waits (client_at plan before c).left Poll (asks_so (client_at plan before c).is_lost (line_asks (client_at plan before c).waits (client_at plan before c).left) Poll takes)
+client_next_so plan before c (Command word) takes = next_so (client_at plan before c).waits (client_at plan before c).left (Command word) (asks_so (client_at plan before c).is_lost (line_asks (client_at plan before c).waits (client_at plan before c).left) (Command word) takes)
+
+neither : (lost next : Bool) → lost ≡ false → next ≡ true → not (lost || (not lost && not next)) ≡ true
+neither lost next lives is = rw (lives, is) refl
+
+script_here : (plan : PlanData) (before : List Entry) (kind : LineAsked) (actor : Actor)
+    → ((c : ℕ) → actor ≡ Client c → ((client_reached plan (lines_of before) c).is_lost ≡ false) × (asks_next (client_reached plan (lines_of before) c).waits (client_reached plan (lines_of before) c).left kind ≡ true))
+    → not (was_lost plan (lines_of before) actor || is_astray plan (lines_of before) kind actor) ≡ true
+script_here plan before kind Op client = refl
+script_here plan before kind Insp client = refl
+script_here plan before kind Copy client = refl
+script_here plan before kind Apply client = refl
+script_here plan before kind Lock client = refl
+script_here plan before kind Ren client = refl
+script_here plan before kind (Client c) client =
+    let so = client c refl in
+    neither (client_reached plan (lines_of before) c).is_lost (asks_next (client_reached plan (lines_of before) c).waits (client_reached plan (lines_of before) c).left kind) so.0 so.1
+
+-- ---- commands
+
+operator_so : (plan : PlanData) (lines : List TraceLine) (before : List Entry) (asked : Asked) → commands_in lines ≡ commands_taken before → TakesNext plan before Op asked → keeps_commands plan lines Op (asked_of asked) ≡ true
+operator_so plan lines before Cut same takes = refl
+operator_so plan lines before (Call request) same takes = let other : Call request ≡ Command takes.0 = takes.2 in absurd (cc other)
+operator_so plan lines before Poll same takes = let other : Poll ≡ Command takes.0 = takes.2 in absurd (cc other)
+operator_so plan lines before (Command word) same takes =
+    let within : commands_taken before < length (words_of plan) = slice_get_within (words_of plan) (commands_taken before) takes.0 takes.1 in
+    let told : commands_in lines < length (words_of plan) = subst (λ (n : ℕ). n < length (words_of plan)) (sym same) within in
+    let less : nat_lt (commands_in lines) (length (words_of plan)) ≡ true = grind (arith, nat_tests) in
+    less
+
+client_commands : (plan : PlanData) (lines : List TraceLine) (c : ℕ) (waits : Bool) (left : List ScriptLine) (kind : LineAsked) → asks_next waits left kind ≡ true → keeps_commands plan lines (Client c) kind ≡ true
+client_commands plan lines c waits left asks.Cut is = refl
+client_commands plan lines c waits left asks.Call is = refl
+client_commands plan lines c waits left asks.Rename is = refl
+client_commands plan lines c waits left asks.Poll is = refl
+client_commands plan lines c waits [] asks.Word is = absurd cc
+client_commands plan lines c true (line ∷ left) asks.Word is = absurd cc
+client_commands plan lines c false (line ∷ left) asks.Word is = absurd cc
+
+tool_commands : (plan : PlanData) (lines : List TraceLine) (asked : Asked) → is_command asked ≡ false
+    → (keeps_commands plan lines Insp (asked_of asked) ≡ true) × (keeps_commands plan lines Copy (asked_of asked) ≡ true) × (keeps_commands plan lines Apply (asked_of asked) ≡ true) × (keeps_commands plan lines Lock (asked_of asked) ≡ true) × (keeps_commands plan lines Ren (asked_of asked) ≡ true)
+tool_commands plan lines Cut is = (refl, refl, refl, refl, refl)
+tool_commands plan lines Poll is = (refl, refl, refl, refl, refl)
+tool_commands plan lines (Command word) is = absurd cc
+tool_commands plan lines (Call (requests.Rename pairs)) is = (refl, refl, refl, refl, refl)
+tool_commands plan lines (Call request) is = (refl, refl, refl, refl, refl)
+
+-- what the plan has a tool's actor ask is no command
+tool_takes : (plan : PlanData) (before : List Entry) (asked : Asked) (actor : Actor) → actor ≢ Op → ((c : ℕ) → actor ≢ Client c) → TakesNext plan before actor asked → is_command asked ≡ false
+tool_takes plan before Cut actor not_op not_client takes = refl
+tool_takes plan before asked Op not_op not_client takes = absurd (not_op refl)
+tool_takes plan before asked (Client c) not_op not_client takes = absurd (not_client c refl)
+tool_takes plan before (Call request) actor not_op not_client takes = refl
+tool_takes plan before Poll actor not_op not_client takes = refl
+tool_takes plan before (Command word) Insp not_op not_client takes = takes
+tool_takes plan before (Command word) Copy not_op not_client takes = takes
+tool_takes plan before (Command word) Apply not_op not_client takes = takes
+tool_takes plan before (Command word) Lock not_op not_client takes = takes
+tool_takes plan before (Command word) Ren not_op not_client takes = takes
+
+commands_here : (plan : PlanData) (before : List Entry) (asked : Asked) (actor : Actor) → commands_in (lines_of before) ≡ commands_taken before → TakesNext plan before actor asked → keeps_commands plan (lines_of before) actor (asked_of asked) ≡ true
+commands_here plan before asked Op same takes = operator_so plan (lines_of before) before asked same takes
+commands_here plan before asked Insp same takes = (tool_commands plan (lines_of before) asked (tool_takes plan before asked Insp (λ is. absurd cc) (λ c is. absurd cc) takes)).0
+commands_here plan before asked Copy same takes = (tool_commands plan (lines_of before) asked (tool_takes plan before asked Copy (λ is. absurd cc) (λ c is. absurd cc) takes)).1
+commands_here plan before asked Apply same takes = (tool_commands plan (lines_of before) asked (tool_takes plan before asked Apply (λ is. absurd cc) (λ c is. absurd cc) takes)).2
+commands_here plan before asked Lock same takes = (tool_commands plan (lines_of before) asked (tool_takes plan before asked Lock (λ is. absurd cc) (λ c is. absurd cc) takes)).3
+commands_here plan before asked Ren same takes = (tool_commands plan (lines_of before) asked (tool_takes plan before asked Ren (λ is. absurd cc) (λ c is. absurd cc) takes)).4
+commands_here plan before asked (Client c) same takes =
+    client_commands plan (lines_of before) c (client_at plan before c).waits (client_at plan before c).left (asked_of asked) (client_next_so plan before c asked takes)
+
+-- *The lines keep the rules*
+pub keep_rules : LinesKeepRules
+keep_rules plan before entry behind fit kept = record { script = script; losses = losses } where
+  front : IsKept plan before
+  front = kept_before plan before (entry ∷ behind) kept
+
+  planned : IsPlanned plan before entry
+  planned = planned_next plan before entry behind kept
+
+  run : IsRun plan before entry
+  run = run_next plan before entry behind kept
+
+  client : (c : ℕ) → entry.actor ≡ Client c → ((client_reached plan (lines_of before) c).is_lost ≡ false) × (asks_next (client_reached plan (lines_of before) c).waits (client_reached plan (lines_of before) c).left (asked_of entry.asked) ≡ true)
+  client c same =
+      let told : client_reached plan (lines_of before) c ≡ client_at plan before c = tell_clients plan before c fit front in
+      let takes : TakesNext plan before (Client c) entry.asked = subst (λ (a : Actor). TakesNext plan before a entry.asked) same planned.next in (
+        ap (λ (r : Reached). r.is_lost) told ∙ client_lives plan before entry c (lost_have_none plan before (kept_losing plan before front)) run planned same,
+        ap (λ (r : Reached). asks_next r.waits r.left (asked_of entry.asked)) told ∙ client_next_so plan before c entry.asked takes,
+      )
+
+  script : keeps_script plan (lines_of before) (line_of entry) ≡ true
+  script = script_here plan before (asked_of entry.asked) entry.actor client
+
+  losses : keeps_losses plan (lines_of before) (line_of entry) ≡ true
+  losses = both _ _ (losses_are_kept plan before entry (kept_lost plan before front) planned.struck) (commands_here plan before entry.asked entry.actor (lines_tell_commands before) planned.next)

@@ -1,0 +1,294 @@
+-- What the lines of a journal that is kept tell of clients is serial.
+use Rattle.std.proofs.Common.{◌≡◌, ◌≢◌, ℕ, ◌||◌, Bool, true, false, not, cond, List, [], ◌∷◌, ◌++◌, map, Option, Some, None, refl, sym, ap, ◌∙◌, subst, ◌⊎◌, inl, inr, append_assoc}
+use Rattle.std.proofs.lemmas.List.{map-append}
+use Rattle.table_store.specs.Databases.{Database}
+use Rattle.base_script.specs.declared.actor.Actor.{Actor}
+use Rattle.base_script.specs.declared.actor.Actor.TheVariants.{Op, Insp, Copy, Apply, Lock, Ren, Client}
+use Rattle.base_script.specs.declared.actor.Side.{Side}
+use Rattle.base_script.specs.declared.actor.Side.TheVariants.{Before, After}
+use Rattle.base_script.specs.declared.script.ScriptLine.{ScriptLine}
+use Rattle.server_model.specs.declared.transaction.Mark.{Mark}
+use Rattle.server_model.specs.declared.transaction.Mark.TheVariants as marks
+use Rattle.server_model.specs.declared.transaction.Reply.{Reply}
+use Rattle.server_model.specs.declared.transaction.TxnEnd.{TxnEnd}
+use Rattle.server_model.specs.declared.transaction.TxnEnd.TheVariants as ends
+use Rattle.server_model.specs.declared.request.Request.{Request}
+use Rattle.server_model.specs.declared.answer.Answer.{Answer}
+use Rattle.server_model.specs.declared.answer.Answer.TheVariants as answers
+use Rattle.server_model.specs.declared.entry.Asked.{Asked}
+use Rattle.server_model.specs.declared.entry.Asked.TheVariants.{Call, Poll, Command, Cut}
+use Rattle.server_model.specs.declared.entry.Entry.{Entry}
+use Rattle.server_model.specs.Along.{Along, Along-keeps, gathered, gathered-more}
+use Rattle.server_model.specs.Entries.{is_client}
+use Rattle.server_model.specs.PlainServer.{given_at, serves}
+use Rattle.server_model.specs.States.{State}
+use Rattle.plan_data.specs.PlanData.{PlanData}
+use Rattle.tool_program.specs.JournalWords.Clients.{Became, Nothing, Waits, Marked, Broken, Reached, became_in, client_at, is_inside, ends_with, number_of, with_line, with_reply}
+use Rattle.tool_program.specs.JournalWords.Histories.{HistoryItem, Txn, Alter, Past, adds, breaks, client_ends, ends_so, entry_adds, history, line_ends}
+use Rattle.tool_program.specs.JournalWords.Journals.{IsAnswered, inner_answer, missed, opens, state_at}
+use Rattle.tool_program.specs.JournalWords.KeptPlans.{IsPlanned, TakesNext}
+use Rattle.tool_program.specs.JournalWords.Serials.{IsSerial, Leads, Serial, tables_left}
+use Rattle.proof_journals.specs.Machine.Scripts.{ScriptsFit}
+use Rattle.proof_journals.specs.Run.Kept.{IsKept}
+use Rattle.proof_journals.proofs.Machine.Journals.{IsRun}
+use Rattle.run_audit.specs.declared.line.LineAsked.{LineAsked}
+use Rattle.run_audit.specs.declared.line.LineAsked.TheVariants as asks
+use Rattle.run_audit.specs.declared.line.LineAnswer.TheVariants as line_answers
+use Rattle.run_audit.specs.declared.line.TraceLine.{TraceLine}
+use Rattle.run_audit.specs.Audits.{Judged, item_of, first_other, judged, judged_in, judged_of, opening_tables, reply_turns, straight_lines, tables_reached, wrong_turns}
+use Rattle.run_audit.specs.Lines.{asked_of, line_of, lines_of, missed_answer, printed_table, line_answer}
+use Rattle.run_audit.specs.Rules.{became_of_line, client_reached, is_astray, was_lost}
+use Rattle.proof_audit.proofs.Clients.{IsClientTurn, IsClients, became_side, before_alike, heard_alike, request_not_cut, side_alike}
+use Rattle.proof_audit.proofs.Judging.{serial_is_judged}
+use Rattle.proof_audit.proofs.Losing.{leads_to_one, refused_leads}
+use Rattle.proof_audit.proofs.Printing.{no_other}
+use Rattle.proof_audit.specs.Laws.{KeptAreSerial, LinesAreSerial, MarksAgree, RefusalsKeepTables, AreSerialLines}
+use Rattle.proof_audit.proofs.Kept.{client_turn_kept, tell_clients}
+use Rattle.proof_audit.proofs.Rules.{keep_rules, kept_before, run_next}
+
+-- ---- serial histories
+
+serial_split : (plan : PlanData) (a b c : Database) (xs ys : List HistoryItem) → Serial plan a xs b → Serial plan a (xs ++ ys) c → Serial plan b ys c
+serial_split plan a b c [] ys is more = subst (λ (tables : Database). Serial plan tables ys c) (sym is) more
+serial_split plan a b c (item ∷ xs) ys is more =
+    let between : is.0 ≡ more.0 = leads_to_one plan item a is.0 more.0 is.1 more.1 in
+    serial_split plan more.0 b c xs ys (subst (λ (tables : Database). Serial plan tables xs b) between is.2) more.2
+
+serial_join : (plan : PlanData) (a b c : Database) (xs ys : List HistoryItem) → Serial plan a xs b → Serial plan b ys c → Serial plan a (xs ++ ys) c
+serial_join plan a b c [] ys is later = subst (λ (tables : Database). Serial plan tables ys c) is later
+serial_join plan a b c (item ∷ xs) ys is later = (is.0, is.1, serial_join plan is.0 b c xs ys is.2 later)
+
+-- ---- what a client's line ends
+
+ends_items : (turns : List ℕ) (number : ℕ) (client : Reached) (line : ScriptLine) (mark : Mark) (reply : Option Reply) (ended : Option TxnEnd) → map item_of (judged_of turns (ends_so number client line mark reply ended)) ≡ ends_so number client line mark reply ended
+ends_items turns number client line mark reply None = refl
+ends_items turns number client line mark reply (Some ended) = refl
+
+line_items : (turns : List ℕ) (number : ℕ) (client : Reached) (mark : Mark) (reply : Option Reply) (left : List ScriptLine) → map item_of (judged_of turns (line_ends number client mark reply left)) ≡ line_ends number client mark reply left
+line_items turns number client mark reply [] = refl
+line_items turns number client mark reply (line ∷ lines) = ends_items turns number client line mark reply (ends_with (is_inside client.lines) line.word mark)
+
+break_items : (turns : List ℕ) (number : ℕ) (client : Reached) (b : Bool) → map item_of (judged_of turns (breaks number client b)) ≡ breaks number client b
+break_items turns number client true = refl
+break_items turns number client false = refl
+
+client_items : (turns : List ℕ) (number : ℕ) (client : Reached) (became : Became) → map item_of (judged_of turns (client_ends number client became)) ≡ client_ends number client became
+client_items turns number client (Marked mark reply) = line_items turns number client mark reply client.left
+client_items turns number client Broken = break_items turns number client (is_inside client.lines)
+client_items turns number client Nothing = refl
+client_items turns number client Waits = refl
+
+-- ---- what becomes of a client's line
+
+lost_kind : (waits : Bool) (kind : LineAsked) → kind ≢ asks.Cut → (became_of_line waits kind line_answers.LostWaited ≡ Marked (marks.Lost Before) None) × (became_of_line waits kind line_answers.LostRefused ≡ Marked (marks.Lost Before) None) × (became_of_line waits kind line_answers.LostDone ≡ Marked (marks.Lost After) None)
+lost_kind waits asks.Cut other = absurd (other refl)
+lost_kind waits asks.Call other = (refl, refl, refl)
+lost_kind waits asks.Rename other = (refl, refl, refl)
+lost_kind waits asks.Poll other = (refl, refl, refl)
+lost_kind waits asks.Word other = (refl, refl, refl)
+
+-- a call that was lost behind itself and refused: the line says that it wasn't done, the journal that it was
+record IsRefusedLoss (said became : Became) (side : Option Side) (missed : Option Answer) : Type 0 where
+  pub number : ℕ
+  pub column : Option ℕ
+  pub at : side ≡ Some After
+  pub refused : missed ≡ Some (answers.Refused number column)
+  pub said_is : said ≡ Marked (marks.Lost Before) None
+  pub became_is : became ≡ Marked (marks.Lost After) None
+
+call_so : (client : Reached) (kind : LineAsked) (side : Option Side) (answer : Answer) (missed : Option Answer) → kind ≢ asks.Cut → (side ≡ None → IsClients answer) → (side ≡ Some Before → answer ≡ answers.Lost) → (side ≡ Some After → missed ≢ None)
+    → (became_of_line client.waits kind (line_answer true side answer missed) ≡ became_side side answer missed) ⊎ IsRefusedLoss (became_of_line client.waits kind (line_answer true side answer missed)) (became_side side answer missed) side missed
+call_so client kind None answer missed other heard lost some = inl (heard_alike client.waits answer kind other (heard refl))
+call_so client kind (Some Before) answer missed other heard lost some = inl (before_alike client.waits answer missed kind other (lost refl))
+call_so client kind (Some After) answer None other heard lost some = absurd (some refl refl)
+call_so client kind (Some After) answer (Some (answers.Refused number column)) other heard lost some =
+    inr (record { number = number; column = column; at = refl; refused = refl; said_is = (lost_kind client.waits kind other).1; became_is = refl })
+call_so client kind (Some After) answer (Some (answers.Waits by)) other heard lost some = inl (lost_kind client.waits kind other).0
+call_so client kind (Some After) answer (Some (answers.TimedOut waited)) other heard lost some = inl (lost_kind client.waits kind other).1
+call_so client kind (Some After) answer (Some missed) other heard lost some = inl (lost_kind client.waits kind other).2
+
+turn_so : (client : Reached) (asked : Asked) (side : Option Side) (answer : Answer) (missed : Option Answer) → (asked ≢ Cut → side ≡ None → IsClients answer) → (side ≡ Some Before → answer ≡ answers.Lost) → (asked ≢ Cut → side ≡ Some After → missed ≢ None)
+    → (became_of_line client.waits (asked_of asked) (line_answer true side answer missed) ≡ became_in client.waits asked side answer missed)
+    ⊎ IsRefusedLoss (became_of_line client.waits (asked_of asked) (line_answer true side answer missed)) (became_in client.waits asked side answer missed) side missed
+turn_so client Cut side answer missed heard lost some = inl refl
+turn_so client (Call request) side answer missed heard lost some =
+    subst (λ (b : Became). (became_of_line client.waits (asked_of (Call request)) (line_answer true side answer missed) ≡ b) ⊎ IsRefusedLoss (became_of_line client.waits (asked_of (Call request)) (line_answer true side answer missed)) b side missed)
+    (side_alike client (Call request) side answer missed (λ is. absurd cc)) (call_so client (asked_of (Call request)) side answer missed (request_not_cut request) (heard (λ is. absurd cc)) lost (some (λ is. absurd cc)))
+turn_so client Poll side answer missed heard lost some =
+    subst (λ (b : Became). (became_of_line client.waits asks.Poll (line_answer true side answer missed) ≡ b) ⊎ IsRefusedLoss (became_of_line client.waits asks.Poll (line_answer true side answer missed)) b side missed)
+    (side_alike client Poll side answer missed (λ is. absurd cc)) (call_so client asks.Poll side answer missed (λ is. absurd cc) (heard (λ is. absurd cc)) lost (some (λ is. absurd cc)))
+turn_so client (Command word) side answer missed heard lost some =
+    subst (λ (b : Became). (became_of_line client.waits asks.Word (line_answer true side answer missed) ≡ b) ⊎ IsRefusedLoss (became_of_line client.waits asks.Word (line_answer true side answer missed)) b side missed)
+    (side_alike client (Command word) side answer missed (λ is. absurd cc)) (call_so client asks.Word side answer missed (λ is. absurd cc) (heard (λ is. absurd cc)) lost (some (λ is. absurd cc)))
+
+-- what was missed of a call is there
+missed_some : (state : State) (entry : Entry) → IsAnswered state entry → entry.asked ≢ Cut → entry.side ≡ Some After → entry.missed ≢ None
+unfolding inner_answer
+missed_some state entry is other at none = by entry.asked refl where
+  said : Answer
+  said = (serves (opens entry state) entry.session entry.asked).answer
+
+  whole : None ≡ given_at (Some After) entry.asked said
+  whole = sym none ∙ is.missed ∙ ap (λ (side : Option Side). missed side (given_at side entry.asked said)) at
+
+  by : (asked : Asked) → entry.asked ≡ asked → ⊥
+  by Cut same = other same
+  by (Call request) same = let some : None ≡ Some said = whole ∙ ap (λ (asked : Asked). given_at (Some After) asked said) same in absurd (cc some)
+  by Poll same = let some : None ≡ Some said = whole ∙ ap (λ (asked : Asked). given_at (Some After) asked said) same in absurd (cc some)
+  by (Command word) same = let some : None ≡ Some said = whole ∙ ap (λ (asked : Asked). given_at (Some After) asked said) same in absurd (cc some)
+
+-- ---- one turn
+
+refused_items : (plan : PlanData) (number : ℕ) (client : Reached) (left : List ScriptLine) (tables after : Database) → after ≡ tables → Serial plan tables (line_ends number client (marks.Lost After) None left) after
+    → Serial plan tables (line_ends number client (marks.Lost Before) None left) after
+refused_items plan number client [] tables after same is = is
+refused_items plan number client (line ∷ lines) tables after same is =
+    let between : is.0 ≡ tables = sym is.2 ∙ same in
+    let one : Past = record { client = number; number = number_of client; txn = record { lines = with_line client line.word (marks.Lost After); ended = ends.Lost }; replies = with_reply client None } in
+    let other : Past = record { client = number; number = number_of client; txn = record { lines = with_line client line.word (marks.Lost Before); ended = ends.Lost }; replies = with_reply client None } in
+    (tables, refused_leads plan one other tables client.lines line.word refl refl refl (subst (λ (d : Database). Leads plan (Txn one) tables d) between is.1), same)
+
+client_serial : (plan : PlanData) (before : List Entry) (entry : Entry) (c : ℕ) → ScriptsFit plan → RefusalsKeepTables plan → IsKept plan (before ++ entry ∷ []) → entry.actor ≡ Client c
+    → Serial plan (tables_left plan (state_at plan before).tables) (entry_adds plan before entry) (tables_left plan (state_at plan (before ++ entry ∷ [])).tables)
+    → Serial plan (tables_left plan (state_at plan before).tables) (map item_of (judged_in plan (lines_of before) (line_of entry) entry.actor)) (tables_left plan (state_at plan (before ++ entry ∷ [])).tables)
+client_serial plan before entry c fit keep kept same is = by (turn_so client entry.asked entry.side entry.answer entry.missed turn.heard turn.lost (missed_some (state_at plan before) entry run.answered)) where
+  client : Reached
+  client = client_at plan before c
+
+  run : IsRun plan before entry
+  run = run_next plan before entry [] kept
+
+  turn : IsClientTurn plan before entry c
+  turn = client_turn_kept plan before entry c fit kept same
+
+  turns : List ℕ
+  turns = reply_turns plan (lines_of before ++ line_of entry ∷ []) c
+
+  now : Database
+  now = tables_left plan (state_at plan before).tables
+
+  later : Database
+  later = tables_left plan (state_at plan (before ++ entry ∷ [])).tables
+
+  said : Became
+  said = became_of_line client.waits (asked_of entry.asked) (line_answer true entry.side entry.answer entry.missed)
+
+  became : Became
+  became = became_in client.waits entry.asked entry.side entry.answer entry.missed
+
+  judged_is : map item_of (judged_in plan (lines_of before) (line_of entry) entry.actor) ≡ client_ends c client said
+  judged_is =
+      ap (λ (a : Actor). map item_of (judged_in plan (lines_of before) (line_of entry) a)) same
+      ∙ ap (λ (r : Reached). map item_of (cond r.is_lost [] (judged_of turns (client_ends c r (became_of_line r.waits (asked_of entry.asked) (line_answer (is_client entry.actor) entry.side entry.answer entry.missed)))))) (tell_clients plan before c fit (kept_before plan before (entry ∷ []) kept))
+      ∙ ap (λ (b : Bool). map item_of (cond b [] (judged_of turns (client_ends c client (became_of_line client.waits (asked_of entry.asked) (line_answer (is_client entry.actor) entry.side entry.answer entry.missed)))))) turn.lives
+      ∙ ap (λ (b : Bool). map item_of (judged_of turns (client_ends c client (became_of_line client.waits (asked_of entry.asked) (line_answer b entry.side entry.answer entry.missed))))) (ap is_client same)
+      ∙ client_items turns c client said
+
+  adds_is : entry_adds plan before entry ≡ client_ends c client became
+  adds_is = ap (adds plan before entry) same
+
+  added : Serial plan now (client_ends c client became) later
+  added = subst (λ (items : List HistoryItem). Serial plan now items later) adds_is is
+
+  Goal : Type 0
+  Goal = Serial plan now (map item_of (judged_in plan (lines_of before) (line_of entry) entry.actor)) later
+
+  by : (said ≡ became) ⊎ IsRefusedLoss said became entry.side entry.missed → Goal
+  by (inl alike) = subst (λ (items : List HistoryItem). Serial plan now items later) (sym (judged_is ∙ ap (client_ends c client) alike)) added
+  by (inr loss) =
+      subst (λ (items : List HistoryItem). Serial plan now items later) (sym (judged_is ∙ ap (client_ends c client) loss.said_is))
+      (refused_items plan c client client.left now later (ap (tables_left plan) (keep before entry loss.number loss.column kept loss.at loss.refused))
+      (subst (λ (b : Became). Serial plan now (client_ends c client b) later) loss.became_is added))
+
+one_serial : (plan : PlanData) (before : List Entry) (entry : Entry) → ScriptsFit plan → MarksAgree plan → RefusalsKeepTables plan → IsKept plan (before ++ entry ∷ [])
+    → Serial plan (tables_left plan (state_at plan before).tables) (entry_adds plan before entry) (tables_left plan (state_at plan (before ++ entry ∷ [])).tables)
+    → Serial plan (tables_left plan (state_at plan before).tables) (map item_of (judged_in plan (lines_of before) (line_of entry) entry.actor)) (tables_left plan (state_at plan (before ++ entry ∷ [])).tables)
+one_serial plan before entry fit marks keep kept is = by entry.actor refl where
+  tool : is_client entry.actor ≡ false → Serial plan (tables_left plan (state_at plan before).tables) (map item_of (judged_in plan (lines_of before) (line_of entry) entry.actor)) (tables_left plan (state_at plan (before ++ entry ∷ [])).tables)
+  tool not_client = subst (λ (items : List HistoryItem). Serial plan (tables_left plan (state_at plan before).tables) items (tables_left plan (state_at plan (before ++ entry ∷ [])).tables)) (sym (marks before entry kept not_client)) is
+
+  by : (actor : Actor) → entry.actor ≡ actor → Serial plan (tables_left plan (state_at plan before).tables) (map item_of (judged_in plan (lines_of before) (line_of entry) entry.actor)) (tables_left plan (state_at plan (before ++ entry ∷ [])).tables)
+  by (Client c) same = client_serial plan before entry c fit keep kept same is
+  by Op same = tool (ap is_client same)
+  by Insp same = tool (ap is_client same)
+  by Copy same = tool (ap is_client same)
+  by Apply same = tool (ap is_client same)
+  by Lock same = tool (ap is_client same)
+  by Ren same = tool (ap is_client same)
+
+-- ---- all turns
+
+not_second : (a b : Bool) → not (a || b) ≡ true → b ≡ false
+not_second true b is = absurd cc
+not_second false true is = absurd cc
+not_second false false is = refl
+
+straight_all : (plan : PlanData) (before lines : List TraceLine) → Along (λ some line. is_astray plan some line.asked line.actor ≡ false) before lines → straight_lines plan before lines ≡ lines
+unfolding straight_lines
+straight_all plan before [] all = refl
+straight_all plan before (line ∷ lines) all = rw all.0 (ap (λ (rest : List TraceLine). line ∷ rest) (straight_all plan (before ++ line ∷ []) lines all.1))
+
+lines_straight : (plan : PlanData) (before journal : List Entry) → ScriptsFit plan → IsKept plan (before ++ journal) → Along (λ some line. is_astray plan some line.asked line.actor ≡ false) (lines_of before) (lines_of journal)
+lines_straight plan before [] fit kept = tt
+lines_straight plan before (entry ∷ journal) fit kept = (
+  not_second (was_lost plan (lines_of before) entry.actor) (is_astray plan (lines_of before) (asked_of entry.asked) entry.actor) (keep_rules plan before entry journal fit kept).script,
+  subst (λ (some : List TraceLine). Along (λ some line. is_astray plan some line.asked line.actor ≡ false) some (lines_of journal)) (map-append line_of before (entry ∷ []))
+      (lines_straight plan (before ++ entry ∷ []) journal fit (subst (IsKept plan) (sym (append_assoc before (entry ∷ []) journal)) kept)),
+)
+
+abbrev added_by : PlanData → List TraceLine → TraceLine → List Judged
+added_by plan before line = judged_in plan before line line.actor
+
+judged_all : (plan : PlanData) (journal : List Entry) → ScriptsFit plan → IsKept plan journal → judged plan (lines_of journal) ≡ gathered (added_by plan) [] (lines_of journal)
+unfolding judged
+judged_all plan journal fit kept = ap (gathered (added_by plan) []) (straight_all plan [] (lines_of journal) (lines_straight plan [] journal fit kept))
+
+judged_more : (plan : PlanData) (before : List Entry) (entry : Entry) → ScriptsFit plan → IsKept plan (before ++ entry ∷ []) → judged plan (lines_of (before ++ entry ∷ [])) ≡ judged plan (lines_of before) ++ judged_in plan (lines_of before) (line_of entry) entry.actor
+judged_more plan before entry fit kept =
+    judged_all plan (before ++ entry ∷ []) fit kept
+    ∙ ap (gathered (added_by plan) []) (map-append line_of before (entry ∷ []))
+    ∙ gathered-more (added_by plan) [] (lines_of before) (line_of entry)
+    ∙ ap (λ (items : List Judged). items ++ judged_in plan (lines_of before) (line_of entry) entry.actor) (sym (judged_all plan before fit (kept_before plan before (entry ∷ []) kept)))
+
+pub kept_prefixes : (plan : PlanData) (before journal : List Entry) → IsKept plan (before ++ journal) → Along (λ some entry. IsKept plan (some ++ entry ∷ [])) before journal
+kept_prefixes plan before [] kept = tt
+kept_prefixes plan before (entry ∷ journal) kept =
+    let regrouped : IsKept plan ((before ++ entry ∷ []) ++ journal) = subst (IsKept plan) (sym (append_assoc before (entry ∷ []) journal)) kept in
+    (kept_before plan (before ++ entry ∷ []) journal regrouped, kept_prefixes plan (before ++ entry ∷ []) journal regrouped)
+
+abbrev IsJudged : PlanData → List Entry → Type 0
+IsJudged plan journal = Serial plan (opening_tables plan) (map item_of (judged plan (lines_of journal))) (tables_left plan (state_at plan journal).tables)
+
+judged_begins : (plan : PlanData) → IsSerial plan [] → IsJudged plan []
+unfolding judged straight_lines history
+judged_begins plan is = is.leads
+
+judged_step : (plan : PlanData) (before : List Entry) (entry : Entry) → ScriptsFit plan → KeptAreSerial plan → MarksAgree plan → RefusalsKeepTables plan → IsKept plan (before ++ entry ∷ []) → IsJudged plan before → IsJudged plan (before ++ entry ∷ [])
+unfolding history
+judged_step plan before entry fit serial marks keep kept is =
+    let now : Database = tables_left plan (state_at plan before).tables in
+    let later : Database = tables_left plan (state_at plan (before ++ entry ∷ [])).tables in
+    let front : IsSerial plan before = serial before (kept_before plan before (entry ∷ []) kept) in
+    let whole : IsSerial plan (before ++ entry ∷ []) = serial (before ++ entry ∷ []) kept in
+    let one : Serial plan now (entry_adds plan before entry) later =
+    serial_split plan (opening_tables plan) now later (history plan before) (entry_adds plan before entry) front.leads
+    (subst (λ (items : List HistoryItem). Serial plan (opening_tables plan) items later) (gathered-more (entry_adds plan) [] before entry) whole.leads) in
+    subst (λ (items : List HistoryItem). Serial plan (opening_tables plan) items later)
+    (sym (ap (map item_of) (judged_more plan before entry fit kept) ∙ map-append item_of (judged plan (lines_of before)) (judged_in plan (lines_of before) (line_of entry) entry.actor)))
+    (serial_join plan (opening_tables plan) now later (map item_of (judged plan (lines_of before))) (map item_of (judged_in plan (lines_of before) (line_of entry) entry.actor)) is (one_serial plan before entry fit marks keep kept one))
+
+all_judged : (plan : PlanData) (journal : List Entry) → ScriptsFit plan → KeptAreSerial plan → MarksAgree plan → RefusalsKeepTables plan → IsKept plan journal → IsJudged plan journal
+all_judged plan journal fit serial marks keep kept =
+    Along-keeps (λ some entry. IsKept plan (some ++ entry ∷ [])) (IsJudged plan) (λ before entry whole is. judged_step plan before entry fit serial marks keep whole is) [] journal (kept_prefixes plan [] journal kept)
+    (judged_begins plan (serial [] (kept_before plan [] journal kept)))
+
+-- *The lines are serial*
+pub are_serial : LinesAreSerial
+are_serial plan journal fit serial marks keep kept =
+    let is : IsJudged plan journal = all_judged plan journal fit serial marks keep kept in
+    let found = serial_is_judged plan (opening_tables plan) (judged plan (lines_of journal)) (tables_left plan (state_at plan journal).tables) is in
+    record {
+      turns = found.0;
+      reached = found.1;
+      printed = ap (first_other (map printed_table (tables_left plan (state_at plan journal).tables))) found.1 ∙ no_other (tables_left plan (state_at plan journal).tables);
+    }

@@ -1,0 +1,96 @@
+-- What holds of the lines of a journal that a run keeps. The functions of the module `laws` prove each.
+use Rattle.std.specs.Prelude.{◌≡◌, ◌≤◌, ℕ, length, true, false, List, [], ◌∷◌, ◌++◌, map, is_some, Option, Some, None}
+use Rattle.base_script.specs.declared.actor.Actor.{Actor}
+use Rattle.base_script.specs.declared.actor.Side.TheVariants.{After}
+use Rattle.server_model.specs.declared.answer.Answer.TheVariants.{Refused}
+use Rattle.server_model.specs.declared.entry.Entry.{Entry}
+use Rattle.server_model.specs.Entries.{is_client}
+use Rattle.server_model.specs.States.{is_in_transaction, session_of, writes_of}
+use Rattle.server_model.specs.declared.outcome.Cause.{Cause}
+use Rattle.server_model.specs.declared.outcome.Verdict.TheVariants.{Reverted}
+use Rattle.std.specs.List.{list_any}
+use Rattle.run_audit.specs.declared.trace.Audit.TheVariants.{Yes}
+use Rattle.plan_data.specs.PlanData.{PlanData}
+use Rattle.tool_program.specs.JournalWords.Clients.{client_at}
+use Rattle.tool_program.specs.JournalWords.Histories.{entry_adds, is_alter}
+use Rattle.tool_program.specs.JournalWords.Journals.{opens, state_at}
+use Rattle.tool_program.specs.JournalWords.Serials.{IsSerial, tables_left}
+use Rattle.tool_program.specs.JournalWords.Sessions.{live_session}
+use Rattle.proof_journals.specs.Machine.Scripts.{ScriptsFit}
+use Rattle.proof_journals.specs.Run.Kept.{IsKept}
+use Rattle.tool_program.specs.Failures.{IsPanic, Stands}
+use Rattle.tool_program.specs.Verdicts.{verdict_of}
+use Rattle.run_audit.specs.Audits.{audited, first_other, is_panic_at, item_of, judged, judged_in, line_at, opening_tables, tables_reached, unended, wrong_turns}
+use Rattle.run_audit.specs.Lines.{line_of, lines_of, printed_table, trace_of}
+use Rattle.run_audit.specs.Rules.{alters_in, client_reached, has_session, keeps_losses, keeps_script}
+
+-- *The lines tell how far clients are*.
+abbrev pub LinesTellClients : Type 0
+LinesTellClients = (plan : PlanData) (journal : List Entry) (c : ℕ) → ScriptsFit plan → IsKept plan journal → client_reached plan (lines_of journal) c ≡ client_at plan journal c
+
+-- *The lines tell who has a session*.
+abbrev pub LinesTellSessions : Type 0
+LinesTellSessions = (plan : PlanData) (journal : List Entry) (actor : Actor) → IsKept plan journal → has_session (lines_of journal) actor ≡ is_some (live_session journal actor)
+
+-- *The lines keep the rules* of scripts, losses and commands, turn by turn.
+pub record KeepsRules (plan : PlanData) (before : List Entry) (entry : Entry) : Type 0 where
+  pub script : keeps_script plan (lines_of before) (line_of entry) ≡ true
+  pub losses : keeps_losses plan (lines_of before) (line_of entry) ≡ true
+
+abbrev pub LinesKeepRules : Type 0
+LinesKeepRules = (plan : PlanData) (before : List Entry) (entry : Entry) (behind : List Entry) → ScriptsFit plan → IsKept plan (before ++ entry ∷ behind) → KeepsRules plan before entry
+
+-- what a turn of the tool's adds to what is judged is what it adds to the history
+abbrev pub MarksAgree : PlanData → Type 0
+MarksAgree plan = (before : List Entry) (entry : Entry) → IsKept plan (before ++ entry ∷ []) → is_client entry.actor ≡ false → map item_of (judged_in plan (lines_of before) (line_of entry) entry.actor) ≡ entry_adds plan before entry
+
+-- a call that was lost behind itself and refused changes no table
+abbrev pub RefusalsKeepTables : PlanData → Type 0
+RefusalsKeepTables plan =
+    (before : List Entry) (entry : Entry) (number : ℕ) (column : Option ℕ) → IsKept plan (before ++ entry ∷ []) → entry.side ≡ Some After → entry.missed ≡ Some (Refused number column) → (state_at plan (before ++ entry ∷ [])).tables ≡ (state_at plan before).tables
+
+-- each journal of the plan that is kept is serial
+abbrev pub KeptAreSerial : PlanData → Type 0
+KeptAreSerial plan = (journal : List Entry) → IsKept plan journal → IsSerial plan journal
+
+-- *The lines are serial*: what they tell has no wrong turn, and the tables that they reach are those that are left, as they are
+-- printed.
+pub record AreSerialLines (plan : PlanData) (journal : List Entry) : Type 0 where
+  pub turns : wrong_turns plan (opening_tables plan) (judged plan (lines_of journal)) ≡ []
+  pub reached : tables_reached plan (opening_tables plan) (judged plan (lines_of journal)) ≡ tables_left plan (state_at plan journal).tables
+  pub printed : first_other (map printed_table (tables_left plan (state_at plan journal).tables)) (tables_reached plan (opening_tables plan) (judged plan (lines_of journal))) ≡ None
+
+abbrev pub LinesAreSerial : Type 0
+LinesAreSerial = (plan : PlanData) (journal : List Entry) → ScriptsFit plan → KeptAreSerial plan → MarksAgree plan → RefusalsKeepTables plan → IsKept plan journal → AreSerialLines plan journal
+
+-- *The lines end*: a run that has ended left no script that wasn't gone through, by its lines.
+abbrev pub LinesEnd : Type 0
+LinesEnd = (plan : PlanData) (journal : List Entry) → ScriptsFit plan → IsKept plan journal → unended plan (trace_of plan journal (verdict_of plan journal) (state_at plan journal).tables) ≡ []
+
+-- *A panic is told*: its turn is the operator's, and that command is panic.
+abbrev pub LinesTellPanic : Type 0
+LinesTellPanic = (plan : PlanData) (journal : List Entry) (turn : ℕ) → IsKept plan journal → length journal ≤ plan.options.turn_limit → IsPanic plan journal turn → is_panic_at plan (lines_of journal) turn (line_at (lines_of journal) turn) ≡ true
+
+-- a line does the ALTER exactly where its turn adds it to the history
+abbrev pub LinesTellAlters : PlanData → Type 0
+LinesTellAlters plan = (before : List Entry) (entry : Entry) → IsKept plan (before ++ entry ∷ []) → alters_in (lines_of before) (line_of entry) ≡ list_any is_alter (entry_adds plan before entry)
+
+-- *Traces are audited yes*: what is told of a run that is kept and has no more turns than the plan allows, with its verdict and the
+-- tables at its end.
+abbrev pub TracesAreAudited : Type 0
+TracesAreAudited =
+    (plan : PlanData) (journal : List Entry) → ScriptsFit plan → KeptAreSerial plan → LinesTellAlters plan → IsKept plan journal → length journal ≤ plan.options.turn_limit
+    → ((cause : Cause) → verdict_of plan journal ≡ Reverted cause → Stands plan journal cause) → audited plan (trace_of plan journal (verdict_of plan journal) (state_at plan journal).tables) ≡ Yes
+
+-- a session outside a transaction has written nothing
+abbrev pub IdleWroteNothing : PlanData → Type 0
+IdleWroteNothing plan =
+    (before : List Entry) (entry : Entry) → IsKept plan (before ++ entry ∷ []) → is_in_transaction (session_of entry.session (opens entry (state_at plan before)).sessions) ≡ false → writes_of (session_of entry.session (opens entry (state_at plan before)).sessions) ≡ []
+
+-- *Refusals keep tables*, where that is so.
+abbrev pub RefusalsKeep : Type 0
+RefusalsKeep = (plan : PlanData) → IdleWroteNothing plan → RefusalsKeepTables plan
+
+-- *Idle sessions wrote nothing*, of every plan.
+abbrev pub IdleWriteNothing : Type 0
+IdleWriteNothing = (plan : PlanData) → IdleWroteNothing plan
