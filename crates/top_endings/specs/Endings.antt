@@ -4,7 +4,7 @@ use Rattle.std.specs.Io.KnownBytes.{Appends, Consumes}
 use Rattle.base_edges.specs.Edges.{Rose}
 use Rattle.base_edges.specs.Whole.{GivesPart}
 use Rattle.top_words.specs.declared.command.Command.{Command}
-use Rattle.top_words.specs.declared.command.Command.TheVariants.{Check, Replay, Run}
+use Rattle.top_words.specs.declared.command.Command.TheVariants.{Check, Replay, Run, Trace}
 use Rattle.top_endings.specs.declared.command.PlanCommand.{PlanCommand}
 use Rattle.top_endings.specs.declared.command.PlanCommand.TheVariants as plans
 use Rattle.top_endings.specs.declared.printed.Printed.{Printed}
@@ -88,6 +88,7 @@ abbrev pub asked : PlanCommand → Command
 asked plans.Check = Check
 asked plans.Replay = Replay
 asked (plans.Run workers) = Run workers
+asked plans.Trace = Trace
 
 -- a run has 1 to 16 workers
 abbrev pub HasWorkers : Command → Type 0
@@ -99,6 +100,7 @@ abbrev pub reads_plan : Option Command → Bool
 reads_plan (Some Check) = true
 reads_plan (Some Replay) = true
 reads_plan (Some (Run workers)) = true
+reads_plan (Some Trace) = true
 reads_plan chosen = false
 
 -- the number is 1, 5 or 6

@@ -29,7 +29,7 @@ pub record IsRefusal (refusal : PlanRefusal) (printed : Printed) : Type 0 where
 
 -- what faulty words get
 abbrev pub usage_text : List ℕ
-usage_text = codes "usage: check | replay | run [--workers N] | generate N\n"
+usage_text = codes "usage: check | replay | run [--workers N] | generate N | trace\n"
 
 -- what is printed where the source failed
 abbrev pub read_fault_text : List ℕ

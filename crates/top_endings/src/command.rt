@@ -9,4 +9,6 @@ pub enum PlanCommand {
     Replay,
     /// `run`: it is run by this many worker threads, 1 to 16.
     Run(u32),
+    /// `trace`: it is run on one thread, and printed turn by turn.
+    Trace,
 }

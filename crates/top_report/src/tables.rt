@@ -67,30 +67,32 @@ fn push_found(
 #[tactic(auto, using(crate::proofs::Left::leftover_text))]
 fn push_left(
     into: &mut Text,
+    shown: bool,
     plan: &Plan,
     opening: &PlainTable,
     tables: &Tables,
 ) -> Result<(), AllocError>
-    ensures { OnOk result (into.new ≡ into.old ++ tables_text plan.now.options.show_tables (left_of plan.now opening.now.table (database tables.now))) }
+    ensures { OnOk result (into.new ≡ into.old ++ tables_text shown (left_of plan.now opening.now.table (database tables.now))) }
 {
     if is_tool_name(plan.table().as_str(), opening.schema().name.as_str()) {
         Ok(())
     } else {
-        push_found(into, plan.options().show_tables, opening, tables)
+        push_found(into, shown, opening, tables)
     }
 }
 
-/// Adds the plan's tables but the leftovers as they are left among those that exist.
-pub(crate) fn push_tables_left(
+/// Adds the plan's tables but the leftovers as they are left among those that exist: with their rows where these are shown.
+pub fn push_tables_left(
     into: &mut Text,
+    shown: bool,
     plan: &Plan,
     tables: &Tables,
 ) -> Result<(), AllocError>
-    ensures { OnOk result (into.new ≡ into.old ++ tables_text plan.now.options.show_tables (tables_left plan.now (database tables.now))) }
+    ensures { OnOk result (into.new ≡ into.old ++ tables_text shown (tables_left plan.now (database tables.now))) }
 {
     let opening = plan.tables();
     for place in 0..opening.len() {
-        push_left(into, plan, opening.at(place), tables)?;
+        push_left(into, shown, plan, opening.at(place), tables)?;
     }
     Ok(())
 }

@@ -18,8 +18,9 @@ pub(crate) struct OpenRun {
     times: u64,
 }
 
+/// Adds the word of an actor.
 #[tactic(auto, unfolding(crate::specs::Turns::actor_word))]
-fn push_actor(into: &mut Text, actor: Actor) -> Result<(), AllocError>
+pub fn push_actor(into: &mut Text, actor: Actor) -> Result<(), AllocError>
     ensures { OnOk result (into.new ≡ into.old ++ actor_word actor) }
 {
     match actor {

@@ -99,7 +99,7 @@ fn push_cause(into: &mut Text, cause: &Cause) -> Result<(), AllocError>
 
 /// Adds how the migration ended.
 #[tactic(auto, unfolding(crate::specs::Verdicts::verdict_line))]
-pub(crate) fn push_verdict(into: &mut Text, verdict: &Verdict) -> Result<(), AllocError>
+pub fn push_verdict(into: &mut Text, verdict: &Verdict) -> Result<(), AllocError>
     ensures { OnOk result (into.new ≡ into.old ++ verdict_line verdict.now) }
 {
     match verdict {

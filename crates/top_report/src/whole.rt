@@ -67,7 +67,7 @@ pub fn report(
     let mut text = Text::new(alloc);
     push_verdict(&mut text, verdict)?;
     push_shown_replies(&mut text, plan, journal.as_slice())?;
-    push_tables_left(&mut text, plan, tables)?;
+    push_tables_left(&mut text, plan.options().show_tables, plan, tables)?;
     push_names(alloc, &mut text, tables)?;
     push_shown_history(alloc, &mut text, plan, journal.as_slice())?;
     push_shown_turns(&mut text, plan, journal.as_slice())?;

@@ -1,9 +1,9 @@
--- *Command* of a command line: `check`, `replay`, `run`, `run --workers N`, `run --workers=N` or `generate N`. This
--- project's rule.
+-- *Command* of a command line: `check`, `replay`, `run`, `run --workers N`, `run --workers=N`, `generate N` or
+-- `trace`. This project's rule.
 use Rattle.std.specs.Prelude.{codes, ℕ, ◌&&◌, if◌then◌else◌, List, [], ◌∷◌, take, drop, Option, Some, None, option_and_then, option_map}
 use Rattle.std.specs.Str.{bytes_eq}
 use Rattle.top_words.specs.declared.command.Command.{Command}
-use Rattle.top_words.specs.declared.command.Command.TheVariants.{Check, Replay, Run, Generate}
+use Rattle.top_words.specs.declared.command.Command.TheVariants.{Check, Replay, Run, Generate, Trace}
 use Rattle.top_words.specs.Numbers.{number_of, workers_of}
 
 -- a command without a number; a run has 4 workers where it doesn't say
@@ -12,6 +12,7 @@ plain_command name =
     if bytes_eq name (codes "check") then Some Check
     else if bytes_eq name (codes "replay") then Some Replay
     else if bytes_eq name (codes "run") then Some (Run 4)
+    else if bytes_eq name (codes "trace") then Some Trace
     else None
 
 abbrev pub run_by : List ℕ → Option Command

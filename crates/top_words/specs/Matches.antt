@@ -4,7 +4,7 @@ use Rattle.std.specs.Str.{bytes_eq}
 use Rattle.clap.specs.Words.{App, Row, Rule, Text, first_of, new_app, new_rule}
 use Rattle.clap.specs.Simple.{on_top, with_rule, with_subcommand}
 use Rattle.top_words.specs.declared.command.Command.{Command}
-use Rattle.top_words.specs.declared.command.Command.TheVariants.{Check, Replay, Run}
+use Rattle.top_words.specs.declared.command.Command.TheVariants.{Check, Replay, Run, Trace}
 use Rattle.top_words.specs.Commands.{generate_of, run_by}
 
 -- one level of subcommands, and no binary's name among the words
@@ -22,8 +22,9 @@ bare_app = on_top (λ s. record s { no_binary_name = true }) (new_app (codes "gh
 
 abbrev pub program : App
 program =
-    with_subcommand (with_subcommand (with_subcommand (with_subcommand bare_app (new_app (codes "check")).top) (new_app (codes "replay")).top) run_app.top)
-    generate_app.top
+    with_subcommand
+    (with_subcommand (with_subcommand (with_subcommand (with_subcommand bare_app (new_app (codes "check")).top) (new_app (codes "replay")).top) run_app.top) generate_app.top)
+    (new_app (codes "trace")).top
 
 -- a run has 4 workers where no number was given
 abbrev pub run_chosen : Option Text → Option Command
@@ -37,6 +38,7 @@ command_chosen name workers number =
     else if bytes_eq name (codes "replay") then Some Replay
     else if bytes_eq name (codes "run") then run_chosen workers
     else if bytes_eq name (codes "generate") then option_and_then generate_of number
+    else if bytes_eq name (codes "trace") then Some Trace
     else None
 
 -- the command that the matches of a subcommand tell

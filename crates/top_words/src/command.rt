@@ -11,4 +11,6 @@ pub enum Command {
     Run(u32),
     /// `generate`: the plan of a number. Nothing is read.
     Generate(u64),
+    /// `trace`: a plan's run, on one thread, turn by turn.
+    Trace,
 }

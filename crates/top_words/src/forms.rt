@@ -15,7 +15,7 @@ fn attached_number(word: &str) -> Option<&str>
 fn is_plain(name: &str) -> bool
     ensures { result ≡ is_some (plain_command name.now) }
 {
-    name == "check" || name == "replay" || name == "run"
+    name == "check" || name == "replay" || name == "run" || name == "trace"
 }
 
 fn has_attached_number(word: &str) -> bool

@@ -53,7 +53,8 @@ pub(crate) fn program<'a>(alloc: Global) -> Result<Parser<'a>, AllocError>
         .subcommand(Parser::new(alloc, "check"))?
         .subcommand(Parser::new(alloc, "replay"))?
         .subcommand(run_parser(alloc)?)?
-        .subcommand(generate_parser(alloc)?)
+        .subcommand(generate_parser(alloc)?)?
+        .subcommand(Parser::new(alloc, "trace"))
 }
 
 fn run_by(number: &str) -> Option<Command>
@@ -88,6 +89,8 @@ fn command_chosen(name: &str, workers: Option<&str>, number: Option<&str>) -> Op
         run_chosen(workers)
     } else if name == "generate" {
         generate_of(number?)
+    } else if name == "trace" {
+        Some(Command::Trace)
     } else {
         None
     }
