@@ -9,7 +9,8 @@ use test_program::{Case, Program, Ran, run};
 /// What is asked of a case.
 #[derive(Clone, Copy)]
 pub enum Asked {
-    /// That the call ends with the case's status and prints what is there, and that one at a time gives the same.
+    /// That the call ends with the case's status and prints what is there, and that one at a time gives the same where that is a
+    /// report.
     Prints,
     /// That the run is as one at a time, and that the lines that it names are among those that it prints, in their order.
     HasLines,
@@ -32,11 +33,19 @@ fn is_reference_where_run(alloc: Global, plan: &[u8], ran: &Ran) -> Result<bool,
     Ok(ran.ended.journal.is_empty() || is_reference_run(alloc, plan, ran)?)
 }
 
+/// Whether a command prints no report: one at a time can't be held against its text.
+fn prints_no_report(words: &str) -> bool {
+    words.starts_with("trace")
+}
+
 /// Whether a case prints what is in it, with the status that it names, and what one at a time gives.
 fn is_printed(alloc: Global, program: &Program, case: &Case<'_>) -> Result<bool, AllocError> {
     let plan = case.plan.as_slice();
     let ran = run(alloc, program, case.words, plan)?;
-    Ok(is_written(alloc, case, &ran)? && is_reference_where_run(alloc, plan, &ran)?)
+    Ok(
+        is_written(alloc, case, &ran)?
+            && (prints_no_report(case.words) || is_reference_where_run(alloc, plan, &ran)?),
+    )
 }
 
 /// Whether a case is as expected.

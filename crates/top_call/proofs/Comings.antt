@@ -1,16 +1,20 @@
 -- What comes of the words and the source.
-use Rattle.std.proofs.Common.{◌≡◌, ℕ, List, [], Option, Some, None, IfSome, Result, Ok, Err, inl, inr, refl, sym, ap, subst}
+use Rattle.std.proofs.Common.{◌≡◌, ℕ, Bool, true, false, nat_lt, length, if◌then◌else◌, List, [], Option, Some, None, IfSome, Result, Ok, Err, inl, inr, refl, sym, ap, subst}
+use Rattle.std.specs.Str.{is_utf8}
+use Rattle.base_values.specs.SchemaRules.Results.{◌>>=◌}
 use Rattle.std.specs.Io.KnownBytes.{Consumes}
 use Rattle.base_edges.specs.Edges.{Rose}
 use Rattle.base_edges.specs.Whole.{ReadsWhole}
 use Rattle.server_model.specs.declared.entry.Entry.{Entry}
 use Rattle.plan_data.specs.PlanData.{PlanData}
 use Rattle.plan_reader.specs.declared.fault.PlanRefusal.{PlanRefusal}
+use Rattle.plan_reader.specs.declared.fault.PlanRefusal.TheVariants.{TooLong, NotToml}
+use Rattle.plan_reader.specs.Refusals.{or_refused}
 use Rattle.plan_reader.specs.declared.limits.TheConstants.{PLAN_LIMIT}
-use Rattle.plan_reader.specs.Plans.{read}
+use Rattle.plan_reader.specs.Plans.{document, plan_at, read}
 use Rattle.top_words.specs.Commands.{command}
 use Rattle.top_words.specs.declared.command.Command.{Command}
-use Rattle.top_words.specs.declared.command.Command.TheVariants.{Check, Replay, Run, Generate}
+use Rattle.top_words.specs.declared.command.Command.TheVariants.{Check, Replay, Run, Generate, Trace}
 use Rattle.top_endings.specs.declared.command.PlanCommand.{PlanCommand}
 use Rattle.top_endings.specs.declared.command.PlanCommand.TheVariants as plans
 use Rattle.top_endings.specs.declared.printed.Printed.{Printed}
@@ -21,7 +25,7 @@ use Rattle.top_endings.specs.Checks.{IsSchema}
 use Rattle.top_endings.specs.Texts.{IsRefusal, usage_text, read_fault_text}
 use Rattle.top_workload.specs.Workloads.{workload}
 use Rattle.top_call.specs.Comings.{ComesTo, HasNoPlan, IsAccepted, LeavesSource, TellsPlan}
-use Rattle.top_call.specs.Outcomes.{Comes, IsTaken, IsUntaken, TakesNone}
+use Rattle.top_call.specs.Outcomes.{Comes, IsTaken, IsUntaken, TakesNone, report_at, trace_at}
 
 no_turn : IsUntaken [] []
 no_turn = record { no_turns = refl; no_journal = refl }
@@ -40,38 +44,51 @@ pub fault_reported : (source : Taking) (printed : Option Printed) → IfSome pri
 fault_reported source None is rose = nothing_reported source
 fault_reported source (Some printed) is rose = λ chosen. inr (record { untaken = no_turn; shows = record { status_is = ap (λ (one : Printed). one.status) is; text_is = ap (λ (one : Printed). one.text) is; rose = rose } })
 
-refusal_comes : (chosen : PlanCommand) (refusal : PlanRefusal) (printed : Option Printed) → IfSome printed (IsRefusal refusal) → Comes chosen (Err refusal) printed [] []
-refusal_comes plans.Check refusal printed shows = record { untaken = no_turn; shows = shows }
-refusal_comes plans.Replay refusal printed shows = record { untaken = no_turn; shows = shows }
-refusal_comes (plans.Run workers) refusal printed shows = record { untaken = no_turn; shows = shows }
+refusal_comes : (chosen : PlanCommand) (bytes : List ℕ) (refusal : PlanRefusal) (printed : Option Printed) → IfSome printed (IsRefusal refusal) → Comes chosen bytes (Err refusal) printed [] []
+refusal_comes plans.Check bytes refusal printed shows = record { untaken = no_turn; shows = shows }
+refusal_comes plans.Replay bytes refusal printed shows = record { untaken = no_turn; shows = shows }
+refusal_comes (plans.Run workers) bytes refusal printed shows = record { untaken = no_turn; shows = shows }
+refusal_comes plans.Trace bytes refusal printed shows = record { untaken = no_turn; shows = shows }
 
 -- its bytes are refused
 pub refusal_reported : (source : Taking) (printed : Option Printed) (bytes : List ℕ) (refusal : PlanRefusal) → ReadsWhole PLAN_LIMIT source.before source.after bytes → read bytes ≡ Err refusal → IfSome printed (IsRefusal refusal) → HasNoPlan source printed [] []
 refusal_reported source printed bytes refusal whole refused shows = λ chosen. inl (record {
   bytes = bytes;
   whole = whole;
-  comes = subst (λ (said : Result PlanData PlanRefusal). Comes chosen said printed [] []) (sym refused) (refusal_comes chosen refusal printed shows);
+  comes = subst (λ (said : Result PlanData PlanRefusal). Comes chosen bytes said printed [] []) (sym refused) (refusal_comes chosen bytes refusal printed shows);
 })
 
-pub accepted_by : (source : Taking) (plan : PlanData) (bytes : List ℕ) → ReadsWhole PLAN_LIMIT source.before source.after bytes → read bytes ≡ Ok plan → IsAccepted source plan
-accepted_by source plan bytes whole accepted = record { bytes = bytes; whole = whole; accepted = accepted }
+pub accepted_by : (source : Taking) (plan : PlanData) (bytes : List ℕ) → ReadsWhole PLAN_LIMIT source.before source.after bytes → read bytes ≡ Ok plan → IsAccepted source bytes plan
+accepted_by source plan bytes whole accepted = record { whole = whole; accepted = accepted }
 
 -- its bytes are a plan, of which this comes under the command
-of_plan : (chosen : PlanCommand) (source : Taking) (plan : PlanData) (printed : Option Printed) (turns : List Turn) (journal : List Entry) → IsAccepted source plan → Comes chosen (Ok plan) printed turns journal → TellsPlan chosen source printed turns journal
-of_plan chosen source plan printed turns journal was comes = inl (record {
-  bytes = was.bytes;
+of_plan : (chosen : PlanCommand) (source : Taking) (bytes : List ℕ) (plan : PlanData) (printed : Option Printed) (turns : List Turn) (journal : List Entry) → IsAccepted source bytes plan → Comes chosen bytes (Ok plan) printed turns journal → TellsPlan chosen source printed turns journal
+of_plan chosen source bytes plan printed turns journal was comes = inl (record {
+  bytes = bytes;
   whole = was.whole;
-  comes = subst (λ (said : Result PlanData PlanRefusal). Comes chosen said printed turns journal) (sym was.accepted) comes;
+  comes = subst (λ (said : Result PlanData PlanRefusal). Comes chosen bytes said printed turns journal) (sym was.accepted) comes;
 })
 
-pub schema_reported : (source : Taking) (plan : PlanData) (printed : Option Printed) → IsAccepted source plan → IfSome printed (IsSchema plan) → TellsPlan plans.Check source printed [] []
-schema_reported source plan printed was shows = of_plan plans.Check source plan printed [] [] was (record { untaken = no_turn; shows = shows })
+pub schema_reported : (source : Taking) (bytes : List ℕ) (plan : PlanData) (printed : Option Printed) → IsAccepted source bytes plan → IfSome printed (IsSchema plan) → TellsPlan plans.Check source printed [] []
+schema_reported source bytes plan printed was shows = of_plan plans.Check source bytes plan printed [] [] was (record { untaken = no_turn; shows = shows })
 
-pub replay_reported : (source : Taking) (plan : PlanData) (printed : Option Printed) (turns : List Turn) (journal : List Entry) → IsAccepted source plan → IsTaken plans.Replay plan printed turns journal → TellsPlan plans.Replay source printed turns journal
-replay_reported source plan printed turns journal was taken = of_plan plans.Replay source plan printed turns journal was taken
+pub replay_reported : (source : Taking) (bytes : List ℕ) (plan : PlanData) (printed : Option Printed) (turns : List Turn) (journal : List Entry) → IsAccepted source bytes plan → IsTaken plans.Replay plan (report_at plan journal) printed turns journal → TellsPlan plans.Replay source printed turns journal
+replay_reported source bytes plan printed turns journal was taken = of_plan plans.Replay source bytes plan printed turns journal was taken
 
-pub run_reported : (workers : ℕ) (source : Taking) (plan : PlanData) (printed : Option Printed) (turns : List Turn) (journal : List Entry) → IsAccepted source plan → IsTaken (plans.Run workers) plan printed turns journal → TellsPlan (plans.Run workers) source printed turns journal
-run_reported workers source plan printed turns journal was taken = of_plan (plans.Run workers) source plan printed turns journal was taken
+pub run_reported : (workers : ℕ) (source : Taking) (bytes : List ℕ) (plan : PlanData) (printed : Option Printed) (turns : List Turn) (journal : List Entry) → IsAccepted source bytes plan → IsTaken (plans.Run workers) plan (report_at plan journal) printed turns journal → TellsPlan (plans.Run workers) source printed turns journal
+run_reported workers source bytes plan printed turns journal was taken = of_plan (plans.Run workers) source bytes plan printed turns journal was taken
+
+pub trace_reported : (source : Taking) (bytes : List ℕ) (plan : PlanData) (printed : Option Printed) (turns : List Turn) (journal : List Entry) → IsAccepted source bytes plan → IsTaken plans.Trace plan (trace_at bytes plan journal) printed turns journal → TellsPlan plans.Trace source printed turns journal
+trace_reported source bytes plan printed turns journal was taken = of_plan plans.Trace source bytes plan printed turns journal was taken
+
+-- bytes that are a plan are UTF-8
+pub plans_are_utf8 : (bytes : List ℕ) (plan : PlanData) → read bytes ≡ Ok plan → is_utf8 bytes ≡ true
+unfolding read document
+plans_are_utf8 bytes plan is = by _ plan_at (is_utf8 bytes) (nat_lt PLAN_LIMIT (length bytes)) is where
+  by : {A : Type 0} (document : Option A) (plan_of : A → Result PlanData PlanRefusal) (utf8 long : Bool) → (if long then Err TooLong else (or_refused NotToml (if utf8 then document else None) >>= plan_of)) ≡ Ok plan → utf8 ≡ true
+  by document plan_of true long is = refl
+  by document plan_of false true is = absurd cc
+  by document plan_of false false is = absurd cc
 
 -- THE WORDS
 
@@ -94,6 +111,7 @@ nothing_comes (Some Check) left faults = nothing_reported (Unmoved left faults) 
 nothing_comes (Some Replay) left faults = nothing_reported (Unmoved left faults) plans.Replay
 nothing_comes (Some (Run workers)) left faults = nothing_reported (Unmoved left faults) (plans.Run workers)
 nothing_comes (Some (Generate number)) left faults = left_as_it_was left faults _ None (nothing_shown _)
+nothing_comes (Some Trace) left faults = nothing_reported (Unmoved left faults) plans.Trace
 
 -- what comes under the commands that read a plan
 pub check_comes : (source : Taking) (printed : Option Printed) (turns : List Turn) (journal : List Entry) → TellsPlan plans.Check source printed turns journal → ComesTo (Some Check) source printed turns journal
@@ -103,6 +121,10 @@ check_comes source printed turns journal tells = tells
 pub replay_comes : (source : Taking) (printed : Option Printed) (turns : List Turn) (journal : List Entry) → TellsPlan plans.Replay source printed turns journal → ComesTo (Some Replay) source printed turns journal
 unfolding ComesTo
 replay_comes source printed turns journal tells = tells
+
+pub trace_comes : (source : Taking) (printed : Option Printed) (turns : List Turn) (journal : List Entry) → TellsPlan plans.Trace source printed turns journal → ComesTo (Some Trace) source printed turns journal
+unfolding ComesTo
+trace_comes source printed turns journal tells = tells
 
 -- under words that ask for a run
 pub run_comes : (words : List (List ℕ)) (workers : ℕ) (source : Taking) (printed : Option Printed) (turns : List Turn) (journal : List Entry) → command words ≡ Some (Run workers) → TellsPlan (plans.Run workers) source printed turns journal → ComesTo (command words) source printed turns journal

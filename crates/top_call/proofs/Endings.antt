@@ -7,12 +7,10 @@ use Rattle.server_model.specs.declared.outcome.Verdict.TheVariants as verdicts
 use Rattle.plan_data.specs.PlanData.{PlanData}
 use Rattle.plan_reader.specs.declared.fault.PlanRefusal.{PlanRefusal}
 use Rattle.plan_reader.specs.Plans.{read}
-use Rattle.tool_program.specs.JournalWords.Journals.{state_at}
 use Rattle.tool_program.specs.Verdicts.{verdict_of}
-use Rattle.top_report.specs.Reports.{report}
 use Rattle.top_words.specs.Commands.{command}
 use Rattle.top_words.specs.declared.command.Command.{Command}
-use Rattle.top_words.specs.declared.command.Command.TheVariants.{Check, Replay, Run, Generate}
+use Rattle.top_words.specs.declared.command.Command.TheVariants.{Check, Replay, Run, Generate, Trace}
 use Rattle.top_endings.specs.declared.command.PlanCommand.{PlanCommand}
 use Rattle.top_endings.specs.declared.command.PlanCommand.TheVariants as plans
 use Rattle.top_endings.specs.declared.printed.Printed.{Printed}
@@ -24,7 +22,7 @@ use Rattle.top_endings.specs.Checks.{IsSchema}
 use Rattle.top_endings.specs.Texts.{IsRefusal}
 use Rattle.top_call.specs.WholeReplays.SoundRuns.{IsSoundRun}
 use Rattle.top_call.specs.Comings.{IsRead, TellsPlan, ComesTo, Does}
-use Rattle.top_call.specs.Outcomes.{IsTaken, TakesNone, Comes, status_of}
+use Rattle.top_call.specs.Outcomes.{IsTaken, TakesNone, Comes, run_text, status_of}
 use Rattle.top_call.specs.Promises.{Ends, EndsUnder, PrintsDone, PrintsReport}
 use Rattle.top_call.specs.TopLaws.{Laws}
 use Rattle.top_call.proofs.Headline.{runs_of}
@@ -46,6 +44,7 @@ module _ (words : List (List ℕ)) (source : Taking) (sink : Giving) (turns : Li
   reads_by plans.Check is = ap reads_plan is
   reads_by plans.Replay is = ap reads_plan is
   reads_by (plans.Run workers) is = ap reads_plan is
+  reads_by plans.Trace is = ap reads_plan is
 
   usage_under : (printed : Printed) → command words ≡ None → Gave printed → TakesNone (IsUsage source) (Some printed) turns journal → Under printed.status
   usage_under printed faulty given comes =
@@ -92,8 +91,9 @@ module _ (words : List (List ℕ)) (source : Taking) (sink : Giving) (turns : Li
   printed_done plans.Check prints = absurd prints.runs.takes
   printed_done plans.Replay prints = prints
   printed_done (plans.Run workers) prints = prints
+  printed_done plans.Trace prints = prints
 
-  module _ (laws : Laws) (chosen : PlanCommand) (printed : Printed) (was : IsRead chosen source (Some printed) turns journal) (plan : PlanData) (is : command words ≡ Some (asked chosen)) (said : read was.bytes ≡ Ok plan) (given : Gave printed) (taken : IsTaken chosen plan (Some printed) turns journal) where
+  module _ (laws : Laws) (chosen : PlanCommand) (printed : Printed) (was : IsRead chosen source (Some printed) turns journal) (plan : PlanData) (is : command words ≡ Some (asked chosen)) (said : read was.bytes ≡ Ok plan) (given : Gave printed) (taken : IsTaken chosen plan (run_text chosen was.bytes plan journal) (Some printed) turns journal) where
     sound : IsSoundRun plan journal
     sound = sound_of chosen plan turns journal taken.takes
 
@@ -101,12 +101,12 @@ module _ (words : List (List ℕ)) (source : Taking) (sink : Giving) (turns : Li
     report_given verdict same =
         let tells = tells_alter laws plan journal taken.was_read sound.kept.faithful sound.kept.follows in
         record {
-          runs = runs_of laws chosen source (Some printed) turns journal was plan said taken;
+          runs = runs_of laws chosen source (Some printed) turns journal was plan (run_text chosen was.bytes plan journal) said taken;
           taken = is_taken plan journal (laws.allow was.bytes plan said).turns taken.reports.over;
           over = ends_as plan journal verdict sound.ends tells taken.reports.over sound.bound same;
           verdict_is = same;
           tells = tells;
-          given = text_given printed _ (taken.reports.text_is ∙ ap (λ (v : Verdict). report plan journal v (state_at plan journal).tables) same) given;
+          given = text_given printed _ (taken.reports.text_is ∙ ap (run_text chosen was.bytes plan journal) same) given;
         }
 
     verdict_under : (verdict : Verdict) → verdict_of plan journal ≡ verdict → printed.status ≡ status_of verdict → Under printed.status
@@ -125,13 +125,15 @@ module _ (words : List (List ℕ)) (source : Taking) (sink : Giving) (turns : Li
     report_under : Under printed.status
     report_under = verdict_under (verdict_of plan journal) refl taken.reports.status_is
 
-  said_under : Laws → (chosen : PlanCommand) (printed : Printed) (was : IsRead chosen source (Some printed) turns journal) (said : Result PlanData PlanRefusal) → command words ≡ Some (asked chosen) → read was.bytes ≡ said → Gave printed → Comes chosen said (Some printed) turns journal → Under printed.status
+  said_under : Laws → (chosen : PlanCommand) (printed : Printed) (was : IsRead chosen source (Some printed) turns journal) (said : Result PlanData PlanRefusal) → command words ≡ Some (asked chosen) → read was.bytes ≡ said → Gave printed → Comes chosen was.bytes said (Some printed) turns journal → Under printed.status
   said_under laws plans.Check printed was (Ok plan) is said given comes = schema_under printed was plan is said given comes
   said_under laws plans.Replay printed was (Ok plan) is said given comes = report_under laws plans.Replay printed was plan is said given comes
   said_under laws (plans.Run workers) printed was (Ok plan) is said given comes = report_under laws (plans.Run workers) printed was plan is said given comes
+  said_under laws plans.Trace printed was (Ok plan) is said given comes = report_under laws plans.Trace printed was plan is said given comes
   said_under laws plans.Check printed was (Err refusal) is said given comes = refusal_under plans.Check printed was refusal is said given comes
   said_under laws plans.Replay printed was (Err refusal) is said given comes = refusal_under plans.Replay printed was refusal is said given comes
   said_under laws (plans.Run workers) printed was (Err refusal) is said given comes = refusal_under (plans.Run workers) printed was refusal is said given comes
+  said_under laws plans.Trace printed was (Err refusal) is said given comes = refusal_under plans.Trace printed was refusal is said given comes
 
   plan_under : Laws → (chosen : PlanCommand) (printed : Printed) → command words ≡ Some (asked chosen) → Gave printed → TellsPlan chosen source (Some printed) turns journal → Under printed.status
   plan_under laws chosen printed is given (inl was) = said_under laws chosen printed was (read was.bytes) is refl given was.comes
@@ -144,6 +146,7 @@ module _ (words : List (List ℕ)) (source : Taking) (sink : Giving) (turns : Li
   whole_under laws (Some (Generate number)) printed is given comes = workload_under number printed is given comes.comes
   whole_under laws (Some Check) printed is given comes = plan_under laws plans.Check printed is given comes
   whole_under laws (Some Replay) printed is given comes = plan_under laws plans.Replay printed is given comes
+  whole_under laws (Some Trace) printed is given comes = plan_under laws plans.Trace printed is given comes
 
   given_under : Laws → (printed : Option Printed) (status : Status) → ComesTo (command words) source printed turns journal → Gives printed sink status → Under status
   given_under laws None status comes gives = subst Under (sym gives.status_is) (record { comes = comes; given = gives.given })

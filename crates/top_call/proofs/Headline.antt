@@ -2,19 +2,20 @@
 use Rattle.std.proofs.Common.{◌≡◌, ℕ, ◌==◌, false, List, length, Option, Some, None, Result, Ok, Err, inl, inr, refl, sym, ap, ◌∙◌}
 use Rattle.std.proofs.lemmas.Bool.{true≢false}
 use Rattle.server_model.specs.declared.entry.Entry.{Entry}
+use Rattle.server_model.specs.declared.outcome.Verdict.{Verdict}
 use Rattle.plan_data.specs.PlanData.{PlanData}
 use Rattle.plan_reader.specs.declared.fault.PlanRefusal.{PlanRefusal}
 use Rattle.plan_reader.specs.Plans.{read}
 use Rattle.top_words.specs.Commands.{command}
 use Rattle.top_words.specs.declared.command.Command.{Command}
-use Rattle.top_words.specs.declared.command.Command.TheVariants.{Check, Replay, Run, Generate}
+use Rattle.top_words.specs.declared.command.Command.TheVariants.{Check, Replay, Run, Generate, Trace}
 use Rattle.top_endings.specs.declared.command.PlanCommand.{PlanCommand}
 use Rattle.top_endings.specs.declared.command.PlanCommand.TheVariants as plans
 use Rattle.top_endings.specs.declared.printed.Printed.{Printed}
 use Rattle.top_endings.specs.declared.turn.Turn.{Turn}
 use Rattle.top_endings.specs.Endings.{Taking, Giving}
 use Rattle.top_call.specs.Comings.{IsRead, TellsPlan, ComesTo, Does}
-use Rattle.top_call.specs.Outcomes.{IsTaken, TakesNone, Comes}
+use Rattle.top_call.specs.Outcomes.{IsTaken, TakesNone, Comes, run_text}
 use Rattle.top_call.specs.Promises.{Runs, RunsBy}
 use Rattle.top_call.specs.TopLaws.{Laws}
 use Rattle.top_call.proofs.Taken.{sound_of, completes, done_where_smooth, done_with_room}
@@ -24,8 +25,8 @@ use Rattle.top_call.proofs.Taken.{sound_of, completes, done_where_smooth, done_w
 none_taken : (Shows : Printed → Type 0) (printed : Option Printed) (turns : List Turn) (journal : List Entry) → TakesNone Shows printed turns journal → (length journal == 0) ≡ false → ⊥
 none_taken Shows printed turns journal none some = true≢false (sym (ap (λ (all : List Entry). length all == 0) none.untaken.no_journal) ∙ some)
 
-abbrev pub runs_of : Laws → (chosen : PlanCommand) (source : Taking) (printed : Option Printed) (turns : List Turn) (journal : List Entry) (was : IsRead chosen source printed turns journal) (plan : PlanData) → read was.bytes ≡ Ok plan → IsTaken chosen plan printed turns journal → Runs chosen source turns journal
-runs_of laws chosen source printed turns journal was plan said taken = record {
+abbrev pub runs_of : Laws → (chosen : PlanCommand) (source : Taking) (printed : Option Printed) (turns : List Turn) (journal : List Entry) (was : IsRead chosen source printed turns journal) (plan : PlanData) (text : Verdict → List ℕ) → read was.bytes ≡ Ok plan → IsTaken chosen plan text printed turns journal → Runs chosen source turns journal
+runs_of laws chosen source printed turns journal was plan text said taken = record {
   bytes = was.bytes;
   whole = was.whole;
   plan = plan;
@@ -36,13 +37,15 @@ runs_of laws chosen source printed turns journal was plan said taken = record {
   roomy = done_with_room laws plan journal taken.was_read (sound_of chosen plan turns journal taken.takes);
 }
 
-runs_said : Laws → (chosen : PlanCommand) (source : Taking) (printed : Option Printed) (turns : List Turn) (journal : List Entry) (was : IsRead chosen source printed turns journal) (said : Result PlanData PlanRefusal) → read was.bytes ≡ said → Comes chosen said printed turns journal → (length journal == 0) ≡ false → Runs chosen source turns journal
+runs_said : Laws → (chosen : PlanCommand) (source : Taking) (printed : Option Printed) (turns : List Turn) (journal : List Entry) (was : IsRead chosen source printed turns journal) (said : Result PlanData PlanRefusal) → read was.bytes ≡ said → Comes chosen was.bytes said printed turns journal → (length journal == 0) ≡ false → Runs chosen source turns journal
 runs_said laws plans.Check source printed turns journal was (Ok plan) is comes some = absurd (none_taken _ printed turns journal comes some)
-runs_said laws plans.Replay source printed turns journal was (Ok plan) is comes some = runs_of laws plans.Replay source printed turns journal was plan is comes
-runs_said laws (plans.Run workers) source printed turns journal was (Ok plan) is comes some = runs_of laws (plans.Run workers) source printed turns journal was plan is comes
+runs_said laws plans.Replay source printed turns journal was (Ok plan) is comes some = runs_of laws plans.Replay source printed turns journal was plan (run_text plans.Replay was.bytes plan journal) is comes
+runs_said laws (plans.Run workers) source printed turns journal was (Ok plan) is comes some = runs_of laws (plans.Run workers) source printed turns journal was plan (run_text (plans.Run workers) was.bytes plan journal) is comes
+runs_said laws plans.Trace source printed turns journal was (Ok plan) is comes some = runs_of laws plans.Trace source printed turns journal was plan (run_text plans.Trace was.bytes plan journal) is comes
 runs_said laws plans.Check source printed turns journal was (Err refusal) is comes some = absurd (none_taken _ printed turns journal comes some)
 runs_said laws plans.Replay source printed turns journal was (Err refusal) is comes some = absurd (none_taken _ printed turns journal comes some)
 runs_said laws (plans.Run workers) source printed turns journal was (Err refusal) is comes some = absurd (none_taken _ printed turns journal comes some)
+runs_said laws plans.Trace source printed turns journal was (Err refusal) is comes some = absurd (none_taken _ printed turns journal comes some)
 
 runs_reported : Laws → (chosen : PlanCommand) (source : Taking) (printed : Option Printed) (turns : List Turn) (journal : List Entry) → TellsPlan chosen source printed turns journal → (length journal == 0) ≡ false → Runs chosen source turns journal
 runs_reported laws chosen source printed turns journal (inl was) some = runs_said laws chosen source printed turns journal was (read was.bytes) refl was.comes some
@@ -56,6 +59,7 @@ runs_where_taken laws words (Some Check) source printed turns journal is comes s
 runs_where_taken laws words (Some Replay) source printed turns journal is comes some = record { chosen = plans.Replay; command_is = is; runs = runs_reported laws plans.Replay source printed turns journal comes some }
 runs_where_taken laws words (Some (Run workers)) source printed turns journal is comes some =
     record { chosen = plans.Run workers; command_is = is; runs = runs_reported laws (plans.Run workers) source printed turns journal comes some }
+runs_where_taken laws words (Some Trace) source printed turns journal is comes some = record { chosen = plans.Trace; command_is = is; runs = runs_reported laws plans.Trace source printed turns journal comes some }
 runs_where_taken laws words (Some (Generate number)) source printed turns journal is comes some = absurd (none_taken _ printed turns journal comes.comes some)
 
 pub runs_by : Laws → (words : List (List ℕ)) (source : Taking) (sink : Giving) (turns : List Turn) (journal : List Entry) (number : ℕ) → Does words source sink turns journal number → (length journal == 0) ≡ false → RunsBy words source turns journal

@@ -6,7 +6,7 @@ use Rattle.std.proofs.lemmas.Bool.Decides.{nat_tests}
 use Rattle.top_words.specs.Commands.{command, run_by, generate_of, attached_number, numbered_command, option_command, plain_command}
 use Rattle.top_words.specs.Numbers.{up_to_16, number_of}
 use Rattle.top_words.specs.declared.command.Command.{Command}
-use Rattle.top_words.specs.declared.command.Command.TheVariants.{Check, Replay, Run, Generate}
+use Rattle.top_words.specs.declared.command.Command.TheVariants.{Check, Replay, Run, Generate, Trace}
 use Rattle.top_endings.specs.Endings.{HasWorkers}
 
 abbrev IsAllowed : Option Command → Type 0
@@ -37,12 +37,13 @@ usual : HasWorkers (Run 4)
 usual = (omega arith, omega arith)
 
 plainly : (name : List ℕ) → IsAllowed (plain_command name)
-plainly name = by (bytes_eq name (codes "check")) (bytes_eq name (codes "replay")) (bytes_eq name (codes "run")) where
-  by : (check replay run : Bool) → IsAllowed (if check then Some Check else if replay then Some Replay else if run then Some (Run 4) else None)
-  by true replay run = tt
-  by false true run = tt
-  by false false true = usual
-  by false false false = tt
+plainly name = by (bytes_eq name (codes "check")) (bytes_eq name (codes "replay")) (bytes_eq name (codes "run")) (bytes_eq name (codes "trace")) where
+  by : (check replay run trace : Bool) → IsAllowed (if check then Some Check else if replay then Some Replay else if run then Some (Run 4) else if trace then Some Trace else None)
+  by true replay run trace = tt
+  by false true run trace = tt
+  by false false true trace = usual
+  by false false false true = tt
+  by false false false false = tt
 
 numbered : (name word : List ℕ) → IsAllowed (numbered_command name word)
 numbered name word = by (bytes_eq name (codes "generate")) (bytes_eq name (codes "run")) where

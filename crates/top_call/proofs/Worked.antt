@@ -9,7 +9,7 @@ use Rattle.top_endings.specs.declared.command.PlanCommand.TheVariants.{Run}
 use Rattle.top_endings.specs.declared.printed.Printed.{Printed}
 use Rattle.top_endings.specs.declared.turn.Turn.{Turn}
 use Rattle.top_call.specs.PlanWorks.Works.{IsSoundRunByWorkers}
-use Rattle.top_call.specs.Outcomes.{worker_turns, IsReport, IsTaken}
+use Rattle.top_call.specs.Outcomes.{worker_turns, IsRunPrinted, IsTaken, report_at}
 
 -- it has no more turns than the plan allows
 pub few_turns : (plan : PlanData) (journal : List Entry) (turns : List WorkerTurn) (workers : ℕ) → IsSoundRunByWorkers plan journal turns workers → length turns ≤ plan.options.turn_limit
@@ -18,7 +18,7 @@ few_turns plan journal turns workers run =
     subst (λ (count : ℕ). count ≤ plan.options.turn_limit) (sym same) run.sound.bound
 
 -- *What comes of it*, where its turns are told so
-pub taken_by : (plan : PlanData) (printed : Option Printed) (turns : List Turn) (all : List WorkerTurn) (journal : List Entry) (workers : ℕ) → WasRead plan → worker_turns turns ≡ all → IsSoundRunByWorkers plan journal all workers → IfSome printed (IsReport plan journal) → IsTaken (Run workers) plan printed turns journal
+pub taken_by : (plan : PlanData) (printed : Option Printed) (turns : List Turn) (all : List WorkerTurn) (journal : List Entry) (workers : ℕ) → WasRead plan → worker_turns turns ≡ all → IsSoundRunByWorkers plan journal all workers → IfSome printed (IsRunPrinted (report_at plan journal) plan journal) → IsTaken (Run workers) plan (report_at plan journal) printed turns journal
 taken_by plan printed turns all journal workers was is run reports = record {
   was_read = was;
   takes = subst (λ (each : List WorkerTurn). IsSoundRunByWorkers plan journal each workers) (sym is) run;

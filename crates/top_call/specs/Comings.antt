@@ -8,7 +8,7 @@ use Rattle.plan_reader.specs.declared.limits.TheConstants.{PLAN_LIMIT}
 use Rattle.plan_reader.specs.Plans.{read}
 use Rattle.top_words.specs.Commands.{command}
 use Rattle.top_words.specs.declared.command.Command.{Command}
-use Rattle.top_words.specs.declared.command.Command.TheVariants.{Check, Replay, Run, Generate}
+use Rattle.top_words.specs.declared.command.Command.TheVariants.{Check, Replay, Run, Generate, Trace}
 use Rattle.top_endings.specs.declared.command.PlanCommand.{PlanCommand}
 use Rattle.top_endings.specs.declared.command.PlanCommand.TheVariants as plans
 use Rattle.top_endings.specs.declared.printed.Printed.{Printed}
@@ -21,16 +21,15 @@ use Rattle.top_call.specs.Outcomes.{TakesNone, Comes}
 pub record IsRead (chosen : PlanCommand) (source : Taking) (printed : Option Printed) (turns : List Turn) (journal : List Entry) : Type 0 where
   pub bytes : List ℕ
   pub whole : ReadsWhole PLAN_LIMIT source.before source.after bytes
-  pub comes : Comes chosen (read bytes) printed turns journal
+  pub comes : Comes chosen bytes (read bytes) printed turns journal
 
 -- what a source comes to under a command that reads a plan: what comes of its bytes; or no turn is taken, and it is said that
 -- the source failed, or nothing where memory ran out
 abbrev pub TellsPlan : PlanCommand → Taking → Option Printed → List Turn → List Entry → Type 0
 TellsPlan chosen source printed turns journal = IsRead chosen source printed turns journal ⊎ TakesNone (IsReadFault source) printed turns journal
 
--- *Is accepted*: the source was read whole, and its bytes are this plan.
-pub record IsAccepted (source : Taking) (plan : PlanData) : Type 0 where
-  pub bytes : List ℕ
+-- *Is accepted*: the source was read whole, and these bytes of its are this plan.
+pub record IsAccepted (source : Taking) (bytes : List ℕ) (plan : PlanData) : Type 0 where
   pub whole : ReadsWhole PLAN_LIMIT source.before source.after bytes
   pub accepted : read bytes ≡ Ok plan
 
@@ -51,6 +50,7 @@ ComesTo (Some Check) source = TellsPlan plans.Check source
 ComesTo (Some Replay) source = TellsPlan plans.Replay source
 ComesTo (Some (Run workers)) source = TellsPlan (plans.Run workers) source
 ComesTo (Some (Generate number)) source = LeavesSource source (IsWorkload number source)
+ComesTo (Some Trace) source = TellsPlan plans.Trace source
 
 -- *Does*: what a call did. Its words and the source come to what is printed, with its turns and its journal; of this so much
 -- was given; and the number is that of how it ended.

@@ -1,6 +1,6 @@
 -- What comes of a plan's bytes: the turns that are taken, what is printed, and the status that it has where it is printed
 -- whole. (This project's rule.)
-use Rattle.std.specs.Prelude.{◌≡◌, true, List, [], map, Option, IfSome, Result, Ok, Err}
+use Rattle.std.specs.Prelude.{◌≡◌, true, ℕ, List, [], map, Option, IfSome, Result, Ok, Err}
 use Rattle.server_model.specs.declared.entry.Entry.{Entry}
 use Rattle.server_model.specs.declared.outcome.Verdict.{Verdict}
 use Rattle.server_model.specs.declared.outcome.Verdict.TheVariants as verdicts
@@ -11,9 +11,10 @@ use Rattle.tool_program.specs.Orders.{WorkerTurn}
 use Rattle.tool_program.specs.Verdicts.{verdict_of}
 use Rattle.proof_plans.specs.ReadPlans.Laws.{WasRead}
 use Rattle.top_report.specs.Reports.{report}
+use Rattle.top_trace.specs.Texts.{trace_text}
 use Rattle.run_turns.specs.Runs.{is_over}
 use Rattle.top_endings.specs.declared.command.PlanCommand.{PlanCommand}
-use Rattle.top_endings.specs.declared.command.PlanCommand.TheVariants.{Check, Replay, Run}
+use Rattle.top_endings.specs.declared.command.PlanCommand.TheVariants.{Check, Replay, Run, Trace}
 use Rattle.top_endings.specs.declared.printed.Printed.{Printed}
 use Rattle.top_endings.specs.declared.status.Status.{Status}
 use Rattle.top_endings.specs.declared.status.Status.TheVariants as statuses
@@ -43,6 +44,7 @@ abbrev pub Takes : PlanCommand → PlanData → List Turn → List Entry → Typ
 Takes Check plan turns journal = ⊥
 Takes Replay plan turns journal = IsSoundReplay plan journal × (turns ≡ turns_of journal)
 Takes (Run workers) plan turns journal = IsSoundRunByWorkers plan journal (worker_turns turns) workers
+Takes Trace plan turns journal = IsSoundReplay plan journal × (turns ≡ turns_of journal)
 
 -- no turn was taken
 pub record IsUntaken (turns : List Turn) (journal : List Entry) : Type 0 where
@@ -54,22 +56,37 @@ pub record TakesNone (Shows : Printed → Type 0) (printed : Option Printed) (tu
   pub untaken : IsUntaken turns journal
   pub shows : IfSome printed Shows
 
--- the report of a run that has ended, or has as many turns as the plan allows
-pub record IsReport (plan : PlanData) (journal : List Entry) (printed : Printed) : Type 0 where
+-- the report of a run with a verdict
+abbrev pub report_at : PlanData → List Entry → Verdict → List ℕ
+report_at plan journal verdict = report plan journal verdict (state_at plan journal).tables
+
+-- the trace of such a run of the plan of these bytes
+abbrev pub trace_at : List ℕ → PlanData → List Entry → Verdict → List ℕ
+trace_at bytes plan journal verdict = trace_text bytes plan journal verdict (state_at plan journal).tables
+
+-- *Text of a run*: what a command prints of a run, with this verdict, of the plan of these bytes: its report, or what the command
+-- has in its place
+abbrev pub run_text : PlanCommand → List ℕ → PlanData → List Entry → Verdict → List ℕ
+run_text Trace bytes plan journal = trace_at bytes plan journal
+run_text chosen bytes plan journal = report_at plan journal
+
+-- the text of a run that has ended, or has as many turns as the plan allows
+pub record IsRunPrinted (text : Verdict → List ℕ) (plan : PlanData) (journal : List Entry) (printed : Printed) : Type 0 where
   pub over : is_over plan journal ≡ true
   pub status_is : printed.status ≡ status_of (verdict_of plan journal)
-  pub text_is : printed.text ≡ report plan journal (verdict_of plan journal) (state_at plan journal).tables
+  pub text_is : printed.text ≡ text (verdict_of plan journal)
 
--- These are the turns of a sound replay of the plan, or of a sound run of it by this many workers. Its report is printed, and then
+-- These are the turns of a sound replay of the plan, or of a sound run of it by this many workers. Its text is printed, and then
 -- it is over; or nothing is where memory ran out, and then the turns are those that were taken until then.
-pub record IsTaken (chosen : PlanCommand) (plan : PlanData) (printed : Option Printed) (turns : List Turn) (journal : List Entry) : Type 0 where
+pub record IsTaken (chosen : PlanCommand) (plan : PlanData) (text : Verdict → List ℕ) (printed : Option Printed) (turns : List Turn) (journal : List Entry) : Type 0 where
   pub was_read : WasRead plan
   pub takes : Takes chosen plan turns journal
-  pub reports : IfSome printed (IsReport plan journal)
+  pub reports : IfSome printed (IsRunPrinted text plan journal)
 
 -- What comes of bytes that say this under a command: the plan's altered schema, or its replay or run, or the refusal.
-abbrev pub Comes : PlanCommand → Result PlanData PlanRefusal → Option Printed → List Turn → List Entry → Type 0
-Comes Check (Ok plan) printed turns journal = TakesNone (IsSchema plan) printed turns journal
-Comes Replay (Ok plan) printed turns journal = IsTaken Replay plan printed turns journal
-Comes (Run workers) (Ok plan) printed turns journal = IsTaken (Run workers) plan printed turns journal
-Comes command (Err refusal) printed turns journal = TakesNone (IsRefusal refusal) printed turns journal
+abbrev pub Comes : PlanCommand → List ℕ → Result PlanData PlanRefusal → Option Printed → List Turn → List Entry → Type 0
+Comes Check bytes (Ok plan) printed turns journal = TakesNone (IsSchema plan) printed turns journal
+Comes Replay bytes (Ok plan) printed turns journal = IsTaken Replay plan (run_text Replay bytes plan journal) printed turns journal
+Comes (Run workers) bytes (Ok plan) printed turns journal = IsTaken (Run workers) plan (run_text (Run workers) bytes plan journal) printed turns journal
+Comes Trace bytes (Ok plan) printed turns journal = IsTaken Trace plan (run_text Trace bytes plan journal) printed turns journal
+Comes command bytes (Err refusal) printed turns journal = TakesNone (IsRefusal refusal) printed turns journal

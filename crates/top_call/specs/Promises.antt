@@ -12,14 +12,12 @@ use Rattle.plan_reader.specs.declared.limits.TheConstants.{PLAN_LIMIT}
 use Rattle.plan_reader.specs.declared.fault.PlanRefusal.{PlanRefusal}
 use Rattle.plan_reader.specs.Plans.{read}
 use Rattle.tool_program.specs.JournalWords.Bounds.{bound}
-use Rattle.tool_program.specs.JournalWords.Journals.{state_at}
 use Rattle.tool_program.specs.Failures.{Stands}
 use Rattle.tool_program.specs.Verdicts.{has_ended, verdict_of}
 use Rattle.proof_journals.specs.Machine.Laws.{TellsAlter}
 use Rattle.proof_plans.specs.Complete.Laws.{IsSmoothRun}
 use Rattle.proof_plans.specs.Complete.Quiet.{IsQuiet, RowsHaveConvertedRows, IsWithinLimits}
 use Rattle.run_turns.specs.Runs.{is_over}
-use Rattle.top_report.specs.Reports.{report}
 use Rattle.top_words.specs.Commands.{command}
 use Rattle.top_words.specs.declared.command.Command.{Command}
 use Rattle.top_words.specs.declared.command.Command.TheVariants as commands
@@ -34,7 +32,7 @@ use Rattle.top_endings.specs.Endings.{Taking, Giving, asked, reads_plan, status_
 use Rattle.top_endings.specs.Texts.{refused_text, usage_text, read_fault_text}
 use Rattle.top_workload.specs.Workloads.{workload}
 use Rattle.top_call.specs.Comings.{ComesTo}
-use Rattle.top_call.specs.Outcomes.{IsUntaken, Takes}
+use Rattle.top_call.specs.Outcomes.{IsUntaken, Takes, run_text}
 
 -- *Completes*: where a plan has no client, no command and no loss, each row of its table can be converted, no limit is met and
 -- the run has ended, the ALTER was done.
@@ -74,15 +72,15 @@ abbrev pub EndsBy : PlanData → List Entry → Verdict → Type 0
 EndsBy plan journal verdicts.Unfinished = (has_ended plan journal ≡ false) × (length journal ≡ plan.options.turn_limit) × (plan.options.turn_limit < bound plan)
 EndsBy plan journal verdict = has_ended plan journal ≡ true
 
--- The report is given: turns were taken, the run is over as this verdict says, which is that of the journal and tells whether
--- the ALTER was done; what is given is the report of it, of the verdict and of the tables at its end.
+-- The report is given, or what the command prints in its place: turns were taken, the run is over as this verdict says, which is that of the journal and tells whether
+-- the ALTER was done; what is given is the text of the run, of the verdict and of the tables at its end.
 pub record PrintsReport (chosen : PlanCommand) (verdict : Verdict) (source : Taking) (sink : Giving) (turns : List Turn) (journal : List Entry) : Type 0 where
   pub runs : Runs chosen source turns journal
   pub taken : (length journal == 0) ≡ false
   pub over : EndsBy runs.plan journal verdict
   pub verdict_is : verdict_of runs.plan journal ≡ verdict
   pub tells : has_ended runs.plan journal ≡ true → TellsAlter runs.plan journal
-  pub given : Appends sink.before sink.after (report runs.plan journal verdict (state_at runs.plan journal).tables)
+  pub given : Appends sink.before sink.after (run_text chosen runs.bytes runs.plan journal verdict)
 
 -- Status 0 of `check`: the text of the schema that the ALTER of an accepted plan leaves is given.
 pub record PrintsSchema (source : Taking) (sink : Giving) (turns : List Turn) (journal : List Entry) : Type 0 where
@@ -108,6 +106,7 @@ PrintsDone (Some commands.Check) source sink turns journal = PrintsSchema source
 PrintsDone (Some commands.Replay) source sink turns journal = PrintsReport plans.Replay verdicts.Done source sink turns journal
 PrintsDone (Some (commands.Run workers)) source sink turns journal = PrintsReport (plans.Run workers) verdicts.Done source sink turns journal
 PrintsDone (Some (commands.Generate number)) source sink turns journal = PrintsWorkload number source sink turns journal
+PrintsDone (Some commands.Trace) source sink turns journal = PrintsReport plans.Trace verdicts.Done source sink turns journal
 
 -- Status 1: the words are no command; the usage is given, and nothing is taken.
 pub record PrintsUsage (words : List (List ℕ)) (source : Taking) (sink : Giving) (turns : List Turn) (journal : List Entry) : Type 0 where
@@ -126,7 +125,7 @@ pub record PrintsRefusal (words : List (List ℕ)) (source : Taking) (sink : Giv
   pub given : Appends sink.before sink.after (refused_text refusal)
   pub untaken : IsUntaken turns journal
 
--- Status 3: the report says why the migration was reverted, and that cause is in the journal: a row that didn't fit, tries that
+-- Status 3: the report, or the trace, says why the migration was reverted, and that cause is in the journal: a row that didn't fit, tries that
 -- failed, or panic.
 pub record PrintsRevert (words : List (List ℕ)) (source : Taking) (sink : Giving) (turns : List Turn) (journal : List Entry) : Type 0 where
   pub chosen : PlanCommand
@@ -154,7 +153,7 @@ pub record PrintsNone (words : List (List ℕ)) (source : Taking) (sink : Giving
   pub comes : ComesTo (command words) source None turns journal
   pub given : Appends sink.before sink.after []
 
--- Status 7: the report is given of a run that hasn't ended, and has as many turns as the plan allows.
+-- Status 7: the report, or the trace, is given of a run that hasn't ended, and has as many turns as the plan allows.
 pub record PrintsUnfinished (words : List (List ℕ)) (source : Taking) (sink : Giving) (turns : List Turn) (journal : List Entry) : Type 0 where
   pub chosen : PlanCommand
   pub command_is : command words ≡ Some (asked chosen)

@@ -4,22 +4,24 @@ ghost use Rattle.std.specs.Prelude.{◌≡◌, ◌≤◌, [], IfSome, IfOk};
 ghost use Rattle.proof_plans.specs.ReadPlans.Laws.{WasRead};
 ghost use Rattle.top_endings.specs.declared.command.PlanCommand.TheVariants as plans;
 ghost use Rattle.top_call.specs.WholeReplays.Replays.{IsEnd};
-ghost use Rattle.top_call.specs.Outcomes.{IsReport, IsTaken};
+ghost use Rattle.top_call.specs.Outcomes.{IsRunPrinted, IsTaken, Takes, report_at, status_of, trace_at};
 
 use crate::plan_works::work_plan;
 use crate::status::status_of;
 use crate::turns::{turns_in, turns_of_workers};
-use crate::whole_replays::{End, open_plan, replay_plan};
+use crate::whole_replays::{End, Left, open_plan, replay_plan};
 use base_edges::Gate;
-use base_values::Sequence;
+use base_values::{Sequence, Text};
 use plan_data::Plan;
+use server::final_server::FinalServer;
 use server_api::Serve;
-use server_model::Journal;
+use server_model::{Journal, Verdict};
 use std::alloc::{AllocError, Global};
 use std::sync::Wait;
 use std::thread::Threads;
 use top_endings::{Printed, Turns};
 use top_report::report;
+use top_trace::print_trace;
 
 /// What the words and the source come to.
 #[derive(Drop)]
@@ -43,6 +45,16 @@ pub(crate) fn untaken(alloc: Global, printed: Option<Printed>) -> Outcome
     }
 }
 
+/// What is printed of a run with this verdict.
+fn printed(verdict: &Verdict, text: Text) -> Printed
+    ensures { result ≡ record { status = status_of verdict.now; text = text } }
+{
+    Printed {
+        status: status_of(verdict),
+        text,
+    }
+}
+
 /// The report of a run that ended.
 fn reported<V: Serve>(
     alloc: Global,
@@ -51,31 +63,76 @@ fn reported<V: Serve>(
     end: &Option<End<V>>,
 ) -> Option<Printed>
     requires { IfSome end.now (λ end. IsEnd plan.now journal.now end.verdict (V.state end.server)) }
-    ensures { IfSome result (IsReport plan.now journal.now) }
+    ensures { IfSome result (IsRunPrinted (report_at plan.now journal.now) plan.now journal.now) }
 {
     let end = end.as_ref()?;
     let tables = end.server.tables();
     match report(alloc, plan, journal, &end.verdict, tables) {
-        Ok(text) => Some(Printed {
-            status: status_of(&end.verdict),
-            text,
-        }),
+        Ok(text) => Some(printed(&end.verdict, text)),
         Err(_) => None,
     }
 }
 
-/// What comes of the replay of a plan. Where there is no memory for the list of turns, or for the server, no turn is taken.
-pub(crate) fn plan_replayed(alloc: Global, plan: &Plan) -> Result<Outcome, AllocError>
+/// The trace of a run that ended, of the plan of this text.
+fn traced<V: Serve>(
+    alloc: Global,
+    plan_text: &str,
+    plan: &Plan,
+    journal: &Journal,
+    end: &Option<End<V>>,
+) -> Option<Printed>
+    requires { IfSome end.now (λ end. IsEnd plan.now journal.now end.verdict (V.state end.server)) }
+    ensures { IfSome result (IsRunPrinted (trace_at plan_text.now plan.now journal.now) plan.now journal.now) }
+{
+    let end = end.as_ref()?;
+    let tables = end.server.tables();
+    match print_trace(alloc, plan_text, plan, journal, &end.verdict, tables) {
+        Ok(text) => Some(printed(&end.verdict, text)),
+        Err(_) => None,
+    }
+}
+
+/// The replay of a plan, and whose turns it took. Where there is no memory for the list of turns, or for the server, no turn is
+/// taken.
+fn replayed(alloc: Global, plan: &Plan) -> Result<(Left<FinalServer>, Turns), AllocError>
     requires { WasRead plan.now }
-    ensures { IfOk result (λ outcome. IsTaken plans.Replay plan.now outcome.printed outcome.turns outcome.journal) }
+    ensures takes { IfOk result (λ replayed. Takes plans.Replay plan.now replayed.1 replayed.0.journal) }
+    ensures end { IfOk result (λ replayed. IfSome replayed.0.end (λ end. IsEnd plan.now replayed.0.journal end.verdict end.server)) }
 {
     // The room for the turns is made before the first, so that none that was taken is thrown away.
     let room = Vec::with_capacity(alloc, plan.options().turn_limit as usize)?;
     let server = open_plan(alloc, plan)?;
     let left = replay_plan(alloc, plan, server)?;
+    let turns = turns_in(room, left.journal.as_slice());
+    Ok((left, turns))
+}
+
+/// What comes of the replay of a plan.
+pub(crate) fn plan_replayed(alloc: Global, plan: &Plan) -> Result<Outcome, AllocError>
+    requires { WasRead plan.now }
+    ensures { IfOk result (λ outcome. IsTaken plans.Replay plan.now (report_at plan.now outcome.journal) outcome.printed outcome.turns outcome.journal) }
+{
+    let (left, turns) = replayed(alloc, plan)?;
     Ok(Outcome {
         printed: reported(alloc, plan, &left.journal, &left.end),
-        turns: turns_in(room, left.journal.as_slice()),
+        turns,
+        journal: left.journal,
+    })
+}
+
+/// The same, with the run's trace in place of its report.
+pub(crate) fn plan_traced(
+    alloc: Global,
+    plan_text: &str,
+    plan: &Plan,
+) -> Result<Outcome, AllocError>
+    requires { WasRead plan.now }
+    ensures { IfOk result (λ outcome. IsTaken plans.Trace plan.now (trace_at plan_text.now plan.now outcome.journal) outcome.printed outcome.turns outcome.journal) }
+{
+    let (left, turns) = replayed(alloc, plan)?;
+    Ok(Outcome {
+        printed: traced(alloc, plan_text, plan, &left.journal, &left.end),
+        turns,
         journal: left.journal,
     })
 }
@@ -93,7 +150,7 @@ pub(crate) fn plan_worked<R: Threads + Wait + Sync, G: Gate + Sync>(
     requires some { 1 ≤ workers }
     requires few { workers ≤ 16 }
     requires read { WasRead plan.now }
-    ensures { IfOk result (λ outcome. IsTaken (plans.Run workers) plan.now outcome.printed outcome.turns outcome.journal) }
+    ensures { IfOk result (λ outcome. IsTaken (plans.Run workers) plan.now (report_at plan.now outcome.journal) outcome.printed outcome.turns outcome.journal) }
 {
     let room = Vec::with_capacity(alloc, plan.options().turn_limit as usize)?;
     let server = open_plan(alloc, plan)?;

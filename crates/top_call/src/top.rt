@@ -1,9 +1,10 @@
 //! The top call: all that the program does.
 
-ghost use Rattle.std.specs.Prelude.{◌≡◌, ◌≤◌, ◌==◌, ℕ, false, [], length, Some, None, IfOk, IfErr};
+ghost use Rattle.std.specs.Prelude.{◌≡◌, ◌≤◌, ◌==◌, ℕ, true, false, [], length, Some, None, IfOk, IfErr};
+ghost use Rattle.std.specs.Str.{is_utf8};
 ghost use Rattle.std.specs.Io.KnownBytes.{Consumes};
 ghost use Rattle.top_words.specs.Commands.{command};
-ghost use Rattle.top_words.specs.declared.command.Command.TheVariants.{Check, Generate, Replay, Run};
+ghost use Rattle.top_words.specs.declared.command.Command.TheVariants.{Check, Generate, Replay, Run, Trace};
 ghost use Rattle.top_endings.specs.declared.command.PlanCommand.TheVariants as plans;
 ghost use Rattle.server_model.specs.declared.outcome.Verdict.TheVariants as verdicts;
 ghost use Rattle.proof_plans.specs.ReadPlans.Laws.{WasRead};
@@ -12,7 +13,7 @@ ghost use Rattle.top_call.specs.Comings.{ComesTo, Does, HasNoPlan, IsAccepted, T
 ghost use Rattle.top_call.specs.Promises.{Ends, RunsBy, PrintsReport, PrintsSchema, PrintsWorkload, PrintsRevert, PrintsUnfinished, PrintsRefusal, PrintsUsage, PrintsReadFault, PrintsPrefix, PrintsNone};
 ghost use Rattle.top_call.specs.TopLaws.{Laws};
 
-use crate::outcome::{Outcome, plan_replayed, plan_worked, untaken};
+use crate::outcome::{Outcome, plan_replayed, plan_traced, plan_worked, untaken};
 use base_edges::{Gate, ReadFault, Sink, Source, read_whole};
 use law_journals::completion::{quiet_runs_are_done, smooth_runs_are_done};
 use law_journals::machines::verdicts_tell_the_alter;
@@ -40,17 +41,37 @@ pub struct Ended {
     pub journal: Journal,
 }
 
+/// A plan that was accepted.
+#[derive(Drop)]
+struct Accepted {
+    /// The bytes that it was read from.
+    bytes: Vec<u8>,
+    plan: Plan,
+}
+
+/// The text that bytes spell.
+fn text_of(bytes: &[u8]) -> &str
+    requires { is_utf8 bytes.now ≡ true }
+    ensures { result.now ≡ bytes.now }
+{
+    match str::from_utf8(bytes) {
+        Ok(text) => text,
+        Err(_) => unreachable!(),
+    }
+}
+
 /// The plan that a source has; or what comes of the source where its bytes are no accepted plan, whatever is to be done with it.
-#[tactic(auto, using(crate::proofs::Comings::accepted_by, crate::proofs::Comings::nothing_reported, crate::proofs::Comings::fault_reported, crate::proofs::Comings::refusal_reported))]
-fn accepted_plan<S: Source>(alloc: Global, source: &mut S) -> Result<Plan, Outcome>
-    ensures plan { IfOk result (IsAccepted (took S.left S.faults source.old source.new)) }
-    ensures was_read { IfOk result WasRead }
+#[tactic(auto, using(crate::proofs::Comings::accepted_by, crate::proofs::Comings::plans_are_utf8, crate::proofs::Comings::nothing_reported, crate::proofs::Comings::fault_reported, crate::proofs::Comings::refusal_reported))]
+fn accepted_plan<S: Source>(alloc: Global, source: &mut S) -> Result<Accepted, Outcome>
+    ensures plan { IfOk result (λ accepted. IsAccepted (took S.left S.faults source.old source.new) accepted.bytes.items accepted.plan) }
+    ensures was_read { IfOk result (λ accepted. WasRead accepted.plan) }
+    ensures utf8 { IfOk result (λ accepted. is_utf8 accepted.bytes.items ≡ true) }
     ensures none { IfErr result (λ outcome. HasNoPlan (took S.left S.faults source.old source.new) outcome.printed outcome.turns outcome.journal) }
     ensures never_falls { S.faults source.old ≤ S.faults source.new }
 {
     match read_whole(alloc, source, PLAN_LIMIT) {
         Ok(bytes) => match read_accepted_plan(alloc, bytes.as_slice()) {
-            Ok(plan) => Ok(plan),
+            Ok(plan) => Ok(Accepted { bytes, plan }),
             Err(PlanFault::Refused(refusal)) => Err(untaken(alloc, refused(alloc, refusal))),
             Err(PlanFault::Memory) => Err(untaken(alloc, None)),
         },
@@ -66,7 +87,7 @@ fn outcome_of_check<S: Source>(alloc: Global, source: &mut S) -> Outcome
     ensures never_falls { S.faults source.old ≤ S.faults source.new }
 {
     match accepted_plan(alloc, source) {
-        Ok(plan) => untaken(alloc, plan_checked(alloc, &plan)),
+        Ok(accepted) => untaken(alloc, plan_checked(alloc, &accepted.plan)),
         Err(outcome) => outcome,
     }
 }
@@ -78,10 +99,28 @@ fn outcome_of_replay<S: Source>(alloc: Global, source: &mut S) -> Outcome
     ensures never_falls { S.faults source.old ≤ S.faults source.new }
 {
     match accepted_plan(alloc, source) {
-        Ok(plan) => match plan_replayed(alloc, &plan) {
+        Ok(accepted) => match plan_replayed(alloc, &accepted.plan) {
             Ok(outcome) => outcome,
             Err(_) => untaken(alloc, None),
         },
+        Err(outcome) => outcome,
+    }
+}
+
+/// What a source comes to under `trace`.
+#[tactic(auto, using(crate::proofs::Comings::nothing_reported, crate::proofs::Comings::trace_reported))]
+fn outcome_of_trace<S: Source>(alloc: Global, source: &mut S) -> Outcome
+    ensures comes { TellsPlan plans.Trace (took S.left S.faults source.old source.new) result.printed result.turns result.journal }
+    ensures never_falls { S.faults source.old ≤ S.faults source.new }
+{
+    match accepted_plan(alloc, source) {
+        Ok(accepted) => {
+            let text = text_of(accepted.bytes.as_slice());
+            match plan_traced(alloc, text, &accepted.plan) {
+                Ok(outcome) => outcome,
+                Err(_) => untaken(alloc, None),
+            }
+        }
         Err(outcome) => outcome,
     }
 }
@@ -100,7 +139,7 @@ fn outcome_of_run<R: Threads + Wait + Sync, S: Source, G: Gate + Sync>(
     ensures never_falls { S.faults source.old ≤ S.faults source.new }
 {
     match accepted_plan(alloc, source) {
-        Ok(plan) => match plan_worked(rt, alloc, &plan, workers, gate) {
+        Ok(accepted) => match plan_worked(rt, alloc, &accepted.plan, workers, gate) {
             Ok(outcome) => outcome,
             Err(_) => untaken(alloc, None),
         },
@@ -109,7 +148,7 @@ fn outcome_of_run<R: Threads + Wait + Sync, S: Source, G: Gate + Sync>(
 }
 
 /// What the words and the source come to, where the words are this command or none; of `run` the number of workers.
-#[tactic(auto, using(crate::proofs::Comings::check_comes, crate::proofs::Comings::replay_comes, crate::proofs::Comings::faulty_comes, crate::proofs::Comings::workload_comes))]
+#[tactic(auto, using(crate::proofs::Comings::check_comes, crate::proofs::Comings::replay_comes, crate::proofs::Comings::trace_comes, crate::proofs::Comings::faulty_comes, crate::proofs::Comings::workload_comes))]
 fn outcome_of_command<S: Source>(
     alloc: Global,
     chosen: Option<Command>,
@@ -124,6 +163,7 @@ fn outcome_of_command<S: Source>(
         Some(Command::Check) => Ok(outcome_of_check(alloc, source)),
         Some(Command::Replay) => Ok(outcome_of_replay(alloc, source)),
         Some(Command::Run(workers)) => Err(workers),
+        Some(Command::Trace) => Ok(outcome_of_trace(alloc, source)),
         Some(Command::Generate(number)) => Ok(untaken(alloc, workload_shown(alloc, number))),
         None => Ok(untaken(alloc, usage_shown(alloc))),
     }
@@ -223,8 +263,8 @@ fn ending<R: Threads + Wait + Sync, S: Source, K: Sink, G: Gate + Sync>(
 /// All that the program does: it gives to the sink what the words ask for, of the plan that the source has.
 ///
 /// The commands are `check`, which prints the schema that the plan's ALTER leaves; `replay`, which runs the plan on one thread
-/// and prints the report; `run`, by which worker threads do so, 4 where their number isn't said; and `generate`, which prints
-/// the plan of a number and reads nothing. The gate is told before and after each turn of a worker's, and never while one is
+/// and prints the report; `run`, by which worker threads do so, 4 where their number isn't said; `generate`, which prints
+/// the plan of a number and reads nothing; and `trace`, which runs the plan as `replay` does, and prints the plan and each turn. The gate is told before and after each turn of a worker's, and never while one is
 /// held. Workers wait for each other's turns; every other command goes through `outcome_without_workers`, which waits for
 /// nothing.
 pub fn ghost_<R: Threads + Wait + Sync, S: Source, K: Sink, G: Gate + Sync>(
@@ -248,6 +288,7 @@ pub fn ghost_<R: Threads + Wait + Sync, S: Source, K: Sink, G: Gate + Sync>(
     ensures done_by_workers { (workers : ℕ) → result.status ≡ 0 → command line.now ≡ Some (Run workers) → PrintsReport (plans.Run workers) verdicts.Done (took S.left S.faults source.old source.new) (gave K.held K.faults sink.old sink.new) result.turns result.journal }
     ensures checked { result.status ≡ 0 → command line.now ≡ Some Check → PrintsSchema (took S.left S.faults source.old source.new) (gave K.held K.faults sink.old sink.new) result.turns result.journal }
     ensures generated { (number : ℕ) → result.status ≡ 0 → command line.now ≡ Some (Generate number) → PrintsWorkload number (took S.left S.faults source.old source.new) (gave K.held K.faults sink.old sink.new) result.turns result.journal }
+    ensures traced { result.status ≡ 0 → command line.now ≡ Some Trace → PrintsReport plans.Trace verdicts.Done (took S.left S.faults source.old source.new) (gave K.held K.faults sink.old sink.new) result.turns result.journal }
     ensures usage { result.status ≡ 1 → PrintsUsage line.now (took S.left S.faults source.old source.new) (gave K.held K.faults sink.old sink.new) result.turns result.journal }
     ensures usage_at_faulty_words { command line.now ≡ None → IsUsageOrLost result.status }
     ensures refused { result.status ≡ 2 → PrintsRefusal line.now (took S.left S.faults source.old source.new) (gave K.held K.faults sink.old sink.new) result.turns result.journal }

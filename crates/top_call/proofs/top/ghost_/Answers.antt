@@ -1,5 +1,5 @@
 use Rattle.std.proofs.Common.{Some}
-use Rattle.top_words.specs.declared.command.Command.TheVariants.{Check, Generate, Replay, Run}
+use Rattle.top_words.specs.declared.command.Command.TheVariants.{Check, Generate, Replay, Run, Trace}
 use Rattle.top_endings.specs.declared.status.Status.TheVariants.{Usage, Refused, Reverted, ReadFault, WriteFault, NoMemory, TurnsSpent}
 use Rattle.top_call.proofs.Faulty.{faulty_words}
 use Rattle.top_call.proofs.Numbers.{under, under_done}
@@ -16,6 +16,9 @@ returns-clause-checked g c = under_done (Some Check) c.args.line.now _ _ c.endin
 
 pub returns-clause-generated : goal.returns-clause-generated
 returns-clause-generated g c = λ number. under_done (Some (Generate number)) c.args.line.now _ _ c.ending.result.turns c.ending.result.journal c.ending.result.status c.ending.ensures.ends
+
+pub returns-clause-traced : goal.returns-clause-traced
+returns-clause-traced g c = under_done (Some Trace) c.args.line.now _ _ c.ending.result.turns c.ending.result.journal c.ending.result.status c.ending.ensures.ends
 
 pub returns-clause-usage : goal.returns-clause-usage
 returns-clause-usage g c = under Usage c.args.line.now _ _ c.ending.result.turns c.ending.result.journal c.ending.result.status c.ending.ensures.ends
