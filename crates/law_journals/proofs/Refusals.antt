@@ -26,6 +26,7 @@ use Rattle.base_values.specs.GhoSchema.Tables.{clash}
 use Rattle.server_model.specs.declared.work.StatementResult.{StatementResult}
 use Rattle.base_values.specs.declared.row_conversion.conversion_fault.UnfitAt.{UnfitAt}
 use Rattle.server_model.specs.Rows.{rows_met}
+use Rattle.server_model.specs.Chunks.{span_keys}
 use Rattle.server_model.specs.Effects.{Effect, Rests, Grows, Writes, Forgets, Moves, Locks, Unlocks, begins, defined, locks_if, result_effect, is_outside, effect_unless, effect_within}
 use Rattle.server_model.specs.Operations.{Operation, result_in, operation_result, operation_of, statement_result, after_events, copy_operation, events_of}
 use Rattle.server_model.specs.PlainServer.{holding, at_rest, does, done, without_waiting, called_unless, calls, is_over, polled_over, polled_unless, polled_of, polls, serves}
@@ -134,7 +135,7 @@ module _ (state : State) (number : ℕ) (outside : is_in_transaction (session_of
   within_unchanged busy is seen (requests.BeginSpan table span size) refused = by (find_table table state.tables) where
     by : (found : Option TableRows) → Unchanged (does (begins found span size (need_within seen (requests.BeginSpan table span size))) state number).after
     by None = same
-    by (Some one) = grows _ (need_within seen (requests.BeginSpan table span size)) [] refl
+    by (Some one) = grows (span_keys span size one) (need_within seen (requests.BeginSpan table span size)) [] refl
   within_unchanged busy is seen (requests.CopyRow from into columns key) refused =
       result_unchanged busy is (need_within seen (requests.CopyRow from into columns key)) (operation_result seen (copy_operation seen from into columns key)) (λ one. refused_events seen (copy_operation seen from into columns key) one) refused
   within_unchanged busy is seen (requests.LockTables names) refused = by (Rattle.server_model.specs.Effects.all_exist names state.tables) refused where
