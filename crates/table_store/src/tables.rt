@@ -8,6 +8,7 @@ use crate::by_name::{add_new, copied_tables, has_name, named, place_of, rename_f
 use crate::name_map::NameMap;
 use crate::renames::{Pairs, RenameFault};
 use crate::table::Table;
+use base_values::mysql_errors::ER_TABLE_EXISTS_ERROR;
 use base_values::{Key, Name, Row};
 use std::alloc::{AllocError, AllocFailed, Global};
 use std::marker::Model;
@@ -22,6 +23,20 @@ pub enum AddFault {
     /// There is no memory for one more table.
     #[error("out of memory")]
     Memory,
+}
+
+impl AddFault {
+    ghost use Rattle.table_store.specs.Databases.{add_number};
+
+    /// The number of MySQL's error; want of memory is no error of MySQL's here.
+    pub fn number(&self) -> Option<u16>
+        ensures { result ≡ add_number self.now }
+    {
+        match self {
+            AddFault::Exists => Some(ER_TABLE_EXISTS_ERROR),
+            AddFault::Memory => None,
+        }
+    }
 }
 
 impl From<AllocError> for AddFault {
