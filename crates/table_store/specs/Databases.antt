@@ -12,8 +12,8 @@ use Rattle.base_values.specs.GhoSchema.Tables.{IsTable, clash}
 use Rattle.base_values.specs.declared.mysql_errors.TheConstants.{ER_TABLE_EXISTS_ERROR, ER_NO_SUCH_TABLE}
 use Rattle.table_store.specs.RowLists.{is_at, is_besides, without_key}
 use Rattle.table_store.specs.declared.renames.Pair.{Pair}
-use Rattle.table_store.specs.declared.tables.AddFault.{AddFault}
-use Rattle.table_store.specs.declared.tables.AddFault.TheVariants as adds
+use Rattle.table_store.specs.declared.add_fault.AddFault.{AddFault}
+use Rattle.table_store.specs.declared.add_fault.AddFault.TheVariants as adds
 use Rattle.table_store.specs.declared.renames.NotRenamed.{NotRenamed}
 use Rattle.table_store.specs.declared.renames.NotRenamed.TheVariants.{Exists, Missing}
 
