@@ -20,7 +20,7 @@ abbrev pub at_key : ℕ → Condition
 at_key key = Equal (record { column = codes "id"; value = Num (pos key) } ∷ [])
 
 abbrev pub insert_of : ℕ → ℕ → Statement
-insert_of key value = Insert table_name (Some (codes "id" ∷ codes "u" ∷ codes "v" ∷ [])) (Num (pos key) ∷ Text (codes "n" ++ decimal key) ∷ Num (pos value) ∷ [])
+insert_of key value = Insert table_name (Some (codes "id" ∷ codes "u" ∷ codes "v" ∷ [])) (Num (pos key) ∷ Text (codes "n" ++ decimal key) ∷ Num (pos value) ∷ []) None
 
 abbrev pub delete_of : ℕ → Statement
 delete_of key = Delete table_name (at_key key)

@@ -121,7 +121,7 @@ may_turn plan journal run_state sessions server turn run due_so called less = tu
 
 -- THE ENTRY
 
-pub command_is : (state : State) (turn : Turn) → is_command turn.asked ≡ true → turn.side ≡ None → record { actor = turn.actor; session = 0; asked = turn.asked; side = None; answer = answers.Ok 0; missed = None } ≡ entry_on state 0 turn
+pub command_is : (state : State) (turn : Turn) → is_command turn.asked ≡ true → turn.side ≡ None → record { actor = turn.actor; session = 0; asked = turn.asked; side = None; answer = answers.Ok 0; missed = None; draw = None } ≡ entry_on state 0 turn
 command_is state turn command none =
     entry_same state 0 turn _ refl refl refl (sym none)
     (sym (ap (λ (side : Option Side). heard side (given_at side turn.asked (serves (opened_on state 0 turn) 0 turn.asked).answer)) none ∙ reported turn.asked (opened_on state 0 turn) command))

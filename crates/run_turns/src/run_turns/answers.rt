@@ -34,6 +34,7 @@ fn command_entry(turn: Turn) -> Entry
         side: None,
         answer: Answer::Ok(0),
         missed: None,
+        draw: None,
         asked: turn.into_asked(),
     }
 }

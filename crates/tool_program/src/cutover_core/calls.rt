@@ -36,6 +36,7 @@ fn writes_hint(alloc: Global, table: &Name, attempt: u64) -> Result<Request, All
         table: log_name(alloc, table)?,
         columns: None,
         values: hint_row(alloc, attempt)?,
+        drawn: None,
     }))
 }
 

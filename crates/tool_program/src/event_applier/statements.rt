@@ -120,6 +120,7 @@ impl Applier {
                 table,
                 columns: None,
                 values: given_values(alloc, map, row.as_slice())?,
+                drawn: None,
             }),
             Planned::Remove(row) => Ok(Statement::Delete {
                 table,

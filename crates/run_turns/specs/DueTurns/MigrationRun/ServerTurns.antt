@@ -37,7 +37,7 @@ answer_on state session turn = given_at turn.side turn.asked (serves (opened_on 
 -- *Entry of a turn* that is taken in this session, of the server in this state
 unfoldable pub entry_on : State → ℕ → Turn → Entry
 entry_on state session turn =
-    record { actor = turn.actor; session = session; asked = turn.asked; side = turn.side; answer = heard turn.side (answer_on state session turn); missed = missed turn.side (answer_on state session turn) }
+    record { actor = turn.actor; session = session; asked = turn.asked; side = turn.side; answer = heard turn.side (answer_on state session turn); missed = missed turn.side (answer_on state session turn); draw = None }
 
 -- the session is lost in the turn
 abbrev pub is_lost_in : Option Side → Asked → Bool

@@ -35,6 +35,7 @@ fn entry_of(turn: Turn, session: u32, heard: Heard) -> Entry
     ensures side { result.side ≡ turn.side }
     ensures answer { result.answer ≡ heard.answer }
     ensures missed { result.missed ≡ heard.missed }
+    ensures draw { result.draw ≡ None }
 {
     Entry {
         actor: turn.actor,
@@ -42,6 +43,7 @@ fn entry_of(turn: Turn, session: u32, heard: Heard) -> Entry
         side: turn.side,
         answer: heard.answer,
         missed: heard.missed,
+        draw: None,
         asked: turn.into_asked(),
     }
 }

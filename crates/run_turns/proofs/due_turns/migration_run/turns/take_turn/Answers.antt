@@ -32,7 +32,7 @@ pub returns-clause-entry : goal.returns-clause-entry
 returns-clause-entry g c =
     let given = given_reported (g.V.Serve.state c.args.server.now) c.args.session c.args.turn c.requires.may (g.V.Serve.state c.open_session.new.server) c.in_ok-number.number (c.in_ok-number.ensures.opened c.requires.may.own) c.in_ok-number.ensures.next in
     entry_same (g.V.Serve.state c.args.server.now) _ c.args.turn c.entry_of.result c.entry_of.ensures.actor (c.entry_of.ensures.session ∙ c.in_ok-number.ensures.next) c.entry_of.ensures.asked c.entry_of.ensures.side
-    (c.entry_of.ensures.answer ∙ c.in_ok-heard.ensures.answer ∙ ap (heard c.args.turn.side) given) (c.entry_of.ensures.missed ∙ c.in_ok-heard.ensures.missed ∙ ap (missed c.args.turn.side) given)
+    (c.entry_of.ensures.answer ∙ c.in_ok-heard.ensures.answer ∙ ap (heard c.args.turn.side) given) (c.entry_of.ensures.missed ∙ c.in_ok-heard.ensures.missed ∙ ap (missed c.args.turn.side) given) c.entry_of.ensures.draw
 
 pub returns-clause-work : goal.returns-clause-work
 returns-clause-work g c =
