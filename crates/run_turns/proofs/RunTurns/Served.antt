@@ -126,6 +126,7 @@ command_is state turn command none =
     entry_same state 0 turn _ refl refl refl (sym none)
     (sym (ap (λ (side : Option Side). heard side (given_at side turn.asked (serves (opened_on state 0 turn) 0 turn.asked).answer)) none ∙ reported turn.asked (opened_on state 0 turn) command))
     (sym (ap (λ (side : Option Side). missed side (given_at side turn.asked (serves (opened_on state 0 turn) 0 turn.asked).answer)) none))
+    refl
   where
     reported : (asked : Asked) (server : State) → is_command asked ≡ true → heard None (given_at None asked (serves server 0 asked).answer) ≡ answers.Ok 0
     reported (Command word) server is = refl
