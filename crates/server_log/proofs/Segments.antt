@@ -1,5 +1,5 @@
 -- The segments of a log with one event more, and where each begins.
-use Rattle.std.proofs.Common.{◌≡◌, ℕ, zero, suc, ◌+◌, ◌-◌, ◌<◌, ◌≤◌, Bool, true, false, cond, nat_le, List, [], ◌∷◌, ◌++◌, length, map, get_or, slice_get, Option, Some, None, MatchOption, slice_range, subst, refl, sym, ap, ◌∙◌, arith, add-one, length-append, append_assoc, ◌⊎◌, ⊎_elim}
+use Rattle.std.proofs.Common.{◌≡◌, ℕ, ◌+◌, ◌-◌, ◌<◌, ◌≤◌, Bool, true, false, cond, nat_le, List, [], ◌∷◌, ◌++◌, length, map, get_or, slice_get, Option, Some, MatchOption, slice_range, subst, refl, sym, ap, ◌∙◌, arith, add-one, length-append, append_assoc, ◌⊎◌, ⊎_elim}
 use Rattle.std.specs.List.{concat, fold}
 use Rattle.std.proofs.lemmas.Bool.{cases_lt}
 use Rattle.std.proofs.lemmas.List.{append-nil, map-append}

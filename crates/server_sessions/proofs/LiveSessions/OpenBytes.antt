@@ -1,5 +1,5 @@
 -- In how many bytes the events of open transactions are encoded, while sessions change; and that all of them are.
-use Rattle.std.proofs.Common.{◌≡◌, ℕ, ◌+◌, ◌≤◌, ◌<◌, Bool, true, false, not, List, [], ◌∷◌, ◌++◌, length, filter, cond, Some, refl, subst, sym, ap, ◌∙◌, arith}
+use Rattle.std.proofs.Common.{◌≡◌, ℕ, ◌+◌, ◌≤◌, Bool, true, false, not, List, [], ◌∷◌, ◌++◌, length, filter, cond, Some, refl, ap, arith}
 use Rattle.std.specs.Prelude.{◌==◌}
 use Rattle.std.specs.List.{AllByRecursion}
 use Rattle.std.proofs.lemmas.List.Sums.{sum_by-append}
@@ -62,7 +62,7 @@ lost_room number (first ∷ sessions) = at (first.number == number) (lost_room n
   at : (b : Bool) → bytes_of (writes_of (session_of number sessions)) + open_bytes (filter (λ session. not (session.number == number)) sessions) ≤ open_bytes sessions
       → open_bytes (filter (λ session. not (session.number == number)) sessions) ≤ open_bytes sessions
       → bytes_of (writes_of (cond b (Some first) (session_of number sessions))) + open_bytes (cond (not b) (first ∷ filter (λ session. not (session.number == number)) sessions) (filter (λ session. not (session.number == number)) sessions))
-          ≤ bytes_of first.writes + open_bytes sessions
+      ≤ bytes_of first.writes + open_bytes sessions
   at true rest fewer = omega (arith, fewer)
   at false rest fewer = omega (arith, rest)
 

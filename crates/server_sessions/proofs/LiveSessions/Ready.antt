@@ -1,16 +1,16 @@
 -- The sessions stay ready, while one of them changes.
-use Rattle.std.proofs.Common.{◌≡◌, ℕ, ◌+◌, ◌-◌, ◌≤◌, ◌<◌, Bool, List, [], ◌∷◌, ◌++◌, length, filter, not, Result, Ok, Err, OnOk, OnErr, refl, arith}
+use Rattle.std.proofs.Common.{◌≡◌, ℕ, ◌+◌, ◌≤◌, ◌<◌, Bool, List, [], ◌∷◌, ◌++◌, filter, not, Result, Ok, Err, OnOk, OnErr, refl, arith}
 use Rattle.std.specs.Prelude.{◌==◌}
 use Rattle.std.specs.List.{AllByRecursion}
 use Rattle.base_values.specs.declared.event.RowEvent.{RowEvent}
 use Rattle.server_log.specs.Encodings.{IsEncodable}
-use Rattle.server_log.specs.EventCosts.Costs.{bytes_of, cost_of}
+use Rattle.server_log.specs.EventCosts.Costs.{bytes_of}
 use Rattle.server_model.specs.declared.need.Need.{Need}
 use Rattle.server_model.specs.declared.session.Limits.{Limits}
 use Rattle.server_model.specs.declared.session.Session.{Session}
 use Rattle.server_model.specs.PlainServer.{at_rest, counting, holding, limit_if}
 use Rattle.server_model.specs.States.{is_of_tool, new_session, session_of, with_session, writes_of}
-use Rattle.server_sessions.specs.LiveSessions.Rooms.{open_bytes, AreEncodable, IsReady}
+use Rattle.server_sessions.specs.LiveSessions.Rooms.{open_bytes, IsReady}
 use Rattle.server_sessions.specs.LiveSessions.SessionLists.{NumberedSessions}
 use Rattle.server_sessions.proofs.LiveSessions.OpenBytes.{same_room, more_room, rest_room, lost_room, joined_room, same_encodable, more_encodable, rest_encodable, lost_encodable, joined_encodable, own_encodable}
 use Rattle.server_sessions.proofs.LiveSessions.Polls.{same_polls, counted_polls, limit_some, less_polls, joined_polls}

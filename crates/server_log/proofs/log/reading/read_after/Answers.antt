@@ -1,8 +1,7 @@
-use Rattle.std.proofs.Common.{◌≡◌, ℕ, ◌+◌, ◌-◌, ◌<◌, ◌≤◌, ◌∷◌, ◌++◌, [], true, false, length, get_or, sym, ◌∙◌, ap, arith}
+use Rattle.std.proofs.Common.{◌≡◌, ◌+◌, ◌-◌, ◌<◌, ◌≤◌, ◌∷◌, ◌++◌, [], true, false, length, sym, ◌∙◌, ap, arith}
 use Rattle.std.proofs.lemmas.List.{length_push}
 use Rattle.server_model.specs.declared.answer.Answer.TheVariants as answers
 use Rattle.server_model.specs.States.{is_of}
-use Rattle.server_model.specs.Listings.{events_read}
 use Rattle.server_log.proofs.KeptEvents.{item_at}
 use Rattle.server_log.proofs.ReadEvents.{reads_on, starts, skips, takes, fills, ends}
 use Rattle.server_log.proofs.log.reading.read_after.Goals as goal

@@ -1,6 +1,5 @@
-use Rattle.std.proofs.Common.{◌≡◌, ◌≤◌, length, ap, arith}
+use Rattle.std.proofs.Common.{◌≤◌, length, ap, arith}
 use Rattle.server_log.specs.Encodings.{encoded}
-use Rattle.server_log.specs.Logs.{all_bytes}
 use Rattle.server_log.proofs.KeptEvents.{at_least}
 use Rattle.server_log.proofs.log.whole.Log.add.Goals as goal
 

@@ -1,7 +1,5 @@
-use Rattle.std.proofs.Common.{◌<◌, ◌++◌, length, take, ap, ◌∙◌, arith}
-use Rattle.std.proofs.lemmas.List.{append-nil}
-use Rattle.std.proofs.lemmas.List.Sums.{sum_by_more_le}
-use Rattle.server_log.specs.Encodings.{encoded, IsEncodable}
+use Rattle.std.proofs.Common.{◌<◌, length, ◌∙◌, arith}
+use Rattle.server_log.specs.Encodings.{IsEncodable}
 use Rattle.server_log.proofs.EventCosts.Sums.{bytes_more, bytes_whole, bytes_within}
 use Rattle.server_log.proofs.Lists.{all_at, pushed_more, taken_whole}
 use Rattle.server_log.proofs.log.whole.Log.add_all.Goals as goal

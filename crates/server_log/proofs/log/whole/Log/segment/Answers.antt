@@ -1,4 +1,4 @@
-use Rattle.std.proofs.Common.{◌≡◌, ◌<◌, ◌≤◌, ◌+◌, length, get_or, [], ap, ◌∙◌, arith}
+use Rattle.std.proofs.Common.{◌<◌, length, get_or, [], ap, ◌∙◌, arith}
 use Rattle.server_log.specs.Logs.{StoredLog, segments_of}
 use Rattle.server_log.proofs.Segments.{as_many_segments, segment_bounds, segment_is}
 use Rattle.server_log.proofs.log.whole.Log.segment.Goals as goal

@@ -1,6 +1,4 @@
-use Rattle.std.proofs.Common.{◌≡◌, ◌+◌, ◌≤◌, length, arith}
-use Rattle.std.specs.List.{AllByRecursion}
-use Rattle.server_log.specs.EventCosts.Costs.{bytes_of}
+use Rattle.std.proofs.Common.{arith}
 use Rattle.server_sessions.proofs.LiveSessions.Ready.{ready_rests, writes_encodable, writes_within}
 use Rattle.server_sessions.proofs.live_sessions.all_sessions.Sessions.commit_with.Goals as goal
 
