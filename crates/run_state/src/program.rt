@@ -1,7 +1,8 @@
 //! What the actors ask next, and when the run is over.
 
-ghost use Rattle.std.specs.Prelude.{◌≡◌, is_some, slice_get, IfOk};
+ghost use Rattle.std.specs.Prelude.{◌≡◌, false, is_some, slice_get, IfOk, OnErr};
 ghost use Rattle.plan_data.specs.PlanData.{PlanData};
+ghost use Rattle.tool_program.specs.FreeCalls.{is_freely_asked};
 ghost use Rattle.tool_program.specs.JournalWords.KeptPlans.{words_of};
 ghost use Rattle.tool_program.specs.JournalWords.Clients.{clients_over};
 ghost use Rattle.tool_program.specs.Tools.{moment};
@@ -29,7 +30,8 @@ impl RunState<'_> {
     ) -> Result<Option<Asked>, AllocError>
         requires run_state { IsRunState self.now.plan.now self.now.journal.items self.now }
         requires state { IsAfter (moment self.now.plan.now self.now.journal.items).server (V.state server.now) }
-        ensures { IfOk result (λ asked. asked ≡ tool_asks self.now.plan.now self.now.journal.items (moment self.now.plan.now self.now.journal.items) actor) }
+        ensures asked { IfOk result (λ asked. asked ≡ tool_asks self.now.plan.now self.now.journal.items (moment self.now.plan.now self.now.journal.items) actor) }
+        ensures costs { OnErr result (is_freely_asked (tool_asks self.now.plan.now self.now.journal.items (moment self.now.plan.now self.now.journal.items) actor) ≡ false) }
     {
         let tool_view = ToolView {
             plan: self.plan,
@@ -59,7 +61,7 @@ impl RunState<'_> {
         tool_view.is_ready(actor, self.session(actor))
     }
 
-    /// What the actor asks next; none where it isn't ready.
+    /// What the actor asks next; none where it isn't ready. Calls alone take memory, but for COMMIT, ROLLBACK and UNLOCK TABLES.
     #[tactic(auto, unfolding(tool_program::specs::Programs::given))]
     pub fn given<V: Serve>(
         &self,
@@ -69,7 +71,8 @@ impl RunState<'_> {
     ) -> Result<Option<Asked>, AllocError>
         requires run_state { IsRunState self.now.plan.now self.now.journal.items self.now }
         requires state { IsAfter (moment self.now.plan.now self.now.journal.items).server (V.state server.now) }
-        ensures { IfOk result (λ asked. asked ≡ given self.now.plan.now self.now.journal.items actor) }
+        ensures asked { IfOk result (λ asked. asked ≡ given self.now.plan.now self.now.journal.items actor) }
+        ensures costs { OnErr result (is_freely_asked (given self.now.plan.now self.now.journal.items actor) ≡ false) }
     {
         match actor {
             Actor::Client(client) => self.client_asks(client),

@@ -1,6 +1,7 @@
 //! What the copier asks next.
 
-ghost use Rattle.std.specs.Prelude.{◌≡◌, option_map, is_some, IfOk};
+ghost use Rattle.std.specs.Prelude.{◌≡◌, option_map, is_some, false, IfOk, OnErr};
+ghost use Rattle.tool_program.specs.FreeCalls.{is_free_call};
 ghost use Rattle.tool_program.specs.ChunkCopier.Copiers.{low_end, key_at, copies, call_at, next, starts, unfit_key};
 
 use crate::chunk_copier::copier::{Copier, CopyRange, CopyStep};
@@ -46,7 +47,8 @@ impl Copier {
 
     /// The copy of the row of this key.
     fn copies(&self, alloc: Global, key: Option<&Key>) -> Result<Option<Request>, AllocError>
-        ensures { IfOk result (λ request. request ≡ copies self.now (option_map (λ key. key.now) key.entry)) }
+        ensures request { IfOk result (λ request. request ≡ copies self.now (option_map (λ key. key.now) key.entry)) }
+        ensures costs { OnErr result (is_free_call (copies self.now (option_map (λ key. key.now) key.entry)) ≡ false) }
     {
         let Some(key) = key else {
             return Ok(None);
@@ -66,7 +68,8 @@ impl Copier {
         journal: &[Entry],
         range: &CopyRange,
     ) -> Result<Option<Request>, AllocError>
-        ensures { IfOk result (λ request. request ≡ call_at journal.now self.now range.now self.now.step) }
+        ensures request { IfOk result (λ request. request ≡ call_at journal.now self.now range.now self.now.step) }
+        ensures costs { OnErr result (is_free_call (call_at journal.now self.now range.now self.now.step) ≡ false) }
     {
         match self.step {
             CopyStep::Choosing => Ok(Some(Request::ChunkEnd {
@@ -89,10 +92,11 @@ impl Copier {
     }
 
     /// The next call; none where the range is copied. The journal is that of the turns in which the copier got its keys and the
-    /// chunks' ends.
+    /// chunks' ends. COMMIT takes no memory.
     #[tactic(auto, unfolding(crate::specs::ChunkCopier::Copiers::next))]
     pub fn next(&self, alloc: Global, journal: &[Entry]) -> Result<Option<Request>, AllocError>
-        ensures { IfOk result (λ request. request ≡ next journal.now self.now) }
+        ensures request { IfOk result (λ request. request ≡ next journal.now self.now) }
+        ensures costs { OnErr result (is_free_call (next journal.now self.now) ≡ false) }
     {
         if self.is_copied {
             return Ok(None);

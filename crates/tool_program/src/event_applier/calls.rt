@@ -1,6 +1,7 @@
 //! What the applier asks next.
 
-ghost use Rattle.std.specs.Prelude.{◌≡◌, [], ◌∷◌, IfOk};
+ghost use Rattle.std.specs.Prelude.{◌≡◌, [], ◌∷◌, false, IfOk, OnErr};
+ghost use Rattle.server_model.specs.Conditions.{is_free};
 ghost use Rattle.server_model.specs.declared.request.Request.TheVariants as requests;
 ghost use Rattle.base_values.specs.ToolNames.{log_name};
 ghost use Rattle.tool_program.specs.EventApplier.Appliers.{starts, statement_result, call_at, next, unfit_key};
@@ -33,10 +34,11 @@ impl Applier {
         })
     }
 
-    /// The next call. The journal is that of the turn in which the applier got its events.
+    /// The next call. The journal is that of the turn in which the applier got its events. COMMIT takes no memory.
     #[tactic(auto, unfolding(crate::specs::EventApplier::Appliers::next))]
     pub fn next(&self, alloc: Global, journal: &[Entry]) -> Result<Request, AllocError>
-        ensures { IfOk result (λ request. request ≡ next journal.now self.now) }
+        ensures request { IfOk result (λ request. request ≡ next journal.now self.now) }
+        ensures costs { OnErr result (is_free (next journal.now self.now) ≡ false) }
     {
         match self.step {
             ApplyStep::Reading => self.reads(alloc),

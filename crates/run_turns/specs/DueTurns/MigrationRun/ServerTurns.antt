@@ -56,6 +56,7 @@ pub record MayTurn (state : State) (session : Option ℕ) (turn : Turn) : Type 0
   pub apart : AreApart state.sessions
   pub few : length state.sessions ≤ state.made
   pub waits : NoneWaits state
-  pub room : state.made < 4294967295
+  pub made : state.made ≤ 4294967295
+  pub opens : session ≡ None → state.made < 4294967295
   pub called : is_command turn.asked ≡ false
   pub may : MayAsk (opened_on state (session_for session state.made) turn) (session_for session state.made) turn.side turn.asked
