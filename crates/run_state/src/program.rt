@@ -11,14 +11,15 @@ ghost use Rattle.tool_program.specs.Orders.{is_ready};
 ghost use Rattle.tool_program.specs.Verdicts.{is_over, has_ended, verdict_of};
 ghost use Rattle.proof_journals.specs.Run.Counts.{IsAfter};
 ghost use Rattle.tool_state.specs.ToolState.Meanings.{tool_of};
+ghost use Rattle.tool_state.specs.Verdicts.{verdict_meant};
 ghost use Rattle.run_state.specs.Books.{IsRunState};
 
 use crate::run_state::RunState;
 use base_script::Actor;
 use server_api::Serve;
-use server_model::{Asked, Verdict};
+use server_model::Asked;
 use std::alloc::{AllocError, Global};
-use tool_state::{ToolView, commands, is_over, verdict};
+use tool_state::{ToolView, VerdictView, commands, is_over, verdict};
 
 impl RunState<'_> {
     /// What an actor of the tool but the operator asks next.
@@ -132,15 +133,14 @@ impl RunState<'_> {
 
     /// How the migration ended, and why; unfinished until the run has ended.
     #[tactic(auto, unfolding(tool_program::specs::Verdicts::verdict_of))]
-    pub fn verdict(&self, alloc: Global) -> Result<Verdict, AllocError>
+    pub fn verdict(&self) -> VerdictView<'_>
         requires { IsRunState self.now.plan.now self.now.journal.items self.now }
-        ensures { IfOk result (λ verdict. verdict ≡ verdict_of self.now.plan.now self.now.journal.items) }
+        ensures { verdict_meant result ≡ verdict_of self.now.plan.now self.now.journal.items }
     {
         if !self.has_ended() {
-            return Ok(Verdict::Unfinished);
+            return VerdictView::Unfinished;
         }
         verdict(
-            alloc,
             self.plan,
             self.journal.as_slice(),
             &self.tool,

@@ -7,6 +7,7 @@ ghost use Rattle.tool_program.specs.JournalWords.Sessions.{live_session, KeepsSe
 ghost use Rattle.tool_program.specs.Orders.{is_ready};
 ghost use Rattle.tool_program.specs.Programs.{waits, Follows};
 ghost use Rattle.tool_program.specs.Verdicts.{has_ended, verdict_of};
+ghost use Rattle.tool_state.specs.Verdicts.{verdict_meant};
 ghost use Rattle.proof_journals.specs.Machine.Runnable.{IsRunnable};
 ghost use Rattle.proof_journals.specs.Run.Counts.{IsAfter};
 ghost use Rattle.run_turns.specs.DueTurns.Due.{due, MayCost};
@@ -18,9 +19,10 @@ use base_script::Actor;
 use plan_data::Plan;
 use run_state::RunState;
 use server_api::Serve;
-use server_model::{Entry, Journal, Verdict};
+use server_model::{Entry, Journal};
 use std::alloc::{AllocError, Global};
 use std::marker::Model;
+use tool_state::VerdictView;
 
 /// What became of a step.
 #[derive(Clone, Copy)]
@@ -170,11 +172,11 @@ impl<'a, V: Serve> Run<'a, V> {
         }
     }
 
-    /// How the migration ended, and why; unfinished until the run has ended.
-    pub fn verdict(&self) -> Result<Verdict, AllocError>
-        ensures { IfOk result (λ verdict. verdict ≡ verdict_of self.now.plan self.now.journal) }
+    /// How the migration ended, and why, seen in the run; unfinished until the run has ended.
+    pub fn verdict(&self) -> VerdictView<'_>
+        ensures { verdict_meant result ≡ verdict_of self.now.plan self.now.journal }
     {
-        self.run_state.verdict(self.alloc)
+        self.run_state.verdict()
     }
 
     /// The turns so far. The server's answers are in them; each is a turn that the plan allows and that was given, in its

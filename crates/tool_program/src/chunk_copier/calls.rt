@@ -7,7 +7,7 @@ ghost use Rattle.tool_program.specs.ChunkCopier.Copiers.{low_end, key_at, copies
 use crate::chunk_copier::copier::{Copier, CopyRange, CopyStep};
 use crate::chunk_copier::reader::{end_reported, keys_reported};
 use base_values::tool_names::ghost_name;
-use base_values::{Bound, Duplicate, Key, Sequence, Span};
+use base_values::{Bound, Duplicate, Key, Span, Value};
 use server_model::{Entry, Request};
 use std::alloc::{AllocError, Global};
 
@@ -122,12 +122,12 @@ impl Copier {
     }
 
     /// The clustered key of the row that didn't fit, once an answer said so.
-    pub fn unfit_key(&self, alloc: Global, journal: &[Entry]) -> Result<Key, AllocError>
-        ensures { IfOk result (λ key. key ≡ unfit_key journal.now self.now) }
+    pub fn unfit_key<'a>(&self, journal: &'a [Entry]) -> &'a [Value]
+        ensures { result.now ≡ unfit_key journal.now self.now }
     {
         match self.key(journal) {
-            Some(key) => key.copy(),
-            None => Ok(Sequence::new(alloc)),
+            Some(key) => key.as_slice(),
+            None => &[],
         }
     }
 }

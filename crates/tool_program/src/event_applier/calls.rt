@@ -4,13 +4,12 @@ ghost use Rattle.std.specs.Prelude.{◌≡◌, [], ◌∷◌, false, IfOk, OnErr
 ghost use Rattle.server_model.specs.Conditions.{is_free};
 ghost use Rattle.server_model.specs.declared.request.Request.TheVariants as requests;
 ghost use Rattle.base_values.specs.ToolNames.{log_name};
-ghost use Rattle.tool_program.specs.EventApplier.Appliers.{starts, statement_result, call_at, next, unfit_key};
+ghost use Rattle.tool_program.specs.EventApplier.Appliers.{starts, statement_result, call_at, doing_at, next, row_done};
 
 use crate::event_applier::applier::{Applier, ApplyStep};
 use crate::event_applier::batch_plan::row_done;
-use base_values::gho_schema::key_of;
 use base_values::tool_names::log_name;
-use base_values::{Duplicate, Key, Sequence};
+use base_values::{Duplicate, Sequence, Value};
 use server_model::{Entry, Request};
 use std::alloc::{AllocError, Global};
 
@@ -51,17 +50,10 @@ impl Applier {
         }
     }
 
-    /// The clustered key, at these places, of the row of the old table that didn't fit, once an answer said so.
-    pub fn unfit_key(
-        &self,
-        alloc: Global,
-        journal: &[Entry],
-        old_places: &[usize],
-    ) -> Result<Key, AllocError>
-        ensures { IfOk result (λ key. key ≡ unfit_key journal.now old_places.now self.now) }
+    /// The row of the old table that didn't fit, once an answer said so.
+    pub fn unfit_row<'a>(&self, journal: &'a [Entry]) -> &'a [Value]
+        ensures { result.now ≡ row_done (doing_at journal.now self.now self.now.step) }
     {
-        let none = Sequence::new(alloc);
-        let row = row_done(self.doing(journal), &none);
-        key_of(alloc, old_places, row.as_slice())
+        row_done(self.doing(journal))
     }
 }
