@@ -37,7 +37,7 @@ impl ClientState {
     }
 
     /// The script from the line on that is asked next, or that waits.
-    pub(crate) fn left<'a>(&self, script: &'a Script) -> &'a [ScriptLine]
+    pub fn left<'a>(&self, script: &'a Script) -> &'a [ScriptLine]
         ensures { result.now ≡ drop self.now.place script.now }
     {
         let lines = script.as_slice();
