@@ -125,7 +125,7 @@ class Events:
 
     def __init__(self, trace):
         self.table, self.most, self.mark = trace.table(), trace.option("dml_batch_size", 10), mark(trace)
-        self.unread, self.open, self.batch, self.is_applying = 0, {}, 0, False
+        self.unread, self.open, self.batch, self.is_applying, self.has_begun = 0, {}, 0, False, False
         self.passing = reads_of_nothing(trace)
 
     def took(self, turn):
@@ -135,11 +135,13 @@ class Events:
             self.client(turn)
         elif turn.call == LOG_END or turn.asked == "rename":
             # (here the applier begins; and it is asked for the RENAME once all is read)
-            self.unread = 0
+            self.unread, self.has_begun = 0, True
         elif turn.call == HINT and turn.is_done():
             self.unread += 1
         elif turn.actor == "apply":
             self.applier(turn)
+        if not self.has_begun:
+            self.unread = 0
 
     def client(self, turn):
         """An event is logged for each row changed, at the COMMIT."""
