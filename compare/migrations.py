@@ -29,6 +29,8 @@ EXPLAINED = {
     "a deadlock of names: LOCK TABLES waits for a transaction that has read, which then writes",
     "sessions wait for each other, and in the model they don't",
     "a REPLACE by an equal row counts 1 in the server, and isn't logged",
+    # (a key names one column twice)
+    "the server refuses the plan's tables by 1060",
 }
 FAULTS_TOLD = "of two faults another is told"
 

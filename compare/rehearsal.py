@@ -155,7 +155,7 @@ class Rehearsal:
             for row in table.get("rows", []):
                 answer = answer if isinstance(answer, Refused) else self.monitor.ask(f"INSERT INTO {self.name_in(table['create'])} VALUES {row}")
             if isinstance(answer, Refused):
-                raise Stop("the server refuses the plan's tables", f"{answer.number} {answer.text}")
+                raise Stop(f"the server refuses the plan's tables by {answer.number}", answer.text)
         self.create = next(it["create"] for it in self.tree["tables"] if self.name_in(it["create"]).strip("`") == self.table)
         old_columns, types, key, _ = self.columns_of(self.table)
         self.shape = Shape([], old_columns, key, [])
