@@ -2,7 +2,7 @@
 import collections
 import re
 
-from calls import BEGIN, CHANGE, COMMIT, COPY, HINT, LOG_END, READ, ROLLBACK, SPAN, UNLOCK, is_begin, is_end
+from calls import BEGIN, CHANGE, COMMIT, COPY, HINT, LOG_END, RANGE, READ, ROLLBACK, SPAN, UNLOCK, is_begin, is_end
 
 CHANGES = re.compile(r"(?i)(?:insert\s+into|replace\s+into|update|delete\s+from)\s+(`(?:[^`]|``)+`|\w+)")
 CHUNK, TRANSACTION, BATCH, TABLE_LOCK = "chunk locked, shared", "transaction open", "batch open", "table locked"
@@ -78,6 +78,18 @@ def begun_again(trace, actor):
         if turn.actor == actor:
             failed += turn.is_timeout() or turn.is_loss() and (turn.asked != "cut" or is_open or is_waiting)
             is_open, is_waiting = (is_open or opens(turn) is not None) and not closes(turn), turn.is_wait()
+    return failed
+
+
+def setups_begun_again(trace):
+    """How often the setup failed: before its last call was answered the inspector's session was lost in a call, or a wait timed out."""
+    failed, is_waiting = 0, False
+    for turn in trace.turns:
+        if turn.actor == "insp":
+            if turn.call == RANGE and turn.is_done() and not turn.is_loss():
+                break
+            failed += turn.is_timeout() or turn.is_loss() and (turn.asked != "cut" or is_waiting)
+            is_waiting = turn.is_wait()
     return failed
 
 
