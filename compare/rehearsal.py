@@ -287,6 +287,7 @@ class Rehearsal:
             cut = self.due()
             if cut is not None and not (self.waits(cut) and cut in self.answered()):
                 self.cut(cut)
+                self.settle()
                 continue
             actor = cut or self.choose() or self.awaited()
             if actor is None:
