@@ -39,6 +39,8 @@ For an operator who asks how far his own table is from a plan. Ten tables as SHO
 
 This page is what `tools/tests/ten_tables.py PROGRAM` prints; it was printed on 2026-11-30 by the program as `./ghost --unproved` builds it.
 
+The same ten tables were also put into a MariaDB 10.11.19 (without foreign keys, which need other tables, and with a collation that it has) and dumped by its `mysqldump`, with all the comments and settings of such a file: `tools/convert` takes the ten dumps, and their plans print the same ten reports.
+
 """
 MEANING = """
 - *Pasted*: the plan with CREATE TABLE, rows, ALTER and the client's statements as they are, and what the program says. *Places*: how many `tools/explain` then shows.
