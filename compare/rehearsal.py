@@ -515,15 +515,7 @@ class Rehearsal:
             is_done = not self.waits_still(self.turns[:-1], actor)
             self.early -= {actor} if is_done else set()
         if side == "after":
-            entry.note = "lost"
-            is_over = talk.polls + polls == self.longest_wait(actor)
-            entry.answer = loss_text(is_done, is_done and self.told(call, talk)[0] == "refused", is_over)
-            self.count("losses after a call")
-            if is_done and call.what == "rename" and isinstance(talk.result, Ok):
-                self.renamed()
-            if not is_done or actor in self.early:
-                self.count("losses of a call that waits")
-            self.lost(actor, call)
+            self.lose_answer(actor, talk, entry, is_done, polls)
         elif not is_done:
             self.wait(actor, talk, entry, polls)
         else:
@@ -531,6 +523,18 @@ class Rehearsal:
             self.answer(actor, talk, entry, turn)
         if actor == "apply":
             self.tool.applier_turn(turn)
+
+    def lose_answer(self, actor, talk, entry, is_done, polls):
+        """The session is lost after its call, before the answer is heard."""
+        call, is_over = talk.call, talk.polls + polls == self.longest_wait(actor)
+        entry.note = "lost"
+        entry.answer = loss_text(is_done, is_done and self.told(call, talk)[0] == "refused", is_over)
+        self.count("losses after a call")
+        if is_done and call.what == "rename" and isinstance(talk.result, Ok):
+            self.renamed()
+        if not is_done or actor in self.early:
+            self.count("losses of a call that waits")
+        self.lost(actor, call)
 
     def has_name(self, actor):
         """Whether a client's transaction used the table in a line before."""
