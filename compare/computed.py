@@ -73,14 +73,14 @@ class Table:
         for place, (column, is_primary, is_unique, is_filled, default) in enumerate(self.columns):
             nullable = not (is_primary or is_filled)
             default = f"Some ({number(default)})" if default else "Some Null" if nullable else "None"
-            columns.append(f"record {{ name = {name(column)}; kind = Int 4 false; nullable = {str(nullable).lower()}; default = {default} }}")
+            columns.append(f"record {{ name = {name(column)}; kind = Int 4 false; nullable = {str(nullable).lower()}; default = {default}; auto = false }}")
             if is_primary:
                 primary.append(f"record {{ name = None; places = {place} ∷ [] }}")
             if is_unique:
                 uniques.append(f"record {{ name = Some ({name(column)}); places = {place} ∷ [] }}")
         return (
             f"record {{ name = {name(self.name)}; columns = {listed(columns)}; uniques = {listed(primary + uniques)}; "
-            f"indexes = []; comment = {self.comment} }}"
+            f"indexes = []; comment = {self.comment}; start = None }}"
         )
 
     def map_from(self, old):
@@ -102,7 +102,7 @@ def condition(text):
 
 def put(form, table, columns, values):
     listed_columns = f"(Some ({names(columns.split(', '))}))" if columns else "None"
-    return f"requests.Do (statements.{form} ({name(table)}) {listed_columns} ({row(values)}))"
+    return f"requests.Do (statements.{form} ({name(table)}) {listed_columns} ({row(values)}) None)"
 
 
 def select(what, table, where):
@@ -178,7 +178,7 @@ class Play:
     def entry(self, session, asked, answer):
         actor = f"Client {session[1:]}" if re.fullmatch(r"c\d", session) else ACTORS[session]
         self.entries.append(
-            f"record {{ actor = {actor}; session = {self.number(session)}; asked = {asked}; side = None; answer = {answer}; missed = None }}"
+            f"record {{ actor = {actor}; session = {self.number(session)}; asked = {asked}; side = None; answer = {answer}; missed = None; draw = None }}"
         )
 
     def answer(self, session, text):

@@ -8,6 +8,7 @@ import re
 import tomllib
 from collections import Counter
 
+from answers import EQUAL_ROW, compared, printed_lines
 from binlog import OPTIONS as LOG_OPTIONS
 from migration import equal
 from program import TOP
@@ -28,6 +29,8 @@ EXPLAINED = {
     "a deadlock of names: LOCK TABLES waits for a transaction that has read, which then writes",
     "sessions wait for each other, and in the model they don't",
     "a REPLACE by an equal row counts 1 in the server, and isn't logged",
+    # (a key names one column twice)
+    "the server refuses the plan's tables by 1060",
 }
 FAULTS_TOLD = "of two faults another is told"
 
@@ -188,7 +191,7 @@ class Pair:
 
     def __init__(self, program, server, plants=None, keep=None):
         self.program, self.server, self.plants, self.keep = program, server, plants, keep
-        self.counts = Counter()
+        self.counts, self.slowest = Counter(), 0.0
 
     def printed(self, tree):
         return self.program.run_text("replay", toml(tree))
@@ -259,6 +262,7 @@ class Pair:
             kind, told = stop.kind, stop.told
         finally:
             if rehearsal:
+                self.slowest = max(self.slowest, rehearsal.wakeups.slowest)
                 rehearsal.close()
                 self.counts.update(rehearsal.counts)
                 self.counts["turns"] += len(rehearsal.turns)
@@ -282,6 +286,16 @@ class Pair:
         return told, f"{toml(rehearsal.ordered(turns))}--- the program\n{ours}--- the server\n{theirs}"
 
     def same(self, name, rehearsal, turns):
+        """The reports are the same: then each answer of the server is held against the trace's line."""
+        text = self.program.run_text("trace", toml(rehearsal.ordered(turns))).text
+        if printed_lines(text) is None:
+            self.counts["plans whose program prints no trace"] += 1
+        else:
+            same, equal, other = compared(turns, text)
+            self.counts["turns whose answer is the trace's"] += same
+            self.counts.update({EQUAL_ROW: equal} if equal else {})
+            if other:
+                return "UNEXPLAINED", f"{toml(rehearsal.ordered(turns))}--- {other}"
         self.counts[f"verdict {rehearsal.verdict_kind.split()[0]}"] += 1
         for end, text in (("toml", toml(rehearsal.ordered(turns))), ("report", masked(rehearsal.report(turns)))) if self.keep else ():
             with open(f"{self.keep}/{name.replace(' ', '_').removesuffix('.toml')}.{end}", "w", encoding="utf-8") as file:
@@ -401,17 +415,30 @@ def no_lock(rehearsal):
     rehearsal.tool.given_lock = given_lock
 
 
-FAULTS = {"another DEFAULT in the new table": another_default, "an applier without DELETE": no_removal, "LOCK TABLES without the table": no_lock}
+def other_answer(rehearsal):
+    """An answer of the tool from which no turn follows: the hint's count."""
+    told = rehearsal.told
+    rehearsal.told = lambda call, talk: ("ok", 2) if call.what == "hint" else told(call, talk)
+
+
+FAULTS = {
+    "another DEFAULT in the new table": another_default,
+    "an applier without DELETE": no_removal,
+    "LOCK TABLES without the table": no_lock,
+    "two rows in the answer to the hint": other_answer,
+}
 
 
 def plant_faults(program):
     """The status: 0 where each planted fault is told by some plan."""
     plans, missed = list(plans_of_cases("worked")) + list(plans_of_folder(CLASSES)), 0
     with Server(*log_options()) as server:
+        plain = Pair(program, server)
+        same = [(name, tree) for name, tree in plans if plain.rehearse(name, tree)[0] == "same"]
         for fault, plants in FAULTS.items():
-            planted, plain = Pair(program, server, plants), Pair(program, server)
-            told = [name for name, tree in plans if plain.rehearse(name, tree)[0] == "same" and planted.rehearse(name, tree)[0] != "same"]
-            print(f"planted: {fault}: told by {len(told)} of {len(plans)} plans", flush=True)
+            planted = Pair(program, server, plants)
+            told = [name for name, tree in same if planted.rehearse(name, tree)[0] != "same"]
+            print(f"planted: {fault}: told by {len(told)} of the {len(same)} plans that are the same without it", flush=True)
             missed += not told
     return 1 if missed else 0
 
@@ -434,24 +461,25 @@ def show_classes(program):
 
 def compare_migrations(program, plans, says, keep=None):
     """The status: 0 where each plan is the same, or differs by a class that is told. What was done is told also where it is stopped."""
-    kinds, counts, version = {}, Counter(), ""
+    kinds, pair = {}, None
     try:
         with Server(*log_options()) as server:
             pair = Pair(program, server, keep=keep)
-            counts, version = pair.counts, server.version
             run_all(pair, plans, says, kinds)
     finally:
-        tell(kinds, counts, version)
+        if pair:
+            tell(kinds, pair)
     return 0 if all(map(is_explained, kinds)) else 1
 
 
-def tell(kinds, counts, version):
-    print(f"server: {version}\nplans: {sum(map(len, kinds.values()))}")
+def tell(kinds, pair):
+    print(f"server: {pair.server.version}\nplans: {sum(map(len, kinds.values()))}")
     for kind, names in sorted(kinds.items(), key=lambda it: -len(it[1])):
         print(f"{len(names):7} {kind}{'' if kind == 'same' or len(names) > 12 else ': ' + ', '.join(names)}")
     print("of all of them:")
-    for what, number in sorted(counts.items()):
+    for what, number in sorted(pair.counts.items()):
         print(f"{number:7} {what}")
+    print(f"{1000 * pair.slowest:7.0f} milliseconds at most until the server had woken a session up")
 
 
 def replay_kept(program, folder):

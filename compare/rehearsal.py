@@ -7,11 +7,13 @@ What comes out is the plan with its `turns`, and the report that the program mus
 import dataclasses
 import time
 
+from answers import answer_text, loss_text
 from binlog import Columns, Log
 from migration import TOOL, Bad, Call, Shape, Tool
 from printing import printed_row, refusal_of
 from rephrasing import carried
 from words import clauses, words
+from wakeups import Wakeups
 from wire import Ok, Refused
 
 NAME_WAIT = "SELECT 1 FROM information_schema.PROCESSLIST WHERE ID = {0} AND STATE LIKE 'Waiting for table metadata lock%'"
@@ -41,7 +43,8 @@ class Stop(Exception):
 @dataclasses.dataclass
 class Turn:
     """`note` is what the turn's report says of it: waits, timed out, cut, lost, or none; `side` the loss at this turn. `wait` numbers
-    the wait that a call began or that a poll asks for, `reply` is a client's line of the report, and `line` its statement.
+    the wait that a call began or that a poll asks for, `reply` is a client's line of the report, and `line` its statement. `what`
+    names the call, and `answer` is what a trace prints of the turn.
     `by_rows` says whether others have transactions open, and nobody the table lock: then rows alone can make the session wait."""
 
     actor: str
@@ -51,6 +54,8 @@ class Turn:
     reply: tuple = None
     line: str = ""
     by_rows: bool = False
+    what: str = ""
+    answer: str = ""
 
 
 class Talk:
@@ -122,6 +127,7 @@ class Rehearsal:
         self.options = {**OPTIONS, **tree.get("options", {})}
         self.table = tree["table"]
         self.monitor = server.session()
+        self.wakeups = Wakeups(server, self.monitor, PATIENCE)
         self.open_tables()
         self.clients = {f"c{number + 1}": Client(script) for number, script in enumerate(tree.get("clients", []))}
         self.operator = [it.split("#")[0].strip() for it in tree.get("operator", "").split("\n")]
@@ -149,7 +155,7 @@ class Rehearsal:
             for row in table.get("rows", []):
                 answer = answer if isinstance(answer, Refused) else self.monitor.ask(f"INSERT INTO {self.name_in(table['create'])} VALUES {row}")
             if isinstance(answer, Refused):
-                raise Stop("the server refuses the plan's tables", f"{answer.number} {answer.text}")
+                raise Stop(f"the server refuses the plan's tables by {answer.number}", answer.text)
         self.create = next(it["create"] for it in self.tree["tables"] if self.name_in(it["create"]).strip("`") == self.table)
         old_columns, types, key, _ = self.columns_of(self.table)
         self.shape = Shape([], old_columns, key, [])
@@ -281,17 +287,26 @@ class Rehearsal:
             cut = self.due()
             if cut is not None and not (self.waits(cut) and cut in self.answered()):
                 self.cut(cut)
+                self.settle()
                 continue
-            actor = cut or self.choose()
-            end = time.monotonic() + 3
-            while actor is None and time.monotonic() < end:
-                time.sleep(0.01)
-                actor = next(iter(self.answered()), None)
+            actor = cut or self.choose() or self.awaited()
             if actor is None:
                 waits = [f"{it}: {talk.call.lines[-1]} for {self.lock_of(talk)}" for it, talk in self.talks.items() if talk.call and talk.result is None]
                 raise Stop("sessions wait for each other, and in the model they don't", "; ".join(waits))
             self.turn(actor, is_cut=cut is not None)
             self.settle()
+
+    def awaited(self):
+        """The first whom the server answers after all; none where it lets all of them wait."""
+        if self.talks:
+            self.wakeups.pass_by()
+        end = time.monotonic() + self.wakeups.patient(3)
+        while time.monotonic() < end:
+            found = self.answered()
+            if found:
+                return found[0]
+            time.sleep(0.01)
+        return None
 
     def settle(self):
         """Waits for the answers that the server owes: what waits is asked until it is seen to wait still."""
@@ -308,18 +323,24 @@ class Rehearsal:
         """How it waits, for a name or for a row; none where it is answered. It goes on only once a lock is given free."""
         if talk.seen_at and talk.seen_at[0] == self.releases:
             return None if talk.is_answered(0) else talk.seen_at[1]
-        seen, looks = [], 0
-        while not talk.is_answered(APART if looks else 0.01):
-            looks += 1
-            number = talk.session.number
-            how = "name" if self.monitor.need(NAME_WAIT.format(number)).rows else "row" if self.monitor.need(ROW_WAIT.format(number)).rows else None
-            seen = [*seen, how] if how else []
-            if len(seen) == 2:
+        before, pause, began = None, 0.01, time.monotonic()
+        while not talk.is_answered(pause):
+            how = self.wait_seen(talk)
+            if how and how == before:
                 talk.seen_at = self.releases, how
                 return how
-            if looks > PATIENCE / APART:
+            if how == "name":
+                # (it is shown waiting until it runs again: others that are woken up now come after it)
+                self.wakeups.pass_by()
+            before, pause = how, 0.01 if how == "name" else APART
+            if time.monotonic() > began + self.wakeups.patient(PATIENCE):
                 raise Stop("the script: no answer, and no wait is seen", talk.call.lines[-1])
         return None
+
+    def wait_seen(self, talk):
+        """How the server shows a session waiting now, or none."""
+        number = talk.session.number
+        return "name" if self.monitor.need(NAME_WAIT.format(number)).rows else "row" if self.monitor.need(ROW_WAIT.format(number)).rows else None
 
     def lock_of(self, talk):
         """What a session waits for: a gap, a row with its index and the one that has it, or a name."""
@@ -364,6 +385,7 @@ class Rehearsal:
         waiting = [it for it, talk in self.talks.items() if talk.call and talk.result is None]
         for actor in [*waiting, *self.talks]:
             self.kill(actor)
+        self.wakeups.close()
         self.monitor.close()
 
     # ------------------------------------------------------------------ a turn
@@ -376,7 +398,7 @@ class Rehearsal:
     def cut(self, actor):
         talk = self.talks[actor]
         had = talk.is_open or talk.is_locked or talk.wait > 0
-        self.turns.append(Turn(actor, "cut"))
+        self.turns.append(Turn(actor, "cut", answer="lost"))
         self.count("losses between calls")
         if actor in self.clients and talk.wait:
             self.turns[-1].reply = (actor, f"{self.clients[actor].place()} lost")
@@ -390,7 +412,7 @@ class Rehearsal:
 
     def turn(self, actor, is_cut=False):
         if actor == "op":
-            self.turns.append(Turn("op"))
+            self.turns.append(Turn("op", answer="ok 0"))
             self.taken["op"] += 1
             self.tool.command(len(self.turns))
             return
@@ -404,7 +426,7 @@ class Rehearsal:
             call = talk.call if polls else self.given(actor)
             if not polls and actor not in self.clients:
                 self.tool.called(call)
-            self.turns.append(Turn(actor, "lost", side, talk.wait if polls else 0))
+            self.turns.append(Turn(actor, "lost", side, talk.wait if polls else 0, what=call.what, answer="lost"))
             self.taken[actor] += 1
             self.count("losses before a call")
             self.lost(actor, call)
@@ -468,7 +490,7 @@ class Rehearsal:
 
     def take(self, actor, talk, polls, side):
         """The turn of a call or a poll; with its answer, if there is one by now."""
-        call, entry = talk.call, Turn(actor, "", side or "", talk.wait, None, talk.call.lines[-1])
+        call, entry = talk.call, Turn(actor, "", side or "", talk.wait, None, talk.call.lines[-1], what=talk.call.what)
         is_free = not self.is_locked() and not self.waits("lock")
         entry.by_rows = is_free and any(self.is_open(it) for it in self.talks if it != actor)
         was_held = actor in self.held
@@ -493,13 +515,7 @@ class Rehearsal:
             is_done = not self.waits_still(self.turns[:-1], actor)
             self.early -= {actor} if is_done else set()
         if side == "after":
-            entry.note = "lost"
-            self.count("losses after a call")
-            if is_done and call.what == "rename" and isinstance(talk.result, Ok):
-                self.renamed()
-            if not is_done or actor in self.early:
-                self.count("losses of a call that waits")
-            self.lost(actor, call)
+            self.lose_answer(actor, talk, entry, is_done, polls)
         elif not is_done:
             self.wait(actor, talk, entry, polls)
         else:
@@ -507,6 +523,18 @@ class Rehearsal:
             self.answer(actor, talk, entry, turn)
         if actor == "apply":
             self.tool.applier_turn(turn)
+
+    def lose_answer(self, actor, talk, entry, is_done, polls):
+        """The session is lost after its call, before the answer is heard."""
+        call, is_over = talk.call, talk.polls + polls == self.longest_wait(actor)
+        entry.note = "lost"
+        entry.answer = loss_text(is_done, is_done and self.told(call, talk)[0] == "refused", is_over)
+        self.count("losses after a call")
+        if is_done and call.what == "rename" and isinstance(talk.result, Ok):
+            self.renamed()
+        if not is_done or actor in self.early:
+            self.count("losses of a call that waits")
+        self.lost(actor, call)
 
     def has_name(self, actor):
         """Whether a client's transaction used the table in a line before."""
@@ -521,10 +549,15 @@ class Rehearsal:
             self.count(f"waits seen, for a {talk.seen_at[1] if talk.seen_at else 'row'}")
             if talk.call.what == "rename":
                 self.tool.rename_waits()
-        entry.wait, entry.note = talk.wait, "waits"
+        entry.wait, entry.note, entry.answer = talk.wait, "waits", "waits"
         talk.polls += polls
-        if talk.polls == self.options["client_wait" if actor in self.clients else "tool_wait"]:
+        if talk.polls == self.longest_wait(actor):
+            entry.answer = f"timeout {talk.polls}"
             self.time_out(actor, talk, entry)
+
+    def longest_wait(self, actor):
+        """How often a wait is polled until it is over."""
+        return self.options["client_wait" if actor in self.clients else "tool_wait"]
 
     def time_out(self, actor, talk, entry):
         if actor in self.early:
@@ -571,6 +604,7 @@ class Rehearsal:
     def answer(self, actor, talk, entry, turn):
         call, talk.call = talk.call, None
         told = self.told(call, talk)
+        entry.answer = answer_text(told)
         self.count(f"answers of {'clients' if actor in self.clients else 'the tool'}")
         if told[0] == "refused" and told[1] == 1213:
             raise Stop(self.deadlock(actor), f"{actor}: {call.lines[-1]}")
@@ -590,6 +624,7 @@ class Rehearsal:
         if told[0] == "refused" and told[1] == 1146:
             raise Stop("a client's table is missing", f"{actor}: {client.lines[client.at]}")
         entry.reply = (actor, *self.reply_of(client, told))
+        entry.answer = entry.reply[1].partition(" ")[2]
         transaction = client.transaction
         if client.answered():
             self.history.append(f"{actor}.{transaction}")

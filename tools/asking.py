@@ -1,7 +1,11 @@
 """Asks the program which plans it refuses, and where."""
 import json
+import os
 import re
 import subprocess
+import sys
+
+GHOST = f"{os.path.dirname(os.path.dirname(os.path.realpath(__file__)))}/ghost"
 
 REFUSAL = re.compile(r"refused (\d+) (\w+)(?: (.*))?\n")
 
@@ -21,6 +25,14 @@ def refusal_in(printed):
     """The refusal that the program printed, or none."""
     found = REFUSAL.fullmatch(printed)
     return Refusal(int(found[1]), found[2], found[3] or "") if found else None
+
+
+def program_here():
+    """The path of the program that `./ghost` has; where there is none, `./ghost` has said why."""
+    ran = subprocess.run([GHOST, "--path"], stdin=subprocess.DEVNULL, stdout=subprocess.PIPE)
+    if ran.returncode != 0:
+        sys.exit(ran.returncode)
+    return os.fsdecode(ran.stdout.rstrip(b"\n"))
 
 
 class Program:

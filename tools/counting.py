@@ -2,7 +2,7 @@
 import collections
 
 from calls import COPY
-from facts import TABLE_LOCK, attempts, begun_again, changes_applied, curves, mark, spans, waits
+from facts import TABLE_LOCK, attempts, begun_again, changes_applied, curves, mark, setups_begun_again, spans, waits
 from traces import name_of
 
 # A statement that the server doesn't run: the load that was meant wasn't there.
@@ -58,6 +58,7 @@ class Numbers:
         yield "turns", len(trace.turns)
         yield "turn of the ALTER", mark(trace) or "none"
         yield "attempts at the cut-over", len(self.attempts)
+        yield "setups that were begun again", setups_begun_again(trace)
         yield "chunks that were begun again", begun_again(trace, "copy")
         yield "batches that were begun again", begun_again(trace, "apply")
         yield "turns under the table's lock", sum(span.last - span.first for span in self.locks)

@@ -2,7 +2,7 @@
 import collections
 import re
 
-from calls import BEGIN, CHANGE, COMMIT, COPY, HINT, LOG_END, READ, ROLLBACK, SPAN, UNLOCK, is_begin, is_end
+from calls import BEGIN, CHANGE, COMMIT, COPY, HINT, LOG_END, RANGE, READ, ROLLBACK, SPAN, UNLOCK, is_begin, is_end
 
 CHANGES = re.compile(r"(?i)(?:insert\s+into|replace\s+into|update|delete\s+from)\s+(`(?:[^`]|``)+`|\w+)")
 CHUNK, TRANSACTION, BATCH, TABLE_LOCK = "chunk locked, shared", "transaction open", "batch open", "table locked"
@@ -81,6 +81,18 @@ def begun_again(trace, actor):
     return failed
 
 
+def setups_begun_again(trace):
+    """How often the setup failed: before its last call was answered the inspector's session was lost in a call, or a wait timed out."""
+    failed, is_waiting = 0, False
+    for turn in trace.turns:
+        if turn.actor == "insp":
+            if turn.call == RANGE and turn.is_done() and not turn.is_loss():
+                break
+            failed += turn.is_timeout() or turn.is_loss() and (turn.asked != "cut" or is_waiting)
+            is_waiting = turn.is_wait()
+    return failed
+
+
 def attempts(trace):
     """The turns in which an attempt at the cut-over began."""
     return [turn.number for turn in trace.turns if turn.call.startswith("create the sentry") and turn.asked == "call"]
@@ -125,7 +137,7 @@ class Events:
 
     def __init__(self, trace):
         self.table, self.most, self.mark = trace.table(), trace.option("dml_batch_size", 10), mark(trace)
-        self.unread, self.open, self.batch, self.is_applying = 0, {}, 0, False
+        self.unread, self.open, self.batch, self.is_applying, self.has_begun = 0, {}, 0, False, False
         self.passing = reads_of_nothing(trace)
 
     def took(self, turn):
@@ -135,11 +147,13 @@ class Events:
             self.client(turn)
         elif turn.call == LOG_END or turn.asked == "rename":
             # (here the applier begins; and it is asked for the RENAME once all is read)
-            self.unread = 0
+            self.unread, self.has_begun = 0, True
         elif turn.call == HINT and turn.is_done():
             self.unread += 1
         elif turn.actor == "apply":
             self.applier(turn)
+        if not self.has_begun:
+            self.unread = 0
 
     def client(self, turn):
         """An event is logged for each row changed, at the COMMIT."""

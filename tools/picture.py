@@ -103,7 +103,7 @@ class Timeline:
             picture.dot(x + TURN // 2, y + 14, 4, fill)
         else:
             picture.box(x + 4, y + 4, TURN - 8, 20, fill, rx=4)
-            picture.text(x + TURN // 2, y + 18, str(turn.number), fill="#ffffff", text_anchor="middle", font_size=10)
+            picture.text(x + TURN // 2, y + 18, str(turn.number), fill="#ffffff", text_anchor="middle", font_size=min(10, 40 // len(str(turn.number))))
         word = word_over(turn)
         if word:
             picture.text(x + TURN // 2, y + 1, word, font_size=8, text_anchor="middle", fill="#333333")

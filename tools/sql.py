@@ -114,6 +114,12 @@ def closing(words, at):
     return len(words)
 
 
+def is_whole(words):
+    """Whether each quote and each parenthesis that opens closes. (An open quote is read as a sign.)"""
+    depth = sum(word.is_sign("(") - word.is_sign(")") for word in words)
+    return depth == 0 and not any(word.is_sign("'", '"', "`") for word in words)
+
+
 def split(words, sign=","):
     """The parts of words between signs that stand outside parentheses; empty parts are none."""
     parts, part, depth = [], [], 0

@@ -67,7 +67,10 @@ class Sweep:
             raise Refused(ran.stdout.decode("utf-8", "replace").strip())
         if ran.returncode not in (0, 3, 7):
             raise OSError(None, f"the program ended with status {ran.returncode}", self.program)
-        return Ending(ran.stdout.decode("utf-8", "replace"))
+        ending = Ending(ran.stdout.decode("utf-8", "replace"))
+        if not ending.verdict:
+            raise OSError(None, "the program printed no report", self.program)
+        return ending
 
     def turns_of(self):
         """The actors with sessions, and how many turns each took."""

@@ -286,7 +286,9 @@ class Tables:
         if clause[0].is_word("ADD") and len(clause) > 1 and self.is_constraint(clause[1:]):
             self.add_keys([clause[1:]], table)
         elif clause[0].is_word("MODIFY") and position(clause, "AUTO_INCREMENT") is not None:
-            column = table.columns[clause[2 if clause[1].is_word("COLUMN") else 1].name().lower()]
+            column = table.columns.get(clause[2 if clause[1].is_word("COLUMN") else 1].name().lower())
+            if column is None:
+                return False
             self.attribute(column, clause, position(clause, "AUTO_INCREMENT"), self.place(clause))
         elif clause[0].is_word("AUTO_INCREMENT"):
             self.options(clause, table)
@@ -395,7 +397,12 @@ class Tables:
         return [word.name().lower() for word in words[opening + 1 : closing(words, opening)] if word.is_name()]
 
     def row(self, words, names, table, shorten):
-        given = dict(zip(names, split(words[1:-1])))
+        values, unknown = split(words[1:-1]), [name for name in names if name not in table.all_columns]
+        if unknown or len(values) != len(names):
+            why = f"there is no column {unknown[0]}" if unknown else f"it has {len(values)} values, and there are {len(names)} columns"
+            self.notes.leave(self.place(words), f"a row of {table.name}: {why} (58)")
+            return written(words)
+        given = dict(zip(names, values))
         texts = []
         for name, column in table.columns.items():
             text = self.stored(column, given.get(name), table, words, shorten)

@@ -1,5 +1,4 @@
 """Tests of `tools/convert`: the files of `converted` with their plans and notes to the byte, and what a file may be."""
-import contextlib
 import importlib.machinery
 import importlib.util
 import io
@@ -22,27 +21,18 @@ SCRIPT = importlib.util.module_from_spec(importlib.util.spec_from_loader("conver
 LOADER.exec_module(SCRIPT)
 
 
-class Output(io.StringIO):
-    """Standard output, whose bytes are kept too."""
-
-    def __init__(self):
-        super().__init__()
-        self.buffer = io.BytesIO()
-
-
 def convert(*words, folder=CASES):
-    """Runs the script in this process, in a folder."""
-    out, err, here = Output(), io.StringIO(), os.getcwd()
+    """Runs the script in this process, in a folder; what it writes is kept."""
+    printed, here, status = {1: io.BytesIO(), 2: io.BytesIO()}, os.getcwd(), 0
     os.chdir(folder)
+    SCRIPT.STREAMS.put = lambda number, data: printed[number].write(data)
     try:
-        with contextlib.redirect_stdout(out), contextlib.redirect_stderr(err):
-            SCRIPT.main([str(word) for word in words])
-            status = 0
+        SCRIPT.main([str(word) for word in words])
     except SystemExit as end:
         status = end.code or 0
     finally:
         os.chdir(here)
-    return subprocess.CompletedProcess(words, status, out.buffer.getvalue() + out.getvalue().encode(), err.getvalue().encode())
+    return subprocess.CompletedProcess(words, status, printed[1].getvalue(), printed[2].getvalue())
 
 
 class Converted(unittest.TestCase):
@@ -104,10 +94,33 @@ class Files(unittest.TestCase):
 
     def test_words(self):
         self.assertIn(b"usage: tools/convert FILE.sql --alter TEXT", convert("--help").stdout)
-        for words in ([], ["t.sql"], ["t.sql", "--alter", "x", "--rows", "many"], ["t.sql", "--alter", "x", "--frob"]):
+        rows = [["t.sql", "--alter", "x", "--rows", number] for number in ("many", "-3")]
+        for words in ([], ["t.sql"], *rows, ["t.sql", "--alter", "x", "--frob"]):
             ran = convert(*words, folder=self.folder)
             self.assertEqual((ran.returncode, ran.stdout), (2, b""))
-            self.assertIn(b"tools/convert: error: ", ran.stderr)
+            self.assertRegex(ran.stderr, rb"\Aconvert: .*\n\nMakes a plan of tables")
+
+    def test_files_that_are_cut_off(self):
+        """A dump that ends within a statement gives no plan, wherever it ends."""
+        first, second = "CREATE TABLE t (id INT PRIMARY KEY, a VARCHAR(9))", ";\nINSERT INTO t VALUES (1, 'a'), (2, 'it''s')"
+        for text in (f"{first[:end]}" for end in range(len("CREATE TABLE t ("), len(first))):
+            self.write("t.sql", text)
+            self.fails(1, "convert: t.sql:1: CREATE TABLE t ( .. isn't whole: a quote or a parenthesis is open. Is the file cut off?\n", "t.sql", "--alter", "x")
+        for end in [len(";\nINSERT INTO t VALUES ("), second.index(", 'a'") + 3, second.index("'s'"), len(second) - 1]:
+            self.write("t.sql", first + second[:end])
+            self.fails(1, "convert: t.sql:2: INSERT INTO t VALUES .. isn't whole: a quote or a parenthesis is open. Is the file cut off?\n", "t.sql", "--alter", "x")
+
+    def test_rows_that_do_not_fit(self):
+        """A row with another number of values than columns, or of a column that isn't there, is left for the program to refuse."""
+        table = "CREATE TABLE t (id INT PRIMARY KEY, a INT);\n"
+        for insert, row, why in (
+            ("INSERT INTO t VALUES (1)", "(1)", "it has 1 values, and there are 2 columns"),
+            ("INSERT INTO t VALUES (1, 2, 3)", "(1, 2, 3)", "it has 3 values, and there are 2 columns"),
+            ("INSERT INTO t (id, b) VALUES (1, 2)", "(1, 2)", "there is no column b"),
+        ):
+            plan, notes = self.convert(table + insert, "--alter", "ADD c INT")
+            self.assertEqual(plan["tables"][0]["rows"], [row])
+            self.assertTrue(notes.startswith(f"2: left as it is: a row of t: {why} (58)\n"), notes)
 
     def test_standard_input(self):
         words = [TOOLS / "convert", "-", "--alter", "ADD a INT"]

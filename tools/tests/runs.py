@@ -84,6 +84,15 @@ class Looked(unittest.TestCase):
         self.assertLess(len(picture), 250_000)
         ElementTree.fromstring(picture)
 
+    def test_setups(self):
+        """A setup whose session is lost in a call begins again; one that is lost between two calls goes on."""
+        plan, _, _ = trace("beside").partition(b"#journal\n")
+        lines = ["call other", "call-before lost", "call other", "cut lost", "call ok 0", "call-after lost done"]
+        lines += ["call other", *["call ok 0"] * 4, "call other", "call other", "call-before lost"]
+        text = "".join(f"{number} insp {line}\n" for number, line in enumerate(lines, 1))
+        _, printed, _ = run("stats", given=plan + b"#journal\n" + text.encode() + b"unfinished\ntables t\n")
+        self.assertRegex(printed, r"(?m)^setups that were begun again +2$")
+
     def test_no_turns(self):
         plan, _, _ = trace("beside").partition(b"#journal\n")
         for words in ([], ["--table"], ["--overview"]):

@@ -13,6 +13,8 @@ pub enum Statement {
         columns: Option<Names>,
         /// The values, in the order of the columns.
         values: Row,
+        /// The number that is generated for the AUTO_INCREMENT column; none in the statement as it is written.
+        drawn: Option<u64>,
     },
     /// REPLACE INTO table [(columns)] VALUES (values).
     Replace {
@@ -22,6 +24,8 @@ pub enum Statement {
         columns: Option<Names>,
         /// The values, in the order of the columns.
         values: Row,
+        /// The number that is generated for the AUTO_INCREMENT column; none in the statement as it is written.
+        drawn: Option<u64>,
     },
     /// DELETE FROM table [WHERE condition].
     Delete {
@@ -139,11 +143,13 @@ impl Drop for Statement {
                 table,
                 columns,
                 values,
+                drawn: _,
             }
             | Statement::Replace {
                 table,
                 columns,
                 values,
+                drawn: _,
             } => {
                 drop(table);
                 drop(columns);
@@ -221,19 +227,23 @@ impl Duplicate for Statement {
                 table,
                 columns,
                 values,
+                drawn,
             } => Statement::Insert {
                 table: table.copy()?,
                 columns: columns.copy()?,
                 values: values.copy()?,
+                drawn: *drawn,
             },
             Statement::Replace {
                 table,
                 columns,
                 values,
+                drawn,
             } => Statement::Replace {
                 table: table.copy()?,
                 columns: columns.copy()?,
                 values: values.copy()?,
+                drawn: *drawn,
             },
             Statement::Delete { table, condition } => Statement::Delete {
                 table: table.copy()?,

@@ -1,4 +1,5 @@
 -- Schemas of tables, and the order in which a table keeps its rows.
+pub mod AutoIncrement
 pub mod ClusteredKey
 pub mod KeyedRows
 pub mod Laws

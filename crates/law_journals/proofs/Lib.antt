@@ -1,3 +1,4 @@
 pub mod HintRows
+pub mod LeastCauses
 pub mod Refusals
 pub mod Sums

@@ -1,4 +1,5 @@
 pub mod Bounds
+pub mod Causes
 pub mod HintRows
 pub mod Orders
 pub mod Refusals

@@ -1,11 +1,16 @@
-//! That the cause which a verdict names is in the journal, and that no panic and no row that doesn't fit comes before it.
+//! That the cause which a verdict names is in the journal, and that none is before it.
 
 ghost use Rattle.proof_migration.specs.Attempt.Verdicts.{PanicsStand, SpentTasksStand, SpentAttemptsStand};
 ghost use Rattle.proof_migration.specs.Attempt.Causes.{SpentCutOversStand};
 ghost use Rattle.proof_migration.specs.Unfit.{UnfitRowsStand};
-ghost use Rattle.proof_order.specs.Laws.{PanicsAreLate, UnfitRowsAreLate};
+ghost use Rattle.proof_order.specs.Laws.{CausesAreLeast, PanicsAreLate, UnfitRowsAreLate};
+ghost use Rattle.law_journals.specs.Causes.{AcceptedCausesAreLeast};
 
-use crate::plans::alterable_plans_are_runnable;
+use crate::bounds::{batches_go_on, inspectors_never_wait, tries_are_few};
+use crate::plans::{
+    alterable_plans_are_runnable, read_options_allow, read_plans_are_runnable,
+    read_plans_are_serial,
+};
 use base_values::laws::stored_values_store_again;
 
 /// Where all was reverted because of panic, the operator commanded it in the turn that the verdict names.
@@ -48,3 +53,23 @@ pub fn panics_are_late()
 pub fn unfit_rows_are_late()
     ensures { UnfitRowsAreLate }
 {}
+
+/// Whatever stands in the journal of a run, the verdict's cause stands by an earlier turn, or by the same turn. Then a row that
+/// doesn't fit comes before a task that is spent, and the cut-over last.
+pub fn causes_are_least()
+    ensures { CausesAreLeast }
+{
+    inspectors_never_wait();
+    batches_go_on();
+    tries_are_few();
+}
+
+/// So it is in every run of every accepted plan.
+pub fn accepted_causes_are_least()
+    ensures { AcceptedCausesAreLeast }
+{
+    causes_are_least();
+    read_options_allow();
+    read_plans_are_runnable();
+    read_plans_are_serial();
+}

@@ -1,1 +1,5 @@
+pub mod Growing
+mod Leading
+pub mod Marked
+mod Standing
 mod Together

@@ -55,7 +55,7 @@ plan_altered plan = altered_in plan (find_table plan.table plan.tables)
 
 -- the migrated table's schema, and what the ALTER makes of it. (An accepted plan has both; another has this empty one.)
 abbrev pub no_schema : Schema
-no_schema = record { name = []; columns = []; uniques = []; indexes = []; comment = [] }
+no_schema = record { name = []; columns = []; uniques = []; indexes = []; comment = []; start = None }
 
 abbrev pub old_schema : PlanData → Schema
 old_schema plan = unwrap_or (option_map (λ table. table.schema) (find_table plan.table plan.tables)) no_schema

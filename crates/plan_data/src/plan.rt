@@ -12,7 +12,7 @@ use base_values::gho_schema::Schema;
 use base_values::row_conversion::{Clauses, ColumnMap};
 use base_values::{Name, Sequence};
 use std::marker::Model;
-use table_store::Tables;
+use table_store::paged_tables::Tables;
 
 /// The most clients that a plan has. This project's rule.
 pub const CLIENT_LIMIT: usize = 64;

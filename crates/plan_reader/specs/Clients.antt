@@ -44,8 +44,8 @@ shows_rows shown.Count = false
 -- a SELECT that may show many rows
 abbrev pub is_open : Statement → Bool
 is_open (Select table selected condition) = shows_rows selected && not (is_equality condition)
-is_open (Insert table columns values) = false
-is_open (Replace table columns values) = false
+is_open (Insert table columns values drawn) = false
+is_open (Replace table columns values drawn) = false
 is_open (Delete table condition) = false
 is_open (Update table sets condition) = false
 

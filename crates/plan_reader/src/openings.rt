@@ -24,7 +24,8 @@ use plan_keys::PlanKeys;
 use sql_alter::read_alter;
 use sql_change::altered;
 use std::alloc::{AllocError, Global};
-use table_store::{Table, Tables};
+use table_store::paged_tables::Tables;
+use table_store::paged_tables::row_pages::Table;
 use tool_changelog::SENTRY_COMMENT;
 
 /// What exists before the migration, and what the ALTER makes of it.

@@ -25,7 +25,7 @@ use Rattle.server_model.specs.Entries.{is_cut}
 use Rattle.server_model.specs.States.{State, has_work}
 use Rattle.plan_data.specs.PlanData.{PlanData}
 use Rattle.tool_changelog.specs.ToolTables.{sentry_schema}
-use Rattle.tool_program.specs.JournalWords.Journals.{state_at}
+use Rattle.tool_program.specs.JournalWords.Journals.{state_at, IsFaithful}
 use Rattle.tool_program.specs.declared.chunk_copier.copier.Copier.{Copier}
 use Rattle.tool_program.specs.declared.event_applier.applier.Applier.{Applier}
 use Rattle.tool_program.specs.declared.cutover_core.cutover.Clearing.TheVariants.{Looking}
@@ -445,9 +445,16 @@ module _ (plan : PlanData) (some : 1 ≤ plan.options.default_retries) where
   unfolding moment
   begun_begins = record { together = together_begins plan; fits = tt }
 
+all_begun : (plan : PlanData) (some : 1 ≤ plan.options.default_retries) (journal : List Entry) → IsFaithful plan journal → Follows plan journal → IsBegun plan some journal
+unfolding Follows
+all_begun plan some journal faithful follows = Along-keeps (IsRun plan) (IsBegun plan some) (λ before entry run is. begun_more plan some before entry run is) [] journal (all_runs plan [] journal faithful follows) (begun_begins plan some)
+
 -- *Attempts are few*
 pub attempts_few : AttemptsAreFew
-unfolding Follows
-attempts_few plan journal work some faithful follows eq =
-    let is = Along-keeps (IsRun plan) (IsBegun plan some) (λ before entry run is. begun_more plan some before entry run is) [] journal (all_runs plan [] journal faithful follows) (begun_begins plan some) in
-    (subst (ToolPhaseBegun plan (is_reverting (moment plan journal).tool.reason)) eq is.fits).most
+attempts_few plan journal work some faithful follows eq = (subst (ToolPhaseBegun plan (is_reverting (moment plan journal).tool.reason)) eq (all_begun plan some journal faithful follows).fits).most
+
+-- *Attempts are left*: while nothing is reverted, and until the RENAME is known to be done, fewer have failed than the plan lets
+pub attempts_left : (plan : PlanData) (journal : List Entry) (work : Work) → 1 ≤ plan.options.default_retries → IsFaithful plan journal → Follows plan journal → (moment plan journal).tool.tool_phase ≡ Migrating work → is_reverting (moment plan journal).tool.reason ≡ false → is_done work.cutover.phase ≡ false
+    → length work.attempt_tries < plan.options.default_retries
+attempts_left plan journal work some faithful follows eq going undone =
+    ((subst (ToolPhaseBegun plan (is_reverting (moment plan journal).tool.reason)) eq (all_begun plan some journal faithful follows).fits).goes going undone).0

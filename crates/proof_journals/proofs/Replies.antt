@@ -161,8 +161,8 @@ works_or (Err e) is = is
 
 work_replies : (schema : Schema) (statement : Statement) → WorkReplies (work_of schema statement)
 unfolding work_of
-work_replies schema (statements.Insert table columns values) = or_replies (new_row schema columns values) Insert (new_replies schema columns values) (λ row. tt)
-work_replies schema (statements.Replace table columns values) = or_replies (new_row schema columns values) Replace (new_replies schema columns values) (λ row. tt)
+work_replies schema (statements.Insert table columns values drawn) = or_replies (new_row schema columns values) Insert (new_replies schema columns values) (λ row. tt)
+work_replies schema (statements.Replace table columns values drawn) = or_replies (new_row schema columns values) Replace (new_replies schema columns values) (λ row. tt)
 work_replies schema (statements.Delete table condition) = or_replies (reach_of schema condition) Delete (reach_replies schema condition) (λ reach. tt)
 work_replies schema (statements.Update table sets condition) =
     works_or (update_of schema sets condition)

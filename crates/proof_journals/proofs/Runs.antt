@@ -55,10 +55,10 @@ use Rattle.server_model.specs.Listings.{events_read, read_from, tables_shown, wa
 use Rattle.tool_program.specs.JournalWords.Journals.{opens_if, state_after}
 
 col : List ℕ → ℕ → Column
-col name bytes = record { name = name; kind = Int bytes false; nullable = false; default = None }
+col name bytes = record { name = name; kind = Int bytes false; nullable = false; default = None; auto = false }
 
 keyed : List ℕ → List Column → Schema
-keyed name columns = record { name = name; columns = columns; uniques = record { name = None; places = 0 ∷ [] } ∷ []; indexes = []; comment = [] }
+keyed name columns = record { name = name; columns = columns; uniques = record { name = None; places = 0 ∷ [] } ∷ []; indexes = []; comment = []; start = None }
 
 n : ℕ → Value
 n k = Num (pos k)
@@ -90,7 +90,7 @@ statement_result : Statement → Request
 statement_result statement = requests.Do statement
 
 put : ℕ → Statement
-put k = statements.Insert (codes "t") None (n k ∷ [])
+put k = statements.Insert (codes "t") None (n k ∷ []) None
 
 exchange : List Pair
 exchange = record { old = codes "t"; new = codes "d" } ∷ record { old = codes "g"; new = codes "t" } ∷ []
@@ -99,7 +99,7 @@ exchange = record { old = codes "t"; new = codes "d" } ∷ record { old = codes 
 turns : List Turn
 turns =
     by 1 requests.Begin ∷ by 1 (statement_result (put 2)) ∷ by 11 (Create (keyed (codes "d") (col (codes "id") 4 ∷ []))) ∷ by 11 (LockTables (codes "t" ∷ codes "d" ∷ [])) ∷ by 2 (statement_result (put 3))
-    ∷ by 1 requests.Commit ∷ poll 11 ∷ by 11 (Ends (codes "g")) ∷ by 13 (statement_result (statements.Replace (codes "g") None (n 2 ∷ n 7 ∷ []))) ∷ by 12 (Rename exchange) ∷ by 13 ShowWaiting
+    ∷ by 1 requests.Commit ∷ poll 11 ∷ by 11 (Ends (codes "g")) ∷ by 13 (statement_result (statements.Replace (codes "g") None (n 2 ∷ n 7 ∷ []) None)) ∷ by 12 (Rename exchange) ∷ by 13 ShowWaiting
     ∷ by 11 (Drop (codes "d")) ∷ poll 2 ∷ by 11 Unlock ∷ poll 2 ∷ by 13 (ReadLog 0 5 (codes "t" ∷ [])) ∷ poll 12 ∷ poll 2 ∷ by 13 ShowTables ∷ by 13 LogEnd ∷ []
 
 reported : List PlainItem → List (List Reply)
@@ -162,7 +162,7 @@ lost session asked side = record { actor = actor_of session; session = session; 
 losses : List Turn
 losses =
     by 1 requests.Begin ∷ by 1 (statement_result (put 2)) ∷ by 3 (statement_result (put 2)) ∷ record { actor = actor_of 3; session = 3; asked = Cut; side = None } ∷ lost 1 (Call requests.Commit) After
-    ∷ by 13 (statement_result (statements.Replace (codes "g") None (n 2 ∷ n 7 ∷ []))) ∷ lost 12 (Call (Rename exchange)) After ∷ lost 4 (Call (statement_result (put 5))) Before ∷ by 5 (statement_result (put 6)) ∷ []
+    ∷ by 13 (statement_result (statements.Replace (codes "g") None (n 2 ∷ n 7 ∷ []) None)) ∷ lost 12 (Call (Rename exchange)) After ∷ lost 4 (Call (statement_result (put 5))) Before ∷ by 5 (statement_result (put 6)) ∷ []
 
 -- 1 was done though its COMMIT was lost, 3 and 4 did nothing, the ALTER stands where its answer was missed, 5 meets the new table
 losses_are : reported (history limits scene (journal_of limits scene losses)) ≡ [] ∷ (replies.Ok 0 ∷ replies.Ok 1 ∷ []) ∷ [] ∷ [] ∷ (replies.Error 1136 ∷ []) ∷ []

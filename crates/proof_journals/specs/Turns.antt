@@ -73,10 +73,10 @@ pub record Turn : Type 0 where
   pub side : Option Side
 
 abbrev pub unanswered : Turn → Entry
-unanswered turn = record { actor = turn.actor; session = turn.session; asked = turn.asked; side = turn.side; answer = ok; missed = None }
+unanswered turn = record { actor = turn.actor; session = turn.session; asked = turn.asked; side = turn.side; answer = ok; missed = None; draw = None }
 
 abbrev pub answered : State → Turn → Entry
-answered state turn = record { actor = turn.actor; session = turn.session; asked = turn.asked; side = turn.side; answer = answer_at turn.side (inner state (unanswered turn)); missed = missed_at turn.side (inner state (unanswered turn)) }
+answered state turn = record { actor = turn.actor; session = turn.session; asked = turn.asked; side = turn.side; answer = answer_at turn.side (inner state (unanswered turn)); missed = missed_at turn.side (inner state (unanswered turn)); draw = None }
 
 unfoldable pub kept_from : State → List Turn → List Entry
 kept_from state [] = []

@@ -11,3 +11,4 @@ pub mod Migration
 pub mod ToolPhase
 pub mod Attempt
 pub mod Program
+pub mod KeptJournals

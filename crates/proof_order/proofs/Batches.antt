@@ -217,7 +217,7 @@ module _ (plan : PlanData) (journal : List Entry) (entry : Entry) (turn : ℕ) (
     doing_is = ap (λ (e : List RowEvent). doing_in part (slice_get (planned applier e) done)) events_are ∙ ap (doing_in part) is ∙ ap Some (whole part)
 
     put_so : requests.Do (statement_of applier (Putting row)) ≡ requests.Do (replaces plan row)
-    put_so = ap (λ (n : List ℕ). requests.Do (statements.Replace n None (given_values applier.map row))) named ∙ ap (λ (m : List MapColumn). requests.Do (statements.Replace (ghost_name plan.table) None (given_values m row))) map
+    put_so = ap (λ (n : List ℕ). requests.Do (statements.Replace n None (given_values applier.map row) None)) named ∙ ap (λ (m : List MapColumn). requests.Do (statements.Replace (ghost_name plan.table) None (given_values m row) None)) map
 
     one : requests.Do statement ≡ requests.Do (replaces plan row) → statement ≡ replaces plan row
     one both = let same : statement ≡ replaces plan row = cc in same

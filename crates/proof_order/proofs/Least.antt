@@ -32,12 +32,12 @@ use Rattle.proof_order.proofs.Grounds.{turn_of, IsNow, Follows, reason_more}
 -- A JOURNAL, TURN BY TURN
 
 -- the entries before a turn, and those after it
-record IsSplit (journal : List Entry) (before : ℕ) (entry : Entry) : Type 0 where
-  rest : List Entry
-  whole : journal ≡ take before journal ++ entry ∷ rest
-  long : length (take before journal) ≡ before
+pub record IsSplit (journal : List Entry) (before : ℕ) (entry : Entry) : Type 0 where
+  pub rest : List Entry
+  pub whole : journal ≡ take before journal ++ entry ∷ rest
+  pub long : length (take before journal) ≡ before
 
-split : (journal : List Entry) (before : ℕ) (entry : Entry) → slice_get journal before ≡ Some entry → IsSplit journal before entry
+pub split : (journal : List Entry) (before : ℕ) (entry : Entry) → slice_get journal before ≡ Some entry → IsSplit journal before entry
 split [] before entry is = absurd cc
 split (first ∷ journal) zero entry is = let same : first ≡ entry = cc in record { rest = journal; whole = ap (λ (e : Entry). e ∷ journal) same; long = refl }
 split (first ∷ journal) (suc before) entry is =
@@ -148,7 +148,7 @@ module _ (plan : PlanData) where
 
 -- PANIC
 
-panic_reverts : (plan : PlanData) (front : List Entry) (entry : Entry) → entry.asked ≡ Command Panic → is_renamed (moment plan front).tool.tool_phase ≡ false → is_reverting (moment plan (front ++ entry ∷ [])).tool.reason ≡ true
+pub panic_reverts : (plan : PlanData) (front : List Entry) (entry : Entry) → entry.asked ≡ Command Panic → is_renamed (moment plan front).tool.tool_phase ≡ false → is_reverting (moment plan (front ++ entry ∷ [])).tool.reason ≡ true
 unfolding took
 panic_reverts plan front entry asks off =
     subst (λ (m : Moment). is_reverting m.tool.reason ≡ true) (sym (moment_more plan front entry)) (subst (λ (a : Asked). is_reverting (Rattle.tool_program.specs.Tools.asked_took plan (moment plan front).server entry a tool).reason ≡ true) (sym asks) (by (is_renamed tool.tool_phase) off)) where

@@ -192,7 +192,7 @@ module _ (plan : PlanData) (front : List Entry) (entry : Entry) (kept : IsKept p
   served : IsServed plan front entry
   served = record { answered = run.answered; seated = record { session = run.followed.session } }
 
-  no_cut : entry.asked ≡ Cut → ⊥
+  pub no_cut : entry.asked ≡ Cut → ⊥
   no_cut cut = no (sym (by entry.side refl) ∙ refused) where
     no : answers.Lost ≡ answers.Refused number (Some place) → ⊥
     no both = cc
@@ -254,14 +254,20 @@ module _ (plan : PlanData) (front : List Entry) (entry : Entry) (kept : IsKept p
       (applier_reverts plan entry.answer work tool place number going off (ap (appliers.progress work.applier) refused ∙ applies_unfit work.applier work.applier.step request place number kind (takes request (about_own Apply request who about)))))
 
   -- *A row that doesn't fit reverts all*
-  unfit_reverts : (entry.actor ≡ Copy) ⊎ (entry.actor ≡ Apply) → is_reverting (moment plan (front ++ entry ∷ [])).tool.reason ≡ true
+  pub copier_reverted : entry.actor ≡ Copy → is_reverting (actor_took plan Copy entry.answer now.tool.tool_phase tool).reason ≡ true
   unfolding given
-  unfit_reverts (inl who) = heard Copy who (λ same. cc) (copier_here who (asking plan front Copy entry.asked together.server (gives Copy who)) now.tool.tool_phase refl)
-  unfit_reverts (inr who) =
-      heard Apply who (λ same. cc) (drain_keeps plan (actor_took plan Apply entry.answer now.tool.tool_phase tool) (applier_here who (asking plan front Apply entry.asked together.server (gives Apply who)) now.tool.tool_phase refl))
+  copier_reverted who = copier_here who (asking plan front Copy entry.asked together.server (gives Copy who)) now.tool.tool_phase refl
+
+  pub applier_reverted : entry.actor ≡ Apply → is_reverting (actor_took plan Apply entry.answer now.tool.tool_phase tool).reason ≡ true
+  unfolding given
+  applier_reverted who = applier_here who (asking plan front Apply entry.asked together.server (gives Apply who)) now.tool.tool_phase refl
+
+  pub unfit_reverts : (entry.actor ≡ Copy) ⊎ (entry.actor ≡ Apply) → is_reverting (moment plan (front ++ entry ∷ [])).tool.reason ≡ true
+  unfit_reverts (inl who) = heard Copy who (λ same. cc) (copier_reverted who)
+  unfit_reverts (inr who) = heard Apply who (λ same. cc) (drain_keeps plan (actor_took plan Apply entry.answer now.tool.tool_phase tool) (applier_reverted who))
 
 -- the row concerned is the copier's or the applier's
-concerned_by : (plan : PlanData) (earlier : List Entry) (before : Moment) (actor : Actor) (key row : List Value) → concerned plan earlier before actor key ≡ Some row → (actor ≡ Copy) ⊎ (actor ≡ Apply)
+pub concerned_by : (plan : PlanData) (earlier : List Entry) (before : Moment) (actor : Actor) (key row : List Value) → concerned plan earlier before actor key ≡ Some row → (actor ≡ Copy) ⊎ (actor ≡ Apply)
 concerned_by plan earlier before Copy key row is = inl refl
 concerned_by plan earlier before Apply key row is = inr refl
 concerned_by plan earlier before Op key row is = absurd cc

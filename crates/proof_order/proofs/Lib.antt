@@ -12,4 +12,5 @@ pub mod Batches
 pub mod BatchTurns
 pub mod Grounds
 pub mod Least
+pub mod LeastCauses
 pub mod LeastUnfit

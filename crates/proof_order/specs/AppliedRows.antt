@@ -49,7 +49,7 @@ batch_at journal = fold (λ batch entry. batch_after entry.actor entry.asked ent
 
 -- REPLACE, into the new table, of what a row of the migrated one is converted to
 abbrev pub replaces : PlanData → List Value → Statement
-replaces plan row = statements.Replace (ghost_name plan.table) None (given_values (new_map plan) row)
+replaces plan row = statements.Replace (ghost_name plan.table) None (given_values (new_map plan) row) None
 
 -- each row that an INSERT logged of the migrated table was put so in this transaction
 abbrev pub InsertsArePut : PlanData → AppliedBatch → Type 0
@@ -57,7 +57,7 @@ InsertsArePut plan batch = (row : List Value) → IsAmong (record { table = plan
 
 -- the applier calls no INSERT, and commits only once all that were logged are put
 abbrev pub IsAppliedCall : PlanData → List Entry → Actor → Request → Type 0
-IsAppliedCall plan before Apply (requests.Do (statements.Insert table columns row)) = ⊥
+IsAppliedCall plan before Apply (requests.Do (statements.Insert table columns row drawn)) = ⊥
 IsAppliedCall plan before Apply requests.Commit = InsertsArePut plan (batch_at before)
 IsAppliedCall plan before actor request = Unit {0}
 

@@ -191,7 +191,7 @@ pub record IsHint (plan : PlanData) (before : List Entry) (table : List ℕ) (ro
   pub locked : is_locked before ≡ true
 
 abbrev pub HintsWell : PlanData → List Entry → Actor → Request → Type 0
-HintsWell plan before Insp (requests.Do (statements.Insert table columns row)) = IsHint plan before table row
+HintsWell plan before Insp (requests.Do (statements.Insert table columns row drawn)) = IsHint plan before table row
 HintsWell plan before actor request = Unit {0}
 
 -- a call of the tool's comes in its order

@@ -3,11 +3,12 @@ use Rattle.std.specs.Prelude.{◌≡◌, ◌≤◌, ℕ, List}
 use Rattle.base_values.specs.declared.value.Value.{Value}
 use Rattle.server_model.specs.declared.outcome.Cause.{Cause}
 use Rattle.server_model.specs.declared.outcome.Verdict.TheVariants.{Reverted}
-use Rattle.tool_program.specs.Failures.{IsPanic, IsUnfit}
+use Rattle.tool_program.specs.Failures.{IsPanic, IsUnfit, Stands}
 use Rattle.tool_program.specs.Verdicts.{verdict_of}
 use Rattle.proof_journals.specs.Machine.FormedPlans.{IsFitting}
 use Rattle.proof_journals.specs.Machine.MigrationTables.{TableExists}
-use Rattle.proof_order.specs.LeastCauses.{last_turn}
+use Rattle.proof_migration.specs.ToolPhase.Runnable.{IsAlterable}
+use Rattle.proof_order.specs.LeastCauses.{last_turn, IsNoLater}
 use Rattle.server_model.specs.declared.entry.Entry.{Entry}
 use Rattle.plan_data.specs.PlanData.{PlanData}
 use Rattle.proof_journals.specs.Plans.{IsSerialPlan}
@@ -39,3 +40,8 @@ PanicsAreLate = (plan : PlanData) (journal : List Entry) (turn : ℕ) (cause : C
 abbrev pub UnfitRowsAreLate : Type 0
 UnfitRowsAreLate =
     (plan : PlanData) (journal : List Entry) (turn : ℕ) (key : List Value) (column : List ℕ) (number : ℕ) (cause : Cause) → IsFitting plan → TableExists plan → IsKept plan journal → IsUnfit plan journal turn key column number → verdict_of plan journal ≡ Reverted cause → last_turn cause ≤ turn
+
+-- *Causes are least*: where all was reverted, the verdict's cause is no later than any that stands, of a plan that allows a try.
+abbrev pub CausesAreLeast : Type 0
+CausesAreLeast =
+    (plan : PlanData) (journal : List Entry) (cause other : Cause) → IsAlterable plan → IsRunnable plan → IsSerialPlan plan → 1 ≤ plan.options.default_retries → IsKept plan journal → Stands plan journal other → verdict_of plan journal ≡ Reverted cause → IsNoLater cause other

@@ -20,7 +20,7 @@ use Rattle.sql_grammar.specs.declared.code.SchemaCode.TheVariants.{BadDefault}
 
 -- a column as it is declared
 abbrev pub made : List ℕ → Kind → Bool → Option Value → Column
-made name kind nullable default = record { name = name; kind = kind; nullable = nullable; default = default }
+made name kind nullable default = record { name = name; kind = kind; nullable = nullable; default = default; auto = false }
 
 stored_is : (r : Result Value Unfit) (default : Option Value) → stored r ≡ Ok default → (value : Value) × (r ≡ Ok value) × (default ≡ Some value)
 stored_is (Ok value) default e = let same : done (Option Value) Unfit (Some value) ≡ done (Option Value) Unfit default = e in (value, refl, sym (ok_is {C = Unfit} (Some value) default same))

@@ -1,5 +1,5 @@
 -- Which schemas the printed text gives again. The functions of `law_texts::schemas` prove each.
-use Rattle.std.specs.Prelude.{◌≡◌, ℕ, ◌<◌, ◌≤◌, Bool, true, false, not, ◌||◌, List, [], ◌∷◌, ◌++◌, length, is_some, Ok}
+use Rattle.std.specs.Prelude.{◌≡◌, ℕ, ◌<◌, ◌≤◌, Bool, true, false, not, ◌||◌, List, [], ◌∷◌, ◌++◌, length, is_some, None, Ok}
 use Rattle.std.specs.List.{filter_map, list_all, AllByRecursion}
 use Rattle.base_values.specs.declared.gho_schema.schema.Column.{Column}
 use Rattle.base_values.specs.declared.gho_schema.schema.Index.{Index}
@@ -32,7 +32,7 @@ has_default column = not column.nullable || is_some column.default
 
 -- What CREATE TABLE gives besides a valid schema, where the table of this name is migrated: names of valid lengths, none of
 -- them kept for the migration's own tables; at most 8 unique keys and 8 others, of different names, the PRIMARY KEY in front; a
--- default of each column that may be null, and defaults that fit together.
+-- default of each column that may be null, and defaults that fit together; no AUTO_INCREMENT.
 pub record IsDeclared (migrated : List ℕ) (schema : Schema) : Type 0 where
   pub name : is_table_name (is_tool_name migrated schema.name) schema.name ≡ true
   pub unreserved : is_reserved (is_tool_name migrated schema.name) schema.name ≡ false
@@ -44,6 +44,8 @@ pub record IsDeclared (migrated : List ℕ) (schema : Schema) : Type 0 where
   pub key_names : names_differ (key_names schema.uniques ++ key_names schema.indexes) ≡ true
   pub has_defaults : AllByRecursion (λ column. has_default column ≡ true) schema.columns
   pub defaults : defaults_fit schema.columns ≡ true
+  pub autos : AllByRecursion (λ column. column.auto ≡ false) schema.columns
+  pub start : schema.start ≡ None
 
 -- The schema of the printed text is the schema that was printed.
 abbrev pub PrintedSchemasAreReadAgain : Type 0

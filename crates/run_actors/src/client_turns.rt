@@ -6,3 +6,5 @@ mod outcome;
 mod requests;
 
 pub use actor_state::ClientState;
+pub use answers::ends;
+pub use outcome::LineOutcome;

@@ -12,7 +12,6 @@ use base_values::RowEvent;
 use plan_data::AlteredSchema;
 use std::alloc::Global;
 use std::thread::Threads;
-use table_store::Table as PlainTable;
 use table_store::paged_tables::row_pages::Table;
 
 /// The altered form of the table that followed the events one by one, made of its opening rows and the events alone, by
@@ -25,7 +24,7 @@ use table_store::paged_tables::row_pages::Table;
 pub fn rebuild<R: Threads + Sync, G: Gate + Sync>(
     rt: &R,
     alloc: Global,
-    opening: &PlainTable,
+    opening: &Table,
     altered: &AlteredSchema,
     events: &[RowEvent],
     workers: u32,
@@ -36,8 +35,9 @@ pub fn rebuild<R: Threads + Sync, G: Gate + Sync>(
     ensures unfit { Finds result (first_unfit altered.now.map 0 (rows_seen opening.now.table.rows (changes_of events.now))) }
 {
     let schema = opening.schema();
+    let rows = opening.copied_rows(alloc)?;
     let inputs = Inputs {
-        opening: opening.rows().as_slice(),
+        opening: rows.as_slice(),
         places: schema.key_places(),
         events,
         altered,

@@ -1,6 +1,6 @@
 -- What is kept of a journal is kept with one turn more.
 use Rattle.std.proofs.Common.{◌≡◌, ℕ, ◌+◌, ◌<◌, ◌^◌, Bool, true, false, ◌||◌, List, [], ◌∷◌, ◌++◌, map, length, cond, Option, Some, None, refl, sym, ap, ◌∙◌, subst, arith}
-use Rattle.std.specs.Prelude.{is_some, Vec}
+use Rattle.std.specs.Prelude.{is_some, ◌≤◌, Vec, vec_len, vec_capacity}
 use Rattle.std.specs.Global.{Global}
 use Rattle.std.specs.List.{list_any}
 use Rattle.std.proofs.lemmas.Bool.{true≢false, false≢true}
@@ -24,14 +24,15 @@ use Rattle.tool_program.specs.Tools as program
 use Rattle.tool_program.specs.Tools.{Moment, new_tool, took, after_turn, moment}
 use Rattle.tool_state.specs.declared.tool_state.tool.Tool.{Tool}
 use Rattle.tool_state.specs.ToolState.Meanings.{tool_of}
-use Rattle.tool_state.specs.ToolState.Sound.{IsSound}
+use Rattle.tool_state.specs.ToolState.Sound.{IsSound, HasRoom, HasSpace, TriesGrow}
+use Rattle.tool_state.proofs.TryTurns.{space_more, has_room as space_is_room}
 use Rattle.run_actors.specs.ActorStates.{actor_state_at, actor_state_after}
 use Rattle.run_actors.proofs.More.{live_more, actor_states_more}
 use Rattle.proof_journals.proofs.Actors.{same_actor_is}
 use Rattle.proof_journals.specs.Run.Counts.{busy_count}
 use Rattle.proof_journals.proofs.Run.Taking.{moment_more, turns_are}
 use Rattle.run_state.specs.declared.run_state.RunState.{RunState}
-use Rattle.run_state.specs.Books.{is_planned, free_actor_state, free_client, AreReached, IsRunState}
+use Rattle.run_state.specs.Books.{is_planned, free_actor_state, free_client, AreReached, HasRoomFor, IsRunState}
 use Rattle.run_state.proofs.Clients.{clients_begin}
 use Rattle.run_state.proofs.ActorStates.{free_actor_states}
 
@@ -104,21 +105,6 @@ run_state_begin plan run_state tool sound names actor_states clients load busy a
 pub tool_turns : (plan : PlanData) (journal : List Entry) (tool : Tool) → tool_of tool ≡ (moment plan journal).tool → tool.turns ≡ length journal
 tool_turns plan journal tool is = ap (λ (t : program.Tool). t.turns) is ∙ turns_are plan journal
 
--- *The same book*, whatever room it has
-pub roomed : (plan : PlanData) (journal : List Entry) (run_state : RunState) (turns : Vec Entry Global) (tool : Tool) → IsRunState plan journal run_state → tool_of tool ≡ tool_of run_state.tool → IsSound plan tool → IsRunState plan journal (record run_state { journal = turns; tool = tool })
-roomed plan journal run_state turns tool is same sound = record {
-  few = is.few;
-  tool = same ∙ is.tool;
-  sound = sound;
-  names = is.names;
-  actor_states = is.actor_states;
-  clients = is.clients;
-  strangers = is.strangers;
-  load = is.load;
-  busy = is.busy;
-  altered = is.altered;
-}
-
 -- what is kept doesn't turn on the turns that are written
 pub written : (plan : PlanData) (journal : List Entry) (run_state : RunState) (turns : Vec Entry Global) → IsRunState plan journal run_state → IsRunState plan journal (record run_state { journal = turns })
 written plan journal run_state turns is = record {
@@ -133,3 +119,21 @@ written plan journal run_state turns is = record {
   busy = is.busy;
   altered = is.altered;
 }
+
+-- THE ROOM
+
+pub has_room : (plan : PlanData) (journal : List Entry) (run_state : RunState) → HasRoomFor plan journal run_state → length journal < plan.options.turn_limit → HasRoom run_state.tool
+has_room plan journal run_state room less = space_is_room plan.options.turn_limit (length journal) run_state.tool less room.tool
+
+pub room_begin : (plan : PlanData) (run_state : RunState) → plan.options.turn_limit ≤ vec_capacity run_state.journal → vec_len run_state.journal ≡ 0 → HasSpace plan.options.turn_limit 0 run_state.tool → HasRoomFor plan [] run_state
+room_begin plan run_state turns count tool = record { turns = turns; count = count; tool = tool }
+
+-- *One turn more* in the room that there is
+pub room_more : (plan : PlanData) (journal : List Entry) (entry : Entry) (old new : RunState) → HasRoomFor plan journal old → TriesGrow old.tool new.tool → vec_capacity new.journal ≡ vec_capacity old.journal → vec_len new.journal ≡ vec_len old.journal + 1 → HasRoomFor plan (journal ++ entry ∷ []) new
+room_more plan journal entry old new room grows same count =
+    let more : length (journal ++ entry ∷ []) ≡ length journal + 1 = length-append journal (entry ∷ []) in
+    record {
+      turns = subst (λ (n : ℕ). plan.options.turn_limit ≤ n) (sym same) room.turns;
+      count = count ∙ ap (λ (n : ℕ). n + 1) room.count ∙ sym more;
+      tool = subst (λ (n : ℕ). HasSpace plan.options.turn_limit n new.tool) (sym more) (space_more plan.options.turn_limit (length journal) old.tool new.tool grows room.tool);
+    }

@@ -1,5 +1,5 @@
 -- The journal of a run, with what is kept of it so that no turn reads it anew. (This project's rule.)
-use Rattle.std.specs.Prelude.{◌≡◌, ℕ, ◌+◌, ◌<◌, ◌^◌, Bool, true, false, if◌then◌else◌, is_some, List, [], ◌∷◌, map, length, Option, Some, None, vec_len, vec_capacity}
+use Rattle.std.specs.Prelude.{◌≡◌, ℕ, ◌+◌, ◌<◌, ◌≤◌, ◌^◌, Bool, true, false, if◌then◌else◌, is_some, List, [], ◌∷◌, map, length, Option, Some, None, vec_len, vec_capacity}
 use Rattle.std.specs.List.{list_any, slice_get}
 use Rattle.base_script.specs.declared.actor.Actor.{Actor}
 use Rattle.base_script.specs.declared.actor.Actor.TheVariants.{Op, Insp, Copy, Apply, Lock, Ren, Client}
@@ -15,7 +15,7 @@ use Rattle.tool_program.specs.JournalWords.Histories.{history, is_alter}
 use Rattle.tool_program.specs.Tools.{moment}
 use Rattle.tool_program.specs.Orders.{actors}
 use Rattle.tool_state.specs.ToolState.Meanings.{tool_of}
-use Rattle.tool_state.specs.ToolState.Sound.{HasRoom, IsSound}
+use Rattle.tool_state.specs.ToolState.Sound.{IsSound, HasSpace}
 use Rattle.run_actors.specs.declared.actor_state.ActorState.{ActorState}
 use Rattle.run_actors.specs.ActorStates.{actor_state_at}
 use Rattle.run_actors.specs.declared.client_turns.actor_state.ClientState.{ClientState}
@@ -76,10 +76,11 @@ AreReached plan journal number [] [] = Unit {0}
 AreReached plan journal number (script ∷ scripts) (actor_state ∷ actor_states) = IsReached script actor_state (client_at plan journal number) × AreReached plan journal (number + 1) scripts actor_states
 AreReached plan journal number scripts actor_states = ⊥
 
--- there is room for one turn more
-pub record HasRoomFor (run_state : RunState) : Type 0 where
-  pub turn : vec_len run_state.journal < vec_capacity run_state.journal
-  pub tool : HasRoom run_state.tool
+-- *Room*: for all turns that the plan allows, and for a failed try of each task in each of them
+pub record HasRoomFor (plan : PlanData) (journal : List Entry) (run_state : RunState) : Type 0 where
+  pub turns : plan.options.turn_limit ≤ vec_capacity run_state.journal
+  pub count : vec_len run_state.journal ≡ length journal
+  pub tool : HasSpace plan.options.turn_limit (length journal) run_state.tool
 
 -- *Book*: what is kept is what the journal says
 pub record IsRunState (plan : PlanData) (journal : List Entry) (run_state : RunState) : Type 0 where

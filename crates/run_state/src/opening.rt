@@ -4,7 +4,7 @@ ghost use Rattle.std.specs.Prelude.{◌≡◌, [], ◌∷◌, map, IfOk};
 ghost use Rattle.base_script.specs.declared.actor.Actor.TheVariants.{Op, Insp, Copy, Apply, Lock, Ren};
 ghost use Rattle.tool_program.specs.Orders.{actors};
 ghost use Rattle.base_values.specs.ToolNames.{log_name};
-ghost use Rattle.run_state.specs.Books.{free_actor_state, free_client, IsRunState};
+ghost use Rattle.run_state.specs.Books.{free_actor_state, free_client, HasRoomFor, IsRunState};
 
 use crate::run_state::RunState;
 use base_script::Actor;
@@ -84,15 +84,16 @@ fn names_of(alloc: Global, table: &Name) -> Result<Names, AllocError>
 }
 
 impl<'a> RunState<'a> {
-    /// The run state of the plan without turns.
+    /// The run state of the plan without turns, with room for all that the plan allows.
     pub fn open(alloc: Global, plan: &'a Plan) -> Result<RunState<'a>, AllocError>
         ensures run_state { IfOk result (λ run_state. IsRunState plan.now [] run_state) }
         ensures plan { IfOk result (λ run_state. run_state.plan.now ≡ plan.now) }
         ensures journal { IfOk result (λ run_state. run_state.journal.items ≡ []) }
+        ensures room { IfOk result (λ run_state. HasRoomFor plan.now [] run_state) }
     {
         Ok(RunState {
             plan,
-            journal: Vec::new(alloc),
+            journal: Vec::with_capacity(alloc, plan.options().turn_limit as usize)?,
             tool: Tool::new(alloc, plan)?,
             names: names_of(alloc, plan.table())?,
             actor_states: actor_states_of(alloc, plan)?,

@@ -1,7 +1,8 @@
 //! What the actors ask next, and when the run is over.
 
-ghost use Rattle.std.specs.Prelude.{◌≡◌, is_some, slice_get, IfOk};
+ghost use Rattle.std.specs.Prelude.{◌≡◌, false, is_some, slice_get, IfOk, OnErr};
 ghost use Rattle.plan_data.specs.PlanData.{PlanData};
+ghost use Rattle.tool_program.specs.FreeCalls.{is_freely_asked};
 ghost use Rattle.tool_program.specs.JournalWords.KeptPlans.{words_of};
 ghost use Rattle.tool_program.specs.JournalWords.Clients.{clients_over};
 ghost use Rattle.tool_program.specs.Tools.{moment};
@@ -10,14 +11,15 @@ ghost use Rattle.tool_program.specs.Orders.{is_ready};
 ghost use Rattle.tool_program.specs.Verdicts.{is_over, has_ended, verdict_of};
 ghost use Rattle.proof_journals.specs.Run.Counts.{IsAfter};
 ghost use Rattle.tool_state.specs.ToolState.Meanings.{tool_of};
+ghost use Rattle.tool_state.specs.Verdicts.{verdict_meant};
 ghost use Rattle.run_state.specs.Books.{IsRunState};
 
 use crate::run_state::RunState;
 use base_script::Actor;
 use server_api::Serve;
-use server_model::{Asked, Verdict};
+use server_model::Asked;
 use std::alloc::{AllocError, Global};
-use tool_state::{ToolView, commands, is_over, verdict};
+use tool_state::{ToolView, VerdictView, commands, is_over, verdict};
 
 impl RunState<'_> {
     /// What an actor of the tool but the operator asks next.
@@ -29,7 +31,8 @@ impl RunState<'_> {
     ) -> Result<Option<Asked>, AllocError>
         requires run_state { IsRunState self.now.plan.now self.now.journal.items self.now }
         requires state { IsAfter (moment self.now.plan.now self.now.journal.items).server (V.state server.now) }
-        ensures { IfOk result (λ asked. asked ≡ tool_asks self.now.plan.now self.now.journal.items (moment self.now.plan.now self.now.journal.items) actor) }
+        ensures asked { IfOk result (λ asked. asked ≡ tool_asks self.now.plan.now self.now.journal.items (moment self.now.plan.now self.now.journal.items) actor) }
+        ensures costs { OnErr result (is_freely_asked (tool_asks self.now.plan.now self.now.journal.items (moment self.now.plan.now self.now.journal.items) actor) ≡ false) }
     {
         let tool_view = ToolView {
             plan: self.plan,
@@ -59,7 +62,7 @@ impl RunState<'_> {
         tool_view.is_ready(actor, self.session(actor))
     }
 
-    /// What the actor asks next; none where it isn't ready.
+    /// What the actor asks next; none where it isn't ready. Calls alone take memory, but for COMMIT, ROLLBACK and UNLOCK TABLES.
     #[tactic(auto, unfolding(tool_program::specs::Programs::given))]
     pub fn given<V: Serve>(
         &self,
@@ -69,7 +72,8 @@ impl RunState<'_> {
     ) -> Result<Option<Asked>, AllocError>
         requires run_state { IsRunState self.now.plan.now self.now.journal.items self.now }
         requires state { IsAfter (moment self.now.plan.now self.now.journal.items).server (V.state server.now) }
-        ensures { IfOk result (λ asked. asked ≡ given self.now.plan.now self.now.journal.items actor) }
+        ensures asked { IfOk result (λ asked. asked ≡ given self.now.plan.now self.now.journal.items actor) }
+        ensures costs { OnErr result (is_freely_asked (given self.now.plan.now self.now.journal.items actor) ≡ false) }
     {
         match actor {
             Actor::Client(client) => self.client_asks(client),
@@ -129,15 +133,14 @@ impl RunState<'_> {
 
     /// How the migration ended, and why; unfinished until the run has ended.
     #[tactic(auto, unfolding(tool_program::specs::Verdicts::verdict_of))]
-    pub fn verdict(&self, alloc: Global) -> Result<Verdict, AllocError>
+    pub fn verdict(&self) -> VerdictView<'_>
         requires { IsRunState self.now.plan.now self.now.journal.items self.now }
-        ensures { IfOk result (λ verdict. verdict ≡ verdict_of self.now.plan.now self.now.journal.items) }
+        ensures { verdict_meant result ≡ verdict_of self.now.plan.now self.now.journal.items }
     {
         if !self.has_ended() {
-            return Ok(Verdict::Unfinished);
+            return VerdictView::Unfinished;
         }
         verdict(
-            alloc,
             self.plan,
             self.journal.as_slice(),
             &self.tool,

@@ -1,6 +1,7 @@
 //! What the run state says of the actors.
 
-ghost use Rattle.std.specs.Prelude.{◌≡◌, option_map, is_some, IfOk};
+ghost use Rattle.std.specs.Prelude.{◌≡◌, option_map, is_some, false, IfOk, OnErr};
+ghost use Rattle.tool_program.specs.FreeCalls.{is_freely_asked};
 ghost use Rattle.tool_program.specs.JournalWords.Clients.{script_of, client_asks};
 ghost use Rattle.tool_program.specs.JournalWords.Sessions.{live_session};
 ghost use Rattle.run_state.specs.Books.{place_of, actor_state_in, session_of, turns_in, IsRunState};
@@ -81,7 +82,8 @@ impl RunState<'_> {
     #[tactic(auto, using(crate::proofs::Clients::scripted, crate::proofs::Clients::actor_state_within, crate::proofs::Clients::client_reached, crate::proofs::Clients::stranger_silent, crate::proofs::Clients::asks_is))]
     pub fn client_asks(&self, client: u32) -> Result<Option<Asked>, AllocError>
         requires { IsRunState self.now.plan.now self.now.journal.items self.now }
-        ensures { IfOk result (λ asked. asked ≡ client_asks self.now.plan.now self.now.journal.items client) }
+        ensures asked { IfOk result (λ asked. asked ≡ client_asks self.now.plan.now self.now.journal.items client) }
+        ensures costs { OnErr result (is_freely_asked (client_asks self.now.plan.now self.now.journal.items client) ≡ false) }
     {
         match script_of(self.plan, client) {
             Some(script) => self.clients[client as usize - 1].asks(script),

@@ -13,8 +13,8 @@ pub struct RunState<'a> {
     /// The plan, which the whole run borrows.
     pub plan: &'a Plan,
     /// The turns so far.
-    // A plain list that grows in its place, so that a turn late in a run costs what an early one does. A `Journal` is made
-    // of it once, at the end.
+    // A plain list with room for all turns that the plan allows, so that no turn takes memory for its entry. A `Journal` is
+    // made of it once, at the end.
     pub journal: Vec<Entry>,
     /// How far the tool is.
     pub tool: Tool,

@@ -2,4 +2,4 @@
 
 mod additions;
 
-pub use additions::{TurnFacts, reserve, take};
+pub use additions::{TurnFacts, take};

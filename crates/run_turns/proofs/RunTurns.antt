@@ -1,4 +1,5 @@
--- One turn of a run that is due: all memory first, then the server's answer, then the book.
+-- One turn of a run that is due: first what may want memory, then the server's answer, then the run state.
+pub mod Costs
 pub mod Planned
 pub mod Ranging
 pub mod Served

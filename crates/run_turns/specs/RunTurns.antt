@@ -1,2 +1,2 @@
--- One turn of a run that is due: all memory first, then the server's answer, then the run state.
+-- One turn of a run that is due: first what may want memory, then the server's answer, then the run state.
 pub mod Invariants

@@ -1,5 +1,5 @@
 -- *Run*: a plan's turns taken one by one on a server, each of them written into the journal. (This project's rule.)
-use Rattle.std.specs.Prelude.{◌≡◌, nat_le, Bool, true, false, ◌||◌, is_some, List, [], ◌∷◌, ◌++◌, length, Some, None}
+use Rattle.std.specs.Prelude.{◌≡◌, nat_le, Bool, true, false, ◌||◌, List, [], ◌∷◌, ◌++◌, length, Some, None}
 use Rattle.base_script.specs.declared.actor.Actor.{Actor}
 use Rattle.server_model.specs.Along.{Along}
 use Rattle.server_model.specs.declared.entry.Entry.{Entry}
@@ -9,7 +9,7 @@ use Rattle.tool_program.specs.JournalWords.Journals.{after_entry}
 use Rattle.tool_program.specs.Verdicts.{has_ended}
 use Rattle.proof_journals.specs.Run.Counts.{IsAfter}
 use Rattle.run_turns.specs.declared.due_turns.migration_run.turn.Turn.{Turn}
-use Rattle.run_turns.specs.DueTurns.Due.{due, next_entry}
+use Rattle.run_turns.specs.DueTurns.Due.{due, MayCost, next_entry}
 use Rattle.run_turns.specs.declared.run.Stepped.{Stepped}
 use Rattle.run_turns.specs.declared.run.Stepped.TheVariants.{Took, Idle, Over, NoMemory}
 
@@ -45,9 +45,9 @@ pub record IsUnmoved (before after : RunView) : Type 0 where
   pub journal : after.journal ≡ before.journal
   pub server : IsAfter before.server after.server
 
--- *Steps*: what a step of an actor answers, and what it leaves.
+-- *Steps*: what a step of an actor answers, and what it leaves. It wants memory only of a turn that isn't free.
 abbrev pub Steps : RunView → Actor → Stepped → RunView → Type 0
 Steps before actor Over after = (is_over before.plan before.journal ≡ true) × (after ≡ before)
 Steps before actor Idle after = (is_over before.plan before.journal ≡ false) × (due before.plan before.journal actor ≡ None) × (after ≡ before)
 Steps before actor Took after = (is_over before.plan before.journal ≡ false) × TakesTurn before actor after
-Steps before actor NoMemory after = (is_over before.plan before.journal ≡ false) × (is_some (due before.plan before.journal actor) ≡ true) × IsUnmoved before after
+Steps before actor NoMemory after = (is_over before.plan before.journal ≡ false) × MayCost before.plan before.journal before.server actor × IsUnmoved before after

@@ -1,10 +1,10 @@
 //! The turn that is due.
 
-ghost use Rattle.std.specs.Prelude.{◌≡◌, is_some, IfOk};
+ghost use Rattle.std.specs.Prelude.{◌≡◌, is_some, IfOk, OnErr};
 ghost use Rattle.tool_program.specs.Tools.{moment};
 ghost use Rattle.proof_journals.specs.Run.Counts.{IsAfter};
 ghost use Rattle.run_state.specs.Books.{IsRunState};
-ghost use Rattle.run_turns.specs.DueTurns.Due.{due};
+ghost use Rattle.run_turns.specs.DueTurns.Due.{due, MayCost};
 
 use crate::due_turns::migration_run::Turn;
 use base_script::Actor;
@@ -13,8 +13,8 @@ use server_api::Serve;
 use server_model::Asked;
 use std::alloc::{AllocError, Global};
 
-/// The turn that is due where the actor is to take one; none where nothing is given to it.
-#[tactic(auto, using(crate::proofs::RunTurns::Planned::given_planned), unfolding(crate::specs::DueTurns::Due::due))]
+/// The turn that is due where the actor is to take one; none where nothing is given to it. A free turn takes no memory here.
+#[tactic(auto, using(crate::proofs::RunTurns::Planned::given_planned, crate::proofs::RunTurns::Costs::given_costs), unfolding(crate::specs::DueTurns::Due::due))]
 pub fn due<V: Serve>(
     alloc: Global,
     run_state: &RunState<'_>,
@@ -23,7 +23,8 @@ pub fn due<V: Serve>(
 ) -> Result<Option<Turn>, AllocError>
     requires run_state { IsRunState run_state.now.plan.now run_state.now.journal.items run_state.now }
     requires state { IsAfter (moment run_state.now.plan.now run_state.now.journal.items).server (V.state server.now) }
-    ensures { IfOk result (λ turn. turn ≡ due run_state.now.plan.now run_state.now.journal.items actor) }
+    ensures turn { IfOk result (λ turn. turn ≡ due run_state.now.plan.now run_state.now.journal.items actor) }
+    ensures costs { OnErr result (MayCost run_state.now.plan.now run_state.now.journal.items (V.state server.now) actor) }
 {
     if let Some(other) = run_state.cut_due() {
         return Ok(Some(Turn {

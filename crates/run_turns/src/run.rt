@@ -1,15 +1,18 @@
 //! A run.
 
 ghost use Rattle.std.specs.Prelude.{◌≡◌, ◌≤◌, ◌+◌, ◌<◌, ◌^◌, [], length, is_some, true, false, IfOk, OnOk, OnErr};
+ghost use Rattle.std.specs.List.{list_any};
+ghost use Rattle.tool_program.specs.JournalWords.Histories.{history, is_alter};
 ghost use Rattle.tool_program.specs.JournalWords.Journals.{opening, state_at, IsFaithful};
 ghost use Rattle.tool_program.specs.JournalWords.KeptPlans.{cut_due, KeepsPlan};
 ghost use Rattle.tool_program.specs.JournalWords.Sessions.{live_session, KeepsSessions};
 ghost use Rattle.tool_program.specs.Orders.{is_ready};
 ghost use Rattle.tool_program.specs.Programs.{waits, Follows};
 ghost use Rattle.tool_program.specs.Verdicts.{has_ended, verdict_of};
+ghost use Rattle.tool_state.specs.Verdicts.{verdict_meant};
 ghost use Rattle.proof_journals.specs.Machine.Runnable.{IsRunnable};
 ghost use Rattle.proof_journals.specs.Run.Counts.{IsAfter};
-ghost use Rattle.run_turns.specs.DueTurns.Due.{due};
+ghost use Rattle.run_turns.specs.DueTurns.Due.{due, MayCost};
 ghost use Rattle.run_turns.specs.Runs.{is_over, TakesTurn, IsUnmoved, Steps};
 
 use crate::due::{due, is_due};
@@ -18,9 +21,10 @@ use base_script::Actor;
 use plan_data::Plan;
 use run_state::RunState;
 use server_api::Serve;
-use server_model::{Entry, Journal, Verdict};
+use server_model::{Entry, Journal};
 use std::alloc::{AllocError, Global};
 use std::marker::Model;
+use tool_state::VerdictView;
 
 /// What became of a step.
 #[derive(Clone, Copy)]
@@ -63,7 +67,7 @@ fn into_journal(run_state: RunState<'_>) -> Journal
 }
 
 impl<'a, V: Serve> Run<'a, V> {
-    /// A run of the plan without turns, on a server at the plan's opening.
+    /// A run of the plan without turns, on a server at the plan's opening. The room for all its turns is made here.
     pub fn open(alloc: Global, plan: &'a Plan, server: V) -> Result<Run<'a, V>, AllocError>
         requires runs { IsRunnable plan.now }
         requires server { V.state server ≡ opening plan.now }
@@ -103,6 +107,13 @@ impl<'a, V: Serve> Run<'a, V> {
         self.run_state.has_ended()
     }
 
+    /// Whether the RENAME of the migrated table was done.
+    pub fn is_altered(&self) -> bool
+        ensures { result ≡ list_any is_alter (history self.now.plan self.now.journal) }
+    {
+        self.run_state.is_altered
+    }
+
     /// The plan, for as long as the run lasts.
     pub fn plan(&self) -> &Plan
         ensures { result.now ≡ self.now.plan }
@@ -128,13 +139,14 @@ impl<'a, V: Serve> Run<'a, V> {
     }
 
     /// Takes the turn that is due.
-    #[tactic(auto, using(crate::proofs::Steps::after_moment, crate::proofs::Steps::has_room))]
+    #[tactic(auto, using(crate::proofs::Steps::after_moment, crate::proofs::Steps::has_room, crate::proofs::RunTurns::Costs::turn_costs))]
     fn take_due(&mut self, actor: Actor) -> Result<(), AllocError>
         requires going { is_over self.old.plan self.old.journal ≡ false }
         requires few { length self.old.journal + 1 < 2 ^ 32 }
         requires due { is_some (due self.old.plan self.old.journal actor) ≡ true }
         ensures ok { OnOk result (TakesTurn self.old actor self.new) }
         ensures err { OnErr result (IsUnmoved self.old self.new) }
+        ensures costs { OnErr result (MayCost self.old.plan self.old.journal self.old.server actor) }
     {
         match due(self.alloc, &self.run_state, &self.server, actor)? {
             None => unreachable!(),
@@ -150,7 +162,9 @@ impl<'a, V: Serve> Run<'a, V> {
 
     /// Takes the turn that is due where the actor is to take one: a loss between calls, whosever session it takes, or else
     /// the actor's turn with what is given to it. `NoMemory` leaves the run as it was, but for a session that the server may
-    /// have made for the turn and that is lost again; it comes too once the server gave its last number to a session.
+    /// have made for the turn and that is lost again; it comes too where the turn is to open a session and the server gave its
+    /// last number. It never comes of a free turn: a loss between calls, COMMIT, ROLLBACK, UNLOCK TABLES, and a poll for names of
+    /// tables that stays blocked.
     #[tactic(auto, using(crate::proofs::Steps::after_moment, crate::proofs::Steps::none_some))]
     pub fn step(&mut self, actor: Actor) -> Stepped
         ensures { Steps self.old actor result self.new }
@@ -167,11 +181,11 @@ impl<'a, V: Serve> Run<'a, V> {
         }
     }
 
-    /// How the migration ended, and why; unfinished until the run has ended.
-    pub fn verdict(&self) -> Result<Verdict, AllocError>
-        ensures { IfOk result (λ verdict. verdict ≡ verdict_of self.now.plan self.now.journal) }
+    /// How the migration ended, and why, seen in the run; unfinished until the run has ended.
+    pub fn verdict(&self) -> VerdictView<'_>
+        ensures { verdict_meant result ≡ verdict_of self.now.plan self.now.journal }
     {
-        self.run_state.verdict(self.alloc)
+        self.run_state.verdict()
     }
 
     /// The turns so far. The server's answers are in them; each is a turn that the plan allows and that was given, in its

@@ -1,4 +1,4 @@
-//! One turn of a run that is due: all memory first, then the server's answer, then the run state.
+//! One turn of a run that is due: first what may want memory, then the server's answer, then the run state.
 
 mod answers;
 mod ranges;

@@ -10,9 +10,8 @@ use Rattle.run_workers.specs.WorkerRun.WorkedRuns.{listed}
 use Rattle.run_workers.specs.Passes.{IsByPasses}
 
 -- so it is of the passes with which the desk was closed
-pub by_passes : (list : List (Taken Entry)) (passes : List (PassView Opening Entry)) (workers : ℕ) (journal : List Entry) (turns : List WorkerTurn) → length passes ≡ workers → All (λ pass. pass.worker < workers) passes → TurnQueueList list passes → listed turns journal ≡ list → IsByPasses journal turns workers
+pub by_passes : (list : List (Taken Entry)) (passes : List (PassView Opening Entry)) (workers : ℕ) (journal : List Entry) (turns : List WorkerTurn) → length passes ≡ workers → All (λ pass. pass.worker < workers) passes → TurnQueueList list passes → listed turns journal ≡ list → IsByPasses passes journal turns workers
 by_passes list passes workers journal turns count numbers turn_queue is = record {
-  passes = passes;
   count = count;
   numbers = numbers;
   list = subst (λ (entries : List (Taken Entry)). TurnQueueList entries passes) (sym is) turn_queue;

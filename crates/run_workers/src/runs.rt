@@ -12,10 +12,12 @@ ghost use Rattle.run_workers.specs.Passes.{IsByPasses};
 
 use crate::worker_run::{Turns, Worked};
 use base_edges::Gate;
+use run_desk::Passes;
 use run_desk::turn_queue_workers::{Ending, take_turns};
 use run_turns::Run;
 use server_api::Serve;
 use std::alloc::{AllocError, Global};
+use std::snapshot::Snapshot;
 use std::sync::Wait;
 use std::thread::Threads;
 
@@ -28,10 +30,14 @@ pub struct Ran<'a, V: Serve> {
     pub turns: Turns,
     /// How the workers' turns ended.
     pub ending: Ending,
+    /// The passes by which the workers took them, for contracts alone. The turn queue alone makes passes, and a pass gets a
+    /// turn only by taking it there: so turns that were taken elsewhere can't be these passes'.
+    pub passes: Snapshot<Passes<Worked<'a, V>>>,
 }
 
 /// Lets `workers` workers take the turns of a run, each in a thread of its own, until it is over or there is no memory for a
-/// turn; what is left is the run, and the worker of each of its turns. Workers wait for each other's turns in the turn queue.
+/// turn; what is left is the run, the worker of each of its turns, and the passes by which they were taken. Workers wait for
+/// each other's turns in the turn queue.
 pub fn run_by_workers<'a, V: Serve + Send, R: Threads + Wait + Sync, G: Gate + Sync>(
     rt: &R,
     alloc: Global,
@@ -49,7 +55,7 @@ pub fn run_by_workers<'a, V: Serve + Send, R: Threads + Wait + Sync, G: Gate + S
     ensures numbered { IfOk result (λ ran. NumbersSessions ran.run.journal) }
     ensures stops { IfOk result (λ ran. Stops run.entry.plan ran.run.journal) }
     ensures order { IfOk result (λ ran. RunOrder run.entry.plan ran.run.journal ran.turns.items workers) }
-    ensures passes { IfOk result (λ ran. IsByPasses ran.run.journal ran.turns.items workers) }
+    ensures passes { IfOk result (λ ran. IsByPasses ran.passes.value.items ran.run.journal ran.turns.items workers) }
     ensures over { IfOk result (λ ran. ran.ending ≡ Over → is_over run.entry.plan ran.run.journal ≡ true) }
     ensures server { IfOk result (λ ran. ran.ending ≡ Over → ran.run.server ≡ state_at run.entry.plan ran.run.journal) }
 {
@@ -60,5 +66,6 @@ pub fn run_by_workers<'a, V: Serve + Send, R: Threads + Wait + Sync, G: Gate + S
         run,
         turns,
         ending: done.ending,
+        passes: done.passes,
     })
 }

@@ -52,7 +52,7 @@ have_grows number need events before after sessions live have more same =
     (more ∙ ap (λ (w : List RowEvent). w ++ events) (have number ∙ ap writes_of live.is) ∙ sym (ap writes_of (changed_here number (holding need events) sessions live.found (λ s. refl) live.is)))
 
 -- a change that leaves what a session wrote
-kept_writes : (number n : ℕ) (change : Session → Session) (sessions : List Session) → ((s : Session) → (change s).number ≡ s.number) → ((s : Session) → (change s).writes ≡ s.writes) → writes_of (session_of n sessions) ≡ writes_of (session_of n (with_session number change sessions))
+pub kept_writes : (number n : ℕ) (change : Session → Session) (sessions : List Session) → ((s : Session) → (change s).number ≡ s.number) → ((s : Session) → (change s).writes ≡ s.writes) → writes_of (session_of n sessions) ≡ writes_of (session_of n (with_session number change sessions))
 unfolding with_session
 kept_writes number n change [] numbers writes = refl
 kept_writes number n change (first ∷ sessions) numbers writes = at (first.number == number) (kept_writes number n change sessions numbers writes) where

@@ -3,3 +3,4 @@ pub mod Having
 pub mod Steps
 pub mod Requests
 pub mod Polling
+pub mod Blocked

@@ -6,9 +6,11 @@ ghost use Rattle.server_model.specs.Operations.{after_events};
 ghost use Rattle.server_model.specs.Blockers.{row_locks_of};
 ghost use Rattle.server_model.specs.PlainServer.{calls, done, is_over, polled_over, polls, without_waiting};
 ghost use Rattle.server_model.specs.States.{is_exclusive};
+ghost use Rattle.server.specs.KnownBlockers.{AreBlocked};
 ghost use Rattle.server.specs.Parts.{state_of, GoTogether, HaveWritten, MayDo};
 
 use crate::commits::{commit, roll_back};
+use crate::known_blockers::{KnownBlockers, is_answered_look};
 use crate::operation::do_request;
 use base_values::{Duplicate, Sequence};
 use server_locks::row_locks::LockSet;
@@ -61,7 +63,7 @@ fn call_or_wait<D: Data>(
 }
 
 /// A call of a session. COMMIT, ROLLBACK and UNLOCK TABLES need no lock, and take no memory.
-pub fn call<D: Data>(
+fn serve_call<D: Data>(
     store: &mut D,
     all_sessions: &mut Sessions,
     session: u32,
@@ -92,20 +94,50 @@ pub fn call<D: Data>(
     }
 }
 
+/// A call of a session. What is known of requests that wait is forgotten, unless nothing changed.
+pub fn call<D: Data>(
+    store: &mut D,
+    all_sessions: &mut Sessions,
+    known: &mut KnownBlockers,
+    session: u32,
+    request: &Request,
+) -> Result<Answer, AllocError>
+    requires together { GoTogether (D.committed store.old) (D.written store.old) all_sessions.old }
+    requires blocked { AreBlocked (state_of (D.committed store.old) all_sessions.old) known.old }
+    requires may { MayCall (state_of (D.committed store.old) all_sessions.old) session request.now }
+    ensures answer { IfOk result (λ answer. answer ≡ (calls (state_of (D.committed store.old) all_sessions.old) session request.now).answer) }
+    ensures ok { OnOk result (state_of (D.committed store.new) all_sessions.new ≡ (calls (state_of (D.committed store.old) all_sessions.old) session request.now).after) }
+    ensures err { OnErr result (state_of (D.committed store.new) all_sessions.new ≡ state_of (D.committed store.old) all_sessions.old) }
+    ensures have { HaveWritten (D.written store.new) all_sessions.new }
+    ensures blocked { AreBlocked (state_of (D.committed store.new) all_sessions.new) known.new }
+    ensures free { is_free request.now ≡ true → IsOk result }
+{
+    let answer = serve_call(store, all_sessions, session, request)?;
+    if is_answered_look(request, &answer) {
+        return Ok(answer);
+    }
+    known.forget();
+    Ok(answer)
+}
+
 /// The session's request was polled, and stays blocked: it waits on, or its wait times out and its transaction is rolled back.
 fn stay_blocked<D: Data>(
     store: &mut D,
     all_sessions: &mut Sessions,
+    known: &mut KnownBlockers,
     session: u32,
     by: u32,
 ) -> Answer
-    requires { HaveWritten (D.written store.old) all_sessions.old }
+    requires have { HaveWritten (D.written store.old) all_sessions.old }
+    requires blocked { AreBlocked (state_of (D.committed store.old) all_sessions.old) known.old }
     ensures answer { result ≡ (polled_over (is_over all_sessions.old session) by (state_of (D.committed store.old) all_sessions.old) session).answer }
     ensures after { state_of (D.committed store.new) all_sessions.new ≡ (polled_over (is_over all_sessions.old session) by (state_of (D.committed store.old) all_sessions.old) session).after }
     ensures have { HaveWritten (D.written store.new) all_sessions.new }
+    ensures blocked { AreBlocked (state_of (D.committed store.new) all_sessions.new) known.new }
 {
     match all_sessions.stay_blocked(session, by) {
         Answer::TimedOut { waited } => {
+            known.forget();
             store.roll_back(session);
             Answer::TimedOut { waited }
         }
@@ -133,19 +165,21 @@ fn do_waiting<D: Data>(
     Ok(answer)
 }
 
-/// A poll of a session: its request that waits is done where nobody blocks it by now. A poll of a request for exclusive
-/// names that stays blocked takes no memory.
-pub fn poll<D: Data>(
+/// A poll of a session, of whose request nothing is known.
+fn poll_unknown<D: Data>(
     store: &mut D,
     all_sessions: &mut Sessions,
+    known: &mut KnownBlockers,
     session: u32,
 ) -> Result<Answer, AllocError>
     requires together { GoTogether (D.committed store.old) (D.written store.old) all_sessions.old }
+    requires blocked { AreBlocked (state_of (D.committed store.old) all_sessions.old) known.old }
     requires may { MayPoll (state_of (D.committed store.old) all_sessions.old) session }
     ensures answer { IfOk result (λ answer. answer ≡ (polls (state_of (D.committed store.old) all_sessions.old) session).answer) }
     ensures ok { OnOk result (state_of (D.committed store.new) all_sessions.new ≡ (polls (state_of (D.committed store.old) all_sessions.old) session).after) }
     ensures err { OnErr result (state_of (D.committed store.new) all_sessions.new ≡ state_of (D.committed store.old) all_sessions.old) }
     ensures have { HaveWritten (D.written store.new) all_sessions.new }
+    ensures blocked { AreBlocked (state_of (D.committed store.new) all_sessions.new) known.new }
     ensures free { is_freely_polled (state_of (D.committed store.old) all_sessions.old) session ≡ true → IsOk result }
 {
     let Some(waiting) = all_sessions.waiting(session) else {
@@ -153,10 +187,39 @@ pub fn poll<D: Data>(
     };
     let locks = locks_of(all_sessions.allocator(), store, session, &waiting.request)?;
     match all_sessions.blocker(session, &waiting.request, locks.as_slice()) {
-        Some(by) => Ok(stay_blocked(store, all_sessions, session, by)),
+        Some(by) => {
+            // Where there is no memory to keep it, the next poll looks again.
+            let _ = known.note(session, by);
+            Ok(stay_blocked(store, all_sessions, known, session, by))
+        }
         None => {
             let request = waiting.request.copy()?;
+            known.forget();
             do_waiting(store, all_sessions, session, &request, locks)
         }
+    }
+}
+
+/// A poll of a session: its request that waits is done where nobody blocks it by now. A poll of a request for exclusive
+/// names that stays blocked takes no memory.
+pub fn poll<D: Data>(
+    store: &mut D,
+    all_sessions: &mut Sessions,
+    known: &mut KnownBlockers,
+    session: u32,
+) -> Result<Answer, AllocError>
+    requires together { GoTogether (D.committed store.old) (D.written store.old) all_sessions.old }
+    requires blocked { AreBlocked (state_of (D.committed store.old) all_sessions.old) known.old }
+    requires may { MayPoll (state_of (D.committed store.old) all_sessions.old) session }
+    ensures answer { IfOk result (λ answer. answer ≡ (polls (state_of (D.committed store.old) all_sessions.old) session).answer) }
+    ensures ok { OnOk result (state_of (D.committed store.new) all_sessions.new ≡ (polls (state_of (D.committed store.old) all_sessions.old) session).after) }
+    ensures err { OnErr result (state_of (D.committed store.new) all_sessions.new ≡ state_of (D.committed store.old) all_sessions.old) }
+    ensures have { HaveWritten (D.written store.new) all_sessions.new }
+    ensures blocked { AreBlocked (state_of (D.committed store.new) all_sessions.new) known.new }
+    ensures free { is_freely_polled (state_of (D.committed store.old) all_sessions.old) session ≡ true → IsOk result }
+{
+    match known.blocker(session) {
+        Some(by) => Ok(stay_blocked(store, all_sessions, known, session, by)),
+        None => poll_unknown(store, all_sessions, known, session),
     }
 }

@@ -6,6 +6,7 @@ mod calls;
 mod commits;
 mod definitions;
 pub mod final_server;
+mod known_blockers;
 mod losses;
 mod operation;
 mod records;

@@ -4,10 +4,12 @@ ghost use Rattle.std.specs.Prelude.{◌≡◌, ◌≢◌, Some, IfOk, IsOk, OnOk
 ghost use Rattle.base_script.specs.declared.actor.Side.TheVariants.{After};
 ghost use Rattle.server_model.specs.Conditions.{MayLose};
 ghost use Rattle.server_model.specs.PlainServer.{given_at, leaves, serves};
+ghost use Rattle.server.specs.KnownBlockers.{AreBlocked};
 ghost use Rattle.server.specs.Parts.{before_loss, state_of, GoTogether, HaveWritten};
 
 use crate::calls::{call, poll};
 use crate::commits::lose;
+use crate::known_blockers::KnownBlockers;
 use base_script::Side;
 use server_model::{Answer, Asked};
 use server_sessions::live_sessions::Sessions;
@@ -18,11 +20,13 @@ use std::alloc::AllocError;
 fn serve_before<D: Data>(
     store: &mut D,
     all_sessions: &mut Sessions,
+    known: &mut KnownBlockers,
     session: u32,
     side: Option<Side>,
     asked: &Asked,
 ) -> Result<Option<Answer>, AllocError>
     requires together { GoTogether (D.committed store.old) (D.written store.old) all_sessions.old }
+    requires blocked { AreBlocked (state_of (D.committed store.old) all_sessions.old) known.old }
     requires may { MayLose (state_of (D.committed store.old) all_sessions.old) session side asked.now }
     ensures answer { IfOk result (λ answer. answer ≡ given_at side asked.now (serves (state_of (D.committed store.old) all_sessions.old) session asked.now).answer) }
     ensures ok { OnOk result (state_of (D.committed store.new) all_sessions.new ≡ before_loss side (state_of (D.committed store.old) all_sessions.old) session asked.now) }
@@ -32,9 +36,9 @@ fn serve_before<D: Data>(
 {
     match (side, asked) {
         (Some(Side::After), Asked::Call(request)) => {
-            Ok(Some(call(store, all_sessions, session, request)?))
+            Ok(Some(call(store, all_sessions, known, session, request)?))
         }
-        (Some(Side::After), Asked::Poll) => Ok(Some(poll(store, all_sessions, session)?)),
+        (Some(Side::After), Asked::Poll) => Ok(Some(poll(store, all_sessions, known, session)?)),
         _ => Ok(None),
     }
 }
@@ -43,11 +47,13 @@ fn serve_before<D: Data>(
 pub fn lose_session<D: Data>(
     store: &mut D,
     all_sessions: &mut Sessions,
+    known: &mut KnownBlockers,
     session: u32,
     side: Option<Side>,
     asked: &Asked,
 ) -> Result<Option<Answer>, AllocError>
     requires together { GoTogether (D.committed store.old) (D.written store.old) all_sessions.old }
+    requires blocked { AreBlocked (state_of (D.committed store.old) all_sessions.old) known.old }
     requires may { MayLose (state_of (D.committed store.old) all_sessions.old) session side asked.now }
     ensures answer { IfOk result (λ answer. answer ≡ given_at side asked.now (serves (state_of (D.committed store.old) all_sessions.old) session asked.now).answer) }
     ensures ok { OnOk result (state_of (D.committed store.new) all_sessions.new ≡ leaves side (state_of (D.committed store.old) all_sessions.old) session asked.now) }
@@ -55,7 +61,7 @@ pub fn lose_session<D: Data>(
     ensures have { HaveWritten (D.written store.new) all_sessions.new }
     ensures free { side ≢ Some After → IsOk result }
 {
-    let missed = serve_before(store, all_sessions, session, side, asked)?;
+    let missed = serve_before(store, all_sessions, known, session, side, asked)?;
     lose(store, all_sessions, session);
     Ok(missed)
 }

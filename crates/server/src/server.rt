@@ -5,6 +5,7 @@ ghost use Rattle.server_model.specs.States.{opened};
 ghost use Rattle.server_model.specs.LockedRows.Databases.{IsWellFormedDatabase};
 
 use crate::calls::{call, poll};
+use crate::known_blockers::KnownBlockers;
 use crate::losses::lose_session;
 use base_script::Side;
 use base_values::Names;
@@ -21,17 +22,19 @@ use table_store::paged_tables::Tables;
 pub struct Server<D: Data> {
     store: D,
     all_sessions: Sessions,
+    known: KnownBlockers,
 }
 
 impl<D: Data> Model for Server<D> {
     ghost use Rattle.server_model.specs.States.{State};
-    ghost use Rattle.server.specs.Parts.{state_of, GoTogether};
+    ghost use Rattle.server.specs.KnownBlockers.{IsServer};
+    ghost use Rattle.server.specs.Parts.{state_of};
 
     ghost Value = { State };
 
     ghost view = { λ s. state_of (D.committed s.store) s.all_sessions };
 
-    ghost invariant = { λ s. GoTogether (D.committed s.store) (D.written s.store) s.all_sessions };
+    ghost invariant = { λ s. IsServer (D.committed s.store) (D.written s.store) s.all_sessions s.known };
 }
 
 impl<D: Data> Server<D> {
@@ -47,6 +50,7 @@ impl<D: Data> Server<D> {
         Server {
             store,
             all_sessions: Sessions::new(alloc, limits, watched),
+            known: KnownBlockers::new(alloc),
         }
     }
 }
@@ -55,15 +59,27 @@ impl<D: Data> Serve for Server<D> {
     ghost state = { λ s. s };
 
     fn connect(&mut self, is_tool: bool) -> Result<u32, AllocError> {
+        self.known.forget();
         self.all_sessions.connect(is_tool)
     }
 
     fn call(&mut self, session: u32, request: &Request) -> Result<Answer, AllocError> {
-        call(&mut self.store, &mut self.all_sessions, session, request)
+        call(
+            &mut self.store,
+            &mut self.all_sessions,
+            &mut self.known,
+            session,
+            request,
+        )
     }
 
     fn poll(&mut self, session: u32) -> Result<Answer, AllocError> {
-        poll(&mut self.store, &mut self.all_sessions, session)
+        poll(
+            &mut self.store,
+            &mut self.all_sessions,
+            &mut self.known,
+            session,
+        )
     }
 
     fn lose(
@@ -72,13 +88,16 @@ impl<D: Data> Serve for Server<D> {
         side: Option<Side>,
         asked: &Asked,
     ) -> Result<Option<Answer>, AllocError> {
-        lose_session(
+        let missed = lose_session(
             &mut self.store,
             &mut self.all_sessions,
+            &mut self.known,
             session,
             side,
             asked,
-        )
+        );
+        self.known.forget();
+        missed
     }
 
     fn live(&self, session: u32) -> bool {

@@ -256,8 +256,8 @@ select_of schema shown condition = do
 
 -- *Work* of a statement on a table of this schema
 unfoldable pub work_of : Schema → Statement → Work
-work_of schema (statements.Insert table columns values) = or_refused (new_row schema columns values) Insert
-work_of schema (statements.Replace table columns values) = or_refused (new_row schema columns values) Replace
+work_of schema (statements.Insert table columns values drawn) = or_refused (new_row schema columns values) Insert
+work_of schema (statements.Replace table columns values drawn) = or_refused (new_row schema columns values) Replace
 work_of schema (statements.Delete table condition) = or_refused (reach_of schema condition) Delete
 work_of schema (statements.Update table sets condition) = or_refused (update_of schema sets condition) (λ work. work)
 work_of schema (statements.Select table shown condition) = or_refused (select_of schema shown condition) (λ work. work)

@@ -28,8 +28,8 @@ use Rattle.server_model.specs.Needs.{needs}
 
 -- the statement's table
 abbrev pub table_of : Statement → List ℕ
-table_of (statements.Insert table columns values) = table
-table_of (statements.Replace table columns values) = table
+table_of (statements.Insert table columns values drawn) = table
+table_of (statements.Replace table columns values drawn) = table
 table_of (statements.Delete table condition) = table
 table_of (statements.Update table sets condition) = table
 table_of (statements.Select table shown condition) = table

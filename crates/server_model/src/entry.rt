@@ -36,6 +36,8 @@ pub struct Entry {
     pub answer: Answer,
     /// What the server answered where the session was lost after the call.
     pub missed: Option<Answer>,
+    /// The number that the server generated in this turn for an AUTO_INCREMENT column, also where the answer was lost.
+    pub draw: Option<u64>,
 }
 
 // By hand, as that of the journal: crates above then take it as one call, and don't prove the drop of each part again. The calls
@@ -49,6 +51,7 @@ impl Drop for Entry {
             side: _,
             answer,
             missed,
+            draw: _,
         } = self;
         drop(asked);
         drop(answer);

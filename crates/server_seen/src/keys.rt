@@ -64,6 +64,7 @@ fn schema_of_keys(alloc: Global, places: Places) -> Result<Schema, AllocError>
         uniques,
         indexes: Sequence::new(alloc),
         comment: Chars::new(alloc, "")?,
+        start: None,
     })
 }
 

@@ -1,6 +1,5 @@
 pub mod HeldLocks
-pub mod OpenEvents
+pub mod OpenBytes
 pub mod Polls
 pub mod Ready
-pub mod RowLog
 pub mod SessionLists

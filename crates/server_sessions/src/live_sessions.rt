@@ -3,7 +3,6 @@
 
 mod all_sessions;
 mod room;
-pub mod row_log;
 mod session_list;
 
 pub use all_sessions::Sessions;

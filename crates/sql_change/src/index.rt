@@ -143,6 +143,7 @@ fn with_keys(
             uniques,
             indexes,
             comment: schema.comment.copy()?,
+            start: schema.start,
         },
         origins: copied(alloc, standing.origins.as_slice())?,
     })

@@ -51,6 +51,7 @@ fn with_name(column: &Column, name: &Name) -> Result<Column, AllocError>
         kind: column.kind,
         nullable: column.nullable,
         default: column.default.copy()?,
+        auto: column.auto,
     })
 }
 
@@ -81,6 +82,7 @@ fn renamed_in(
             uniques: schema.uniques.copy()?,
             indexes: schema.indexes.copy()?,
             comment: schema.comment.copy()?,
+            start: schema.start,
         },
         origins: copied(alloc, standing.origins.as_slice())?,
     })

@@ -52,6 +52,7 @@ fn with_columns(
         uniques: keys_after(alloc, change, schema.uniques.as_slice())?,
         indexes: indexes_after(alloc, change, schema.indexes.as_slice())?,
         comment: schema.comment.copy()?,
+        start: schema.start,
     })
 }
 

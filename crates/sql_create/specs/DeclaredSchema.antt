@@ -1,5 +1,5 @@
 -- The schema that a table as it is written declares, or the first reason to refuse it.
-use Rattle.std.specs.Prelude.{ℕ, ◌+◌, Bool, true, not, ◌&&◌, ◌||◌, nat_lt, List, [], ◌∷◌, ◌++◌, length, map, filter, count_by, is_none, unwrap_or, None, Result, Ok}
+use Rattle.std.specs.Prelude.{ℕ, ◌+◌, Bool, true, false, not, ◌&&◌, ◌||◌, nat_lt, List, [], ◌∷◌, ◌++◌, length, map, filter, count_by, is_none, unwrap_or, None, Result, Ok}
 use Rattle.std.specs.List.{list_all, list_any}
 use Rattle.base_values.specs.declared.gho_schema.schema.Schema.{Schema}
 use Rattle.base_values.specs.declared.gho_schema.schema.Column.{Column}
@@ -56,7 +56,7 @@ nullable_of primaries column = not (list_any (λ names. is_among names column.na
 unfoldable pub declared_column : List (List (List ℕ)) → WrittenColumn → Result Column SchemaCode
 declared_column primaries column = do
   default ← default_or BadDefault (stored_default column.kind (nullable_of primaries column) column.attributes.plain.default)
-  Ok (record { name = column.name; kind = column.kind; nullable = nullable_of primaries column; default = default })
+  Ok (record { name = column.name; kind = column.kind; nullable = nullable_of primaries column; default = default; auto = false })
 
 unfoldable pub declared_columns : List (List (List ℕ)) → List WrittenColumn → Result (List Column) SchemaCode
 declared_columns primaries [] = Ok []
@@ -81,6 +81,7 @@ schema_of name comment names primaries keys columns = record {
   uniques = map (primary_index names) primaries ++ map (key_index names) (filter (λ key. key.is_unique) keys);
   indexes = map (key_index names) (filter (λ key. not key.is_unique) keys);
   comment = comment;
+  start = None;
 }
 
 -- At last a default that isn't stored, or defaults that are too long together, then a table without a clustered key.

@@ -162,6 +162,7 @@ fn declared_column(
         kind: column.kind,
         nullable,
         default,
+        auto: false,
     })
 }
 
@@ -254,6 +255,7 @@ fn schema_of(
         uniques,
         indexes: plain_indexes(alloc, names, keys)?,
         comment,
+        start: None,
     })
 }
 

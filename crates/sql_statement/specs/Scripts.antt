@@ -16,8 +16,8 @@ use Rattle.sql_statement.specs.declared.code.ScriptRefusal.{ScriptRefusal}
 use Rattle.sql_statement.specs.Lines.{line_of, has_lines}
 
 abbrev pub table_of : Statement → List ℕ
-table_of (Insert table columns values) = table
-table_of (Replace table columns values) = table
+table_of (Insert table columns values drawn) = table
+table_of (Replace table columns values drawn) = table
 table_of (Delete table condition) = table
 table_of (Update table sets condition) = table
 table_of (Select table shown condition) = table

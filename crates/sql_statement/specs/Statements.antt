@@ -20,12 +20,12 @@ use Rattle.sql_statement.specs.Scope.{is_out_of_scope}
 unfoldable pub insert_at : List Token → Read ScriptWord
 insert_at words = do
   row ← row_at words
-  Ok (Do (Insert row.0.table row.0.columns row.0.values), row.1)
+  Ok (Do (Insert row.0.table row.0.columns row.0.values None), row.1)
 
 unfoldable pub replace_at : List Token → Read ScriptWord
 replace_at words = do
   row ← row_at words
-  Ok (Do (Replace row.0.table row.0.columns row.0.values), row.1)
+  Ok (Do (Replace row.0.table row.0.columns row.0.values None), row.1)
 
 -- FROM table [WHERE condition] ("DELETE Statement")
 unfoldable pub delete_at : List Token → Read ScriptWord

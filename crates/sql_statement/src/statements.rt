@@ -28,6 +28,7 @@ fn insert_at(alloc: Global, words: &[Token]) -> Result<(ScriptWord, &[Token]), S
             table,
             columns,
             values,
+            drawn: None,
         }),
         rest,
     ))
@@ -48,6 +49,7 @@ fn replace_at(alloc: Global, words: &[Token]) -> Result<(ScriptWord, &[Token]), 
             table,
             columns,
             values,
+            drawn: None,
         }),
         rest,
     ))

@@ -14,9 +14,13 @@ unfoldable pub column_names : List Column → List ℕ
 column_names [] = []
 column_names (first ∷ others) = first.name ++ more_names others
 
+-- a table's name and those of its columns: `t (id, b)`
+abbrev pub schema_line : Schema → List ℕ
+schema_line schema = schema.name ++ codes " (" ++ column_names schema.columns ++ codes ")\n"
+
 -- a table and its columns: `table t (id, b)`
 unfoldable pub table_line : Schema → List ℕ
-table_line schema = codes "table " ++ schema.name ++ codes " (" ++ column_names schema.columns ++ codes ")\n"
+table_line schema = codes "table " ++ schema_line schema
 
 -- each row on a line of its own: `(1, 7)`
 unfoldable pub row_lines : List (List Value) → List ℕ

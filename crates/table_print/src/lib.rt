@@ -5,4 +5,4 @@ mod names;
 mod tables;
 
 pub use names::push_names_line;
-pub use tables::{push_row_lines, push_table_line};
+pub use tables::{push_row_lines, push_schema_line, push_table_line};

@@ -1,7 +1,7 @@
 //! Tables, line by line.
 
 ghost use Rattle.std.specs.Prelude.{◌≡◌, ◌++◌, OnOk};
-ghost use Rattle.table_print.specs.Tables.{more_names, column_names, table_line, row_lines};
+ghost use Rattle.table_print.specs.Tables.{more_names, column_names, schema_line, table_line, row_lines};
 
 use base_values::gho_schema::{Column, Schema};
 use base_values::{Row, Text, print_row};
@@ -31,16 +31,23 @@ fn push_column_names(into: &mut Text, columns: &[Column]) -> Result<(), AllocErr
     }
 }
 
-/// Adds a table's name and those of its columns.
+/// Adds a table's name and those of its columns, after whatever stands before them in their line.
+pub fn push_schema_line(into: &mut Text, schema: &Schema) -> Result<(), AllocError>
+    ensures { OnOk result (into.new ≡ into.old ++ schema_line schema.now) }
+{
+    into.push_str(schema.name.as_str())?;
+    into.push_str(" (")?;
+    push_column_names(into, schema.columns.as_slice())?;
+    into.push_str(")\n")
+}
+
+/// Adds the line of a table.
 #[tactic(auto, unfolding(crate::specs::Tables::table_line))]
 pub fn push_table_line(into: &mut Text, schema: &Schema) -> Result<(), AllocError>
     ensures { OnOk result (into.new ≡ into.old ++ table_line schema.now) }
 {
     into.push_str("table ")?;
-    into.push_str(schema.name.as_str())?;
-    into.push_str(" (")?;
-    push_column_names(into, schema.columns.as_slice())?;
-    into.push_str(")\n")
+    push_schema_line(into, schema)
 }
 
 /// Adds each row on a line of its own.

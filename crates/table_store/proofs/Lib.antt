@@ -1,10 +1,8 @@
 pub mod Ascending
 pub mod ChangedTables
 pub mod FoundRows
-pub mod KeptTables
 pub mod NamedTables
 pub mod Orders
-pub mod Partitions
 pub mod RenamedTables
 pub mod RowLaws
 pub mod RowsBetween

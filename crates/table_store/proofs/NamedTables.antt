@@ -1,5 +1,5 @@
 -- The table of a name among tables of different names.
-use Rattle.std.proofs.Common.{◌≡◌, ℕ, ◌+◌, ◌<◌, ◌≤◌, Bool, true, false, not, ◌||◌, List, [], ◌∷◌, ◌++◌, length, get_or, set, map, remove, cond, option_map, IsSome, IsSomeAnd, is_some, Option, Some, None, Bor, refl, sym, ap, ◌∙◌, subst, one-add}
+use Rattle.std.proofs.Common.{◌≡◌, ℕ, ◌+◌, ◌<◌, ◌≤◌, Bool, true, false, not, ◌||◌, List, [], ◌∷◌, ◌++◌, length, get_or, set, map, take, remove, cond, option_map, IsSome, IsSomeAnd, is_some, Option, Some, None, Bor, refl, sym, ap, ◌∙◌, subst, one-add, zero, suc}
 use Rattle.std.specs.List.{prefix_len, slice_get}
 use Rattle.std.specs.Option.{option_copied, option_map_or}
 use Rattle.std.specs.Str.{bytes_eq}
@@ -316,3 +316,18 @@ added_differ (stored ∷ tables) new differ none =
 
 pub stands_is : (name : List ℕ) (found : Option (Bor StoredTable)) (tables now : List StoredTable) → option_copied found ≡ find_stored name tables → tables ≡ now → is_some found ≡ has_table name (database now)
 stands_is name found tables now is same = some_copied found ∙ ap (λ (o : Option StoredTable). is_some o) is ∙ has_found name tables ∙ ap (λ (ts : List StoredTable). has_table name (database ts)) same
+
+-- ---- a table that comes after others has none of their names
+
+not_at : (name : List ℕ) (tables : Database) (n : ℕ) (t : TableRows) → has_table name tables ≡ false → slice_get tables n ≡ Some t → is_named name t ≡ false
+not_at name [] n t none at = absurd cc
+not_at name (x ∷ tables) zero t none at = let same : x ≡ t = cc in subst (λ (y : TableRows). is_named name y ≡ false) same (or_parts (is_named name x) (has_table name tables) none).0
+not_at name (x ∷ tables) (suc n) t none at = not_at name tables n t (or_parts (is_named name x) (has_table name tables) none).1 at
+
+pub not_ahead : (tables : Database) (n : ℕ) (t : TableRows) → NamesDiffer tables → slice_get tables n ≡ Some t → has_table t.schema.name (take n tables) ≡ false
+not_ahead [] n t differ at = absurd cc
+not_ahead (x ∷ tables) zero t differ at = refl
+not_ahead (x ∷ tables) (suc n) t differ at =
+    let apart : is_named x.schema.name t ≡ false = not_at x.schema.name tables n t differ.0 at in
+    let other : is_named t.schema.name x ≡ false = other_way t.schema.name x.schema.name (is_named t.schema.name x) apart refl in
+    rw other (not_ahead tables n t differ.1 at)

@@ -1,5 +1,5 @@
 -- *Database*: tables with different names, and what is asked of them and done to them.
-use Rattle.std.specs.Prelude.{◌≡◌, ℕ, Bool, false, not, ◌&&◌, if◌then◌else◌, List, [], ◌∷◌, map, filter, find, unwrap_or, Option, None, Result, Ok, Err}
+use Rattle.std.specs.Prelude.{◌≡◌, ℕ, Bool, false, not, ◌&&◌, if◌then◌else◌, List, [], ◌∷◌, map, filter, find, unwrap_or, Option, Some, None, Result, Ok, Err}
 use Rattle.std.specs.List.{AllByRecursion, list_any}
 use Rattle.std.specs.Option.{option_map_or}
 use Rattle.std.specs.Str.{bytes_eq}
@@ -12,6 +12,8 @@ use Rattle.base_values.specs.GhoSchema.Tables.{IsTable, clash}
 use Rattle.base_values.specs.declared.mysql_errors.TheConstants.{ER_TABLE_EXISTS_ERROR, ER_NO_SUCH_TABLE}
 use Rattle.table_store.specs.RowLists.{is_at, is_besides, without_key}
 use Rattle.table_store.specs.declared.renames.Pair.{Pair}
+use Rattle.table_store.specs.declared.add_fault.AddFault.{AddFault}
+use Rattle.table_store.specs.declared.add_fault.AddFault.TheVariants as adds
 use Rattle.table_store.specs.declared.renames.NotRenamed.{NotRenamed}
 use Rattle.table_store.specs.declared.renames.NotRenamed.TheVariants.{Exists, Missing}
 
@@ -105,6 +107,11 @@ rename_tables (pair ∷ pairs) tables =
 abbrev pub rename_number : NotRenamed → ℕ
 rename_number Exists = ER_TABLE_EXISTS_ERROR
 rename_number Missing = ER_NO_SUCH_TABLE
+
+-- the number of a refusal to add a table; want of memory has none
+abbrev pub add_number : AddFault → Option ℕ
+add_number adds.Exists = Some ER_TABLE_EXISTS_ERROR
+add_number adds.Memory = None
 
 -- what contracts see of a stored table: besides, for how many more rows it has room
 pub record StoredTable : Type 0 where

@@ -1,6 +1,5 @@
 pub mod ClusteredKeys
 pub mod Databases
-pub mod KeptByName
 pub mod Laws
 pub mod RowLists
 pub mod NameMap

@@ -3,21 +3,14 @@
 //! rows, tables and databases.
 #![tactic(auto)]
 
-mod by_name;
+mod add_fault;
 mod comparison;
 mod key_values;
 pub mod laws;
-mod lookup;
 pub mod name_map;
 pub mod paged_tables;
-mod places;
 mod renames;
-mod span_rows;
-mod table;
-mod tables;
 
+pub use add_fault::AddFault;
 pub use comparison::has_no_null;
 pub use renames::{NotRenamed, Pair, Pairs, RenameFault};
-pub use span_rows::SpanRows;
-pub use table::Table;
-pub use tables::{AddFault, Tables};

@@ -1,4 +1,4 @@
-//! The database of the program: tables in pages, kept by name, by the contracts of `table_store`'s plain list. One such table is
+//! The database of the program: tables in pages, kept by name, by contracts over a plain list. One such table is
 //! in the module `row_pages`.
 
 mod additions;

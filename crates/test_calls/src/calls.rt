@@ -14,7 +14,9 @@ pub fn answer(alloc: Global, call: &str, input: &str) -> Result<Text, CallFault>
         "span" | "held" | "row" | "name" | "throttle" => {
             test_texts::lock_calls::answer(alloc, subject, call, input)
         }
-        "event" | "key" | "table" => test_tables::store_calls::answer(alloc, subject, call, input),
+        "event" | "log" | "key" | "table" => test_tables::store_calls::answer(
+            alloc, subject, call, input,
+        ),
         "database" if call == "calls" => test_tables::database_calls::answers(alloc, input),
         "server" if call == "calls" => test_server::answers(alloc, input),
         _ => Err(CallFault::Unread),

@@ -2,15 +2,15 @@
 //! line, and the pieces of which inputs are made.
 #![tactic(auto)]
 
-mod comparison;
 mod intervals;
 mod line;
 mod reader;
+mod rows;
 
-pub use comparison::{are_same, say_difference, say_found, say_row};
 pub use intervals::{key_of, span_of};
 pub use line::Line;
 pub use reader::{
     CallFault, bytes_of, kind_of, number_of, place_of, push_codes, row_of, say, text_of,
     unsigned_of, value_of, yes_or_no,
 };
+pub use rows::say_row;

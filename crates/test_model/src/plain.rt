@@ -4,10 +4,11 @@ ghost use Rattle.std.specs.Prelude.{◌≡◌, IfOk, option_copied};
 ghost use Rattle.table_store.specs.Databases.{database, find_table, is_named};
 
 use base_values::gho_schema::Schema;
-use base_values::{Duplicate, Name, Row, Rows, Sequence, copy_of};
+use base_values::{Duplicate, Name, Row, Rows, Sequence};
 use std::alloc::{AllocError, Global};
 use std::marker::Model;
-use table_store::{Table, Tables};
+use table_store::paged_tables::Tables;
+use table_store::paged_tables::row_pages::Table;
 
 /// A table: a schema, and rows.
 #[derive(Drop)]
@@ -64,7 +65,7 @@ fn plain_table(alloc: Global, table: &Table) -> Result<PlainTable, AllocError>
 {
     Ok(PlainTable {
         schema: table.schema().copy()?,
-        rows: Sequence::from_vec(copy_of(alloc, table.rows().as_slice())?),
+        rows: table.copied_rows(alloc)?,
     })
 }
 

@@ -1,4 +1,4 @@
-//! Calls about events, keys and tables (`store_calls`) and about databases (`database_calls`), as lines write them: for
+//! Calls about events, logs, keys and tables (`store_calls`) and about databases (`database_calls`), as lines write them: for
 //! `test_calls`.
 #![tactic(auto)]
 

@@ -1,7 +1,8 @@
-//! Calls about events, keys and tables, as lines write them: for `test_calls`.
+//! Calls about events, logs, keys and tables, as lines write them: for `test_calls`.
 
 mod events;
 mod keys;
+mod log_calls;
 mod table_calls;
 
 use base_values::Text;
@@ -13,6 +14,7 @@ pub fn answer(alloc: Global, subject: &str, call: &str, input: &str) -> Result<T
     match subject {
         "event" => events::decoded(alloc, input),
         "key" => keys::answer(alloc, call, input),
+        "log" => log_calls::answers(alloc, input),
         "table" => table_calls::answers(alloc, input),
         _ => Err(CallFault::Unread),
     }

@@ -59,56 +59,56 @@ opening = record {
 faithful : IsFaithful plan_101 journal_101
 unfolding computing
 faithful =
-    record { sides = λ is. refl; answer = refl; missed = refl }
-    ▸ record { sides = λ is. refl; answer = refl; missed = refl }
-    ▸ record { sides = λ is. refl; answer = refl; missed = refl }
-    ▸ record { sides = λ is. refl; answer = refl; missed = refl }
-    ▸ record { sides = λ is. refl; answer = refl; missed = refl }
-    ▸ record { sides = λ is. refl; answer = refl; missed = refl }
-    ▸ record { sides = λ is. refl; answer = refl; missed = refl }
-    ▸ record { sides = λ is. refl; answer = refl; missed = refl }
-    ▸ record { sides = λ is. refl; answer = refl; missed = refl }
-    ▸ record { sides = λ is. refl; answer = refl; missed = refl }
-    ▸ record { sides = λ is. refl; answer = refl; missed = refl }
-    ▸ record { sides = λ is. refl; answer = refl; missed = refl }
-    ▸ record { sides = λ is. refl; answer = refl; missed = refl }
-    ▸ record { sides = λ is. refl; answer = refl; missed = refl }
-    ▸ record { sides = λ is. refl; answer = refl; missed = refl }
-    ▸ record { sides = λ is. refl; answer = refl; missed = refl }
-    ▸ record { sides = λ is. refl; answer = refl; missed = refl }
-    ▸ record { sides = λ is. refl; answer = refl; missed = refl }
-    ▸ record { sides = λ is. refl; answer = refl; missed = refl }
-    ▸ record { sides = λ is. refl; answer = refl; missed = refl }
-    ▸ record { sides = λ is. refl; answer = refl; missed = refl }
-    ▸ record { sides = λ is. refl; answer = refl; missed = refl }
-    ▸ record { sides = λ is. refl; answer = refl; missed = refl }
-    ▸ record { sides = λ is. refl; answer = refl; missed = refl }
-    ▸ record { sides = λ is. refl; answer = refl; missed = refl }
-    ▸ record { sides = λ is. refl; answer = refl; missed = refl }
-    ▸ record { sides = λ is. refl; answer = refl; missed = refl }
-    ▸ record { sides = λ is. refl; answer = refl; missed = refl }
-    ▸ record { sides = λ is. refl; answer = refl; missed = refl }
-    ▸ record { sides = λ is. refl; answer = refl; missed = refl }
-    ▸ record { sides = λ is. refl; answer = refl; missed = refl }
-    ▸ record { sides = λ is. refl; answer = refl; missed = refl }
-    ▸ record { sides = λ is. refl; answer = refl; missed = refl }
-    ▸ record { sides = λ is. refl; answer = refl; missed = refl }
-    ▸ record { sides = λ is. refl; answer = refl; missed = refl }
-    ▸ record { sides = λ is. refl; answer = refl; missed = refl }
-    ▸ record { sides = λ is. refl; answer = refl; missed = refl }
-    ▸ record { sides = λ is. refl; answer = refl; missed = refl }
-    ▸ record { sides = λ is. refl; answer = refl; missed = refl }
-    ▸ record { sides = λ is. refl; answer = refl; missed = refl }
-    ▸ record { sides = λ is. refl; answer = refl; missed = refl }
-    ▸ record { sides = λ is. refl; answer = refl; missed = refl }
-    ▸ record { sides = λ is. refl; answer = refl; missed = refl }
-    ▸ record { sides = λ is. refl; answer = refl; missed = refl }
-    ▸ record { sides = λ is. refl; answer = refl; missed = refl }
-    ▸ record { sides = λ is. refl; answer = refl; missed = refl }
-    ▸ record { sides = λ is. refl; answer = refl; missed = refl }
-    ▸ record { sides = λ is. refl; answer = refl; missed = refl }
-    ▸ record { sides = λ is. refl; answer = refl; missed = refl }
-    ▸ record { sides = λ is. refl; answer = refl; missed = refl }
+    record { sides = λ is. refl; answer = refl; missed = refl; draw = refl }
+    ▸ record { sides = λ is. refl; answer = refl; missed = refl; draw = refl }
+    ▸ record { sides = λ is. refl; answer = refl; missed = refl; draw = refl }
+    ▸ record { sides = λ is. refl; answer = refl; missed = refl; draw = refl }
+    ▸ record { sides = λ is. refl; answer = refl; missed = refl; draw = refl }
+    ▸ record { sides = λ is. refl; answer = refl; missed = refl; draw = refl }
+    ▸ record { sides = λ is. refl; answer = refl; missed = refl; draw = refl }
+    ▸ record { sides = λ is. refl; answer = refl; missed = refl; draw = refl }
+    ▸ record { sides = λ is. refl; answer = refl; missed = refl; draw = refl }
+    ▸ record { sides = λ is. refl; answer = refl; missed = refl; draw = refl }
+    ▸ record { sides = λ is. refl; answer = refl; missed = refl; draw = refl }
+    ▸ record { sides = λ is. refl; answer = refl; missed = refl; draw = refl }
+    ▸ record { sides = λ is. refl; answer = refl; missed = refl; draw = refl }
+    ▸ record { sides = λ is. refl; answer = refl; missed = refl; draw = refl }
+    ▸ record { sides = λ is. refl; answer = refl; missed = refl; draw = refl }
+    ▸ record { sides = λ is. refl; answer = refl; missed = refl; draw = refl }
+    ▸ record { sides = λ is. refl; answer = refl; missed = refl; draw = refl }
+    ▸ record { sides = λ is. refl; answer = refl; missed = refl; draw = refl }
+    ▸ record { sides = λ is. refl; answer = refl; missed = refl; draw = refl }
+    ▸ record { sides = λ is. refl; answer = refl; missed = refl; draw = refl }
+    ▸ record { sides = λ is. refl; answer = refl; missed = refl; draw = refl }
+    ▸ record { sides = λ is. refl; answer = refl; missed = refl; draw = refl }
+    ▸ record { sides = λ is. refl; answer = refl; missed = refl; draw = refl }
+    ▸ record { sides = λ is. refl; answer = refl; missed = refl; draw = refl }
+    ▸ record { sides = λ is. refl; answer = refl; missed = refl; draw = refl }
+    ▸ record { sides = λ is. refl; answer = refl; missed = refl; draw = refl }
+    ▸ record { sides = λ is. refl; answer = refl; missed = refl; draw = refl }
+    ▸ record { sides = λ is. refl; answer = refl; missed = refl; draw = refl }
+    ▸ record { sides = λ is. refl; answer = refl; missed = refl; draw = refl }
+    ▸ record { sides = λ is. refl; answer = refl; missed = refl; draw = refl }
+    ▸ record { sides = λ is. refl; answer = refl; missed = refl; draw = refl }
+    ▸ record { sides = λ is. refl; answer = refl; missed = refl; draw = refl }
+    ▸ record { sides = λ is. refl; answer = refl; missed = refl; draw = refl }
+    ▸ record { sides = λ is. refl; answer = refl; missed = refl; draw = refl }
+    ▸ record { sides = λ is. refl; answer = refl; missed = refl; draw = refl }
+    ▸ record { sides = λ is. refl; answer = refl; missed = refl; draw = refl }
+    ▸ record { sides = λ is. refl; answer = refl; missed = refl; draw = refl }
+    ▸ record { sides = λ is. refl; answer = refl; missed = refl; draw = refl }
+    ▸ record { sides = λ is. refl; answer = refl; missed = refl; draw = refl }
+    ▸ record { sides = λ is. refl; answer = refl; missed = refl; draw = refl }
+    ▸ record { sides = λ is. refl; answer = refl; missed = refl; draw = refl }
+    ▸ record { sides = λ is. refl; answer = refl; missed = refl; draw = refl }
+    ▸ record { sides = λ is. refl; answer = refl; missed = refl; draw = refl }
+    ▸ record { sides = λ is. refl; answer = refl; missed = refl; draw = refl }
+    ▸ record { sides = λ is. refl; answer = refl; missed = refl; draw = refl }
+    ▸ record { sides = λ is. refl; answer = refl; missed = refl; draw = refl }
+    ▸ record { sides = λ is. refl; answer = refl; missed = refl; draw = refl }
+    ▸ record { sides = λ is. refl; answer = refl; missed = refl; draw = refl }
+    ▸ record { sides = λ is. refl; answer = refl; missed = refl; draw = refl }
+    ▸ record { sides = λ is. refl; answer = refl; missed = refl; draw = refl }
     ▸ tt
 
 planned : KeepsPlan plan_101 journal_101
@@ -284,8 +284,8 @@ away =
         was = refl;
         stands = refl;
         made = refl;
-        old = record { schema = record { name = codes "t"; columns = (record { name = codes "id"; kind = Int 1 false; nullable = false; default = None } ∷ record { name = codes "m0"; kind = Int 4 false; nullable = true; default = (Some Null) } ∷ record { name = codes "v"; kind = Int 4 false; nullable = true; default = (Some Null) } ∷ []); uniques = (record { name = None; places = (0 ∷ []) } ∷ record { name = (Some (codes "u0")); places = (1 ∷ []) } ∷ []); indexes = []; comment = [] }; rows = (Num (pos 5) ∷ Num (pos 2) ∷ Num (pos 6) ∷ []) ∷ (Num (pos 7) ∷ Num (pos 6) ∷ Null ∷ []) ∷ [] };
-        new = record { schema = record { name = codes "_t_gho"; columns = (record { name = codes "b"; kind = VarChar 4; nullable = true; default = (Some (Text (codes "n"))) } ∷ record { name = codes "id"; kind = Int 1 false; nullable = false; default = None } ∷ record { name = codes "m0"; kind = Int 4 false; nullable = true; default = (Some Null) } ∷ record { name = codes "v"; kind = Int 4 false; nullable = true; default = (Some Null) } ∷ []); uniques = (record { name = None; places = (1 ∷ []) } ∷ record { name = (Some (codes "u0")); places = (2 ∷ []) } ∷ []); indexes = []; comment = [] }; rows = (Text (codes "n") ∷ Num (pos 5) ∷ Num (pos 2) ∷ Num (pos 6) ∷ []) ∷ (Text (codes "n") ∷ Num (pos 7) ∷ Num (pos 6) ∷ Null ∷ []) ∷ [] };
+        old = record { schema = record { name = codes "t"; columns = (record { name = codes "id"; kind = Int 1 false; nullable = false; default = None; auto = false } ∷ record { name = codes "m0"; kind = Int 4 false; nullable = true; default = (Some Null); auto = false } ∷ record { name = codes "v"; kind = Int 4 false; nullable = true; default = (Some Null); auto = false } ∷ []); uniques = (record { name = None; places = (0 ∷ []) } ∷ record { name = (Some (codes "u0")); places = (1 ∷ []) } ∷ []); indexes = []; comment = []; start = None }; rows = (Num (pos 5) ∷ Num (pos 2) ∷ Num (pos 6) ∷ []) ∷ (Num (pos 7) ∷ Num (pos 6) ∷ Null ∷ []) ∷ [] };
+        new = record { schema = record { name = codes "_t_gho"; columns = (record { name = codes "b"; kind = VarChar 4; nullable = true; default = (Some (Text (codes "n"))); auto = false } ∷ record { name = codes "id"; kind = Int 1 false; nullable = false; default = None; auto = false } ∷ record { name = codes "m0"; kind = Int 4 false; nullable = true; default = (Some Null); auto = false } ∷ record { name = codes "v"; kind = Int 4 false; nullable = true; default = (Some Null); auto = false } ∷ []); uniques = (record { name = None; places = (1 ∷ []) } ∷ record { name = (Some (codes "u0")); places = (2 ∷ []) } ∷ []); indexes = []; comment = []; start = None }; rows = (Text (codes "n") ∷ Num (pos 5) ∷ Num (pos 2) ∷ Num (pos 6) ∷ []) ∷ (Text (codes "n") ∷ Num (pos 7) ∷ Num (pos 6) ∷ Null ∷ []) ∷ [] };
       });
     }
     ▸ record { asks = tt; idle = refl; rests = tt; exchanges = λ reported. tt }

@@ -56,17 +56,17 @@ without_line before trace = record trace { lines = take before trace.lines ++ dr
 
 -- a client's INSERT into an empty table, in the one turn that the plan allows
 abbrev empty_table : Database
-empty_table = record { schema = record { name = codes "t"; columns = (record { name = codes "id"; kind = Int 4 false; nullable = false; default = None } ∷ []); uniques = (record { name = None; places = (0 ∷ []) } ∷ []); indexes = []; comment = [] }; rows = [] } ∷ []
+empty_table = record { schema = record { name = codes "t"; columns = (record { name = codes "id"; kind = Int 4 false; nullable = false; default = None; auto = false } ∷ []); uniques = (record { name = None; places = (0 ∷ []) } ∷ []); indexes = []; comment = []; start = None }; rows = [] } ∷ []
 
 abbrev plan_one_turn : PlanData
 plan_one_turn = record plan_after_chunk {
   tables = empty_table;
-  clients = ((record { line = 1; word = (words.Do (statements.Insert (codes "t") None ((Num (pos 4)) ∷ []))) } ∷ []) ∷ []);
+  clients = ((record { line = 1; word = (words.Do (statements.Insert (codes "t") None ((Num (pos 4)) ∷ []) None)) } ∷ []) ∷ []);
   options = record (plan_after_chunk.options) { turn_limit = 1 };
 }
 
 abbrev journal_one_turn : List Entry
-journal_one_turn = record { actor = (Client 1); session = 1; asked = Call (requests.Do (statements.Insert (codes "t") None ((Num (pos 4)) ∷ []))); side = None; answer = answers.Ok 1; missed = None } ∷ []
+journal_one_turn = record { actor = (Client 1); session = 1; asked = Call (requests.Do (statements.Insert (codes "t") None ((Num (pos 4)) ∷ []) None)); side = None; answer = answers.Ok 1; missed = None; draw = None } ∷ []
 
 yes_one_turn : audited plan_one_turn (traced plan_one_turn journal_one_turn) ≡ Yes
 unfolding computing printing auditing

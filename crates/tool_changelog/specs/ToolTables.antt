@@ -13,14 +13,14 @@ unfoldable pub sentry_comment : List ℕ
 sentry_comment = codes "ghost-cut-over-sentry"
 
 abbrev pub not_null : List ℕ → Kind → Column
-not_null name kind = record { name = name; kind = kind; nullable = false; default = None }
+not_null name kind = record { name = name; kind = kind; nullable = false; default = None; auto = false }
 
 abbrev pub first_is_primary : List Index
 first_is_primary = record { name = None; places = 0 ∷ [] } ∷ []
 
 -- CREATE TABLE (id INT PRIMARY KEY) with the comment
 unfoldable pub sentry_schema : List ℕ → Schema
-sentry_schema table = record { name = old_name table; columns = not_null (codes "id") (Int 4 false) ∷ []; uniques = first_is_primary; indexes = []; comment = sentry_comment }
+sentry_schema table = record { name = old_name table; columns = not_null (codes "id") (Int 4 false) ∷ []; uniques = first_is_primary; indexes = []; comment = sentry_comment; start = None }
 
 -- CREATE TABLE (id BIGINT PRIMARY KEY, hint VARCHAR(64) NOT NULL, value VARCHAR(255) NOT NULL)
 unfoldable pub log_schema : List ℕ → Schema
@@ -31,4 +31,5 @@ log_schema table =
       uniques = first_is_primary;
       indexes = [];
       comment = [];
+      start = None;
     }

@@ -19,6 +19,7 @@ fn not_null(alloc: Global, name: &str, kind: Kind) -> Result<Column, AllocError>
         kind,
         nullable: false,
         default: None,
+        auto: false,
     })
 }
 
@@ -49,6 +50,7 @@ pub fn sentry_schema(alloc: Global, table: &Name) -> Result<Schema, AllocError>
         uniques: first_is_primary(alloc)?,
         indexes: Sequence::new(alloc),
         comment: Chars::new(alloc, SENTRY_COMMENT)?,
+        start: None,
     })
 }
 
@@ -70,5 +72,6 @@ pub fn log_schema(alloc: Global, table: &Name) -> Result<Schema, AllocError>
         uniques: first_is_primary(alloc)?,
         indexes: Sequence::new(alloc),
         comment: Chars::new(alloc, "")?,
+        start: None,
     })
 }

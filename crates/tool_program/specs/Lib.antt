@@ -4,6 +4,7 @@ pub mod Tools
 pub mod Programs
 pub mod Verdicts
 pub mod Failures
+pub mod FreeCalls
 pub mod Online
 pub mod Orders
 pub mod OnlineCalls

@@ -1,6 +1,7 @@
 //! What the tool asks next.
 
-ghost use Rattle.std.specs.Prelude.{◌≡◌, slice_get, None, if◌then◌else◌, IfOk};
+ghost use Rattle.std.specs.Prelude.{◌≡◌, slice_get, None, false, if◌then◌else◌, IfOk, OnErr};
+ghost use Rattle.tool_program.specs.FreeCalls.{is_free_call, is_freely_asked};
 ghost use Rattle.tool_program.specs.JournalWords.KeptPlans.{words_of};
 ghost use Rattle.tool_program.specs.JournalWords.Sessions.{live_session};
 ghost use Rattle.tool_program.specs.Programs.{rolls_back, copy_call, apply_call, lock_call, tool_call, calls, commands, tool_asks};
@@ -43,7 +44,8 @@ impl<'a, V: Serve> ToolView<'a, V> {
 
     fn copy_call(&self, alloc: Global) -> Result<Option<Request>, AllocError>
         requires { IsSeen (V.state self.now.server.now) self.now.tool.now self.now.names.now self.now.load }
-        ensures { IfOk result (λ request. request ≡ copy_call self.now.plan.now (V.state self.now.server.now) self.now.journal.now (tool_of self.now.tool.now) (work_of self.now.tool.now.work)) }
+        ensures request { IfOk result (λ request. request ≡ copy_call self.now.plan.now (V.state self.now.server.now) self.now.journal.now (tool_of self.now.tool.now) (work_of self.now.tool.now.work)) }
+        ensures costs { OnErr result (is_free_call (copy_call self.now.plan.now (V.state self.now.server.now) self.now.journal.now (tool_of self.now.tool.now) (work_of self.now.tool.now.work)) ≡ false) }
     {
         let copier = &self.tool.work.copier;
         if copier.starts() && self.is_throttled() {
@@ -54,7 +56,8 @@ impl<'a, V: Serve> ToolView<'a, V> {
 
     fn apply_call(&self, alloc: Global) -> Result<Option<Request>, AllocError>
         requires { IsSeen (V.state self.now.server.now) self.now.tool.now self.now.names.now self.now.load }
-        ensures { IfOk result (λ request. request ≡ apply_call self.now.plan.now (V.state self.now.server.now) self.now.journal.now (tool_of self.now.tool.now) (work_of self.now.tool.now.work)) }
+        ensures request { IfOk result (λ request. request ≡ apply_call self.now.plan.now (V.state self.now.server.now) self.now.journal.now (tool_of self.now.tool.now) (work_of self.now.tool.now.work)) }
+        ensures costs { OnErr result (is_free_call (apply_call self.now.plan.now (V.state self.now.server.now) self.now.journal.now (tool_of self.now.tool.now) (work_of self.now.tool.now.work)) ≡ false) }
     {
         let work = &self.tool.work;
         if work.cutover.phase.is_done() {
@@ -68,7 +71,8 @@ impl<'a, V: Serve> ToolView<'a, V> {
 
     fn lock_call(&self, alloc: Global) -> Result<Option<Request>, AllocError>
         requires { IsSeen (V.state self.now.server.now) self.now.tool.now self.now.names.now self.now.load }
-        ensures { IfOk result (λ request. request ≡ lock_call self.now.plan.now (V.state self.now.server.now) (tool_of self.now.tool.now) (work_of self.now.tool.now.work)) }
+        ensures request { IfOk result (λ request. request ≡ lock_call self.now.plan.now (V.state self.now.server.now) (tool_of self.now.tool.now) (work_of self.now.tool.now.work)) }
+        ensures costs { OnErr result (is_free_call (lock_call self.now.plan.now (V.state self.now.server.now) (tool_of self.now.tool.now) (work_of self.now.tool.now.work)) ≡ false) }
     {
         let cutover = &self.tool.work.cutover;
         if cutover.phase.is_resting() && !self.may_begin() {
@@ -79,7 +83,8 @@ impl<'a, V: Serve> ToolView<'a, V> {
 
     /// The inspector's call in the setup.
     fn setup_call(&self, alloc: Global, setup: Setup) -> Result<Option<Request>, AllocError>
-        ensures { IfOk result (λ request. request ≡ (if is_reverting (tool_of self.now.tool.now).reason then None else setup_call self.now.plan.now (setup_of setup))) }
+        ensures request { IfOk result (λ request. request ≡ (if is_reverting (tool_of self.now.tool.now).reason then None else setup_call self.now.plan.now (setup_of setup))) }
+        ensures costs { OnErr result (is_free_call (if is_reverting (tool_of self.now.tool.now).reason then None else setup_call self.now.plan.now (setup_of setup)) ≡ false) }
     {
         if self.tool.is_reverting() {
             return Ok(None);
@@ -96,7 +101,8 @@ impl<'a, V: Serve> ToolView<'a, V> {
     ) -> Result<Option<Request>, AllocError>
         requires seen { IsSeen (V.state self.now.server.now) self.now.tool.now self.now.names.now self.now.load }
         requires session { session ≡ live_session self.now.journal.now actor }
-        ensures { IfOk result (λ request. request ≡ tool_call self.now.plan.now (V.state self.now.server.now) self.now.journal.now (tool_of self.now.tool.now) (tool_phase_of self.now.tool.now) actor) }
+        ensures request { IfOk result (λ request. request ≡ tool_call self.now.plan.now (V.state self.now.server.now) self.now.journal.now (tool_of self.now.tool.now) (tool_phase_of self.now.tool.now) actor) }
+        ensures costs { OnErr result (is_free_call (tool_call self.now.plan.now (V.state self.now.server.now) self.now.journal.now (tool_of self.now.tool.now) (tool_phase_of self.now.tool.now) actor) ≡ false) }
     {
         let cutover = &self.tool.work.cutover;
         let reverts = self.tool.is_reverting();
@@ -112,7 +118,9 @@ impl<'a, V: Serve> ToolView<'a, V> {
         }
     }
 
-    /// What an actor of the tool but the operator asks next, in this session where it has one; none where it isn't ready.
+    /// What an actor of the tool but the operator asks next, in this session where it has one; none where it isn't ready. A poll,
+    /// COMMIT, ROLLBACK and UNLOCK TABLES take no memory.
+    #[tactic(auto, using(crate::proofs::CallFacts::freely_called))]
     pub fn asks(
         &self,
         alloc: Global,
@@ -121,7 +129,8 @@ impl<'a, V: Serve> ToolView<'a, V> {
     ) -> Result<Option<Asked>, AllocError>
         requires seen { IsSeen (V.state self.now.server.now) self.now.tool.now self.now.names.now self.now.load }
         requires session { session ≡ live_session self.now.journal.now actor }
-        ensures { IfOk result (λ asked. asked ≡ tool_asks self.now.plan.now self.now.journal.now (record { server = V.state self.now.server.now; tool = tool_of self.now.tool.now }) actor) }
+        ensures asked { IfOk result (λ asked. asked ≡ tool_asks self.now.plan.now self.now.journal.now (record { server = V.state self.now.server.now; tool = tool_of self.now.tool.now }) actor) }
+        ensures costs { OnErr result (is_freely_asked (tool_asks self.now.plan.now self.now.journal.now (record { server = V.state self.now.server.now; tool = tool_of self.now.tool.now }) actor) ≡ false) }
     {
         if self.waits(session) {
             return Ok(Some(Asked::Poll));

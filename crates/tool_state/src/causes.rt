@@ -1,25 +1,25 @@
-//! How the migration ended, and why.
+//! How the migration ended, and why. Nothing here takes memory.
 
-ghost use Rattle.std.specs.Prelude.{◌≡◌, if◌then◌else◌, IfOk};
+ghost use Rattle.std.specs.Prelude.{◌≡◌, if◌then◌else◌};
 ghost use Rattle.base_values.specs.GhoSchema.Rows.{key_places};
 ghost use Rattle.server_model.specs.declared.outcome.Verdict.TheVariants as verdicts;
 ghost use Rattle.plan_data.specs.PlanData.{old_schema};
 ghost use Rattle.tool_program.specs.Verdicts.{new_column_name, copy_key, apply_key, cause_of, reverted_by};
 ghost use Rattle.tool_state.specs.ToolState.Meanings.{reason_of, tool_phase_of, tool_of};
+ghost use Rattle.tool_state.specs.Verdicts.{key_meant, cause_meant, verdict_meant};
 
-use crate::tool_state::{Reason, Tool, Tries};
-use base_values::{Key, Name, Sequence};
+use crate::tool_state::{Reason, Tool};
+use crate::verdict_view::{CauseView, KeyView, VerdictView};
 use plan_data::Plan;
-use server_model::{Cause, Entry, Numbers, Verdict};
-use std::alloc::{AllocError, Global};
+use server_model::Entry;
 use tool_program::event_applier::name_at;
 
 /// The name of the new column at this place.
 #[tactic(auto, using(tool_program::proofs::ToolSetup::Altered::schema_is))]
-fn new_column_name(alloc: Global, plan: &Plan, place: usize) -> Result<Name, AllocError>
-    ensures { IfOk result (λ name. name ≡ new_column_name plan.now place) }
+fn new_column_name(plan: &Plan, place: usize) -> &str
+    ensures { result.now ≡ new_column_name plan.now place }
 {
-    name_at(alloc, plan.altered().schema.columns.as_slice(), place)
+    name_at(plan.altered().schema.columns.as_slice(), place)
 }
 
 /// The places of the migrated table's clustered key.
@@ -32,93 +32,80 @@ fn old_places(plan: &Plan) -> &[usize]
     }
 }
 
-/// The turns in which a task failed.
-fn turns_of(alloc: Global, tries: &Tries) -> Result<Numbers, AllocError>
-    ensures { IfOk result (λ turns. turns ≡ tries.now.turns) }
-{
-    let mut turns = Sequence::new(alloc);
-    for turn in tries.as_slice() {
-        turns.push(*turn)?;
-    }
-    Ok(turns)
-}
-
 /// The key of the row that the copier had.
-fn copy_key(alloc: Global, journal: &[Entry], tool: &Tool) -> Result<Key, AllocError>
-    ensures { IfOk result (λ key. key ≡ copy_key journal.now (tool_phase_of tool.now)) }
+fn copy_key<'a>(journal: &'a [Entry], tool: &Tool) -> KeyView<'a>
+    ensures { key_meant result ≡ copy_key journal.now (tool_phase_of tool.now) }
 {
     match tool.setup {
-        Some(_) => Ok(Sequence::new(alloc)),
-        None => tool.work.copier.unfit_key(alloc, journal),
+        Some(_) => KeyView::Values(&[]),
+        None => KeyView::Values(tool.work.copier.unfit_key(journal)),
     }
 }
 
 /// The key of the row that the applier had.
-fn apply_key(alloc: Global, plan: &Plan, journal: &[Entry], tool: &Tool) -> Result<Key, AllocError>
-    ensures { IfOk result (λ key. key ≡ apply_key plan.now journal.now (tool_phase_of tool.now)) }
+fn apply_key<'a>(plan: &'a Plan, journal: &'a [Entry], tool: &Tool) -> KeyView<'a>
+    ensures { key_meant result ≡ apply_key plan.now journal.now (tool_phase_of tool.now) }
 {
     match tool.setup {
-        Some(_) => Ok(Sequence::new(alloc)),
-        None => tool
-            .work
-            .applier
-            .unfit_key(alloc, journal, old_places(plan)),
+        Some(_) => KeyView::Values(&[]),
+        None => KeyView::Of {
+            row: tool.work.applier.unfit_row(journal),
+            places: old_places(plan),
+        },
     }
 }
 
-fn cause_of(
-    alloc: Global,
-    plan: &Plan,
-    journal: &[Entry],
-    tool: &Tool,
+fn cause_of<'a>(
+    plan: &'a Plan,
+    journal: &'a [Entry],
+    tool: &'a Tool,
     reason: Reason,
-) -> Result<Cause, AllocError>
-    ensures { IfOk result (λ cause. cause ≡ cause_of plan.now journal.now (tool_of tool.now) (reason_of reason tool.now.spent.turns)) }
+) -> CauseView<'a>
+    ensures { cause_meant result ≡ cause_of plan.now journal.now (tool_of tool.now) (reason_of reason tool.now.spent.turns) }
 {
-    Ok(match reason {
+    match reason {
         Reason::CopyUnfit {
             turn,
             column,
             number,
-        } => Cause::Unfit {
+        } => CauseView::Unfit {
             turn,
-            key: copy_key(alloc, journal, tool)?,
-            column: new_column_name(alloc, plan, column)?,
+            key: copy_key(journal, tool),
+            column: new_column_name(plan, column),
             number,
         },
         Reason::ApplyUnfit {
             turn,
             column,
             number,
-        } => Cause::Unfit {
+        } => CauseView::Unfit {
             turn,
-            key: apply_key(alloc, plan, journal, tool)?,
-            column: new_column_name(alloc, plan, column)?,
+            key: apply_key(plan, journal, tool),
+            column: new_column_name(plan, column),
             number,
         },
-        Reason::Spent(task) => Cause::Spent {
+        Reason::Spent(task) => CauseView::Spent {
             task,
-            turns: turns_of(alloc, &tool.spent)?,
+            turns: tool.spent.as_slice(),
         },
-        Reason::Panicked(turn) => Cause::Panic { turn },
-    })
+        Reason::Panicked(turn) => CauseView::Panic(turn),
+    }
 }
 
 /// How a run that has ended did so, and why, where the ALTER was done or wasn't.
-pub fn verdict(
-    alloc: Global,
-    plan: &Plan,
-    journal: &[Entry],
-    tool: &Tool,
+pub fn verdict<'a>(
+    plan: &'a Plan,
+    journal: &'a [Entry],
+    tool: &'a Tool,
     is_altered: bool,
-) -> Result<Verdict, AllocError>
-    ensures { IfOk result (λ verdict. verdict ≡ (if is_altered then verdicts.Done else reverted_by plan.now journal.now (tool_of tool.now) (tool_of tool.now).reason)) }
+) -> VerdictView<'a>
+    ensures { verdict_meant result ≡ (if is_altered then verdicts.Done else reverted_by plan.now journal.now (tool_of tool.now) (tool_of tool.now).reason) }
 {
     if is_altered {
-        return Ok(Verdict::Done);
+        return VerdictView::Done;
     }
     match tool.reason {
-        Some(reason) => Ok(Verdict::Reverted(cause_of(alloc, plan, journal, tool, reason)?)),
-        None => Ok(Verdict::Unfinished),
+        Some(reason) => VerdictView::Reverted(cause_of(plan, journal, tool, reason)),
+        None => VerdictView::Unfinished,
     }
 }

@@ -8,8 +8,10 @@ mod ending;
 mod ready;
 pub mod tool_state;
 mod tool_view;
+mod verdict_view;
 
 pub use calls::commands;
 pub use causes::verdict;
 pub use ending::is_over;
 pub use tool_view::ToolView;
+pub use verdict_view::{CauseView, KeyView, VerdictView};

@@ -1,4 +1,3 @@
-mod BareNames
 pub mod Left
 pub mod Joining
 pub mod ClientLines

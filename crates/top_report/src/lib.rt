@@ -3,13 +3,11 @@
 #![tactic(auto)]
 
 pub mod client_lines;
-mod names;
 mod tables;
 mod turns;
 mod verdict;
 mod whole;
 
-pub use names::push_names;
 pub use tables::push_tables_left;
 pub use turns::push_actor;
 pub use verdict::push_verdict;

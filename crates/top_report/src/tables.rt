@@ -13,7 +13,6 @@ use plan_data::Plan;
 use std::alloc::AllocError;
 use std::slice;
 use table_print::{push_row_lines, push_table_line};
-use table_store::Table as PlainTable;
 use table_store::paged_tables::Tables;
 use table_store::paged_tables::row_pages::{SpanRows, Table};
 
@@ -52,7 +51,7 @@ fn push_table(into: &mut Text, shown: bool, table: &Table) -> Result<(), AllocEr
 fn push_found(
     into: &mut Text,
     shown: bool,
-    opening: &PlainTable,
+    opening: &Table,
     tables: &Tables,
 ) -> Result<(), AllocError>
     ensures { OnOk result (into.new ≡ into.old ++ tables_text shown (option_to_list (find_table opening.now.table.schema.name (database tables.now)))) }
@@ -69,7 +68,7 @@ fn push_left(
     into: &mut Text,
     shown: bool,
     plan: &Plan,
-    opening: &PlainTable,
+    opening: &Table,
     tables: &Tables,
 ) -> Result<(), AllocError>
     ensures { OnOk result (into.new ≡ into.old ++ tables_text shown (left_of plan.now opening.now.table (database tables.now))) }

@@ -8,7 +8,6 @@ ghost use Rattle.top_report.specs.Reports.{report, where_shown};
 ghost use Rattle.top_report.specs.Turns.{turns_text};
 
 use crate::client_lines::{push_clients, push_history_line};
-use crate::names::push_names;
 use crate::tables::push_tables_left;
 use crate::turns::push_turns;
 use crate::verdict::push_verdict;
@@ -16,6 +15,7 @@ use base_values::Text;
 use plan_data::Plan;
 use server_model::{Entry, Journal, Verdict};
 use std::alloc::{AllocError, Global};
+use table_print::push_names_line;
 use table_store::paged_tables::Tables;
 
 fn push_shown_replies(into: &mut Text, plan: &Plan, journal: &[Entry]) -> Result<(), AllocError>
@@ -68,7 +68,7 @@ pub fn report(
     push_verdict(&mut text, verdict)?;
     push_shown_replies(&mut text, plan, journal.as_slice())?;
     push_tables_left(&mut text, plan.options().show_tables, plan, tables)?;
-    push_names(alloc, &mut text, tables)?;
+    push_names_line(alloc, &mut text, tables)?;
     push_shown_history(alloc, &mut text, plan, journal.as_slice())?;
     push_shown_turns(&mut text, plan, journal.as_slice())?;
     Ok(text)

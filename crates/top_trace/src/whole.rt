@@ -13,8 +13,9 @@ use base_values::Text;
 use plan_data::Plan;
 use server_model::{Entry, Journal, Verdict};
 use std::alloc::{AllocError, Global};
+use table_print::push_names_line;
 use table_store::paged_tables::Tables;
-use top_report::{push_names, push_tables_left, push_verdict};
+use top_report::{push_tables_left, push_verdict};
 
 /// Adds the plan's tables but the leftovers as they are left, with all their rows.
 fn push_tables(into: &mut Text, plan: &Plan, tables: &Tables) -> Result<(), AllocError>
@@ -39,7 +40,7 @@ fn push_journal(
     push_turns(into, journal)?;
     push_verdict(into, verdict)?;
     push_tables(into, plan, tables)?;
-    push_names(alloc, into, tables)
+    push_names_line(alloc, into, tables)
 }
 
 /// The text of a trace: the plan as it was given, a line feed, and of its run with this journal and verdict, which left these

@@ -5,6 +5,7 @@ ghost use Rattle.base_values.specs.KeyOrder.{compare_keys};
 ghost use Rattle.base_values.specs.GhoSchema.Rows.{key_of, put};
 
 use crate::gho_schema::schema::Places;
+use crate::mysql_errors::ER_DUP_ENTRY;
 use crate::{Duplicate, Key, Row, Rows, Sequence, Value};
 use std::alloc::{AllocError, AllocFailed, Global};
 use std::collections::BTreeMap;
@@ -14,12 +15,26 @@ use thiserror::Error;
 /// Why a row isn't put among the others.
 #[derive(Debug, Drop, Error)]
 pub enum PutFault {
-    /// A row has its key already.
+    /// A row has its key already: MySQL's `ER_DUP_ENTRY`.
     #[error("a row has this key already")]
     Repeated,
     /// There is no memory for one more row.
     #[error("out of memory")]
     Memory,
+}
+
+impl PutFault {
+    ghost use Rattle.base_values.specs.GhoSchema.KeyedRows.{put_number};
+
+    /// The number of MySQL's error; want of memory is no error of MySQL's here.
+    pub fn number(&self) -> Option<u16>
+        ensures { result ≡ put_number self.now }
+    {
+        match self {
+            PutFault::Repeated => Some(ER_DUP_ENTRY),
+            PutFault::Memory => None,
+        }
+    }
 }
 
 impl From<AllocError> for PutFault {

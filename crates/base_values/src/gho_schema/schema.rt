@@ -18,6 +18,8 @@ pub struct Schema {
     pub indexes: Indexes,
     /// The table's comment; empty where none is written.
     pub comment: Chars,
+    /// The number at which its AUTO_INCREMENT column starts, where the table option AUTO_INCREMENT is written.
+    pub start: Option<u64>,
 }
 
 /// A column of a table.
@@ -30,6 +32,8 @@ pub struct Column {
     pub nullable: bool,
     /// What a row that names no value for it gets; none where such a row is refused.
     pub default: Option<Value>,
+    /// Whether it has AUTO_INCREMENT.
+    pub auto: bool,
 }
 
 // By hand, so that crates above prove it as one call.
@@ -40,6 +44,7 @@ impl Drop for Column {
             default,
             kind: _,
             nullable: _,
+            auto: _,
         } = self;
         drop(name);
         drop(default);
@@ -81,6 +86,7 @@ impl Drop for Schema {
             uniques,
             indexes,
             comment,
+            start: _,
         } = self;
         drop(name);
         drop(columns);
@@ -121,6 +127,7 @@ impl Duplicate for Column {
             kind: self.kind,
             nullable: self.nullable,
             default: self.default.copy()?,
+            auto: self.auto,
         })
     }
 }
@@ -142,6 +149,7 @@ impl Duplicate for Schema {
             uniques: self.uniques.copy()?,
             indexes: self.indexes.copy()?,
             comment: self.comment.copy()?,
+            start: self.start,
         })
     }
 }

@@ -46,13 +46,13 @@ unfolding value_at
 value_then column word value rest is fits = rw (literal_then word value rest is, fits) refl
 
 abbrev id_column : Column
-id_column = record { name = codes "id"; kind = Int 8 false; nullable = false; default = None }
+id_column = record { name = codes "id"; kind = Int 8 false; nullable = false; default = None; auto = false }
 
 abbrev u_column : Column
-u_column = record { name = codes "u"; kind = VarChar 24; nullable = true; default = Some Null }
+u_column = record { name = codes "u"; kind = VarChar 24; nullable = true; default = Some Null; auto = false }
 
 abbrev v_column : Column
-v_column = record { name = codes "v"; kind = Int 4 false; nullable = true; default = Some Null }
+v_column = record { name = codes "v"; kind = Int 4 false; nullable = true; default = Some Null; auto = false }
 
 values_read : (key value : ℕ) → key < 2 ^ 63 → value < 2 ^ 31 → row_of table_schema.columns (record { words = values_words 117 key value; is_faulty = false }) ≡ Some (row_values key value)
 unfolding row_of values_at after_sign same_sign

@@ -22,14 +22,15 @@ abbrev pub altered_schema : Schema
 altered_schema = record {
   name = table_name;
   columns =
-      record { name = codes "id"; kind = Int 8 false; nullable = false; default = None }
-      ∷ record { name = codes "u"; kind = VarChar 24; nullable = true; default = Some Null }
-      ∷ record { name = codes "v"; kind = Int 8 false; nullable = true; default = Some Null }
-      ∷ record { name = codes "s"; kind = VarChar 8; nullable = false; default = Some (Text (codes "new")) }
+      record { name = codes "id"; kind = Int 8 false; nullable = false; default = None; auto = false }
+      ∷ record { name = codes "u"; kind = VarChar 24; nullable = true; default = Some Null; auto = false }
+      ∷ record { name = codes "v"; kind = Int 8 false; nullable = true; default = Some Null; auto = false }
+      ∷ record { name = codes "s"; kind = VarChar 8; nullable = false; default = Some (Text (codes "new")); auto = false }
       ∷ [];
   uniques = record { name = None; places = 0 ∷ [] } ∷ record { name = Some (codes "u"); places = 1 ∷ [] } ∷ [];
   indexes = [];
   comment = [];
+  start = None;
 }
 
 -- where the values of its columns come from

@@ -15,13 +15,14 @@ abbrev pub table_schema : Schema
 table_schema = record {
   name = table_name;
   columns =
-      record { name = codes "id"; kind = Int 8 false; nullable = false; default = None }
-      ∷ record { name = codes "u"; kind = VarChar 24; nullable = true; default = Some Null }
-      ∷ record { name = codes "v"; kind = Int 4 false; nullable = true; default = Some Null }
+      record { name = codes "id"; kind = Int 8 false; nullable = false; default = None; auto = false }
+      ∷ record { name = codes "u"; kind = VarChar 24; nullable = true; default = Some Null; auto = false }
+      ∷ record { name = codes "v"; kind = Int 4 false; nullable = true; default = Some Null; auto = false }
       ∷ [];
   uniques = record { name = None; places = 0 ∷ [] } ∷ record { name = Some (codes "u"); places = 1 ∷ [] } ∷ [];
   indexes = [];
   comment = [];
+  start = None;
 }
 
 -- a row: its key, a text of the key, and a value

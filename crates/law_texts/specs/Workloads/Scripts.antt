@@ -1,5 +1,5 @@
 -- What a workload's clients ask for. This project's rule.
-use Rattle.std.specs.Prelude.{codes, ℕ, pos, ◌+◌, ◌*◌, ◌%◌, ◌==◌, if◌then◌else◌, List, [], ◌∷◌, ◌++◌, map, Some}
+use Rattle.std.specs.Prelude.{codes, ℕ, pos, ◌+◌, ◌*◌, ◌%◌, ◌==◌, if◌then◌else◌, List, [], ◌∷◌, ◌++◌, map, Some, None}
 use Rattle.std.specs.Fmt.{decimal}
 use Rattle.std.specs.List.{range_with_len}
 use Rattle.base_values.specs.declared.value.Value.TheVariants.{Num, Text}
@@ -20,7 +20,7 @@ abbrev pub at_key : ℕ → Condition
 at_key key = Equal (record { column = codes "id"; value = Num (pos key) } ∷ [])
 
 abbrev pub insert_of : ℕ → ℕ → Statement
-insert_of key value = Insert table_name (Some (codes "id" ∷ codes "u" ∷ codes "v" ∷ [])) (Num (pos key) ∷ Text (codes "n" ++ decimal key) ∷ Num (pos value) ∷ [])
+insert_of key value = Insert table_name (Some (codes "id" ∷ codes "u" ∷ codes "v" ∷ [])) (Num (pos key) ∷ Text (codes "n" ++ decimal key) ∷ Num (pos value) ∷ []) None
 
 abbrev pub delete_of : ℕ → Statement
 delete_of key = Delete table_name (at_key key)

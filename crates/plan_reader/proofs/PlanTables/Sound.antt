@@ -8,7 +8,8 @@ use Rattle.base_values.specs.declared.gho_schema.schema.Schema.{Schema}
 use Rattle.base_values.specs.GhoSchema.Rows.{key_places, with_row}
 use Rattle.base_values.specs.GhoSchema.Tables.{IsRow, IsTable}
 use Rattle.table_store.specs.ClusteredKeys.{HasClusteredKey}
-use Rattle.table_store.specs.Databases.{TableRows, Database, StoredTable, clashing, has_table}
+use Rattle.table_store.specs.Databases.{TableRows, Database, clashing, has_table}
+use Rattle.table_store.specs.PagedTables.RowPages.StoredRows.{PagedTable}
 use Rattle.table_store.specs.Laws.{PutKeepsTables}
 use Rattle.base_values.proofs.SchemaRules.Lists.{All-append}
 use Rattle.base_values.proofs.SchemaRules.Steps.{bind_ok, kept_out}
@@ -128,6 +129,6 @@ new_keyed number tables schema table valid is =
     subst (λ (t : TableRows). HasClusteredKey t.schema) parts.1 (valid_keyed schema valid)
 
 -- a table that was read has the name of its schema
-pub still_new : (found : Result StoredTable (Fault TableRefusal)) (schema : Schema) (tables : Database) → IfOk found (λ read. read.table.schema ≡ schema) → has_table schema.name tables ≡ false → IfOk found (λ read. has_table read.table.schema.name tables ≡ false)
+pub still_new : (found : Result PagedTable (Fault TableRefusal)) (schema : Schema) (tables : Database) → IfOk found (λ read. read.table.schema ≡ schema) → has_table schema.name tables ≡ false → IfOk found (λ read. has_table read.table.schema.name tables ≡ false)
 still_new (Ok read) schema tables is new = subst (λ (s : Schema). has_table s.name tables ≡ false) (sym is) new
 still_new (Err fault) schema tables is new = tt

@@ -11,13 +11,12 @@ ghost use Rattle.plan_reader.specs.PlanTables.Tables.{of_rows};
 
 use crate::plan_tables::fault::{RowFault, TableFault, TableRefusal};
 use crate::plan_tables::row_text::read_row;
-use base_values::{Duplicate, Row, Sequence};
+use base_values::Row;
 use std::alloc::{AllocError, Global};
-use table_store::Table;
 use table_store::laws::put_keeps_tables;
-use table_store::paged_tables::row_pages::{SpanRows, Table as PagedTable};
+use table_store::paged_tables::row_pages::Table;
 
-fn clashes(table: &PagedTable, row: &Row) -> bool
+fn clashes(table: &Table, row: &Row) -> bool
     ensures { result ≡ is_some (clashing table.now.table row.now None) }
 {
     table.clash(row, None).is_some()
@@ -25,7 +24,7 @@ fn clashes(table: &PagedTable, row: &Row) -> bool
 
 /// Puts the row whose text this is in its place.
 #[tactic(auto, unfolding(crate::specs::PlanTables::Rows::put_text))]
-fn put_text(alloc: Global, table: &mut PagedTable, text: &str) -> Result<(), RowFault>
+fn put_text(alloc: Global, table: &mut Table, text: &str) -> Result<(), RowFault>
     requires room { 0 < table.old.spare }
     requires keyed { HasClusteredKey table.old.table.schema }
     requires is_table { IsTable table.old.table.schema table.old.table.rows }
@@ -48,7 +47,7 @@ fn put_numbered(
     alloc: Global,
     number: u32,
     row: u32,
-    table: &mut PagedTable,
+    table: &mut Table,
     text: &str,
 ) -> Result<(), TableFault>
     requires room { 0 < table.old.spare }
@@ -70,9 +69,9 @@ fn put_numbered(
 fn put_texts(
     alloc: Global,
     number: u32,
-    mut table: PagedTable,
+    mut table: Table,
     texts: &[&str],
-) -> Result<PagedTable, TableFault>
+) -> Result<Table, TableFault>
     requires room { length texts.now ≤ table.spare }
     requires keyed { HasClusteredKey table.table.schema }
     requires is_table { IsTable table.table.schema table.table.rows }
@@ -88,31 +87,11 @@ fn put_texts(
     Ok(table)
 }
 
-/// The rows of a table in pages, in one list.
-fn listed_rows(alloc: Global, mut rows: SpanRows<'_>) -> Result<Vec<Row>, AllocError>
-    ensures { IfOk result (λ copy. copy.items ≡ rows.entry) }
-{
-    let mut copy = Vec::new(alloc);
-    while let Some(row) = rows.next() {
-        copy.push(row.copy()?)?;
-    }
-    Ok(copy)
-}
-
-/// The table, as a plan keeps it.
-fn plain_table(alloc: Global, table: &PagedTable) -> Result<Table, AllocError>
-    ensures { IfOk result (λ plain. plain.table ≡ table.now.table) }
-{
-    let schema = table.schema().copy()?;
-    let rows = listed_rows(alloc, table.rows())?;
-    Ok(Table::from_rows(schema, Sequence::from_vec(rows)))
-}
-
 /// The table of this number, which has no row yet, with the rows whose texts these are.
 pub fn read_rows(
     alloc: Global,
     number: u32,
-    mut table: PagedTable,
+    mut table: Table,
     texts: &[&str],
 ) -> Result<Table, TableFault>
     requires keyed { HasClusteredKey table.table.schema }
@@ -122,6 +101,5 @@ pub fn read_rows(
     ensures is_table { IfOk result (λ read. IsTable read.table.schema read.table.rows) }
 {
     table.reserve(texts.len())?;
-    let table = put_texts(alloc, number, table, texts)?;
-    Ok(plain_table(alloc, &table)?)
+    put_texts(alloc, number, table, texts)
 }

@@ -19,9 +19,10 @@ use plan_keys::TableKeys;
 use sql_create::read_schema;
 use sql_grammar::SchemaCode;
 use std::alloc::{AllocError, Global};
+use table_store::AddFault;
 use table_store::laws::put_keeps_tables;
-use table_store::paged_tables::row_pages::Table as PagedTable;
-use table_store::{AddFault, Table, Tables};
+use table_store::paged_tables::Tables;
+use table_store::paged_tables::row_pages::Table;
 
 /// The schema that the text of the table of this number declares.
 fn schema_of(alloc: Global, migrated: &str, number: u32, create: &str) -> Result<Schema, TableFault>
@@ -44,7 +45,7 @@ fn newly_named(
     number: u32,
     tables: &Tables,
     schema: Schema,
-) -> Result<PagedTable, TableFault>
+) -> Result<Table, TableFault>
     ensures table { Answers (λ table. table.table) result (newly_named number (database tables.now) schema) }
     ensures new { IfOk result (λ table. has_table table.table.schema.name (database tables.now) ≡ false) }
 {
@@ -54,7 +55,7 @@ fn newly_named(
             table: number,
         }))
     } else {
-        Ok(PagedTable::new(alloc, schema))
+        Ok(Table::new(alloc, schema))
     }
 }
 

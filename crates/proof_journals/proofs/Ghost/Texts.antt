@@ -87,11 +87,11 @@ new_row_given schema cs row same =
     rw long (row_given 0 schema.columns cs row (places_from 0 schema.columns) (given cs row) same (stand_all 0 schema.columns cs row same))
 
 -- *REPLACE of the given values*
-pub replace_work : (schema : Schema) (cs : List MapColumn) (name : List ℕ) (row made : Row) → SameColumns schema.columns cs → converted_row cs row ≡ Ok made → work_of schema (statements.Replace name None (given cs row)) ≡ Replace made
+pub replace_work : (schema : Schema) (cs : List MapColumn) (name : List ℕ) (row made : Row) → SameColumns schema.columns cs → converted_row cs row ≡ Ok made → work_of schema (statements.Replace name None (given cs row) None) ≡ Replace made
 unfolding work_of
 replace_work schema cs name row made same imaged = rw (new_row_given schema cs row same, imaged) refl
 
-pub replace_refused : (schema : Schema) (cs : List MapColumn) (name : List ℕ) (row : Row) (at : UnfitAt) → SameColumns schema.columns cs → converted_row cs row ≡ Err at → work_of schema (statements.Replace name None (given cs row)) ≡ Refuse (refuses_value at)
+pub replace_refused : (schema : Schema) (cs : List MapColumn) (name : List ℕ) (row : Row) (at : UnfitAt) → SameColumns schema.columns cs → converted_row cs row ≡ Err at → work_of schema (statements.Replace name None (given cs row) None) ≡ Refuse (refuses_value at)
 unfolding work_of
 replace_refused schema cs name row at same imaged = rw (new_row_given schema cs row same, imaged) refl
 

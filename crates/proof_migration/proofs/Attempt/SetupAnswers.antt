@@ -39,7 +39,7 @@ SetupFree plan tables Marking = IsFree plan tables
 SetupFree plan tables (Reaching position) = IsFree plan tables
 SetupFree plan tables (Ready position range) = IsFree plan tables
 
-log_not_old : (table : List ℕ) → bytes_eq (log_name table) (old_name table) ≡ false
+pub log_not_old : (table : List ℕ) → bytes_eq (log_name table) (old_name table) ≡ false
 unfolding log_name old_name
 log_not_old table = by (bytes_eq (log_name table) (old_name table)) refl where
   differ : bytes_eq (codes "_ghc") (codes "_del") ≡ false

@@ -80,7 +80,7 @@ pub record IsStanding (plan : PlanData) (journal : List Entry) : Type 0 where
   pub both : Both plan journal
   pub tool_phase : ToolPhaseAt plan (state_at plan journal).tables (standing_of plan journal Insp).waits (moment plan journal).tool.tool_phase
 
-none_some : {A : Type 0} (request : Request) (waits : Option Request) → waits ≡ None → waits ≡ Some request → A
+pub none_some : {A : Type 0} (request : Request) (waits : Option Request) → waits ≡ None → waits ≡ Some request → A
 none_some request waits none some = absurd (no (sym none ∙ some)) where
   no : None ≡ Some request → ⊥
   no same = cc

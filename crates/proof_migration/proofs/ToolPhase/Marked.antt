@@ -45,7 +45,7 @@ use Rattle.proof_migration.proofs.ToolPhase.Unaltered.Away.{IsKnownAsked, about_
 use Rattle.proof_migration.specs.ToolPhase.Unaltered.{IsUnaltered}
 use Rattle.proof_migration.specs.ToolPhase.Marked.{IsMarkedAt, MarkedJournalsAreRuns, MarkedJournalsAreSerial}
 
-old_is_tool : (table : List ℕ) → is_tool_name table (old_name table) ≡ true
+pub old_is_tool : (table : List ℕ) → is_tool_name table (old_name table) ≡ true
 old_is_tool table = let name : List ℕ = old_name table in or_right (bytes_eq name (ghost_name table) || bytes_eq name (log_name table)) (bytes_eq name name) (same_bytes name)
 
 -- THE EXCHANGE

@@ -173,8 +173,8 @@ copy_fine schema values = or_fine Any (new_row schema None values) works.Copy (n
 -- *A statement's work*
 pub work_fine : (schema : Schema) (statement : Statement) → IsFine (work_of schema statement)
 unfolding work_of
-work_fine schema (statements.Insert table columns values) = or_fine Any (new_row schema columns values) works.Insert (new_fine schema columns values) (λ row any. tt)
-work_fine schema (statements.Replace table columns values) = or_fine Any (new_row schema columns values) works.Replace (new_fine schema columns values) (λ row any. tt)
+work_fine schema (statements.Insert table columns values drawn) = or_fine Any (new_row schema columns values) works.Insert (new_fine schema columns values) (λ row any. tt)
+work_fine schema (statements.Replace table columns values drawn) = or_fine Any (new_row schema columns values) works.Replace (new_fine schema columns values) (λ row any. tt)
 work_fine schema (statements.Delete table condition) = or_fine Any (reach_of schema condition) works.Delete (reach_fine schema condition) (λ reach any. tt)
 work_fine schema (statements.Update table sets condition) = or_fine IsFine (update_of schema sets condition) (λ work. work) (update_fine schema sets condition) (λ work fine. fine)
 work_fine schema (statements.Select table what condition) = or_fine IsFine (select_of schema what condition) (λ work. work) (select_fine schema what condition) (λ work fine. fine)

@@ -118,8 +118,8 @@ lacking-is false column made e = cc
 column_of-kind : (origin : Option ℕ) (written : NewColumn) (nullable : Bool) (column : Column) → column_of origin written nullable ≡ Ok column → written.kind ≡ column.kind
 unfolding column_of
 column_of-kind origin written nullable column e =
-    let b = bind_ok (default_or codes.Default (stored_default written.kind nullable written.default)) (λ default. unless_lacking (lacks_default origin nullable default) (record { name = written.name; kind = written.kind; nullable = nullable; default = default })) column e in
-    ap (λ (c : Column). c.kind) (lacking-is (lacks_default origin nullable b.0) (record { name = written.name; kind = written.kind; nullable = nullable; default = b.0 }) column b.2)
+    let b = bind_ok (default_or codes.Default (stored_default written.kind nullable written.default)) (λ default. unless_lacking (lacks_default origin nullable default) (record { name = written.name; kind = written.kind; nullable = nullable; default = default; auto = false })) column e in
+    ap (λ (c : Column). c.kind) (lacking-is (lacks_default origin nullable b.0) (record { name = written.name; kind = written.kind; nullable = nullable; default = b.0; auto = false }) column b.2)
 
 sort-kept : (schema : Schema) (place : ℕ) (column : Column) (written : NewColumn) (column_position : ColumnPosition) → first_reason (change_reasons schema place column written column_position) ≡ None → (is_in_keys schema.uniques place && not (is_key_conversion column.kind written.kind)) ≡ false
 sort-kept schema place column written column_position none =

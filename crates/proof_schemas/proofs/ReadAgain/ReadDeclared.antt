@@ -92,10 +92,11 @@ pub default-has : (kind : Kind) (nullable : Bool) (written default : Option Valu
 default-has kind nullable (Some value) default e = stored-has nullable (stores value kind nullable) default e
 default-has kind nullable None default e = subst (λ (d : Option Value). (not nullable || is_some d) ≡ true) (ok_is {C = Unfit} (cond nullable (Some Null) None) default e) (null-has nullable)
 
--- what a declared column keeps of the written one, and that it has a default where it may be null
+-- what a declared column keeps of the written one, that it has a default where it may be null, and no AUTO_INCREMENT
 record Kept (written : WrittenColumn) (column : Column) : Type 0 where
   pub name : column.name ≡ written.name
   pub default : has_default column ≡ true
+  pub auto : column.auto ≡ false
 
 column-kept : (primaries : List (List (List ℕ))) (written : WrittenColumn) (column : Column) → declared_column primaries written ≡ Ok column → Kept written column
 unfolding declared_column
@@ -103,7 +104,7 @@ column-kept primaries written column e =
     let nullable = nullable_of primaries written in
     let b = bind_ok (default_or BadDefault (stored_default written.kind nullable written.attributes.plain.default)) (λ default. Ok (made written.name written.kind nullable default)) column e in
     let has = default-has written.kind nullable written.attributes.plain.default b.0 (default_is BadDefault _ b.0 b.1) in
-    subst (Kept written) (ok_is {C = SchemaCode} (made written.name written.kind nullable b.0) column b.2) (record { name = refl; default = has })
+    subst (Kept written) (ok_is {C = SchemaCode} (made written.name written.kind nullable b.0) column b.2) (record { name = refl; default = has; auto = refl })
 
 abbrev AllKept : List WrittenColumn → List Column → Type 0
 AllKept [] [] = Unit {0}
@@ -131,6 +132,12 @@ have-defaults [] [] kept = tt
 have-defaults [] (c ∷ cs) kept = absurd kept
 have-defaults (w ∷ ws) [] kept = absurd kept
 have-defaults (w ∷ ws) (c ∷ cs) kept = (kept.0.default, have-defaults ws cs kept.1)
+
+have-no-autos : (ws : List WrittenColumn) (columns : List Column) → AllKept ws columns → AllByRecursion (λ column. column.auto ≡ false) columns
+have-no-autos [] [] kept = tt
+have-no-autos [] (c ∷ cs) kept = absurd kept
+have-no-autos (w ∷ ws) [] kept = absurd kept
+have-no-autos (w ∷ ws) (c ∷ cs) kept = (kept.0.auto, have-no-autos ws cs kept.1)
 
 -- ---- names of keys
 
@@ -253,6 +260,8 @@ module _ (migrated name comment : List ℕ) (parts : Parts) (columns : List Colu
         key_names = keys-differ named.differ;
         has_defaults = have-defaults parts.columns columns kept;
         defaults = fit;
+        autos = have-no-autos parts.columns columns kept;
+        start = refl;
       }
 
 whole-fit : (name comment : List ℕ) (names : List (List ℕ)) (primaries : List (List (List ℕ))) (keys : List WrittenKey) (columns : List Column) → defaults_fit (schema_of name comment names primaries keys columns).columns ≡ true → defaults_fit columns ≡ true

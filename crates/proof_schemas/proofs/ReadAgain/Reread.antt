@@ -222,9 +222,11 @@ column-made : (name : List ℕ) (kind : Kind) (nullable other : Bool) (written d
     → (default_or BadDefault (stored_default kind other written) >>= λ d. Ok (made name kind other d)) ≡ Ok (made name kind nullable default)
 column-made name kind nullable other written default same stored = rw (same, stored) refl
 
-column-again : (primaries : List (List (List ℕ))) (column : Column) → nullable_of primaries (line_of column) ≡ column.nullable → IsColumn column → has_default column ≡ true → declared_column primaries (line_of column) ≡ Ok column
+column-again : (primaries : List (List (List ℕ))) (column : Column) → nullable_of primaries (line_of column) ≡ column.nullable → IsColumn column → has_default column ≡ true → column.auto ≡ false → declared_column primaries (line_of column) ≡ Ok column
 unfolding declared_column
-column-again primaries column nullable is has = column-made column.name column.kind column.nullable (nullable_of primaries (line_of column)) (default_read column.default) column.default nullable (default-again column column.default is.default has)
+column-again primaries column nullable is has auto =
+    column-made column.name column.kind column.nullable (nullable_of primaries (line_of column)) (default_read column.default) column.default nullable (default-again column column.default is.default has)
+    ∙ ap (λ (b : Bool). let c : Column = record { name = column.name; kind = column.kind; nullable = column.nullable; default = column.default; auto = b } in let r : Result Column SchemaCode = Ok c in r) (sym auto)
 
 columns-again : (primaries : List (List (List ℕ))) (columns : List Column) → AllByRecursion (λ column. declared_column primaries (line_of column) ≡ Ok column) columns → declared_columns primaries (map line_of columns) ≡ Ok columns
 unfolding declared_columns
@@ -330,7 +332,7 @@ primary-may columns index name e none = let gone : index.name ≡ None = e ∙ n
 
 module _ (name comment : List ℕ) (columns : List Column) (indexes : List Index) where
   abbrev whole : List Index → Schema
-  whole uniques = record { name = name; columns = columns; uniques = uniques; indexes = indexes; comment = comment }
+  whole uniques = record { name = name; columns = columns; uniques = uniques; indexes = indexes; comment = comment; start = None }
 
   strict-is : (uniques : List Index) → IsNotNull columns (clustered_key (whole uniques)) → IsStrict columns uniques
   unfolding clustered_among
@@ -401,9 +403,12 @@ module _ (schema : Schema) (valid : IsValid schema) where
   plain-count : count_by (λ key. not key.is_unique) (unique_keys ++ plain_keys) ≡ length schema.indexes
   plain-count = sym (length-filter (λ (key : WrittenKey). not key.is_unique) (unique_keys ++ plain_keys)) ∙ ap length back-keys ∙ length-map schema.indexes (λ index. key_text false schema.columns index index.name)
 
-  whole-again : PrimaryStandsFirst schema.uniques → schema_of schema.name schema.comment own_names primaries (unique_keys ++ plain_keys) schema.columns ≡ schema
+  whole-again : PrimaryStandsFirst schema.uniques → schema.start ≡ None → schema_of schema.name schema.comment own_names primaries (unique_keys ++ plain_keys) schema.columns ≡ schema
   unfolding schema_of
-  whole-again first = rw (front-keys, back-keys, uniques-again schema.columns own-differ schema.uniques first valid.uniques, indexes-again schema.columns own-differ schema.indexes valid.indexes) refl
+  whole-again first none =
+      let own : schema_of schema.name schema.comment own_names primaries (unique_keys ++ plain_keys) schema.columns ≡ record schema { start = None } =
+      rw (front-keys, back-keys, uniques-again schema.columns own-differ schema.uniques first valid.uniques, indexes-again schema.columns own-differ schema.indexes valid.indexes) refl in
+      own ∙ ap (λ (s : Option ℕ). let whole : Schema = record schema { start = s } in whole) (sym none)
 
   names-again : text_names (unique_keys ++ plain_keys) ≡ key_names schema.uniques ++ key_names schema.indexes
   names-again =
@@ -416,7 +421,8 @@ module _ (schema : Schema) (valid : IsValid schema) where
         columns-again primaries schema.columns
         (All-from-at (λ (column : Column). declared_column primaries (line_of column) ≡ Ok column) schema.columns (λ place column at.
         column-again primaries column (nullable-again schema.columns own-differ schema.uniques place column is.primary own-strict at)
-        (All-at IsColumn schema.columns place column valid.columns at) (All-at (λ (c : Column). has_default c ≡ true) schema.columns place column is.has_defaults at)))
+        (All-at IsColumn schema.columns place column valid.columns at) (All-at (λ (c : Column). has_default c ≡ true) schema.columns place column is.has_defaults at)
+        (All-at (λ (c : Column). c.auto ≡ false) schema.columns place column is.autos at)))
 
     own-named : named_keys own_names (unique_keys ++ plain_keys) ≡ record { names = key_names schema.uniques ++ key_names schema.indexes; keys = unique_keys ++ plain_keys }
     own-named =
@@ -431,7 +437,7 @@ module _ (schema : Schema) (valid : IsValid schema) where
         let names = key_names schema.uniques ++ key_names schema.indexes in
         let keys = unique_keys ++ plain_keys in
         let reason = no-name_reason own_names primaries names keys valid.names (few-primaries schema.columns own-differ schema.uniques is.primary) is.key_names (primaries-known schema.columns own-differ schema.uniques valid.uniques) own-known in
-        built-by schema.name schema.comment own_names primaries (map line_of schema.columns) (named names keys) schema.columns schema reason own-columns (whole-again is.primary) (clustered-again schema is.defaults (some-clustered schema valid.clustered))
+        built-by schema.name schema.comment own_names primaries (map line_of schema.columns) (named names keys) schema.columns schema reason own-columns (whole-again is.primary is.start) (clustered-again schema is.defaults (some-clustered schema valid.clustered))
 
     lines-are : list_all (λ column. is_column_name column.name) (map line_of schema.columns) ≡ true
     lines-are = line-names schema.columns is.column_names

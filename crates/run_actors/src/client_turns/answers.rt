@@ -3,8 +3,8 @@
 ghost use Rattle.std.specs.Prelude.{◌≡◌, ◌<◌, ◌∷◌, List, length, Option, is_some, drop};
 ghost use Rattle.base_script.specs.declared.script.ScriptLine.{ScriptLine};
 ghost use Rattle.server_model.specs.declared.transaction.Reply.{Reply};
-ghost use Rattle.tool_program.specs.JournalWords.Clients.{Reached, ends_with, closes, after_transaction, left_after, is_loss, marked, client_after, became};
-ghost use Rattle.run_actors.specs.ClientTurns.ActorStates.{IsReached};
+ghost use Rattle.tool_program.specs.JournalWords.Clients.{Became, Reached, ends_with, closes, after_transaction, left_after, is_loss, marked, client_after, became};
+ghost use Rattle.run_actors.specs.ClientTurns.ActorStates.{IsReached, line_outcome_as};
 
 use crate::client_turns::actor_state::ClientState;
 use crate::client_turns::outcome::{LineOutcome, line_outcome_of};
@@ -12,7 +12,7 @@ use base_script::{Script, ScriptLine, ScriptWord};
 use server_model::{Entry, Mark};
 
 /// Whether the transaction ends with a line of this mark.
-fn ends(is_inside: bool, word: &ScriptWord, mark: Mark) -> bool
+pub fn ends(is_inside: bool, word: &ScriptWord, mark: Mark) -> bool
     ensures { result ≡ is_some (ends_with is_inside word.now mark) }
 {
     match (mark, word) {
@@ -70,11 +70,11 @@ impl ClientState {
         self.is_lost = matches!(mark, Mark::Lost(_));
     }
 
-    /// A turn of this client.
-    pub fn took(&mut self, script: &Script, entry: &Entry)
-        ensures { (client : Reached) → IsReached script.now self.old client → IsReached script.now self.new (client_after (became client entry.now) client) }
+    /// After what became of its line in a turn.
+    pub fn becomes(&mut self, script: &Script, outcome: LineOutcome)
+        ensures { (client : Reached) (became : Became) → outcome ≡ line_outcome_as became → IsReached script.now self.old client → IsReached script.now self.new (client_after became client) }
     {
-        match line_outcome_of(self.waits, entry) {
+        match outcome {
             LineOutcome::Nothing => {}
             LineOutcome::Waits => self.waits = true,
             LineOutcome::Marked(mark) => self.mark(script, mark),
@@ -83,5 +83,20 @@ impl ClientState {
                 self.is_lost = true;
             }
         }
+    }
+
+    /// The lines up to the end of the next transaction are left out.
+    pub fn skip_transaction(&mut self, script: &Script)
+        ensures { (client : Reached) → IsReached script.now self.old client → IsReached script.now self.new (record client { left = after_transaction client.left }) }
+    {
+        self.place = after_transaction(script.as_slice(), self.place);
+    }
+
+    /// A turn of this client.
+    pub fn took(&mut self, script: &Script, entry: &Entry)
+        ensures { (client : Reached) → IsReached script.now self.old client → IsReached script.now self.new (client_after (became client entry.now) client) }
+    {
+        let outcome = line_outcome_of(self.waits, entry);
+        self.becomes(script, outcome);
     }
 }

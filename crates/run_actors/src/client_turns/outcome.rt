@@ -9,7 +9,7 @@ use server_model::{Answer, Asked, Entry, Mark};
 
 /// What became of a client's line in a turn.
 #[derive(Clone, Copy)]
-pub(crate) enum LineOutcome {
+pub enum LineOutcome {
     /// The turn says nothing of the line: it is the next one still.
     Nothing,
     /// It was asked, and its session's request waits.

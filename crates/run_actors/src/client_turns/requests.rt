@@ -1,7 +1,9 @@
 //! What a client asks next.
 
-ghost use Rattle.std.specs.Prelude.{◌≡◌, not, List, drop, is_some, IfOk};
+ghost use Rattle.std.specs.Prelude.{◌≡◌, not, false, List, drop, is_some, IfOk, OnErr};
 ghost use Rattle.base_script.specs.declared.script.ScriptLine.{ScriptLine};
+ghost use Rattle.server_model.specs.Conditions.{is_free};
+ghost use Rattle.tool_program.specs.FreeCalls.{is_freely_asked};
 ghost use Rattle.tool_program.specs.JournalWords.Clients.{Reached, new_client, word_asks, client_over};
 ghost use Rattle.run_actors.specs.ClientTurns.ActorStates.{IsReached, asks_so};
 
@@ -13,7 +15,8 @@ use std::alloc::AllocError;
 
 /// What a line asks.
 fn word_asks(word: &ScriptWord) -> Result<Request, AllocError>
-    ensures { IfOk result (λ request. request ≡ word_asks word.now) }
+    ensures request { IfOk result (λ request. request ≡ word_asks word.now) }
+    ensures costs { OnErr result (is_free (word_asks word.now) ≡ false) }
 {
     Ok(match word {
         ScriptWord::Begin => Request::Begin,
@@ -37,7 +40,7 @@ impl ClientState {
     }
 
     /// The script from the line on that is asked next, or that waits.
-    pub(crate) fn left<'a>(&self, script: &'a Script) -> &'a [ScriptLine]
+    pub fn left<'a>(&self, script: &'a Script) -> &'a [ScriptLine]
         ensures { result.now ≡ drop self.now.place script.now }
     {
         let lines = script.as_slice();
@@ -48,9 +51,11 @@ impl ClientState {
         }
     }
 
-    /// What the client asks next: its next line, or a poll of the one that waits; none where it is over.
+    /// What the client asks next: its next line, or a poll of the one that waits; none where it is over. A poll, COMMIT and
+    /// ROLLBACK take no memory.
     pub fn asks(&self, script: &Script) -> Result<Option<Asked>, AllocError>
-        ensures { IfOk result (λ asked. (client : Reached) → IsReached script.now self.now client → asked ≡ asks_so client) }
+        ensures asked { IfOk result (λ asked. (client : Reached) → IsReached script.now self.now client → asked ≡ asks_so client) }
+        ensures costs { OnErr result ((client : Reached) → IsReached script.now self.now client → is_freely_asked (asks_so client) ≡ false) }
     {
         if self.is_lost {
             return Ok(None);

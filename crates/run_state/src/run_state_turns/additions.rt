@@ -1,12 +1,11 @@
-//! What one turn makes of the run state. Nothing here takes memory but room for a turn, which is made before it.
+//! What one turn makes of the run state. Nothing here takes memory: the room for all turns was made when the run was opened.
 
-ghost use Rattle.std.specs.Prelude.{◌≡◌, ◌+◌, ◌<◌, ◌^◌, [], ◌∷◌, ◌++◌, length, true, OnOk};
+ghost use Rattle.std.specs.Prelude.{◌≡◌, ◌+◌, ◌<◌, ◌^◌, [], ◌∷◌, ◌++◌, length, true};
 ghost use Rattle.base_script.specs.declared.actor.Actor.TheVariants.{Client};
 ghost use Rattle.server_model.specs.States.{load, has_work};
 ghost use Rattle.tool_program.specs.JournalWords.Journals.{after_entry};
 ghost use Rattle.tool_program.specs.Tools.{moment};
-ghost use Rattle.tool_program.specs.ToolSetup.Meanings.{range_reported};
-ghost use Rattle.tool_state.specs.ToolState.Sound.{HasRoom};
+ghost use Rattle.tool_state.specs.ToolState.Sound.{HasRoom, IsRead, TriesGrow};
 ghost use Rattle.proof_journals.specs.Run.Counts.{busy_count};
 ghost use Rattle.run_state.specs.Books.{is_planned, actor_state_in, renames_of, AreReached, HasRoomFor, IsRunState};
 
@@ -14,12 +13,11 @@ use crate::{RunState, script_of};
 use base_script::Actor;
 use run_actors::{is_alter_turn, take_turn};
 use server_model::{Entry, KeyRange};
-use std::alloc::AllocError;
 
 /// What a turn found out besides its entry.
 #[derive(Drop)]
 pub struct TurnFacts {
-    /// A copy of the range of keys that its answer tells.
+    /// A copy of the range of keys that its answer has, where the setup asks for it.
     pub range: Option<KeyRange>,
     /// Whether its session had a transaction, a table lock or a wait before it.
     pub had_work: bool,
@@ -27,19 +25,6 @@ pub struct TurnFacts {
     pub load: u64,
     /// How many sessions of the tool's wait or are in a transaction after it.
     pub busy: u64,
-}
-
-/// Makes room for one turn more. Where there is no memory, the run state says what it said.
-#[tactic(auto, using(crate::proofs::Keeping::roomed))]
-pub fn reserve(run_state: &mut RunState<'_>) -> Result<(), AllocError>
-    requires { IsRunState run_state.old.plan.now run_state.old.journal.items run_state.old }
-    ensures run_state { IsRunState run_state.old.plan.now run_state.old.journal.items run_state.new }
-    ensures journal { run_state.new.journal.items ≡ run_state.old.journal.items }
-    ensures rest { run_state.new ≡ record run_state.old { journal = run_state.new.journal; tool = run_state.new.tool } }
-    ensures ok { OnOk result (HasRoomFor run_state.new) }
-{
-    run_state.journal.reserve(1)?;
-    run_state.tool.reserve()
 }
 
 /// How far a client is after its turn.
@@ -88,13 +73,14 @@ fn keep(run_state: &mut RunState<'_>, entry: &Entry, facts: TurnFacts)
     requires planned { is_planned run_state.old.plan.now entry.now.actor ≡ true }
     requires few { length run_state.old.journal.items + 1 < 2 ^ 32 }
     requires room { HasRoom run_state.old.tool }
-    requires range { facts.range ≡ range_reported entry.now.answer }
+    requires range { IsRead run_state.old.tool.setup facts.range entry.now.answer }
     requires work { facts.had_work ≡ has_work (moment run_state.old.plan.now run_state.old.journal.items).server entry.now.session }
     requires load { facts.load ≡ load (after_entry (moment run_state.old.plan.now run_state.old.journal.items).server entry.now) }
     requires busy { facts.busy ≡ busy_count (after_entry (moment run_state.old.plan.now run_state.old.journal.items).server entry.now) }
     ensures run_state { IsRunState run_state.old.plan.now (run_state.old.journal.items ++ entry.now ∷ []) run_state.new }
     ensures plan { run_state.new.plan.now ≡ run_state.old.plan.now }
     ensures journal { run_state.new.journal ≡ run_state.old.journal }
+    ensures tries { TriesGrow run_state.old.tool run_state.new.tool }
 {
     let plan = run_state.plan;
     let takes_away = renames(run_state, entry.actor);
@@ -115,14 +101,16 @@ pub fn take(run_state: &mut RunState<'_>, entry: Entry, facts: TurnFacts)
     requires run_state { IsRunState run_state.old.plan.now run_state.old.journal.items run_state.old }
     requires planned { is_planned run_state.old.plan.now entry.actor ≡ true }
     requires few { length run_state.old.journal.items + 1 < 2 ^ 32 }
-    requires room { HasRoomFor run_state.old }
-    requires range { facts.range ≡ range_reported entry.answer }
+    requires room { HasRoomFor run_state.old.plan.now run_state.old.journal.items run_state.old }
+    requires less { length run_state.old.journal.items < run_state.old.plan.now.options.turn_limit }
+    requires range { IsRead run_state.old.tool.setup facts.range entry.answer }
     requires work { facts.had_work ≡ has_work (moment run_state.old.plan.now run_state.old.journal.items).server entry.session }
     requires load { facts.load ≡ load (after_entry (moment run_state.old.plan.now run_state.old.journal.items).server entry) }
     requires busy { facts.busy ≡ busy_count (after_entry (moment run_state.old.plan.now run_state.old.journal.items).server entry) }
     ensures run_state { IsRunState run_state.old.plan.now (run_state.old.journal.items ++ entry ∷ []) run_state.new }
     ensures plan { run_state.new.plan.now ≡ run_state.old.plan.now }
     ensures journal { run_state.new.journal.items ≡ run_state.old.journal.items ++ entry ∷ [] }
+    ensures room { HasRoomFor run_state.old.plan.now (run_state.old.journal.items ++ entry ∷ []) run_state.new }
 {
     keep(run_state, &entry, facts);
     run_state.journal.push_reserved(entry);

@@ -55,7 +55,7 @@ module _ (plan : PlanData) (journal : List Entry) (server : State) (actor : Acto
 
   answered : IsAnswered (state_at plan journal) entry
   unfolding entry_on
-  answered = record { sides = λ lost. unlost turn.asked refl lost; answer = ap (heard turn.side) same_answer; missed = ap (missed turn.side) same_answer }
+  answered = record { sides = λ lost. unlost turn.asked refl lost; answer = ap (heard turn.side) same_answer; missed = ap (missed turn.side) same_answer; draw = refl }
 
   -- THE PLAN
 

@@ -2,4 +2,5 @@
 pub mod Connecting
 pub mod Counted
 pub mod Results
+pub mod Costs
 pub mod Weights

@@ -1,6 +1,5 @@
 -- What a turn on the server gives, in the words of the run.
 use Rattle.std.proofs.Common.{◌≡◌, ◌≤◌, ◌<◌, ℕ, ◌+◌, Bool, true, false, not, List, [], ◌∷◌, ◌++◌, length, Option, Some, None, refl, sym, ap, ◌∙◌, subst, append_assoc, append-nil, arith}
-use Rattle.std.proofs.Math.Path.{subst₃}
 use Rattle.std.proofs.lemmas.Bool.{true≢false, false≢true}
 use Rattle.std.proofs.lemmas.List.{length-append}
 use Rattle.table_store.specs.Databases.{Database}
@@ -30,13 +29,15 @@ use Rattle.run_turns.specs.declared.due_turns.migration_run.turn.Turn.{Turn}
 use Rattle.run_turns.specs.DueTurns.MigrationRun.ServerTurns.{session_for, made_for, opened_on, entry_on, counts_of, MayTurn}
 use Rattle.run_turns.proofs.DueTurns.MigrationRun.Counted.{entry_same}
 use Rattle.run_state.specs.declared.run_state.RunState.{RunState}
-use Rattle.run_state.specs.Books.{is_planned, IsRunState}
+use Rattle.run_state.specs.Books.{is_planned, HasRoomFor, IsRunState}
 use Rattle.run_turns.specs.DueTurns.Due.{session_at, next_entry}
 use Rattle.run_turns.specs.DueTurns.Laws.{IsKeptWith}
 use Rattle.run_turns.proofs.DueTurns.Coming.{Comes, Cuts, Gives, comes, Asks, Commands, Called, given_asks, operator_unstruck}
 use Rattle.run_turns.proofs.DueTurns.Keeping.{turns_kept}
 use Rattle.run_turns.proofs.DueTurns.Serving.{after_more}
-use Rattle.run_turns.specs.DueTurns.DueCalls.Ranges.{ahead_of, IsReported}
+use Rattle.tool_program.specs.declared.tool_setup.setup.Setup.{Setup}
+use Rattle.run_turns.specs.DueTurns.DueCalls.Ranges.{ahead_of, is_heard, ahead_on, IsReported, IsReadAhead}
+use Rattle.run_turns.proofs.RunTurns.Ranging.{ahead_reported, unheard_reported}
 use Rattle.run_turns.proofs.DueTurns.DueCalls.Asking.{turns_may_be}
 use Rattle.run_turns.proofs.DueTurns.DueCalls.Telling.{ranges_ahead}
 use Rattle.run_turns.specs.RunTurns.Invariants.{IsDue, IsRun}
@@ -115,17 +116,19 @@ run_state_counts plan journal run_state sessions server counts run loads busies 
 
 -- THE TURN MAY BE TAKEN
 
-pub may_turn : (plan : PlanData) (journal : List Entry) (run_state : RunState) (sessions : ℕ) (server : State) (turn : Turn) → IsRun plan journal run_state sessions server → IsDue plan journal turn → is_command turn.asked ≡ false → sessions < 4294967295
+pub may_turn : (plan : PlanData) (journal : List Entry) (run_state : RunState) (sessions : ℕ) (server : State) (turn : Turn) → IsRun plan journal run_state sessions server → IsDue plan journal turn → is_command turn.asked ≡ false → sessions ≤ 4294967295 → (live_session journal turn.actor ≡ None → sessions < 4294967295)
     → MayTurn server (live_session journal turn.actor) turn
-may_turn plan journal run_state sessions server turn run due_so called less = turns_may_be plan journal server due_so.actor turn run.runs run.kept run.server (omega (arith, less, run.made)) due_so.is called
+may_turn plan journal run_state sessions server turn run due_so called few less =
+    turns_may_be plan journal server due_so.actor turn run.runs run.kept run.server (omega (arith, few, run.made)) (λ none. let left : sessions < 4294967295 = less none in omega (arith, left, run.made)) due_so.is called
 
 -- THE ENTRY
 
-pub command_is : (state : State) (turn : Turn) → is_command turn.asked ≡ true → turn.side ≡ None → record { actor = turn.actor; session = 0; asked = turn.asked; side = None; answer = answers.Ok 0; missed = None } ≡ entry_on state 0 turn
+pub command_is : (state : State) (turn : Turn) → is_command turn.asked ≡ true → turn.side ≡ None → record { actor = turn.actor; session = 0; asked = turn.asked; side = None; answer = answers.Ok 0; missed = None; draw = None } ≡ entry_on state 0 turn
 command_is state turn command none =
     entry_same state 0 turn _ refl refl refl (sym none)
     (sym (ap (λ (side : Option Side). heard side (given_at side turn.asked (serves (opened_on state 0 turn) 0 turn.asked).answer)) none ∙ reported turn.asked (opened_on state 0 turn) command))
     (sym (ap (λ (side : Option Side). missed side (given_at side turn.asked (serves (opened_on state 0 turn) 0 turn.asked).answer)) none))
+    refl
   where
     reported : (asked : Asked) (server : State) → is_command asked ≡ true → heard None (given_at None asked (serves server 0 asked).answer) ≡ answers.Ok 0
     reported (Command word) server is = refl
@@ -178,11 +181,18 @@ module _ (plan : PlanData) (journal : List Entry) (run_state : RunState) (sessio
   entry_actor = refl
 
   -- the range that it is told is the one that was copied
-  pub reported_ahead : (ahead : Option KeyRange) (tables : Database) → tables ≡ server.tables → ahead ≡ ahead_of plan tables turn.actor → IsReported ahead entry.answer
-  reported_ahead ahead tables here is =
-      subst (λ (range : Option KeyRange). IsReported range entry.answer)
-      (sym (is ∙ ap (λ (d : Database). ahead_of plan d turn.actor) (here ∙ tables_after reported server run.server) ∙ ap (ahead_of plan reported.tables) (sym entry_actor)))
-      (ranges_ahead plan journal entry run.runs.fitting run.kept.faithful run.kept.follows answered followed)
+  pub reported_ahead : (setup : Option Setup) (ahead : Option KeyRange) (tables : Database) → tables ≡ server.tables → ahead ≡ ahead_on plan tables setup turn → IsReadAhead setup ahead entry.answer
+  unfolding entry_on
+  reported_ahead setup ahead tables here is = ahead_reported plan setup ahead tables turn entry.answer is whole quiet
+    where
+      whole : IsReported (ahead_of plan tables turn.actor) entry.answer
+      whole =
+          subst (λ (range : Option KeyRange). IsReported range entry.answer)
+          (sym (ap (λ (d : Database). ahead_of plan d turn.actor) (here ∙ tables_after reported server run.server) ∙ ap (ahead_of plan reported.tables) (sym entry_actor)))
+          (ranges_ahead plan journal entry run.runs.fitting run.kept.faithful run.kept.follows answered followed)
+
+      quiet : is_heard turn.side turn.asked ≡ false → IsReported None entry.answer
+      quiet none = unheard_reported (opened_on server entry.session turn) entry.session turn.side turn.asked none
 
   pub work_reported : (had : Bool) → had ≡ has_work server entry.session → had ≡ has_work (moment plan journal).server entry.session
   work_reported had is = is ∙ work_after reported server entry.session run.server ∙ ap (λ (s : State). has_work s entry.session) (sym (server_is plan journal))
@@ -200,29 +210,27 @@ module _ (plan : PlanData) (journal : List Entry) (run_state : RunState) (sessio
   busy_reported counts left are is = ap (λ (c : Counts). c.busy) (counts_reported counts left are is)
 
   -- the run behind it
-  pub run_more : (new : RunState) (bound : ℕ) (left : State) → length journal < plan.options.turn_limit → IsRunState plan (journal ++ entry ∷ []) new → left ≡ after_entry server entry → left.made ≤ bound → IsRun plan (journal ++ entry ∷ []) new bound left
-  run_more new bound left room kept is made = record {
+  pub run_more : (new : RunState) (bound : ℕ) (left : State) → length journal < plan.options.turn_limit → IsRunState plan (journal ++ entry ∷ []) new → HasRoomFor plan (journal ++ entry ∷ []) new → left ≡ after_entry server entry → left.made ≤ bound → IsRun plan (journal ++ entry ∷ []) new bound left
+  run_more new bound left room kept more_room is made = record {
     runs = run.runs;
     kept = with.kept;
     bound = let more : length (journal ++ entry ∷ []) ≡ length journal + 1 = length-append journal (entry ∷ []) in omega (arith, more, room);
     run_state = kept;
+    room = more_room;
     server = subst (IsAfter (state_at plan (journal ++ entry ∷ []))) (sym is) with.following;
     made = made;
   }
 
--- what holds of a plan, a journal and an entry, of those that are the same
-pub carried : (F : PlanData → List Entry → Entry → Type 0) (plan other : PlanData) (journal turns : List Entry) (entry one : Entry) → other ≡ plan → turns ≡ journal → one ≡ entry → F plan journal entry → F other turns one
-carried F plan other journal turns entry one plans journals entries is = subst₃ F (sym plans) (sym journals) (sym entries) is
-
 -- THE BEGINNING
 
-pub run_begin : (plan : PlanData) (run_state : RunState) (server : State) → IsRunnable plan → server ≡ opening plan → IsRunState plan [] run_state → IsRun plan [] run_state 0 server
+pub run_begin : (plan : PlanData) (run_state : RunState) (server : State) → IsRunnable plan → server ≡ opening plan → IsRunState plan [] run_state → HasRoomFor plan [] run_state → IsRun plan [] run_state 0 server
 unfolding state_after
-run_begin plan run_state server runs is kept = record {
+run_begin plan run_state server runs is kept room = record {
   runs = runs;
   kept = kept_none plan;
   bound = omega arith;
   run_state = kept;
+  room = room;
   server = subst (IsAfter (opening plan)) (sym is) (record { made = omega arith; same = refl });
   made = subst (λ (s : State). s.made ≤ 0) (sym is) (omega arith);
 }

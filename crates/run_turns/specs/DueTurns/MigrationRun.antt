@@ -2,3 +2,4 @@
 pub mod Requests
 pub mod Sessions
 pub mod ServerTurns
+pub mod FreeTurns

@@ -1,10 +1,12 @@
 //! A turn on the server.
 
-ghost use Rattle.std.specs.Prelude.{◌≡◌, ◌≤◌, ◌<◌, true, None, IfOk, OnOk, OnErr};
+ghost use Rattle.std.specs.Prelude.{◌≡◌, ◌≤◌, ◌<◌, true, false, None, IfOk, OnOk, OnErr};
 ghost use Rattle.server_model.specs.Entries.{is_command};
 ghost use Rattle.server_model.specs.States.{State, has_work};
 ghost use Rattle.tool_program.specs.JournalWords.Journals.{after_entry};
+ghost use Rattle.tool_program.specs.JournalWords.Sessions.{live_session};
 ghost use Rattle.proof_journals.specs.Run.Counts.{IsAfter};
+ghost use Rattle.run_turns.specs.DueTurns.MigrationRun.FreeTurns.{is_free_turn};
 ghost use Rattle.run_turns.specs.DueTurns.MigrationRun.ServerTurns.{entry_on, made_for, counts_of};
 ghost use Rattle.run_turns.specs.DueTurns.Due.{next_entry};
 ghost use Rattle.run_turns.specs.RunTurns.Invariants.{IsDue, IsRun};
@@ -34,6 +36,7 @@ fn command_entry(turn: Turn) -> Entry
         side: None,
         answer: Answer::Ok(0),
         missed: None,
+        draw: None,
         asked: turn.into_asked(),
     }
 }
@@ -56,7 +59,7 @@ fn command_turn<V: Serve>(server: &V, counts: Counts, turn: Turn) -> Taken
 
 /// How many sessions are made at most after a turn in this session.
 fn sessions_after(sessions: u32, session: Option<u32>) -> u32
-    requires { sessions < u32.MAX }
+    requires { session ≡ None → sessions < u32.MAX }
     ensures { result ≡ made_for session sessions }
 {
     match session {
@@ -65,9 +68,17 @@ fn sessions_after(sessions: u32, session: Option<u32>) -> u32
     }
 }
 
+/// Whether no number is left for the session that a turn is to open.
+fn is_last(sessions: u32, session: Option<u32>) -> bool
+    ensures last { result ≡ true → session ≡ None }
+    ensures left { result ≡ false → session ≡ None → sessions < u32.MAX }
+{
+    session.is_none() && sessions == u32::MAX
+}
+
 /// Takes the turn on the server. Where there is no memory, or no number for a new session is left, the server is as before,
-/// but for a session that was made and is lost again.
-#[tactic(auto, using(crate::proofs::RunTurns::Served::run_state_counts, crate::proofs::RunTurns::Served::command_side))]
+/// but for a session that was made and is lost again. A free turn always succeeds.
+#[tactic(auto, using(crate::proofs::RunTurns::Served::run_state_counts, crate::proofs::RunTurns::Served::command_side, crate::proofs::DueTurns::MigrationRun::Costs::opens_one))]
 pub fn serve_turn<V: Serve>(
     server: &mut V,
     sessions: &mut u32,
@@ -82,6 +93,7 @@ pub fn serve_turn<V: Serve>(
     ensures ok { OnOk result (V.state server.new ≡ after_entry (V.state server.old) (next_entry run_state.now.journal.items (V.state server.old) turn)) }
     ensures err { OnErr result (IsAfter (V.state server.old) (V.state server.new)) }
     ensures made { (V.state server.new).made ≤ sessions.new }
+    ensures costs { OnErr result (is_free_turn (V.state server.old) (live_session run_state.now.journal.items turn.actor) turn ≡ false) }
 {
     let counts = Counts {
         load: run_state.load,
@@ -90,10 +102,10 @@ pub fn serve_turn<V: Serve>(
     if is_command(&turn.asked) {
         return Ok(command_turn(server, counts, turn));
     }
-    if *sessions == u32::MAX {
+    let session = run_state.session(turn.actor);
+    if is_last(*sessions, session) {
         return Err(AllocError);
     }
-    let session = run_state.session(turn.actor);
     *sessions = sessions_after(*sessions, session);
     take_turn(server, session, counts, turn)
 }

@@ -6,7 +6,7 @@ ghost use Rattle.tool_program.specs.JournalWords.Journals.{after_entry};
 ghost use Rattle.tool_program.specs.Tools.{moment};
 ghost use Rattle.proof_journals.specs.Run.Counts.{busy_count};
 ghost use Rattle.run_state.specs.Books.{is_planned, HasRoomFor, IsRunState};
-ghost use Rattle.run_turns.specs.DueTurns.DueCalls.Ranges.{IsReported};
+ghost use Rattle.run_turns.specs.DueTurns.DueCalls.Ranges.{IsReadAhead};
 
 use crate::due_turns::migration_run::Taken;
 use crate::run_turns::ranges::range_reported;
@@ -19,14 +19,16 @@ pub fn keep(run_state: &mut RunState<'_>, ahead: Option<KeyRange>, taken: Taken)
     requires run_state { IsRunState run_state.old.plan.now run_state.old.journal.items run_state.old }
     requires planned { is_planned run_state.old.plan.now taken.entry.actor ≡ true }
     requires few { length run_state.old.journal.items + 1 < 2 ^ 32 }
-    requires room { HasRoomFor run_state.old }
-    requires reported { IsReported ahead taken.entry.answer }
+    requires room { HasRoomFor run_state.old.plan.now run_state.old.journal.items run_state.old }
+    requires less { length run_state.old.journal.items < run_state.old.plan.now.options.turn_limit }
+    requires reported { IsReadAhead run_state.old.tool.setup ahead taken.entry.answer }
     requires work { taken.had_work ≡ has_work (moment run_state.old.plan.now run_state.old.journal.items).server taken.entry.session }
     requires load { taken.counts.load ≡ load (after_entry (moment run_state.old.plan.now run_state.old.journal.items).server taken.entry) }
     requires busy { taken.counts.busy ≡ busy_count (after_entry (moment run_state.old.plan.now run_state.old.journal.items).server taken.entry) }
     ensures run_state { IsRunState run_state.old.plan.now (run_state.old.journal.items ++ taken.entry ∷ []) run_state.new }
     ensures plan { run_state.new.plan.now ≡ run_state.old.plan.now }
     ensures journal { run_state.new.journal.items ≡ run_state.old.journal.items ++ taken.entry ∷ [] }
+    ensures room { HasRoomFor run_state.old.plan.now (run_state.old.journal.items ++ taken.entry ∷ []) run_state.new }
 {
     let reported = TurnFacts {
         range: range_reported(ahead, &taken.entry.answer),

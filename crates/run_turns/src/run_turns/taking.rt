@@ -1,8 +1,10 @@
-//! A turn that is due, taken: all memory first, then the server's answer, then the run state.
+//! A turn that is due, taken: first what may want memory, then the server's answer, then the run state.
 
-ghost use Rattle.std.specs.Prelude.{◌≡◌, ◌+◌, ◌<◌, ◌^◌, [], ◌∷◌, ◌++◌, length, OnOk, OnErr};
+ghost use Rattle.std.specs.Prelude.{◌≡◌, ◌+◌, ◌<◌, ◌^◌, [], ◌∷◌, ◌++◌, length, false, OnOk, OnErr};
 ghost use Rattle.tool_program.specs.JournalWords.Journals.{after_entry};
+ghost use Rattle.tool_program.specs.JournalWords.Sessions.{live_session};
 ghost use Rattle.proof_journals.specs.Run.Counts.{IsAfter};
+ghost use Rattle.run_turns.specs.DueTurns.MigrationRun.FreeTurns.{is_free_turn};
 ghost use Rattle.run_turns.specs.DueTurns.Due.{next_entry};
 ghost use Rattle.run_turns.specs.RunTurns.Invariants.{IsDue, IsRun};
 
@@ -11,12 +13,11 @@ use crate::run_turns::answers::serve_turn;
 use crate::run_turns::ranges::ahead_of;
 use crate::run_turns::records::keep;
 use run_state::RunState;
-use run_state::run_state_turns::reserve;
 use server_api::Serve;
 use std::alloc::{AllocError, Global};
 
 /// Takes the turn that is due. Where there is no memory, all is as before, but for a session that was made and is lost
-/// again.
+/// again. A free turn is always taken.
 pub fn take<V: Serve>(
     alloc: Global,
     server: &mut V,
@@ -34,9 +35,9 @@ pub fn take<V: Serve>(
     ensures state { OnOk result (V.state server.new ≡ after_entry (V.state server.old) (next_entry run_state.old.journal.items (V.state server.old) turn)) }
     ensures still { OnErr result (run_state.new.journal.items ≡ run_state.old.journal.items) }
     ensures following { OnErr result (IsAfter (V.state server.old) (V.state server.new)) }
+    ensures costs { OnErr result (is_free_turn (V.state server.old) (live_session run_state.old.journal.items turn.actor) turn ≡ false) }
 {
-    let ahead = ahead_of(alloc, run_state.plan, server.tables(), turn.actor)?;
-    reserve(run_state)?;
+    let ahead = ahead_of(alloc, run_state, server.tables(), &turn)?;
     let taken = serve_turn(server, sessions, run_state, turn)?;
     keep(run_state, ahead, taken);
     Ok(())

@@ -89,8 +89,8 @@ update_is columns reach (Err at) fit = tt
 -- *what a statement is to do is sound*
 pub work_sound : (schema : Schema) (statement : Statement) → AllByRecursion (λ column. StoresDefault column column.default) schema.columns → IsSound schema.columns (work_of schema statement)
 unfolding work_of
-work_sound schema (statements.Insert table columns values) fits = refused_or schema.columns (IsRow schema.columns) (new_row schema columns values) Insert (new_is schema columns values fits) (λ row is. is)
-work_sound schema (statements.Replace table columns values) fits = refused_or schema.columns (IsRow schema.columns) (new_row schema columns values) Replace (new_is schema columns values fits) (λ row is. is)
+work_sound schema (statements.Insert table columns values drawn) fits = refused_or schema.columns (IsRow schema.columns) (new_row schema columns values) Insert (new_is schema columns values fits) (λ row is. is)
+work_sound schema (statements.Replace table columns values drawn) fits = refused_or schema.columns (IsRow schema.columns) (new_row schema columns values) Replace (new_is schema columns values fits) (λ row is. is)
 work_sound schema (statements.Delete table condition) fits = refused_or schema.columns (λ (reach : Reach). Unit {0}) (reach_of schema condition) Delete (any_is (reach_of schema condition)) (λ reach is. tt)
 work_sound schema (statements.Update table sets condition) fits =
     refused_or schema.columns (IsSound schema.columns) (update_of schema sets condition) (λ work. work)

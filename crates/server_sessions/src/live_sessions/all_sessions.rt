@@ -9,17 +9,17 @@ ghost use Rattle.server_model.specs.Effects.{is_outside};
 ghost use Rattle.server_model.specs.PlainServer.{counting, forgets, goes_on, limit_if, locking, loses, polled_over, is_over, unlocking, without_waiting};
 ghost use Rattle.server_sessions.specs.LiveSessions.Rooms.{logs};
 
-use crate::live_sessions::room::make_room;
-use crate::live_sessions::row_log::Log;
+use crate::live_sessions::room::{give_back, make_room};
 use crate::live_sessions::session_list::SessionList;
 use crate::session_locks::{is_exclusive, is_outside, names_blocker, names_in, waits_shown};
 use crate::{
     begin_wait, end_wait, holds_tables, is_in_transaction, is_live, is_of_tool, is_waiting,
-    polls_of, session_of, waiting_of,
+    polls_of, session_of, waiting_of, writes_of,
 };
 use base_values::{Duplicate, Events, Names, Sequence};
 use server_locks::least_session::least;
 use server_locks::row_locks::{Lock, LockSet};
+use server_log::Log;
 use server_model::{Answer, Limits, Need, Request, ShownWaiters, Waiting};
 use std::alloc::{AllocError, Global};
 use std::marker::Model;
@@ -110,6 +110,8 @@ impl Sessions {
         ensures { self.new ≡ loses session self.old }
     {
         end_wait(&mut self.waiting, session);
+        let writes = writes_of(self.sessions.as_slice(), session);
+        give_back(&mut self.log, writes);
         self.sessions.disconnect(session);
     }
 
@@ -126,8 +128,14 @@ impl Sessions {
         ensures err { OnErr result (self.new ≡ self.old) }
     {
         let need = need_of(self.alloc, request, locks)?;
-        make_room(&mut self.log, self.sessions.as_slice(), events.len())?;
-        self.sessions.hold(self.alloc, session, need, events)
+        let room = make_room(&mut self.log, events.as_slice())?;
+        match self.sessions.hold(self.alloc, session, need, events) {
+            Ok(()) => Ok(()),
+            Err(error) => {
+                self.log.release(room);
+                Err(error)
+            }
+        }
     }
 
     /// What the session wrote is logged, and its transaction is over.
@@ -143,7 +151,7 @@ impl Sessions {
         ensures ok { OnOk result (self.new ≡ logs session events self.old) }
         ensures err { OnErr result (self.new ≡ self.old) }
     {
-        make_room(&mut self.log, self.sessions.as_slice(), events.len())?;
+        let _ = make_room(&mut self.log, events.as_slice())?;
         let writes = self.sessions.rest(self.alloc, session);
         self.log.append(writes);
         self.log.append(events);
@@ -154,7 +162,8 @@ impl Sessions {
     pub fn forget(&mut self, session: u32)
         ensures { self.new ≡ forgets session self.old }
     {
-        let _ = self.sessions.rest(self.alloc, session);
+        let writes = self.sessions.rest(self.alloc, session);
+        give_back(&mut self.log, writes.as_slice());
     }
 
     /// The session holds these names exclusively too (LOCK TABLES).
@@ -210,7 +219,7 @@ impl Sessions {
         let waited = polls + 1;
         if waited == limit {
             end_wait(&mut self.waiting, session);
-            let _ = self.sessions.rest(self.alloc, session);
+            self.forget(session);
             Answer::TimedOut { waited }
         } else {
             self.sessions.count_polls(session, waited);

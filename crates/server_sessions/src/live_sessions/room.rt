@@ -1,31 +1,38 @@
 //! Room in the log for the events of all open transactions, so that a commit takes no memory.
 
-ghost use Rattle.std.specs.Prelude.{◌≡◌, ◌+◌, ◌≤◌, IfSome, OnOk};
-ghost use Rattle.server_sessions.specs.LiveSessions.Rooms.{open_events};
+ghost use Rattle.std.specs.Prelude.{◌≡◌, ◌≤◌, ◌+◌, IfOk, OnOk, OnErr};
+ghost use Rattle.std.specs.List.{AllByRecursion};
+ghost use Rattle.server_log.specs.Encodings.{IsEncodable};
+ghost use Rattle.server_log.specs.EventCosts.Costs.{bytes_of};
 
-use crate::live_sessions::row_log::Log;
-use server_model::Session;
+use base_values::RowEvent;
+use server_log::Log;
+use server_log::event_costs::{cost, encoded_size};
 use std::alloc::AllocError;
 
-/// How many events the sessions wrote in their open transactions, and `more` more; none where they are too many to count.
-fn room_for(sessions: &[Session], more: usize) -> Option<usize>
-    ensures { IfSome result (λ room. room ≡ open_events sessions.now + more) }
+/// Makes room for these events besides, and says for how many bytes. For an event that isn't encoded there is never room: it
+/// would be of a table of more than 64 columns, or of a name of more than 255 bytes, which no plan has.
+pub fn make_room(log: &mut Log, events: &[RowEvent]) -> Result<u64, AllocError>
+    ensures events { log.new.events ≡ log.old.events }
+    ensures ok { OnOk result (log.new.spare ≡ log.old.spare + bytes_of events.now) }
+    ensures more { IfOk result (λ more. more ≡ bytes_of events.now) }
+    ensures encodable { OnOk result (AllByRecursion IsEncodable events.now) }
+    ensures err { OnErr result (log.new.spare ≡ log.old.spare) }
 {
-    let mut room = more;
-    for session in sessions {
-        room = room.checked_add(session.writes.len())?;
-    }
-    Some(room)
+    let more = encoded_size(events).ok_or(AllocError)?;
+    let room = log.spare().checked_add(more).ok_or(AllocError)?;
+    log.reserve(room)?;
+    Ok(more)
 }
 
-/// Makes room for the events of all open transactions and for `more` more.
-pub fn make_room(log: &mut Log, sessions: &[Session], more: usize) -> Result<(), AllocError>
+/// Gives back the room for these events.
+pub fn give_back(log: &mut Log, events: &[RowEvent])
+    requires encodable { AllByRecursion IsEncodable events.now }
+    requires room { bytes_of events.now ≤ log.old.spare }
     ensures events { log.new.events ≡ log.old.events }
-    ensures ok { OnOk result (open_events sessions.now + more ≤ log.new.spare) }
-    ensures spare { log.old.spare ≤ log.new.spare }
+    ensures spare { log.new.spare + bytes_of events.now ≡ log.old.spare }
 {
-    match room_for(sessions, more) {
-        Some(room) => log.reserve(room),
-        None => Err(AllocError),
-    }
+    // For the prover: that the room is a number of 64 bits, so that the cost is no less than the bytes.
+    let _room = log.spare();
+    log.release(cost(events));
 }

@@ -1,6 +1,6 @@
 //! Who holds a name.
 
-ghost use Rattle.std.specs.Prelude.{◌≡◌, ◌==◌, ◌&&◌, map};
+ghost use Rattle.std.specs.Prelude.{◌≡◌, ◌==◌, ◌&&◌, true, map};
 ghost use Rattle.std.specs.List.{list_any};
 ghost use Rattle.server_locks.specs.MetadataLocks.Grants.{least_holder};
 ghost use Rattle.server_model.specs.States.{name_held, names_held};
@@ -19,12 +19,33 @@ pub fn holds(sessions: &[Session], number: u32, name: &Name, exclusive: bool) ->
     })
 }
 
+/// Whether the session holds the name exclusively. Where it holds none so, no name is compared.
+fn has_exclusively(session: &Session, name: &Name) -> bool
+    ensures { result ≡ has_held session.now.names name.now true }
+{
+    if !session.names.has_exclusive() {
+        return false;
+    }
+    session.names.has(name, true)
+}
+
+/// Whether the session holds the name, exclusively where that is asked.
+fn has(session: &Session, name: &Name, exclusive: bool) -> bool
+    ensures { result ≡ has_held session.now.names name.now exclusive }
+{
+    if exclusive {
+        has_exclusively(session, name)
+    } else {
+        session.names.has(name, false)
+    }
+}
+
 /// This session, where it is another one and holds the name, exclusively where that is asked.
 #[tactic(auto, using(crate::proofs::SessionLocks::Names::holder_one))]
 fn holder(session: &Session, number: u32, name: &Name, exclusive: bool) -> Option<u32>
     ensures { result ≡ least_holder (map (name_held session.now.number) session.now.names) number name.now exclusive }
 {
-    if session.number != number && session.names.has(name, exclusive) {
+    if session.number != number && has(session, name, exclusive) {
         Some(session.number)
     } else {
         None

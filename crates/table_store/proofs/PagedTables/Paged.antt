@@ -11,11 +11,13 @@ use Rattle.base_values.specs.declared.gho_schema.schema.Schema.{Schema}
 use Rattle.base_values.specs.GhoSchema.Rows.{key_places, with_row}
 use Rattle.table_store.specs.PagedTables.RowPages.StoredRows.{PagedTable}
 use Rattle.table_store.specs.Databases.{TableRows, StoredTable, Database, IsNewIn, put_in_table, is_named, find_table, has_table, find_stored, others, spare_in, database, with_change, name_table, name_stored, NamesDiffer}
-use Rattle.table_store.proofs.NamedTables.{before, within, Stands, stands, Wrote, wrote, Put, put, is_new, has_found, IsTaken, take_out, IsAbsent, absent, added_differ}
-use Rattle.table_store.proofs.KeptTables.{not_ahead, same_stored}
+use Rattle.table_store.proofs.NamedTables.{before, within, Stands, stands, Wrote, wrote, Put, put, is_new, has_found, IsTaken, take_out, IsAbsent, absent, added_differ, not_ahead}
 use Rattle.table_store.specs.NameMap.NameMaps.{NamedValues, names_before, has_name, with_value}
 use Rattle.table_store.proofs.NameMap.Entries.{map-remove, got_map}
 use Rattle.table_store.specs.PagedTables.PagedDatabases.{stored_of, stored, table_names, AreNamed}
+
+same_stored : (t t' : TableRows) (n n' : ℕ) → t ≡ t' → n ≡ n' → let a : StoredTable = record { table = t; spare = n } in a ≡ record { table = t'; spare = n' }
+same_stored t t' n n' table spare = cc
 
 -- ---- what is found
 
@@ -151,11 +153,6 @@ copied_more copy tables i new old at same so_far =
     ∙ sym (one_more (take i tables) old (database (stored (take i tables))) old.table refl refl)
     ∙ ap (λ (ts : List PagedTable). database (stored ts)) (sym next)
 
-pub paged_more : (made : List PagedTable) (tables : List StoredTable) (i : ℕ) (new : PagedTable) (old : StoredTable) → slice_get tables i ≡ Some old → new.table ≡ old.table → database (stored made) ≡ database (take i tables) → database (stored (made ++ new ∷ [])) ≡ database (take (i + 1) tables)
-paged_more made tables i new old at same so_far =
-    let next : take (i + 1) tables ≡ take i tables ++ old ∷ [] = take_more tables i old (slice_get_within tables i old at) ∙ ap (λ (s : StoredTable). take i tables ++ s ∷ []) (get_or_from_slice_get tables i old old at) in
-    one_more made new (database (take i tables)) old.table so_far same ∙ sym (ap database next ∙ map_push (λ (s : StoredTable). s.table) (take i tables) old)
-
 added : (tables after : NamedValues PagedTable) (new : PagedTable) (name : List ℕ) → AreNamed tables → has_table new.table.schema.name (database (stored tables.values)) ≡ false → name ≡ new.table.schema.name
     → after.names ≡ tables.names ++ name ∷ [] → after.values ≡ tables.values ++ new ∷ [] → AreNamed after
 added tables after new name named none is names values =
@@ -179,13 +176,6 @@ fresh_copy copy tables i new old differ at same so_far =
     let there : slice_get (database (stored tables)) i ≡ Some old.table = got_map (λ (s : StoredTable). s.table) (stored tables) i (stored_of old) (got_map stored_of tables i old at) in
     let ahead : database (stored (take i tables)) ≡ take i (database (stored tables)) = ap database (sym (take-map stored_of i tables)) ∙ sym (take-map (λ (s : StoredTable). s.table) i (stored tables)) in
     ap (λ (t : TableRows). has_table t.schema.name (database (stored copy))) same ∙ ap (has_table old.table.schema.name) (so_far ∙ ahead) ∙ not_ahead (database (stored tables)) i old.table differ there
-
-pub fresh_paged : (made : List PagedTable) (tables : List StoredTable) (i : ℕ) (new : PagedTable) (old : StoredTable) → NamesDiffer (database tables) → slice_get tables i ≡ Some old → new.table ≡ old.table → database (stored made) ≡ database (take i tables)
-    → has_table new.table.schema.name (database (stored made)) ≡ false
-fresh_paged made tables i new old differ at same so_far =
-    let there : slice_get (database tables) i ≡ Some old.table = got_map (λ (s : StoredTable). s.table) tables i old at in
-    let ahead : database (take i tables) ≡ take i (database tables) = sym (take-map (λ (s : StoredTable). s.table) i tables) in
-    ap (λ (t : TableRows). has_table t.schema.name (database (stored made))) same ∙ ap (has_table old.table.schema.name) (so_far ∙ ahead) ∙ not_ahead (database tables) i old.table differ there
 
 -- ---- one table less
 

@@ -3,21 +3,21 @@
 ghost use Rattle.std.specs.Prelude.{◌≡◌, ◌≤◌, ◌<◌, ◌+◌, ◌==◌, true, [], ◌∷◌, ◌++◌, length, slice_get, option_map, option_and_then, Some, Ok, Err, IfOk, OnOk, OnErr, IfErr, IsSome, IsSomeAnd};
 ghost use Rattle.table_store.specs.Databases.{database, find_table, has_table, find_stored, others, spare_in, put_row, remove_row, row_at_key, IsNewIn, NamesDiffer, rename_tables, spares};
 ghost use Rattle.base_values.specs.Faults.{Refuses};
-ghost use Rattle.table_store.specs.declared.tables.AddFault.{AddFault};
+ghost use Rattle.table_store.specs.declared.add_fault.AddFault.{AddFault};
 ghost use Rattle.table_store.specs.PagedTables.PagedDatabases.{stored_of};
 
 use crate::name_map::NameMap;
 use crate::paged_tables::additions::add_new;
-use crate::paged_tables::copies::{copied_tables, paged_tables};
+use crate::paged_tables::copies::copied_tables;
 use crate::paged_tables::lookup::{has_name, named, place_of};
 use crate::paged_tables::renames::rename_from;
 use crate::paged_tables::row_pages::Table;
-use crate::{AddFault, Pairs, RenameFault, Tables as PlainTables};
+use crate::{AddFault, Pairs, RenameFault};
 use base_values::{Key, Name, Row};
 use std::alloc::{AllocError, Global};
 use std::marker::Model;
 
-/// Tables kept by name, in order of adding. Contracts see them as those of `table_store`'s plain list.
+/// Tables kept by name, in order of adding. Contracts see a plain list of them.
 #[derive(Drop)]
 pub struct Tables {
     tables: NameMap<Table>,
@@ -43,17 +43,6 @@ impl Tables {
         Tables {
             tables: NameMap::new(alloc),
         }
-    }
-
-    /// The tables of a plain list, with what room they may have.
-    pub fn from_plain(alloc: Global, tables: &PlainTables) -> Result<Tables, AllocError>
-        ensures { IfOk result (λ paged. database paged ≡ database tables.now) }
-    {
-        // For the prover: `len` says that the tables' names differ.
-        let _count = tables.len();
-        Ok(Tables {
-            tables: paged_tables(alloc, tables)?,
-        })
     }
 
     /// How many tables there are. Their names differ.

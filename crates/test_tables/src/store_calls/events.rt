@@ -1,7 +1,7 @@
 //! Row events and their bytes.
 
 use base_values::{Bytes, Change, RowEvent, Sequence, Text, print_row};
-use extra_event_codec::{DecodeFault, cost, decode, encode};
+use server_log::{DecodeFault, cost, decode, encode};
 use std::alloc::{AllocError, Global};
 use test_lines::{CallFault, bytes_of, text_of};
 
@@ -54,11 +54,16 @@ fn push_change(output: &mut Text, change: &Change) -> Result<(), AllocError> {
     }
 }
 
+/// Adds what the event does, and to which table.
+pub fn push_event(output: &mut Text, event: &RowEvent) -> Result<(), AllocError> {
+    push_change(output, &event.change)?;
+    output.push_str(" of ")?;
+    output.push_str(event.table.as_str())
+}
+
 fn reported_event(alloc: Global, event: &RowEvent) -> Result<Text, CallFault> {
     let mut output = Text::new(alloc);
-    push_change(&mut output, &event.change)?;
-    output.push_str(" of ")?;
-    output.push_str(event.table.as_str())?;
+    push_event(&mut output, event)?;
     Ok(output)
 }
 

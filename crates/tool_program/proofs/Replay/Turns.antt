@@ -27,7 +27,7 @@ abbrev pub turn_of : Entry → Turn
 turn_of entry = record { actor = entry.actor; session = entry.session; asked = entry.asked; side = entry.side }
 
 abbrev pub unanswered : Turn → Entry
-unanswered turn = record { actor = turn.actor; session = turn.session; asked = turn.asked; side = turn.side; answer = ok; missed = None }
+unanswered turn = record { actor = turn.actor; session = turn.session; asked = turn.asked; side = turn.side; answer = ok; missed = None; draw = None }
 
 -- the entry that the server's answer makes of it
 abbrev pub answered : State → Turn → Entry
@@ -38,6 +38,7 @@ answered state turn = record {
   side = turn.side;
   answer = heard turn.side (inner_answer state (unanswered turn));
   missed = missed turn.side (inner_answer state (unanswered turn));
+  draw = None;
 }
 
 same_inner : (state : State) (entry : Entry) → inner_answer state entry ≡ inner_answer state (unanswered (turn_of entry))
@@ -46,8 +47,9 @@ same_inner state entry = refl
 
 entry_is : (state : State) (entry : Entry) → IsAnswered state entry → entry ≡ answered state (turn_of entry)
 entry_is state entry is =
-    ap (λ (a : Answer). let e : Entry = record { actor = entry.actor; session = entry.session; asked = entry.asked; side = entry.side; answer = a; missed = entry.missed } in e) (is.answer ∙ ap (heard entry.side) (same_inner state entry))
-    ∙ ap (λ (m : Option Answer). let e : Entry = record { actor = entry.actor; session = entry.session; asked = entry.asked; side = entry.side; answer = heard entry.side (inner_answer state (unanswered (turn_of entry))); missed = m } in e) (is.missed ∙ ap (missed entry.side) (same_inner state entry))
+    ap (λ (a : Answer). let e : Entry = record { actor = entry.actor; session = entry.session; asked = entry.asked; side = entry.side; answer = a; missed = entry.missed; draw = entry.draw } in e) (is.answer ∙ ap (heard entry.side) (same_inner state entry))
+    ∙ ap (λ (m : Option Answer). let e : Entry = record { actor = entry.actor; session = entry.session; asked = entry.asked; side = entry.side; answer = heard entry.side (inner_answer state (unanswered (turn_of entry))); missed = m; draw = entry.draw } in e) (is.missed ∙ ap (missed entry.side) (same_inner state entry))
+    ∙ ap (λ (d : Option ℕ). let e : Entry = record { actor = entry.actor; session = entry.session; asked = entry.asked; side = entry.side; answer = heard entry.side (inner_answer state (unanswered (turn_of entry))); missed = missed entry.side (inner_answer state (unanswered (turn_of entry))); draw = d } in e) is.draw
 
 -- the turn's session
 abbrev pub session_due : List Entry → Asked → Option ℕ → ℕ

@@ -79,7 +79,7 @@ locker_call cutover phase = None
 
 -- the hint row of an attempt is written
 abbrev pub writes_hint : List ℕ → ℕ → Request
-writes_hint table attempt = requests.Do (statements.Insert (log_name table) None (hint_row attempt))
+writes_hint table attempt = requests.Do (statements.Insert (log_name table) None (hint_row attempt) None)
 
 abbrev pub inspector_at : CutOver → Stage → Option Request
 inspector_at cutover Hinting = Some (writes_hint cutover.table cutover.attempts)

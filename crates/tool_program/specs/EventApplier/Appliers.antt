@@ -128,7 +128,7 @@ by_key schema columns row = Equal (map (λ place. record { column = name_at sche
 
 -- the statement that does it
 abbrev pub statement_of : Applier → Doing → Statement
-statement_of applier (Putting row) = statements.Replace applier.new_schema.name None (given_values applier.map row)
+statement_of applier (Putting row) = statements.Replace applier.new_schema.name None (given_values applier.map row) None
 statement_of applier (Removing row) = statements.Delete applier.new_schema.name (by_key applier.new_schema applier.map row)
 statement_of applier (Changing before after) =
     statements.Update applier.new_schema.name (sets applier.new_schema.columns (given_values applier.map after)) (by_key applier.new_schema applier.map before)

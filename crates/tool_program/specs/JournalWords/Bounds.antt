@@ -1,5 +1,5 @@
--- *Bound*: a number of turns for each plan. (This project's rule; no fairness is asked of the order of turns. That a run
--- which hasn't ended has fewer turns is not proved yet.)
+-- *Bound*: a number of turns for each plan. A run that hasn't ended has fewer (`law_journals::bounds`). (This project's rule; no
+-- fairness is asked of the order of turns.)
 use Rattle.std.specs.Prelude.{ℕ, ◌+◌, ◌*◌, length, map, sum, unwrap_or}
 use Rattle.std.specs.Option.{option_map}
 use Rattle.table_store.specs.Databases.{find_table}

@@ -61,11 +61,12 @@ may_lose Cut = false
 may_lose asked = true
 
 -- An entry has the server's answer. Where its session was lost it has `Lost`, and what was missed where the side is After;
--- a command and a loss between calls have no side.
+-- a command and a loss between calls have no side. The server generates no number.
 pub record IsAnswered (state : State) (entry : Entry) : Type 0 where
   pub sides : may_lose entry.asked ≡ false → entry.side ≡ None
   pub answer : entry.answer ≡ heard entry.side (inner_answer state entry)
   pub missed : entry.missed ≡ missed entry.side (inner_answer state entry)
+  pub draw : entry.draw ≡ None
 
 -- *Faithful*: each answer of the journal is the plain server's.
 abbrev pub IsFaithfulFrom : State → List Entry → Type 0

@@ -1,12 +1,13 @@
 //! What the copier asks next.
 
-ghost use Rattle.std.specs.Prelude.{◌≡◌, option_map, is_some, IfOk};
+ghost use Rattle.std.specs.Prelude.{◌≡◌, option_map, is_some, false, IfOk, OnErr};
+ghost use Rattle.tool_program.specs.FreeCalls.{is_free_call};
 ghost use Rattle.tool_program.specs.ChunkCopier.Copiers.{low_end, key_at, copies, call_at, next, starts, unfit_key};
 
 use crate::chunk_copier::copier::{Copier, CopyRange, CopyStep};
 use crate::chunk_copier::reader::{end_reported, keys_reported};
 use base_values::tool_names::ghost_name;
-use base_values::{Bound, Duplicate, Key, Sequence, Span};
+use base_values::{Bound, Duplicate, Key, Span, Value};
 use server_model::{Entry, Request};
 use std::alloc::{AllocError, Global};
 
@@ -46,7 +47,8 @@ impl Copier {
 
     /// The copy of the row of this key.
     fn copies(&self, alloc: Global, key: Option<&Key>) -> Result<Option<Request>, AllocError>
-        ensures { IfOk result (λ request. request ≡ copies self.now (option_map (λ key. key.now) key.entry)) }
+        ensures request { IfOk result (λ request. request ≡ copies self.now (option_map (λ key. key.now) key.entry)) }
+        ensures costs { OnErr result (is_free_call (copies self.now (option_map (λ key. key.now) key.entry)) ≡ false) }
     {
         let Some(key) = key else {
             return Ok(None);
@@ -66,7 +68,8 @@ impl Copier {
         journal: &[Entry],
         range: &CopyRange,
     ) -> Result<Option<Request>, AllocError>
-        ensures { IfOk result (λ request. request ≡ call_at journal.now self.now range.now self.now.step) }
+        ensures request { IfOk result (λ request. request ≡ call_at journal.now self.now range.now self.now.step) }
+        ensures costs { OnErr result (is_free_call (call_at journal.now self.now range.now self.now.step) ≡ false) }
     {
         match self.step {
             CopyStep::Choosing => Ok(Some(Request::ChunkEnd {
@@ -89,10 +92,11 @@ impl Copier {
     }
 
     /// The next call; none where the range is copied. The journal is that of the turns in which the copier got its keys and the
-    /// chunks' ends.
+    /// chunks' ends. COMMIT takes no memory.
     #[tactic(auto, unfolding(crate::specs::ChunkCopier::Copiers::next))]
     pub fn next(&self, alloc: Global, journal: &[Entry]) -> Result<Option<Request>, AllocError>
-        ensures { IfOk result (λ request. request ≡ next journal.now self.now) }
+        ensures request { IfOk result (λ request. request ≡ next journal.now self.now) }
+        ensures costs { OnErr result (is_free_call (next journal.now self.now) ≡ false) }
     {
         if self.is_copied {
             return Ok(None);
@@ -118,12 +122,12 @@ impl Copier {
     }
 
     /// The clustered key of the row that didn't fit, once an answer said so.
-    pub fn unfit_key(&self, alloc: Global, journal: &[Entry]) -> Result<Key, AllocError>
-        ensures { IfOk result (λ key. key ≡ unfit_key journal.now self.now) }
+    pub fn unfit_key<'a>(&self, journal: &'a [Entry]) -> &'a [Value]
+        ensures { result.now ≡ unfit_key journal.now self.now }
     {
         match self.key(journal) {
-            Some(key) => key.copy(),
-            None => Ok(Sequence::new(alloc)),
+            Some(key) => key.as_slice(),
+            None => &[],
         }
     }
 }

@@ -1,7 +1,8 @@
 //! What each of the three asks next.
 
-ghost use Rattle.std.specs.Prelude.{◌≡◌, Some, IfOk};
+ghost use Rattle.std.specs.Prelude.{◌≡◌, Some, false, IfOk, OnErr};
 ghost use Rattle.std.specs.Option.{is_some};
+ghost use Rattle.tool_program.specs.FreeCalls.{is_free_call};
 ghost use Rattle.tool_program.specs.CutoverCore.Attempts.{exchange, locker_at, unlocks, locker_call, writes_hint, inspector_at, is_free, clears, inspector_call, renamer_call, next};
 
 use crate::cutover_core::cutover::{Clearing, CutOver, Hold, Phase, Role, Stage};
@@ -36,11 +37,13 @@ fn writes_hint(alloc: Global, table: &Name, attempt: u64) -> Result<Request, All
         table: log_name(alloc, table)?,
         columns: None,
         values: hint_row(alloc, attempt)?,
+        drawn: None,
     }))
 }
 
 fn clears(alloc: Global, table: &Name, clearing: Clearing) -> Result<Option<Request>, AllocError>
-    ensures { IfOk result (λ request. request ≡ clears table.now clearing) }
+    ensures request { IfOk result (λ request. request ≡ clears table.now clearing) }
+    ensures costs { OnErr result (is_free_call (clears table.now clearing) ≡ false) }
 {
     match clearing {
         Clearing::Looking => Ok(Some(Request::ShowTables)),
@@ -50,7 +53,8 @@ fn clears(alloc: Global, table: &Name, clearing: Clearing) -> Result<Option<Requ
 
 /// The locker's call in an attempt that may succeed.
 fn locker_at(alloc: Global, table: &Name, stage: Stage) -> Result<Option<Request>, AllocError>
-    ensures { IfOk result (λ request. request ≡ locker_at table.now stage) }
+    ensures request { IfOk result (λ request. request ≡ locker_at table.now stage) }
+    ensures costs { OnErr result (is_free_call (locker_at table.now stage) ≡ false) }
 {
     match stage {
         Stage::Locking => {
@@ -65,7 +69,8 @@ fn locker_at(alloc: Global, table: &Name, stage: Stage) -> Result<Option<Request
 
 impl CutOver {
     fn locker_call(&self, alloc: Global) -> Result<Option<Request>, AllocError>
-        ensures { IfOk result (λ request. request ≡ locker_call self.now self.now.phase) }
+        ensures request { IfOk result (λ request. request ≡ locker_call self.now self.now.phase) }
+        ensures costs { OnErr result (is_free_call (locker_call self.now self.now.phase) ≡ false) }
     {
         match self.phase {
             Phase::Resting if !self.is_stopped => {
@@ -78,7 +83,8 @@ impl CutOver {
     }
 
     fn inspector_at(&self, alloc: Global, stage: Stage) -> Result<Option<Request>, AllocError>
-        ensures { IfOk result (λ request. request ≡ inspector_at self.now stage) }
+        ensures request { IfOk result (λ request. request ≡ inspector_at self.now stage) }
+        ensures costs { OnErr result (is_free_call (inspector_at self.now stage) ≡ false) }
     {
         match stage {
             Stage::Hinting => Ok(Some(writes_hint(alloc, &self.table, self.attempts)?)),
@@ -95,7 +101,8 @@ impl CutOver {
     }
 
     fn inspector_call(&self, alloc: Global) -> Result<Option<Request>, AllocError>
-        ensures { IfOk result (λ request. request ≡ inspector_call self.now self.now.phase) }
+        ensures request { IfOk result (λ request. request ≡ inspector_call self.now self.now.phase) }
+        ensures costs { OnErr result (is_free_call (inspector_call self.now self.now.phase) ≡ false) }
     {
         match self.phase {
             Phase::Attempting(stage) => self.inspector_at(alloc, stage),
@@ -106,7 +113,8 @@ impl CutOver {
     }
 
     fn renamer_call(&self, alloc: Global) -> Result<Option<Request>, AllocError>
-        ensures { IfOk result (λ request. request ≡ renamer_call self.now self.now.phase) }
+        ensures request { IfOk result (λ request. request ≡ renamer_call self.now self.now.phase) }
+        ensures costs { OnErr result (is_free_call (renamer_call self.now self.now.phase) ≡ false) }
     {
         match self.phase {
             Phase::Attempting(Stage::Drained) => Ok(Some(exchange(alloc, &self.table)?)),
@@ -114,10 +122,11 @@ impl CutOver {
         }
     }
 
-    /// The next call of one of the three, where it doesn't wait; none where it has none.
+    /// The next call of one of the three, where it doesn't wait; none where it has none. UNLOCK TABLES takes no memory.
     #[tactic(auto, unfolding(crate::specs::CutoverCore::Attempts::next))]
     pub fn next(&self, alloc: Global, role: Role) -> Result<Option<Request>, AllocError>
-        ensures { IfOk result (λ request. request ≡ next role self.now) }
+        ensures request { IfOk result (λ request. request ≡ next role self.now) }
+        ensures costs { OnErr result (is_free_call (next role self.now) ≡ false) }
     {
         match role {
             Role::Inspector => self.inspector_call(alloc),

@@ -10,7 +10,7 @@ ghost use Rattle.tool_program.specs.EventApplier.BatchPlans.{meant, event_doings
 
 use crate::event_applier::applier::{Applier, ApplyStep, Part};
 use crate::event_applier::keys::changes_key;
-use base_values::{Change as RowChange, Row, RowEvent};
+use base_values::{Change as RowChange, Row, RowEvent, Value};
 use server_model::turn_answers::answer_at;
 use server_model::{Answer, Entry};
 
@@ -194,12 +194,11 @@ impl Applier {
 }
 
 /// The row of the old table that a statement is about; of two the later one.
-pub(crate) fn row_done<'a>(planned: Option<Planned<'a>>, none: &'a Row) -> &'a Row
-    requires { none.now ≡ [] }
+pub(crate) fn row_done<'a>(planned: Option<Planned<'a>>) -> &'a [Value]
     ensures { result.now ≡ row_done (option_map meant planned.entry) }
 {
     match planned {
-        None => none,
-        Some(Planned::Put(row) | Planned::Remove(row) | Planned::Change(_, row)) => row,
+        None => &[],
+        Some(Planned::Put(row) | Planned::Remove(row) | Planned::Change(_, row)) => row.as_slice(),
     }
 }

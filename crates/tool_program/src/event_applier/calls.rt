@@ -1,15 +1,15 @@
 //! What the applier asks next.
 
-ghost use Rattle.std.specs.Prelude.{◌≡◌, [], ◌∷◌, IfOk};
+ghost use Rattle.std.specs.Prelude.{◌≡◌, [], ◌∷◌, false, IfOk, OnErr};
+ghost use Rattle.server_model.specs.Conditions.{is_free};
 ghost use Rattle.server_model.specs.declared.request.Request.TheVariants as requests;
 ghost use Rattle.base_values.specs.ToolNames.{log_name};
-ghost use Rattle.tool_program.specs.EventApplier.Appliers.{starts, statement_result, call_at, next, unfit_key};
+ghost use Rattle.tool_program.specs.EventApplier.Appliers.{starts, statement_result, call_at, doing_at, next, row_done};
 
 use crate::event_applier::applier::{Applier, ApplyStep};
 use crate::event_applier::batch_plan::row_done;
-use base_values::gho_schema::key_of;
 use base_values::tool_names::log_name;
-use base_values::{Duplicate, Key, Sequence};
+use base_values::{Duplicate, Sequence, Value};
 use server_model::{Entry, Request};
 use std::alloc::{AllocError, Global};
 
@@ -33,10 +33,11 @@ impl Applier {
         })
     }
 
-    /// The next call. The journal is that of the turn in which the applier got its events.
+    /// The next call. The journal is that of the turn in which the applier got its events. COMMIT takes no memory.
     #[tactic(auto, unfolding(crate::specs::EventApplier::Appliers::next))]
     pub fn next(&self, alloc: Global, journal: &[Entry]) -> Result<Request, AllocError>
-        ensures { IfOk result (λ request. request ≡ next journal.now self.now) }
+        ensures request { IfOk result (λ request. request ≡ next journal.now self.now) }
+        ensures costs { OnErr result (is_free (next journal.now self.now) ≡ false) }
     {
         match self.step {
             ApplyStep::Reading => self.reads(alloc),
@@ -49,17 +50,10 @@ impl Applier {
         }
     }
 
-    /// The clustered key, at these places, of the row of the old table that didn't fit, once an answer said so.
-    pub fn unfit_key(
-        &self,
-        alloc: Global,
-        journal: &[Entry],
-        old_places: &[usize],
-    ) -> Result<Key, AllocError>
-        ensures { IfOk result (λ key. key ≡ unfit_key journal.now old_places.now self.now) }
+    /// The row of the old table that didn't fit, once an answer said so.
+    pub fn unfit_row<'a>(&self, journal: &'a [Entry]) -> &'a [Value]
+        ensures { result.now ≡ row_done (doing_at journal.now self.now self.now.step) }
     {
-        let none = Sequence::new(alloc);
-        let row = row_done(self.doing(journal), &none);
-        key_of(alloc, old_places, row.as_slice())
+        row_done(self.doing(journal))
     }
 }

@@ -33,12 +33,12 @@ fn given_values(alloc: Global, map: &[MapColumn], row: &[Value]) -> Result<Row, 
 }
 
 /// The name of the column at a place; empty where there is none.
-pub fn name_at(alloc: Global, columns: &[Column], place: usize) -> Result<Name, AllocError>
-    ensures { IfOk result (λ name. name ≡ name_at columns.now place) }
+pub fn name_at(columns: &[Column], place: usize) -> &str
+    ensures { result.now ≡ name_at columns.now place }
 {
     match columns.get(place) {
-        Some(column) => column.name.copy(),
-        None => Name::new(alloc, ""),
+        Some(column) => column.name.as_str(),
+        None => "",
     }
 }
 
@@ -73,7 +73,7 @@ fn by_key(
     while let Some((place, others)) = rest.split_first() {
         if !is_among(*place, others) {
             sets.push(Set {
-                column: name_at(alloc, schema.columns.as_slice(), *place)?,
+                column: Name::new(alloc, name_at(schema.columns.as_slice(), *place))?,
                 value: value_at(map, row, *place)?,
             })?;
         }
@@ -120,6 +120,7 @@ impl Applier {
                 table,
                 columns: None,
                 values: given_values(alloc, map, row.as_slice())?,
+                drawn: None,
             }),
             Planned::Remove(row) => Ok(Statement::Delete {
                 table,

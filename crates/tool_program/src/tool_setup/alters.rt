@@ -31,5 +31,6 @@ pub fn new_table(alloc: Global, plan: &Plan) -> Result<Schema, AllocError>
         uniques: altered.uniques.copy()?,
         indexes: altered.indexes.copy()?,
         comment: altered.comment.copy()?,
+        start: altered.start,
     })
 }

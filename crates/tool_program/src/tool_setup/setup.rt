@@ -1,6 +1,9 @@
 //! The setup: what the inspector does before the copy begins.
 
-ghost use Rattle.std.specs.Prelude.{◌≡◌, Some, IfOk};
+ghost use Rattle.std.specs.Prelude.{◌≡◌, ℕ, Some, false, IfOk, OnErr};
+ghost use Rattle.tool_program.specs.declared.tool_setup.setup.Setup.TheVariants.{Reaching};
+ghost use Rattle.tool_program.specs.declared.tool_setup.setup.SetupTook.TheVariants.{Over};
+ghost use Rattle.tool_program.specs.FreeCalls.{is_free_call};
 ghost use Rattle.tool_program.specs.Setups.{listed, clearing, setup_call, setup_after};
 ghost use Rattle.tool_program.specs.ToolSetup.Meanings.{setup_of, took_of, range_reported};
 
@@ -62,7 +65,8 @@ fn clearing(left: Leftovers) -> Setup
 impl Setup {
     /// The next call.
     pub fn call(self, alloc: Global, plan: &Plan) -> Result<Request, AllocError>
-        ensures { IfOk result (λ request. Some request ≡ setup_call plan.now (setup_of self)) }
+        ensures request { IfOk result (λ request. Some request ≡ setup_call plan.now (setup_of self)) }
+        ensures costs { OnErr result (is_free_call (setup_call plan.now (setup_of self)) ≡ false) }
     {
         Ok(match self {
             Setup::Listing => Request::ShowTables,
@@ -77,7 +81,8 @@ impl Setup {
     /// What an answer makes of it; a lost call and a time-out begin it again. It takes no memory: the range that the last
     /// answer tells stays in the answer.
     pub fn took(self, table: &Name, answer: &Answer) -> SetupTook
-        ensures { took_of result (range_reported answer.now) ≡ setup_after table.now (setup_of self) answer.now }
+        ensures setup { took_of result (range_reported answer.now) ≡ setup_after table.now (setup_of self) answer.now }
+        ensures over { (position : ℕ) → result ≡ Over position → self ≡ Reaching position }
     {
         if is_bad(answer) {
             return SetupTook::Goes(Setup::Listing);

@@ -4,9 +4,9 @@ ghost use Rattle.std.specs.Prelude.{◌≡◌, ◌+◌, ◌<◌, ℕ, Some};
 ghost use Rattle.base_script.specs.declared.actor.Actor.TheVariants.{Apply};
 ghost use Rattle.server_model.specs.States.{State, has_work};
 ghost use Rattle.tool_program.specs.Tools.{setup_took, actor_took, command_took, took};
-ghost use Rattle.tool_program.specs.ToolSetup.Meanings.{setup_of, range_reported};
+ghost use Rattle.tool_program.specs.ToolSetup.Meanings.{setup_of};
 ghost use Rattle.tool_state.specs.ToolState.Meanings.{tool_phase_of, tool_of};
-ghost use Rattle.tool_state.specs.ToolState.Sound.{IsSound, IsSoundAt, IsRoomy, HasRoom};
+ghost use Rattle.tool_state.specs.ToolState.Sound.{IsSound, IsSoundAt, IsRoomy, HasRoom, TriesGrow, IsRead};
 
 use crate::tool_state::reason::Reason;
 use crate::tool_state::tool::Tool;
@@ -20,12 +20,13 @@ impl Tool {
     /// The inspector's answer in the setup, with a copy of the range that it has.
     fn setup_took(&mut self, plan: &Plan, setup: Setup, answer: &Answer, range: Option<KeyRange>)
         requires stands { self.old.setup ≡ Some setup }
-        requires reported { range ≡ range_reported answer.now }
+        requires reported { IsRead (Some setup) range answer.now }
         requires sound { IsSoundAt plan.now self.old.turns self.old }
         requires room { HasRoom self.old }
         ensures took { tool_of self.new ≡ setup_took plan.now (setup_of setup) self.old.setup_tries.turns answer.now (tool_of self.old) }
         ensures sound { IsSoundAt plan.now (self.old.turns + 1) self.new }
         ensures turns { self.new.turns ≡ self.old.turns }
+        ensures tries { TriesGrow self.old self.new }
     {
         if is_bad(answer) {
             self.setup = Some(Setup::Listing);
@@ -41,14 +42,16 @@ impl Tool {
 
     /// A session of the tool was answered; the copier and the applier take nothing more in a revert.
     fn actor_took(&mut self, plan: &Plan, actor: Actor, answer: &Answer, range: Option<KeyRange>)
-        requires reported { range ≡ range_reported answer.now }
+        requires reported { IsRead self.old.setup range answer.now }
         requires sound { IsSoundAt plan.now self.old.turns self.old }
         requires turns { self.old.turns < u64.MAX }
         requires room { HasRoom self.old }
         ensures took { tool_of self.new ≡ actor_took plan.now actor answer.now (tool_phase_of self.old) (tool_of self.old) }
         ensures room { actor ≡ Apply → IsRoomy self.new.spent.room self.new.work.attempt_tries }
+        ensures attempts { actor ≡ Apply → self.new.work.attempt_tries ≡ self.old.work.attempt_tries }
         ensures sound { IsSoundAt plan.now (self.old.turns + 1) self.new }
         ensures turns { self.new.turns ≡ self.old.turns }
+        ensures tries { TriesGrow self.old self.new }
     {
         match (self.setup, actor) {
             (Some(setup), Actor::Insp) if !self.is_reverting() => {
@@ -69,6 +72,7 @@ impl Tool {
         ensures took { tool_of self.new ≡ command_took word (tool_of self.old) }
         ensures sound { IsSoundAt plan.now (self.old.turns + 1) self.new }
         ensures turns { self.new.turns ≡ self.old.turns }
+        ensures tries { TriesGrow self.old self.new }
     {
         self.operator.take(word);
         match (self.setup, word) {
@@ -78,16 +82,17 @@ impl Tool {
         }
     }
 
-    /// One turn more of an actor of the tool, or of a client. A copy of the range that was read comes with it; and whether the
-    /// session, where it was lost between calls, had a transaction, a table lock or a wait.
-    #[tactic(auto, unfolding(tool_program::specs::Tools::took))]
+    /// One turn more of an actor of the tool, or of a client. Where the setup asks for the range of keys, a copy of the one that
+    /// was read comes with it; and whether the session, where it was lost between calls, had a transaction, a table lock or a wait.
+    #[tactic(auto, using(crate::proofs::TryTurns::read_lost, crate::proofs::TryTurns::tries_counted, crate::proofs::TryTurns::tries_stay), unfolding(tool_program::specs::Tools::took))]
     pub fn took(&mut self, plan: &Plan, entry: &Entry, range: Option<KeyRange>, had_work: bool)
-        requires reported { range ≡ range_reported entry.now.answer }
+        requires reported { IsRead self.old.setup range entry.now.answer }
         requires sound { IsSound plan.now self.old }
         requires turns { self.old.turns + 1 < u64.MAX }
         requires room { HasRoom self.old }
         ensures took { (state : State) → had_work ≡ has_work state entry.now.session → tool_of self.new ≡ took plan.now state (tool_of self.old) entry.now }
         ensures sound { IsSound plan.now self.new }
+        ensures tries { TriesGrow self.old self.new }
     {
         self.turns += 1;
         match &entry.asked {

@@ -3,7 +3,7 @@
 ghost use Rattle.std.specs.Prelude.{◌≡◌, ◌+◌, ◌<◌, ◌≤◌, ℕ, None};
 ghost use Rattle.tool_program.specs.Tools.{copy_took, apply_took, is_failure, attempt_after, cutover_took, drains};
 ghost use Rattle.tool_state.specs.ToolState.Meanings.{work_of, tool_phase_of, tool_of};
-ghost use Rattle.tool_state.specs.ToolState.Sound.{IsSoundAt, IsRoomy};
+ghost use Rattle.tool_state.specs.ToolState.Sound.{IsSoundAt, IsRoomy, IsAttemptMore, TriesGrow};
 
 use crate::tool_state::reason::Reason;
 use crate::tool_state::tool::Tool;
@@ -28,6 +28,7 @@ impl Tool {
         ensures took { tool_of self.new ≡ copy_took plan.now answer.now (work_of self.old.work) (tool_of self.old) }
         ensures sound { IsSoundAt plan.now (self.old.turns + 1) self.new }
         ensures turns { self.new.turns ≡ self.old.turns }
+        ensures tries { TriesGrow self.old self.new }
     {
         match self.work.copier.progress(answer) {
             Progress::Going => self.work.copier.took(self.turns, answer),
@@ -58,6 +59,7 @@ impl Tool {
         ensures attempts { self.new.work.attempt_tries ≡ self.old.work.attempt_tries }
         ensures spent { self.new.spent.room ≡ self.old.spent.room }
         ensures turns { self.new.turns ≡ self.old.turns }
+        ensures tries { TriesGrow self.old self.new }
     {
         match self.work.applier.progress(answer) {
             Progress::Going => self.work.applier.took(self.turns, answer),
@@ -85,6 +87,7 @@ impl Tool {
         ensures took { tool_of self.new ≡ attempt_after plan.now (is_failure before self.old.work.cutover.phase) (work_of self.old.work) self.old.work.cutover (tool_of self.old) }
         ensures sound { (most : ℕ) → IsSoundAt plan.now most self.old → IsSoundAt plan.now most self.new }
         ensures turns { self.new.turns ≡ self.old.turns }
+        ensures tries { IsAttemptMore self.old self.new }
     {
         if is_failure(before, self.work.cutover.phase) {
             self.work.attempt_tries.add(self.turns);
@@ -101,6 +104,7 @@ impl Tool {
         ensures took { tool_of self.new ≡ cutover_took plan.now role answer.now (work_of self.old.work) (tool_of self.old) }
         ensures sound { IsSoundAt plan.now (self.old.turns + 1) self.new }
         ensures turns { self.new.turns ≡ self.old.turns }
+        ensures tries { TriesGrow self.old self.new }
     {
         let before = self.work.cutover.phase;
         self.work.cutover.took(role, answer);
@@ -114,6 +118,7 @@ impl Tool {
         ensures took { tool_of self.new ≡ drains plan.now (tool_phase_of self.old) (tool_of self.old) }
         ensures sound { (most : ℕ) → IsSoundAt plan.now most self.old → IsSoundAt plan.now most self.new }
         ensures turns { self.new.turns ≡ self.old.turns }
+        ensures tries { IsAttemptMore self.old self.new }
     {
         if self.setup.is_some() {
             return;

@@ -1,10 +1,10 @@
-//! The tool before the first turn, the room that a turn may need, and the start of the work after the setup.
+//! The tool before the first turn, with room for all that its tasks may fail, and the start of the work after the setup.
 
-ghost use Rattle.std.specs.Prelude.{◌≡◌, ◌≢◌, ◌≤◌, ℕ, None, IfOk, OnOk};
+ghost use Rattle.std.specs.Prelude.{◌≡◌, ◌≢◌, ◌≤◌, ℕ, None, IfOk};
 ghost use Rattle.plan_data.specs.PlanData.{PlanData};
 ghost use Rattle.tool_program.specs.Tools.{new_tool, new_work, copy_range, Migrating};
 ghost use Rattle.tool_state.specs.ToolState.Meanings.{work_of, tool_of};
-ghost use Rattle.tool_state.specs.ToolState.Sound.{IsSound, IsSoundAt, HasRoom, IsFresh};
+ghost use Rattle.tool_state.specs.ToolState.Sound.{IsSound, IsSoundAt, IsFresh, HasSpaceFor, HasSpace, TriesGrow};
 
 use crate::tool_state::tool::{Tool, Work};
 use crate::tool_state::tries::Tries;
@@ -56,19 +56,26 @@ fn new_applier(alloc: Global, plan: &Plan) -> Result<Applier, AllocError>
 impl Work {
     /// The machines at their start, with nothing to copy.
     fn new(alloc: Global, plan: &Plan) -> Result<Work, AllocError>
-        ensures { IfOk result (λ work. work_of work ≡ new_work plan.now plan.now.options.chunk_size 0 None) }
+        ensures new { IfOk result (λ work. work_of work ≡ new_work plan.now plan.now.options.chunk_size 0 None) }
+        ensures chunk { IfOk result (λ work. HasSpaceFor plan.now.options.turn_limit 0 work.chunk_tries) }
+        ensures batch { IfOk result (λ work. HasSpaceFor plan.now.options.turn_limit 0 work.batch_tries) }
+        ensures attempt { IfOk result (λ work. HasSpaceFor plan.now.options.turn_limit 0 work.attempt_tries) }
     {
         let options = plan.options();
+        let room = options.turn_limit as usize;
+        let chunk_tries = Tries::with_room(alloc, room)?;
+        let batch_tries = Tries::with_room(alloc, room)?;
+        let attempt_tries = Tries::with_room(alloc, room)?;
         let table = plan.table().copy()?;
         let copier = new_copier(plan)?;
         match new_applier(alloc, plan) {
             Ok(applier) => Ok(Work {
                 copier,
-                chunk_tries: Tries::new(alloc),
+                chunk_tries,
                 applier,
-                batch_tries: Tries::new(alloc),
+                batch_tries,
                 cutover: CutOver::new(table, options.drain_limit, options.ok_to_drop_table),
-                attempt_tries: Tries::new(alloc),
+                attempt_tries,
             }),
             Err(error) => {
                 // By a call, so that its drop isn't proved part by part here.
@@ -80,19 +87,21 @@ impl Work {
 }
 
 impl Tool {
-    /// The tool before the first turn.
+    /// The tool before the first turn. In every turn that the plan allows a try of each task may fail, so each has the room.
     pub fn new(alloc: Global, plan: &Plan) -> Result<Tool, AllocError>
         ensures new { IfOk result (λ tool. tool_of tool ≡ new_tool plan.now) }
         ensures sound { IfOk result (λ tool. IsSound plan.now tool) }
+        ensures space { IfOk result (λ tool. HasSpace plan.now.options.turn_limit 0 tool) }
     {
+        let room = plan.options().turn_limit as usize;
         Ok(Tool {
             turns: 0,
             operator: Operator::new(&plan.options()),
             setup: Some(Setup::Listing),
-            setup_tries: Tries::new(alloc),
+            setup_tries: Tries::with_room(alloc, room)?,
             work: Work::new(alloc, plan)?,
             reason: None,
-            spent: Tries::new(alloc),
+            spent: Tries::with_room(alloc, room)?,
         })
     }
 
@@ -101,30 +110,12 @@ impl Tool {
         ensures turns { self.new.turns ≡ self.old.turns }
         ensures begun { (plan : PlanData) → IsFresh plan self.old.setup self.old.work → self.old.setup ≢ None → tool_of self.new ≡ record (tool_of self.old) { tool_phase = Migrating (new_work plan self.old.operator.size position range) } }
         ensures sound { (plan : PlanData) (most : ℕ) → IsSoundAt plan most self.old → IsSoundAt plan most self.new }
+        ensures tries { TriesGrow self.old self.new }
     {
         self.setup = None;
         self.work.applier.position = position;
         self.work.copier.size = self.operator.size;
         self.work.copier.is_copied = range.is_none();
         self.work.copier.range = copy_range(range);
-    }
-
-    /// Makes room for one turn more.
-    pub fn reserve(&mut self) -> Result<(), AllocError>
-        ensures tool { tool_of self.new ≡ tool_of self.old }
-        ensures ok { OnOk result (HasRoom self.new) }
-        ensures sound { (plan : PlanData) → IsSound plan self.old → IsSound plan self.new }
-    {
-        self.setup_tries.reserve(1)?;
-        self.work.chunk_tries.reserve(1)?;
-        self.work.batch_tries.reserve(1)?;
-        self.work.attempt_tries.reserve(1)?;
-        let room = self
-            .setup_tries
-            .room()
-            .max(self.work.chunk_tries.room())
-            .max(self.work.batch_tries.room())
-            .max(self.work.attempt_tries.room());
-        self.spent.reserve(room)
     }
 }

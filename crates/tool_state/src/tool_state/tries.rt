@@ -1,6 +1,6 @@
 //! The turns in which a task failed.
 
-ghost use Rattle.std.specs.Prelude.{◌≡◌, ◌==◌, ◌+◌, ◌<◌, ◌≤◌, [], ◌∷◌, ◌++◌, length, OnOk};
+ghost use Rattle.std.specs.Prelude.{◌≡◌, ◌==◌, ◌<◌, ◌≤◌, [], ◌∷◌, ◌++◌, length, IfOk};
 
 use std::alloc::{AllocError, Global};
 use std::marker::Model;
@@ -21,13 +21,14 @@ impl Model for Tries {
 }
 
 impl Tries {
-    /// No try has failed.
-    pub fn new(alloc: Global) -> Tries
-        ensures { result.turns ≡ [] }
+    /// No try has failed, and there is room for `room` that do.
+    pub fn with_room(alloc: Global, room: usize) -> Result<Tries, AllocError>
+        ensures turns { IfOk result (λ tries. tries.turns ≡ []) }
+        ensures room { IfOk result (λ tries. room ≤ tries.room) }
     {
-        Tries {
-            turns: Vec::new(alloc),
-        }
+        Ok(Tries {
+            turns: Vec::with_capacity(alloc, room)?,
+        })
     }
 
     /// How many tries failed.
@@ -49,22 +50,6 @@ impl Tries {
         ensures { result.now ≡ self.now.turns }
     {
         self.turns.as_slice()
-    }
-
-    /// For how many turns it has room in all.
-    pub fn room(&self) -> usize
-        ensures { result ≡ self.now.room }
-    {
-        self.turns.capacity()
-    }
-
-    /// Makes room for `more` more turns.
-    pub fn reserve(&mut self, more: usize) -> Result<(), AllocError>
-        ensures turns { self.new.turns ≡ self.old.turns }
-        ensures ok { OnOk result (length self.new.turns + more ≤ self.new.room) }
-        ensures room { self.old.room ≤ self.new.room }
-    {
-        self.turns.reserve(more)
     }
 
     /// One more failed.

@@ -1,13 +1,14 @@
 -- Kept runs of accepted plans are sound.
 use Rattle.proof_plans.specs.Laws.{AcceptedRunsAreSerial, AcceptedRenamesFindTheAltered, AcceptedRunsFindTheTable, AcceptedRunsKeepTheOldTable, AcceptedRunsAreOnline, AcceptedCausesStand}
 use Rattle.law_journals.specs.Bounds.{RunsAreBounded}
+use Rattle.law_journals.specs.Causes.{AcceptedCausesAreLeast}
 use Rattle.law_journals.specs.Orders.{AcceptedRunsApplyInserts, AcceptedRunsCopyUnderLocks, AcceptedRunsKeepOrder}
 use Rattle.top_call.specs.WholeReplays.SoundRuns.{KeptRunsAreSound}
 
 -- *Kept runs are sound*
-pub sound : AcceptedRunsAreSerial → AcceptedRenamesFindTheAltered → AcceptedRunsFindTheTable → AcceptedRunsKeepTheOldTable → AcceptedRunsAreOnline → AcceptedRunsKeepOrder → AcceptedRunsCopyUnderLocks → AcceptedRunsApplyInserts → AcceptedCausesStand → RunsAreBounded → KeptRunsAreSound
+pub sound : AcceptedRunsAreSerial → AcceptedRenamesFindTheAltered → AcceptedRunsFindTheTable → AcceptedRunsKeepTheOldTable → AcceptedRunsAreOnline → AcceptedRunsKeepOrder → AcceptedRunsCopyUnderLocks → AcceptedRunsApplyInserts → AcceptedCausesStand → AcceptedCausesAreLeast → RunsAreBounded → KeptRunsAreSound
 unfolding KeptRunsAreSound
-sound serial altered found old online order locks inserts causes bounded plan journal was kept bound stops = record {
+sound serial altered found old online order locks inserts causes least bounded plan journal was kept bound stops = record {
   kept = kept;
   bound = bound;
   stops = stops;
@@ -21,4 +22,5 @@ sound serial altered found old online order locks inserts causes bounded plan jo
   locks = locks plan journal was kept;
   inserts = inserts plan journal was kept;
   causes = λ cause is. causes plan journal cause was kept is;
+  least = λ cause other is stands. least plan journal cause other was kept stands is;
 }

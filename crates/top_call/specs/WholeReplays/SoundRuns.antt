@@ -18,6 +18,7 @@ use Rattle.proof_migration.specs.CutOver.{IsRename}
 use Rattle.proof_order.specs.AppliedRows.{AppliesInserts}
 use Rattle.proof_order.specs.ChunkLocks.{CopiesUnderLocks}
 use Rattle.proof_order.specs.CutOverOrder.{KeepsOrder}
+use Rattle.proof_order.specs.LeastCauses.{IsNoLater}
 use Rattle.proof_plans.specs.ReadPlans.Laws.{WasRead}
 use Rattle.proof_plans.specs.Tables.{FindsTable, KeepsOldTable}
 use Rattle.run_turns.specs.Runs.{Stops}
@@ -39,7 +40,7 @@ EndsInTime plan journal = has_ended plan journal ≡ false → length journal < 
 -- are left are those of their ended transactions, one at a time, with the ALTER at one instant or not at all. The RENAME finds
 -- the altered table; what names the migrated one alone finds it, and the old one is kept as it was. The migrated one is used
 -- while the migration goes on. The steps of the cut-over come in their order, rows are copied under locks, and logged inserts
--- are applied as REPLACE. Where the verdict is a revert, the cause is in the journal.
+-- are applied as REPLACE. Where the verdict is a revert, the cause is in the journal, and none that stands there comes before it.
 pub record IsSoundRun (plan : PlanData) (journal : List Entry) : Type 0 where
   pub kept : IsKept plan journal
   pub bound : length journal ≤ plan.options.turn_limit
@@ -54,6 +55,7 @@ pub record IsSoundRun (plan : PlanData) (journal : List Entry) : Type 0 where
   pub locks : CopiesUnderLocks plan journal
   pub inserts : AppliesInserts plan journal
   pub causes : (cause : Cause) → verdict_of plan journal ≡ Reverted cause → Stands plan journal cause
+  pub least : (cause other : Cause) → verdict_of plan journal ≡ Reverted cause → Stands plan journal other → IsNoLater cause other
 
 -- *Kept runs are sound*: each journal of an accepted plan that is kept, has no more turns than the plan allows and none after
 -- its end.

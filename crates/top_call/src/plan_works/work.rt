@@ -33,14 +33,14 @@ pub struct Left<V: Serve> {
     pub end: Option<End<V>>,
 }
 
-/// The verdict of a run, unless memory ran out.
-fn verdict_after<V: Serve>(run: &Run<'_, V>, ending: Ending) -> Option<Verdict>
+/// The verdict of a run, unless memory ran out, for its turns or for the copy that outlives the run.
+fn verdict_after<V: Serve>(alloc: Global, run: &Run<'_, V>, ending: Ending) -> Option<Verdict>
     ensures verdict { IfSome result (λ verdict. verdict ≡ verdict_of run.now.plan run.now.journal) }
     ensures over { IfSome result (λ verdict. ending ≡ endings.Over) }
 {
     match ending {
         Ending::NoMemory => None,
-        Ending::Over => run.verdict().ok(),
+        Ending::Over => run.verdict().copied(alloc).ok(),
     }
 }
 
@@ -66,7 +66,7 @@ pub fn work_plan<V: Serve + Send, R: Threads + Wait + Sync, G: Gate + Sync>(
     read_plans_go();
     let opened = Run::open(alloc, plan, server)?;
     let ran = run_by_workers(rt, alloc, opened, workers, gate)?;
-    let verdict = verdict_after(&ran.run, ran.ending);
+    let verdict = verdict_after(alloc, &ran.run, ran.ending);
     let (server, journal) = ran.run.stop();
     Ok(Left {
         journal,

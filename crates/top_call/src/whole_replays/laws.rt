@@ -3,6 +3,7 @@
 ghost use Rattle.top_call.specs.WholeReplays.SoundRuns.{KeptRunsAreSound};
 
 use law_journals::bounds::runs_are_bounded;
+use law_journals::causes::accepted_causes_are_least;
 use law_journals::order::accepted_runs_keep_order;
 use law_journals::runs::{
     accepted_runs_are_serial, accepted_runs_go_on, accepted_runs_keep_tables,
@@ -16,5 +17,6 @@ pub fn kept_runs_are_sound()
     accepted_runs_keep_tables();
     accepted_runs_keep_order();
     accepted_runs_go_on();
+    accepted_causes_are_least();
     runs_are_bounded();
 }

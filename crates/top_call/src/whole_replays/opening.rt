@@ -12,7 +12,6 @@ use plan_data::Plan;
 use server::final_server::{FinalServer, open_server};
 use server_model::Limits;
 use std::alloc::{AllocError, Global};
-use table_store::paged_tables::Tables;
 
 /// How often a wait is polled before it times out, as the plan says.
 fn limits_of(plan: &Plan) -> Limits
@@ -42,6 +41,6 @@ pub fn open_plan(alloc: Global, plan: &Plan) -> Result<FinalServer, AllocError>
     read_plans_are_serial();
     read_options_allow();
     let watched = watched_in(alloc, plan)?;
-    let tables = Tables::from_plain(alloc, plan.tables())?;
+    let tables = plan.tables().copy_tables(alloc)?;
     Ok(open_server(alloc, tables, limits_of(plan), watched))
 }

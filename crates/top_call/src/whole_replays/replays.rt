@@ -36,14 +36,14 @@ pub struct Left<V: Serve> {
     pub end: Option<End<V>>,
 }
 
-/// The verdict of a replay, unless memory ran out.
-fn verdict_after<V: Serve>(run: &Run<'_, V>, replayed: Replayed) -> Option<Verdict>
+/// The verdict of a replay, unless memory ran out, for its turns or for the copy that outlives the run.
+fn verdict_after<V: Serve>(alloc: Global, run: &Run<'_, V>, replayed: Replayed) -> Option<Verdict>
     ensures verdict { IfSome result (λ verdict. verdict ≡ verdict_of run.now.plan run.now.journal) }
     ensures memory { IfSome result (λ verdict. replayed ≢ answers.NoMemory) }
 {
     match replayed {
         Replayed::NoMemory => None,
-        Replayed::Over | Replayed::Stalled => run.verdict().ok(),
+        Replayed::Over | Replayed::Stalled => run.verdict().copied(alloc).ok(),
     }
 }
 
@@ -72,7 +72,7 @@ pub fn replay_plan<V: Serve>(alloc: Global, plan: &Plan, server: V) -> Result<Le
     replays_agree();
     let mut run = Run::open(alloc, plan, server)?;
     let replayed = replay(&mut run);
-    let verdict = verdict_after(&run, replayed);
+    let verdict = verdict_after(alloc, &run, replayed);
     // For the prover: `journal` says that each turn is in its actor's session.
     let _in_sessions = run.journal();
     let (server, journal) = run.stop();

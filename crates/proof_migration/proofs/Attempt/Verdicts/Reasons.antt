@@ -96,7 +96,7 @@ pub record ToolHolds (plan : PlanData) (journal : List Entry) (tool : Tool) : Ty
 -- WHAT A TASK'S ANSWER MEANS
 
 -- only the commit of a chunk gives the copier another one
-chunk_stays : (turn : ℕ) (copier : Copier) (answer : Answer) → (copiers.progress copier answer ≡ TaskDone → ⊥) → (copiers.took turn copier answer).number ≡ copier.number
+pub chunk_stays : (turn : ℕ) (copier : Copier) (answer : Answer) → (copiers.progress copier answer ≡ TaskDone → ⊥) → (copiers.took turn copier answer).number ≡ copier.number
 unfolding copiers.took copiers.progress
 chunk_stays turn copier answers.Lost going = refl
 chunk_stays turn copier (answers.TimedOut waited) going = refl
@@ -112,7 +112,7 @@ chunk_stays turn copier answer going = by copier.step answer going where
   by (copying.Committing chunk) answer going = refl
 
 -- only a loss and a time-out are a failed try
-chunk_fails : (copier : Copier) (answer : Answer) → copiers.progress copier answer ≡ TaskFailed → is_bad answer ≡ true
+pub chunk_fails : (copier : Copier) (answer : Answer) → copiers.progress copier answer ≡ TaskFailed → is_bad answer ≡ true
 unfolding copiers.progress
 chunk_fails copier answer is = by copier.step answer is where
   by : (step : CopyStep) (answer : Answer) → copiers.progress_at step answer ≡ TaskFailed → is_bad answer ≡ true
@@ -126,7 +126,7 @@ chunk_fails copier answer is = by copier.step answer is where
   by (copying.Committing chunk) answer is = absurd cc
 
 -- only the end of a batch moves the applier's position
-batch_stays : (turn : ℕ) (applier : Applier) (answer : Answer) → (appliers.progress applier answer ≡ TaskDone → ⊥) → (appliers.took turn applier answer).position ≡ applier.position
+pub batch_stays : (turn : ℕ) (applier : Applier) (answer : Answer) → (appliers.progress applier answer ≡ TaskDone → ⊥) → (appliers.took turn applier answer).position ≡ applier.position
 unfolding appliers.took appliers.progress
 batch_stays turn applier answers.Lost going = refl
 batch_stays turn applier (answers.TimedOut waited) going = refl
@@ -147,7 +147,7 @@ batch_stays turn applier answer going = by applier.step answer going where
   by (applying.Committing batch) (answers.Ok count) going = absurd (going refl)
   by (applying.Committing batch) answer going = refl
 
-batch_fails : (applier : Applier) (answer : Answer) → appliers.progress applier answer ≡ TaskFailed → is_bad answer ≡ true
+pub batch_fails : (applier : Applier) (answer : Answer) → appliers.progress applier answer ≡ TaskFailed → is_bad answer ≡ true
 unfolding appliers.progress
 batch_fails applier answer is = by applier.step answer is where
   none : (statements : ℕ) → appliers.nothing_planned statements ≡ TaskFailed → ⊥

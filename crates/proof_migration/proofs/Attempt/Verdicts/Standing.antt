@@ -26,12 +26,12 @@ use Rattle.proof_migration.proofs.Attempt.Verdicts.Waits.{WaitsCount, waits_more
 -- BEHIND EVERY JOURNAL
 
 -- what goes together: with the journal so far faithful and in its actors' sessions
-record IsHeld (plan : PlanData) (journal : List Entry) : Type 0 where
+pub record IsHeld (plan : PlanData) (journal : List Entry) : Type 0 where
   faithful : IsFaithful plan journal
   sessions : KeepsSessions journal
   together : IsTogether plan journal
   counts : WaitsCount plan journal
-  holds : ToolHolds plan journal (moment plan journal).tool
+  pub holds : ToolHolds plan journal (moment plan journal).tool
 
 held_more : (plan : PlanData) (journal : List Entry) (entry : Entry) → IsRun plan journal entry → IsHeld plan journal → IsHeld plan (journal ++ entry ∷ [])
 unfolding KeepsSessions
@@ -49,7 +49,7 @@ held_begins : (plan : PlanData) → IsHeld plan []
 unfolding KeepsSessions
 held_begins plan = record { faithful = tt; sessions = tt; together = together_begins plan; counts = waits_begin plan; holds = holds_begin plan }
 
-all_held : (plan : PlanData) (journal : List Entry) → IsFaithful plan journal → Follows plan journal → IsHeld plan journal
+pub all_held : (plan : PlanData) (journal : List Entry) → IsFaithful plan journal → Follows plan journal → IsHeld plan journal
 unfolding Follows
 all_held plan journal faithful follows = Along-keeps (IsRun plan) (IsHeld plan) (λ before entry run is. held_more plan before entry run is) [] journal (all_runs plan [] journal faithful follows) (held_begins plan)
 

@@ -31,7 +31,7 @@ use Rattle.proof_migration.proofs.Migration.Applier.Names.{all_distinct, all_val
 
 -- the statement that does it, by the altered schema and its columns' map
 abbrev pub said : Schema → List MapColumn → Doing → Statement
-said schema cs (Putting row) = statements.Replace schema.name None (given_values cs row)
+said schema cs (Putting row) = statements.Replace schema.name None (given_values cs row) None
 said schema cs (Removing row) = statements.Delete schema.name (by_key schema cs row)
 said schema cs (Changing before after) = statements.Update schema.name (sets schema.columns (given_values cs after)) (by_key schema cs before)
 

@@ -78,7 +78,7 @@ insp_called t cutover request own is = by cutover.phase is where
   by Finished is = absurd cc
 
 -- the setup writes no row
-setup_away : (plan : PlanData) (t : List ℕ) (setup : Setup) (request : Request) → setup_call plan setup ≡ Some request → WritesAway (watched t) request
+pub setup_away : (plan : PlanData) (t : List ℕ) (setup : Setup) (request : Request) → setup_call plan setup ≡ Some request → WritesAway (watched t) request
 setup_away plan t Listing request is = some_request (WritesAway (watched t)) _ request is tt
 setup_away plan t (Clears left) request is = some_request (WritesAway (watched t)) _ request is tt
 setup_away plan t MakingLog request is = some_request (WritesAway (watched t)) _ request is tt

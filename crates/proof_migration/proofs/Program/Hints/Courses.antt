@@ -72,12 +72,12 @@ use Rattle.proof_migration.proofs.Program.Hints.Writes.{Rises, rises_away, rises
 -- ONE TURN
 
 -- a wait leaves the request that it was about
-record IsWait (about request : Request) (answer : Answer) : Type 0 where
-  by : ℕ
-  is : answer ≡ answers.Waits by
-  same : about ≡ request
+pub record IsWait (about request : Request) (answer : Answer) : Type 0 where
+  pub by : ℕ
+  pub is : answer ≡ answers.Waits by
+  pub same : about ≡ request
 
-waits_wait : (about request : Request) (answer : Answer) (old : Standing) → (answered about answer old).waits ≡ Some request → IsWait about request answer
+pub waits_wait : (about request : Request) (answer : Answer) (old : Standing) → (answered about answer old).waits ≡ Some request → IsWait about request answer
 waits_wait about request (answers.Waits by) old some = record { by = by; is = refl; same = let one : about ≡ request = cc in one }
 waits_wait about request answers.Lost old some = absurd cc
 waits_wait about request (answers.TimedOut waited) old some = absurd cc
@@ -88,7 +88,7 @@ pub names_read : (request : Request) (events : List RowEvent) (next : ℕ) → n
 names_read (requests.ReadLog position limit tables) events next needs fits = false≢true needs
 names_read request events next needs fits = false≢true fits
 
-no_waits : (standing : Standing) (request : Request) → standing ≡ free → standing.waits ≡ Some request → ⊥
+pub no_waits : (standing : Standing) (request : Request) → standing ≡ free → standing.waits ≡ Some request → ⊥
 no_waits standing request none some = no (sym (ap (λ (s : Standing). s.waits) none) ∙ some) where
   no : None ≡ Some request → ⊥
   no same = cc

@@ -67,7 +67,7 @@ pub record LeavesHint (t : List ℕ) (most : ℕ) (answer : Answer) (before afte
 
 -- the changelog, in the place of a new table
 abbrev nothing_of : List ℕ → Schema
-nothing_of name = record { name = name; columns = []; uniques = []; indexes = []; comment = [] }
+nothing_of name = record { name = name; columns = []; uniques = []; indexes = []; comment = []; start = None }
 
 abbrev pub watched : List ℕ → Migration
 watched t = record { name = t; schema = nothing_of t; new = nothing_of (log_name t); columns = [] }

@@ -140,7 +140,7 @@ row_rises t name n row last begins less = (by (bytes_eq name (log_name t)), tt) 
 
 -- the hint row of an attempt is inserted
 abbrev pub hint_insert : List ℕ → ℕ → Statement
-hint_insert table attempt = statements.Insert (log_name table) None (hint_row attempt)
+hint_insert table attempt = statements.Insert (log_name table) None (hint_row attempt) None
 
 -- nothing is written; or this attempt's row, with ok 1
 pub data Inserts (t : List ℕ) (n most : ℕ) (result : StatementResult) : Type 0 where

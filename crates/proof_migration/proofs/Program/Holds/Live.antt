@@ -36,7 +36,7 @@ use Rattle.proof_migration.proofs.Program.Holds.ActorStates.{kept_last}
 free_without : (plan : PlanData) (journal : List Entry) (actor : Actor) → live_session journal actor ≡ None → standing_of plan journal actor ≡ free
 free_without plan journal actor none = ap (standing_in (state_at plan journal)) none
 
-nothing_held : (table : List ℕ) (hold : Hold) → held table hold ≡ free → hold ≡ Nothing
+pub nothing_held : (table : List ℕ) (hold : Hold) → held table hold ≡ free → hold ≡ Nothing
 nothing_held table Nothing is = refl
 nothing_held table WaitsToGuard is = absurd (none-some _ (sym (ap (λ (s : Standing). s.waits) is)))
 nothing_held table WaitsToLock is = absurd (none-some _ (sym (ap (λ (s : Standing). s.waits) is)))
@@ -44,7 +44,7 @@ nothing_held table Locks is = absurd (no (ap (λ (s : Standing). s.locked) is)) 
   no : {A : Type 0} {first : A} {rest : List A} → first ∷ rest ≡ [] → ⊥
   no same = cc
 
-nothing_waits : (table : List ℕ) (waits : Bool) → renaming table waits ≡ free → waits ≡ false
+pub nothing_waits : (table : List ℕ) (waits : Bool) → renaming table waits ≡ free → waits ≡ false
 nothing_waits table false is = refl
 nothing_waits table true is = absurd (none-some _ (sym (ap (λ (s : Standing). s.waits) is)))
 

@@ -120,7 +120,7 @@ abbrev pub hint_event : List ℕ → ℕ → RowEvent
 hint_event t n = record { table = log_name t; change = Write (hint_row n) }
 
 abbrev pub hint_insert : List ℕ → ℕ → Statement
-hint_insert t n = statements.Insert (log_name t) None (hint_row n)
+hint_insert t n = statements.Insert (log_name t) None (hint_row n) None
 
 -- where it is done its row is what is written
 abbrev Hints : List ℕ → ℕ → StatementResult → Type 0

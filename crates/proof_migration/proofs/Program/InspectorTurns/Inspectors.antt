@@ -80,7 +80,7 @@ asks_shared request table attempt (Finishing clearing) at = tt
 asks_shared request table attempt Finished at = tt
 
 -- the listing at an attempt's end is called where the locker has nothing and no RENAME waits
-free_so : (hold : Hold) (waits : Bool) → is_free hold waits ≡ true → (hold ≡ Nothing) × (waits ≡ false)
+pub free_so : (hold : Hold) (waits : Bool) → is_free hold waits ≡ true → (hold ≡ Nothing) × (waits ≡ false)
 free_so Nothing false is = (refl, refl)
 free_so Nothing true is = absurd (true≢false (sym is))
 free_so WaitsToGuard waits is = absurd (true≢false (sym is))

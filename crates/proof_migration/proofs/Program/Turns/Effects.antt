@@ -47,7 +47,7 @@ back : (reverting : Bool) (copier : Copier) (applier : Applier) (b : Bool) (tool
 back reverting copier applier b tool_phase at off = absurd (true≢false off)
 
 -- a row that doesn't fit reverts all
-reverts_on : (reason : Reason) (tool : Tool) → is_renamed tool.tool_phase ≡ false → is_reverting (reverts reason tool).reason ≡ true
+pub reverts_on : (reason : Reason) (tool : Tool) → is_renamed tool.tool_phase ≡ false → is_reverting (reverts reason tool).reason ≡ true
 reverts_on reason tool undone = rw undone (first_some tool.reason reason)
 
 -- ONE MACHINE'S ANSWER

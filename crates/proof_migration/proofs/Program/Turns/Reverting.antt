@@ -57,7 +57,7 @@ asked_on plan state entry Cut tool on = by (has_work state entry.session) where
   by false = on
 asked_on plan state entry asked tool on = counts_on plan entry.actor (actor_took plan entry.actor entry.answer tool.tool_phase tool) (actor_on plan entry.actor entry.answer tool.tool_phase tool on)
 
-one_on : (plan : PlanData) (journal : List Entry) (entry : Entry) → is_reverting (moment plan journal).tool.reason ≡ true → is_reverting (moment plan (journal ++ entry ∷ [])).tool.reason ≡ true
+pub one_on : (plan : PlanData) (journal : List Entry) (entry : Entry) → is_reverting (moment plan journal).tool.reason ≡ true → is_reverting (moment plan (journal ++ entry ∷ [])).tool.reason ≡ true
 unfolding took
 one_on plan journal entry on =
     ap (λ (m : Moment). is_reverting m.tool.reason) (moment_more plan journal entry) ∙ asked_on plan (moment plan journal).server entry entry.asked (record (moment plan journal).tool { turns = (moment plan journal).tool.turns + 1 }) on

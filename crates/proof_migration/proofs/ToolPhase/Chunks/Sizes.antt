@@ -66,7 +66,7 @@ abbrev pub FewKeys : ℕ → Answer → Type 0
 FewKeys size (answers.Keys keys end) = length keys ≤ size
 FewKeys size answer = Unit {0}
 
-take_few : {A : Type 0} (n : ℕ) (xs : List A) → length (take n xs) ≤ n
+pub take_few : {A : Type 0} (n : ℕ) (xs : List A) → length (take n xs) ≤ n
 take_few zero xs = omega arith
 take_few (suc n) [] = omega arith
 take_few (suc n) (x ∷ xs) = let rest = take_few n xs in omega (arith, rest)

@@ -18,7 +18,7 @@ use Rattle.proof_migration.specs.ToolPhase.Runnable.{IsAlterable, IsWorded, Alte
 use Rattle.proof_migration.proofs.ToolPhase.Runnable.Origins.{altered_is_mapped}
 
 -- the migrated table has the plan's name for it
-named_so : (name : List ℕ) (tables : Database) (table : TableRows) → find_table name tables ≡ Some table → table.schema.name ≡ name
+pub named_so : (name : List ℕ) (tables : Database) (table : TableRows) → find_table name tables ≡ Some table → table.schema.name ≡ name
 named_so name [] table found = absurd cc
 named_so name (first ∷ tables) table found = by (is_named name first) refl found (named_so name tables table) where
   by : (b : Bool) → is_named name first ≡ b → cond b (Some first) (find_table name tables) ≡ Some table → (find_table name tables ≡ Some table → table.schema.name ≡ name) → table.schema.name ≡ name

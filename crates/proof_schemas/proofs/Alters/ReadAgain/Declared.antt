@@ -47,16 +47,16 @@ use Rattle.proof_schemas.proofs.Alters.ReadAgain.Names.{Left, done, out, kept, l
 
 -- ---- the columns that clauses write
 
--- a lawful name, and a default where it may be null
+-- a valid name, a default where it may be null, and no AUTO_INCREMENT
 abbrev IsFine : Column → Type 0
-IsFine column = (is_column_name column.name ≡ true) × (has_default column ≡ true)
+IsFine column = (is_column_name column.name ≡ true) × (has_default column ≡ true) × (column.auto ≡ false)
 
 column_of-fine : (origin : Option ℕ) (written : NewColumn) (nullable : Bool) (column : Column) → is_column_name written.name ≡ true → column_of origin written nullable ≡ Ok column → IsFine column
 unfolding column_of
 column_of-fine origin written nullable column name e =
     let b = bind_ok (default_or codes.Default (stored_default written.kind nullable written.default)) (λ default. unless_lacking (lacks_default origin nullable default) (made written.name written.kind nullable default)) column e in
     let has = default-has written.kind nullable written.default b.0 (default_is codes.Default (stored_default written.kind nullable written.default) b.0 b.1) in
-    subst IsFine (lacking-is (lacks_default origin nullable b.0) (made written.name written.kind nullable b.0) column b.2) (name, has)
+    subst IsFine (lacking-is (lacks_default origin nullable b.0) (made written.name written.kind nullable b.0) column b.2) (name, has, refl)
 
 -- ---- what is kept of columns and of keys
 
@@ -74,7 +74,11 @@ record FineKeys (uniques indexes : List Index) : Type 0 where
 
 declared-columns : (migrated : List ℕ) (schema : Schema) → IsDeclared migrated schema → FineColumns schema.columns
 declared-columns migrated schema is = record {
-  all = All-both (λ (c : Column). is_column_name c.name ≡ true) (λ c. has_default c ≡ true) schema.columns (list_all-All (λ (c : Column). is_column_name c.name) schema.columns is.column_names) is.has_defaults;
+  all =
+      let plain : AllByRecursion (λ (c : Column). (has_default c ≡ true) × (c.auto ≡ false)) schema.columns = All-both (λ (c : Column). has_default c ≡ true) (λ (c : Column). c.auto ≡ false) schema.columns is.has_defaults is.autos in
+      let both : AllByRecursion (λ (c : Column). (is_column_name c.name ≡ true) × ((has_default c ≡ true) × (c.auto ≡ false))) schema.columns =
+      All-both (λ (c : Column). is_column_name c.name ≡ true) (λ (c : Column). (has_default c ≡ true) × (c.auto ≡ false)) schema.columns (list_all-All (λ (c : Column). is_column_name c.name) schema.columns is.column_names) plain in
+      All-weaker (λ (c : Column). (is_column_name c.name ≡ true) × ((has_default c ≡ true) × (c.auto ≡ false))) IsFine (λ c all. (all.0, all.1.0, all.1.1)) schema.columns both;
   fit = is.defaults;
 }
 
@@ -88,14 +92,16 @@ whole-declared : (migrated : List ℕ) (schema : Schema) (columns : List Column)
 whole-declared migrated schema columns uniques indexes is fine keys = record {
   name = is.name;
   unreserved = is.unreserved;
-  column_names = All-list_all (λ (c : Column). is_column_name c.name) columns (All-weaker IsFine (λ (c : Column). is_column_name c.name ≡ true) (λ c both. both.0) columns fine.all);
+  column_names = All-list_all (λ (c : Column). is_column_name c.name) columns (All-weaker IsFine (λ (c : Column). is_column_name c.name ≡ true) (λ c all. all.0) columns fine.all);
   few_uniques = keys.few_uniques;
   few_indexes = keys.few_indexes;
   primary = keys.primary;
   named = keys.named;
   key_names = differ-whole (key_names uniques ++ key_names indexes) keys.differ;
-  has_defaults = All-weaker IsFine (λ (c : Column). has_default c ≡ true) (λ c both. both.1) columns fine.all;
+  has_defaults = All-weaker IsFine (λ (c : Column). has_default c ≡ true) (λ c all. all.1) columns fine.all;
   defaults = fine.fit;
+  autos = All-weaker IsFine (λ (c : Column). c.auto ≡ false) (λ c all. all.2) columns fine.all;
+  start = is.start;
 }
 
 -- ---- keys
@@ -265,7 +271,7 @@ module _ (migrated : List ℕ) where
       let columns = declared-columns migrated standing.schema is in
       let own = All-at IsFine standing.schema.columns place old columns.all at in
       whole-declared migrated standing.schema (slice_set standing.schema.columns place (with_name old name)) standing.schema.uniques standing.schema.indexes is
-      (record { all = All-set IsFine standing.schema.columns place (with_name old name) (fine, own.1) columns.all; fit = fit-set standing.schema.columns place old (with_name old name) at refl columns.fit }) (declared-keys migrated standing.schema is)
+      (record { all = All-set IsFine standing.schema.columns place (with_name old name) (fine, own.1, own.2) columns.all; fit = fit-set standing.schema.columns place old (with_name old name) at refl columns.fit }) (declared-keys migrated standing.schema is)
 
   -- ---- the clauses
 

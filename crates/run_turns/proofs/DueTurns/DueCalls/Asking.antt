@@ -57,7 +57,7 @@ ask_numbered made state n None (Command word) may = tt
 ask_numbered made state n None Cut may = lose_numbered made state n None Cut may
 ask_numbered made state n (Some side) asked may = lose_numbered made state n (Some side) asked may
 
-module _ (plan : PlanData) (journal : List Entry) (server : State) (actor : Actor) (turn : Turn) (runs : IsRunnable plan) (kept : IsKept plan journal) (following : IsAfter (state_at plan journal) server) (room : server.made < 4294967295) (comes_so : Comes plan journal actor turn) (called : is_command turn.asked ≡ false) where
+module _ (plan : PlanData) (journal : List Entry) (server : State) (actor : Actor) (turn : Turn) (runs : IsRunnable plan) (kept : IsKept plan journal) (following : IsAfter (state_at plan journal) server) (made : server.made ≤ 4294967295) (room : live_session journal turn.actor ≡ None → server.made < 4294967295) (comes_so : Comes plan journal actor turn) (called : is_command turn.asked ≡ false) where
   abbrev now : State
   now = state_at plan journal
 
@@ -149,11 +149,12 @@ module _ (plan : PlanData) (journal : List Entry) (server : State) (actor : Acto
     apart = subst (λ (s : State). AreApart s.sessions) (sym following.same) living.apart;
     few = few;
     waits = subst NoneWaits (sym following.same) (all_waits plan journal kept.faithful kept.sessions);
-    room = room;
+    made = made;
+    opens = room;
     called = called;
     may = may;
   }
 
 -- *Due turns may be taken*
 pub turns_may_be : DueTurnsMayBe
-turns_may_be plan journal server actor turn runs kept following room is called = turn_may plan journal server actor turn runs kept following room (comes plan journal actor turn is) called
+turns_may_be plan journal server actor turn runs kept following made room is called = turn_may plan journal server actor turn runs kept following made room (comes plan journal actor turn is) called

@@ -300,7 +300,7 @@ module _ (state : State) (own : Option ℕ) (turn : Turn) (may : MayTurn state o
       err_made = subst (λ (n : ℕ). n ≤ made_for own state.made) (sym (made ∙ ap (λ (s : State). s.made) opened_now)) made_open
 
 -- the entry, part by part
-pub entry_same : (state : State) (session : ℕ) (turn : Turn) (entry : Entry) → entry.actor ≡ turn.actor → entry.session ≡ session → entry.asked ≡ turn.asked → entry.side ≡ turn.side → entry.answer ≡ heard turn.side (answer_on state session turn) → entry.missed ≡ missed turn.side (answer_on state session turn)
+pub entry_same : (state : State) (session : ℕ) (turn : Turn) (entry : Entry) → entry.actor ≡ turn.actor → entry.session ≡ session → entry.asked ≡ turn.asked → entry.side ≡ turn.side → entry.answer ≡ heard turn.side (answer_on state session turn) → entry.missed ≡ missed turn.side (answer_on state session turn) → entry.draw ≡ None
     → entry ≡ entry_on state session turn
 unfolding entry_on
-entry_same state session turn entry actor number asked side answer missed = λ i. record { actor = actor i; session = number i; asked = asked i; side = side i; answer = answer i; missed = missed i }
+entry_same state session turn entry actor number asked side answer missed draw = λ i. record { actor = actor i; session = number i; asked = asked i; side = side i; answer = answer i; missed = missed i; draw = draw i }

@@ -1,5 +1,5 @@
 -- What a run may ask in a turn that is due, and what it may be answered.
-use Rattle.std.specs.Prelude.{◌≡◌, ◌<◌, false, List, Some}
+use Rattle.std.specs.Prelude.{◌≡◌, ◌<◌, ◌≤◌, false, List, Some, None}
 use Rattle.base_script.specs.declared.actor.Actor.{Actor}
 use Rattle.server_model.specs.declared.entry.Entry.{Entry}
 use Rattle.server_model.specs.Entries.{is_command}
@@ -17,10 +17,11 @@ use Rattle.run_turns.specs.DueTurns.MigrationRun.ServerTurns.{MayTurn}
 use Rattle.run_turns.specs.DueTurns.Due.{due}
 use Rattle.run_turns.specs.DueTurns.DueCalls.Ranges.{ahead_of, IsReported}
 
--- *Due turns may be taken*, all but commands, of a runnable plan, while the server may make a session more
+-- *Due turns may be taken*, all but commands, of a runnable plan, while the server may make a session more where the actor has
+-- none
 abbrev pub DueTurnsMayBe : Type 0
 DueTurnsMayBe =
-    (plan : PlanData) (journal : List Entry) (server : State) (actor : Actor) (turn : Turn) → IsRunnable plan → IsKept plan journal → IsAfter (state_at plan journal) server → server.made < 4294967295 → due plan journal actor ≡ Some turn → is_command turn.asked ≡ false
+    (plan : PlanData) (journal : List Entry) (server : State) (actor : Actor) (turn : Turn) → IsRunnable plan → IsKept plan journal → IsAfter (state_at plan journal) server → server.made ≤ 4294967295 → (live_session journal turn.actor ≡ None → server.made < 4294967295) → due plan journal actor ≡ Some turn → is_command turn.asked ≡ false
     → MayTurn server (live_session journal turn.actor) turn
 
 -- *Ranges are known ahead*: where a turn gets a range of keys, the tables before it have it

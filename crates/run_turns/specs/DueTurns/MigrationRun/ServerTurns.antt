@@ -37,7 +37,7 @@ answer_on state session turn = given_at turn.side turn.asked (serves (opened_on 
 -- *Entry of a turn* that is taken in this session, of the server in this state
 unfoldable pub entry_on : State → ℕ → Turn → Entry
 entry_on state session turn =
-    record { actor = turn.actor; session = session; asked = turn.asked; side = turn.side; answer = heard turn.side (answer_on state session turn); missed = missed turn.side (answer_on state session turn) }
+    record { actor = turn.actor; session = session; asked = turn.asked; side = turn.side; answer = heard turn.side (answer_on state session turn); missed = missed turn.side (answer_on state session turn); draw = None }
 
 -- the session is lost in the turn
 abbrev pub is_lost_in : Option Side → Asked → Bool
@@ -56,6 +56,7 @@ pub record MayTurn (state : State) (session : Option ℕ) (turn : Turn) : Type 0
   pub apart : AreApart state.sessions
   pub few : length state.sessions ≤ state.made
   pub waits : NoneWaits state
-  pub room : state.made < 4294967295
+  pub made : state.made ≤ 4294967295
+  pub opens : session ≡ None → state.made < 4294967295
   pub called : is_command turn.asked ≡ false
   pub may : MayAsk (opened_on state (session_for session state.made) turn) (session_for session state.made) turn.side turn.asked

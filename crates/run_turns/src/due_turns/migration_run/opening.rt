@@ -14,20 +14,22 @@ use server_api::Serve;
 use server_model::Asked;
 use std::alloc::AllocError;
 
-/// The actor's session: the one that it has, else a new one.
+/// The actor's session: the one that it has, else a new one, which takes memory.
 #[tactic(auto, using(crate::proofs::DueTurns::MigrationRun::Connecting::goes_on, crate::proofs::DueTurns::MigrationRun::Connecting::connects, crate::proofs::DueTurns::MigrationRun::Connecting::opened_live, crate::proofs::DueTurns::MigrationRun::Connecting::opened_fresh))]
 pub fn open_session<V: Serve>(
     server: &mut V,
     session: Option<u32>,
     actor: Actor,
 ) -> Result<u32, AllocError>
-    requires { (V.state server.old).made < u32.MAX }
+    requires { session ≡ None → (V.state server.old).made < u32.MAX }
     ensures session { IfOk result (λ number. (reported : State) → IsAfter reported (V.state server.old) → IsSessionOf reported actor session → IsAfter (opens_if false (not (is_client actor)) number reported) (V.state server.new)) }
     ensures number { IfOk result (λ number. session ≡ None → number ≡ (V.state server.old).made + 1) }
     ensures own { IfOk result (λ number. (own : ℕ) → session ≡ Some own → number ≡ own) }
     ensures next { IfOk result (λ number. number ≡ session_for session (V.state server.old).made) }
     ensures opened { IfOk result (λ number. IsSessionOf (V.state server.old) actor session → V.state server.new ≡ opens_if false (not (is_client actor)) number (V.state server.old)) }
+    ensures same { (own : ℕ) → session ≡ Some own → V.state server.new ≡ V.state server.old }
     ensures err { OnErr result (V.state server.new ≡ V.state server.old) }
+    ensures costs { OnErr result (session ≡ None) }
 {
     match session {
         Some(number) => Ok(number),

@@ -1,9 +1,10 @@
 //! What one turn asks of the server.
 
-ghost use Rattle.std.specs.Prelude.{◌≡◌, None, IfOk, OnOk, OnErr};
+ghost use Rattle.std.specs.Prelude.{◌≡◌, false, None, IfOk, OnOk, OnErr};
 ghost use Rattle.server_model.specs.declared.answer.Answer.TheVariants.{Lost};
 ghost use Rattle.server_model.specs.PlainServer.{serves, leaves, given_at};
 ghost use Rattle.tool_program.specs.JournalWords.Journals.{heard, missed};
+ghost use Rattle.run_turns.specs.DueTurns.MigrationRun.FreeTurns.{is_free_in};
 ghost use Rattle.run_turns.specs.DueTurns.MigrationRun.Requests.{MayAsk};
 
 use base_script::Side;
@@ -46,6 +47,7 @@ fn lost(side: Option<Side>, inner: Option<Answer>) -> Heard
 }
 
 /// Asks in the session, which may be lost in the turn. Where there is no memory, the server is as before.
+#[tactic(auto, using(crate::proofs::DueTurns::MigrationRun::Costs::unless_free, crate::proofs::DueTurns::MigrationRun::Costs::unless_lost))]
 pub fn ask<V: Serve>(
     server: &mut V,
     session: u32,
@@ -57,6 +59,7 @@ pub fn ask<V: Serve>(
     ensures missed { IfOk result (λ reported. reported.missed ≡ missed side (given_at side asked.now (serves (V.state server.old) session asked.now).answer)) }
     ensures ok { OnOk result (V.state server.new ≡ leaves side (V.state server.old) session asked.now) }
     ensures err { OnErr result (V.state server.new ≡ V.state server.old) }
+    ensures costs { OnErr result (is_free_in (V.state server.old) session side asked.now ≡ false) }
 {
     match (side, asked) {
         (None, Asked::Call(request)) => Ok(reported(server.call(session, request)?)),

@@ -5,6 +5,7 @@ ghost use Rattle.server_model.specs.States.{State, connected, is_live, is_waitin
 ghost use Rattle.server_model.specs.PlainServer.{serves, leaves, given_at};
 ghost use Rattle.tool_program.specs.JournalWords.Journals.{after_entry, heard, missed};
 ghost use Rattle.proof_journals.specs.Run.Counts.{IsAfter, kind_of};
+ghost use Rattle.run_turns.specs.DueTurns.MigrationRun.FreeTurns.{is_free_in, is_free_turn};
 ghost use Rattle.run_turns.specs.DueTurns.MigrationRun.Requests.{MayAsk};
 ghost use Rattle.run_turns.specs.DueTurns.MigrationRun.ServerTurns.{session_for, made_for, entry_on, counts_of, MayTurn};
 
@@ -35,6 +36,7 @@ fn entry_of(turn: Turn, session: u32, heard: Heard) -> Entry
     ensures side { result.side ≡ turn.side }
     ensures answer { result.answer ≡ heard.answer }
     ensures missed { result.missed ≡ heard.missed }
+    ensures draw { result.draw ≡ None }
 {
     Entry {
         actor: turn.actor,
@@ -42,6 +44,7 @@ fn entry_of(turn: Turn, session: u32, heard: Heard) -> Entry
         side: turn.side,
         answer: heard.answer,
         missed: heard.missed,
+        draw: None,
         asked: turn.into_asked(),
     }
 }
@@ -62,6 +65,7 @@ fn ask_in<V: Serve>(
     ensures own { OnErr result ((own : ℕ) → session ≡ Some own → V.state server.new ≡ V.state server.old) }
     ensures new { OnErr result (session ≡ None → (reported : State) (is_tool : Bool) → kind_of number reported.sessions ≡ None → is_waiting reported number ≡ false → IsAfter (connected number is_tool reported) (V.state server.old) → IsAfter reported (V.state server.new)) }
     ensures made { OnErr result ((V.state server.new).made ≡ (V.state server.old).made) }
+    ensures costs { OnErr result (is_free_in (V.state server.old) number turn.now.side turn.now.asked ≡ false) }
 {
     match (ask(server, number, turn.side, &turn.asked), session) {
         (Ok(heard), _) => Ok(heard),
@@ -89,6 +93,7 @@ pub fn take_turn<V: Serve>(
     ensures ok { OnOk result (V.state server.new ≡ after_entry (V.state server.old) (entry_on (V.state server.old) (session_for session (V.state server.old).made) turn)) }
     ensures err { OnErr result (IsAfter (V.state server.old) (V.state server.new)) }
     ensures made { (V.state server.new).made ≤ made_for session (V.state server.old).made }
+    ensures costs { OnErr result (is_free_turn (V.state server.old) session turn ≡ false) }
 {
     let number = open_session(server, session, turn.actor)?;
     let had_work = has_work(server, number);

@@ -1,39 +1,18 @@
-use Rattle.std.proofs.Common.{refl, ap}
+use Rattle.std.proofs.Common.{sym, ◌∙◌}
 use Rattle.server_model.specs.States.{State}
 use Rattle.server.specs.Parts.{state_of}
-use Rattle.server.proofs.Steps.{unlocks_have}
-use Rattle.server.proofs.Requests.{calls_commit, calls_rollback, calls_unlock}
+use Rattle.server.proofs.Blocked.{looked_blocked, same_blocked}
 use Rattle.server.proofs.calls.call.Goals as goal
 
-pub returns-in-Commit-clause-answer : goal.returns-in-Commit-clause-answer
-returns-in-Commit-clause-answer g c =
+pub returns-in_err-answer-clause-blocked : goal.returns-in_err-answer-clause-blocked
+returns-in_err-answer-clause-blocked g c =
     let state : State = state_of (g.D.Data.committed c.args.store.now) c.args.all_sessions.now in
-    rw (c.in-Commit.is, calls_commit state c.args.session) refl
+    same_blocked state (state_of (g.D.Data.committed c.serve_call.new.store) c.serve_call.new.all_sessions) c.args.known.now c.in_err-answer.ensures.err c.requires.blocked
 
-pub returns-in-Commit-clause-ok : goal.returns-in-Commit-clause-ok
-returns-in-Commit-clause-ok g c =
+pub returns-then-is_answered_look-clause-blocked : goal.returns-then-is_answered_look-clause-blocked
+returns-then-is_answered_look-clause-blocked g c =
     let state : State = state_of (g.D.Data.committed c.args.store.now) c.args.all_sessions.now in
-    rw (c.in-Commit.is, calls_commit state c.args.session) c.commit.ensures.state
+    looked_blocked state (state_of (g.D.Data.committed c.serve_call.new.store) c.serve_call.new.all_sessions) c.args.session c.args.request.now c.in_ok-answer.answer c.args.known.now (sym c.is_answered_look.ensures ∙ c.if-is_answered_look.true) c.in_ok-answer.ensures.answer c.in_ok-answer.ensures.ok c.requires.blocked
 
-pub returns-in-Rollback-clause-answer : goal.returns-in-Rollback-clause-answer
-returns-in-Rollback-clause-answer g c =
-    let state : State = state_of (g.D.Data.committed c.args.store.now) c.args.all_sessions.now in
-    rw (c.in-Rollback.is, calls_rollback state c.args.session) refl
-
-pub returns-in-Rollback-clause-ok : goal.returns-in-Rollback-clause-ok
-returns-in-Rollback-clause-ok g c =
-    let state : State = state_of (g.D.Data.committed c.args.store.now) c.args.all_sessions.now in
-    rw (c.in-Rollback.is, calls_rollback state c.args.session) c.roll_back.ensures.state
-
-pub returns-in-Unlock-clause-answer : goal.returns-in-Unlock-clause-answer
-returns-in-Unlock-clause-answer g c =
-    let state : State = state_of (g.D.Data.committed c.args.store.now) c.args.all_sessions.now in
-    rw (c.in-Unlock.is, calls_unlock state c.args.session) refl
-
-pub returns-in-Unlock-clause-ok : goal.returns-in-Unlock-clause-ok
-returns-in-Unlock-clause-ok g c =
-    let state : State = state_of (g.D.Data.committed c.args.store.now) c.args.all_sessions.now in
-    rw (c.in-Unlock.is, calls_unlock state c.args.session) (ap (state_of (g.D.Data.committed c.args.store.now)) c.unlock.ensures)
-
-pub returns-in-Unlock-clause-have : goal.returns-in-Unlock-clause-have
-returns-in-Unlock-clause-have g c = unlocks_have (g.D.Data.written c.args.store.now) c.args.all_sessions.now c.unlock.new.self c.args.session c.requires.together.have c.unlock.ensures
+pub returns-clause-blocked : goal.returns-clause-blocked
+returns-clause-blocked g c = rw c.forget.ensures tt

@@ -1,4 +1,4 @@
-//! Tables made of rows in order.
+//! Tables made of rows in order, and copied.
 
 ghost use Rattle.std.specs.Prelude.{◌≡◌, ◌<◌, ◌+◌, ◌++◌, ◌∷◌, [], IfOk};
 ghost use Rattle.base_values.specs.GhoSchema.Rows.{key_places};
@@ -6,7 +6,7 @@ ghost use Rattle.base_values.specs.GhoSchema.Tables.{Ascends};
 
 use crate::paged_tables::row_pages::table::Table;
 use base_values::gho_schema::Schema;
-use base_values::{Duplicate, Row};
+use base_values::{Duplicate, Row, Rows, Sequence};
 use std::alloc::{AllocError, Global};
 
 /// Puts a row after the others.
@@ -45,4 +45,16 @@ pub fn copied_table(alloc: Global, table: &Table) -> Result<Table, AllocError>
         put_last(&mut copy, row.copy()?);
     }
     Ok(copy)
+}
+
+/// Copies of a table's rows, in order.
+pub fn copied_rows(alloc: Global, table: &Table) -> Result<Rows, AllocError>
+    ensures { IfOk result (λ copy. copy ≡ table.now.table.rows) }
+{
+    let mut rows = table.rows();
+    let mut copy = Vec::new(alloc);
+    while let Some(row) = rows.next() {
+        copy.push(row.copy()?)?;
+    }
+    Ok(Sequence::from_vec(copy))
 }

@@ -12,7 +12,7 @@ ghost use Rattle.table_store.specs.PagedTables.RowPages.StoredRows.{ArePagesOfRo
 
 use crate::paged_tables::row_pages::by_key::order_by;
 use crate::paged_tables::row_pages::clashes::{clash_in, earlier, first_clash};
-use crate::paged_tables::row_pages::copies::{copied_table, table_of};
+use crate::paged_tables::row_pages::copies::{copied_rows, copied_table, table_of};
 use crate::paged_tables::row_pages::indexes::{
     KeyIndex, add_all, make_indexes, reserve_all, take_all,
 };
@@ -21,7 +21,7 @@ use crate::paged_tables::row_pages::span_rows::SpanRows;
 use crate::paged_tables::row_pages::spans::entries_in_span;
 use base_page_list::PagedList;
 use base_values::gho_schema::{Schema, clustered_key};
-use base_values::{Key, Name, Row, Span};
+use base_values::{Key, Name, Row, Rows, Span};
 use slab::Slab;
 use std::alloc::{AllocError, Global};
 use std::marker::Model;
@@ -93,6 +93,13 @@ impl Table {
         ensures { IfOk result (λ copy. copy.table ≡ self.now.table) }
     {
         copied_table(alloc, self)
+    }
+
+    /// Copies of its rows, in order of the clustered key.
+    pub fn copied_rows(&self, alloc: Global) -> Result<Rows, AllocError>
+        ensures { IfOk result (λ copy. copy ≡ self.now.table.rows) }
+    {
+        copied_rows(alloc, self)
     }
 
     /// What its columns and keys are. The rows are in order of the clustered key.

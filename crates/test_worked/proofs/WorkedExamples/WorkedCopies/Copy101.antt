@@ -80,10 +80,11 @@ abbrev old_101 : Schema
 old_101 =
     record {
       name = codes "t";
-      columns = (record { name = codes "id"; kind = Int 1 false; nullable = false; default = None } ∷ record { name = codes "m0"; kind = Int 4 false; nullable = true; default = (Some Null) } ∷ record { name = codes "v"; kind = Int 4 false; nullable = true; default = (Some Null) } ∷ []);
+      columns = (record { name = codes "id"; kind = Int 1 false; nullable = false; default = None; auto = false } ∷ record { name = codes "m0"; kind = Int 4 false; nullable = true; default = (Some Null); auto = false } ∷ record { name = codes "v"; kind = Int 4 false; nullable = true; default = (Some Null); auto = false } ∷ []);
       uniques = (record { name = None; places = (0 ∷ []) } ∷ record { name = (Some (codes "u0")); places = (1 ∷ []) } ∷ []);
       indexes = [];
       comment = [];
+      start = None;
     }
 
 abbrev made_101 : Schema
@@ -91,11 +92,12 @@ made_101 =
     record {
       name = codes "t";
       columns =
-          (record { name = codes "b"; kind = VarChar 4; nullable = true; default = (Some (Text (codes "n"))) } ∷ record { name = codes "id"; kind = Int 1 false; nullable = false; default = None }
-          ∷ record { name = codes "m0"; kind = Int 4 false; nullable = true; default = (Some Null) } ∷ record { name = codes "v"; kind = Int 4 false; nullable = true; default = (Some Null) } ∷ []);
+          (record { name = codes "b"; kind = VarChar 4; nullable = true; default = (Some (Text (codes "n"))); auto = false } ∷ record { name = codes "id"; kind = Int 1 false; nullable = false; default = None; auto = false }
+          ∷ record { name = codes "m0"; kind = Int 4 false; nullable = true; default = (Some Null); auto = false } ∷ record { name = codes "v"; kind = Int 4 false; nullable = true; default = (Some Null); auto = false } ∷ []);
       uniques = (record { name = None; places = (1 ∷ []) } ∷ record { name = (Some (codes "u0")); places = (2 ∷ []) } ∷ []);
       indexes = [];
       comment = [];
+      start = None;
     }
 
 abbrev map_101 : List Rattle.base_values.specs.declared.row_conversion.map.MapColumn.MapColumn
@@ -199,145 +201,145 @@ waits_on by is = absurd (let no : ⊥ = cc in no)
 -- ---- the journal
 
 abbrev entry_1 : Entry
-entry_1 = record { actor = Insp; session = 1; asked = Call requests.ShowTables; side = None; answer = answers.Tables (record { name = codes "_t_ghc"; comment = [] } ∷ record { name = codes "t"; comment = [] } ∷ []); missed = None }
+entry_1 = record { actor = Insp; session = 1; asked = Call requests.ShowTables; side = None; answer = answers.Tables (record { name = codes "_t_ghc"; comment = [] } ∷ record { name = codes "t"; comment = [] } ∷ []); missed = None; draw = None }
 
 abbrev entry_2 : Entry
-entry_2 = record { actor = Insp; session = 1; asked = Call (requests.Drop (codes "_t_ghc")); side = None; answer = answers.Ok 0; missed = None }
+entry_2 = record { actor = Insp; session = 1; asked = Call (requests.Drop (codes "_t_ghc")); side = None; answer = answers.Ok 0; missed = None; draw = None }
 
 abbrev entry_3 : Entry
-entry_3 = record { actor = Insp; session = 1; asked = Call (requests.Create (record { name = codes "_t_ghc"; columns = (record { name = codes "id"; kind = Int 8 false; nullable = false; default = None } ∷ record { name = codes "hint"; kind = VarChar 64; nullable = false; default = None } ∷ record { name = codes "value"; kind = VarChar 255; nullable = false; default = None } ∷ []); uniques = (record { name = None; places = (0 ∷ []) } ∷ []); indexes = []; comment = [] })); side = None; answer = answers.Ok 0; missed = None }
+entry_3 = record { actor = Insp; session = 1; asked = Call (requests.Create (record { name = codes "_t_ghc"; columns = (record { name = codes "id"; kind = Int 8 false; nullable = false; default = None; auto = false } ∷ record { name = codes "hint"; kind = VarChar 64; nullable = false; default = None; auto = false } ∷ record { name = codes "value"; kind = VarChar 255; nullable = false; default = None; auto = false } ∷ []); uniques = (record { name = None; places = (0 ∷ []) } ∷ []); indexes = []; comment = []; start = None })); side = None; answer = answers.Ok 0; missed = None; draw = None }
 
 abbrev entry_4 : Entry
-entry_4 = record { actor = Insp; session = 1; asked = Call (requests.Create (record { name = codes "_t_gho"; columns = (record { name = codes "b"; kind = VarChar 4; nullable = true; default = (Some (Text (codes "n"))) } ∷ record { name = codes "id"; kind = Int 1 false; nullable = false; default = None } ∷ record { name = codes "m0"; kind = Int 4 false; nullable = true; default = (Some Null) } ∷ record { name = codes "v"; kind = Int 4 false; nullable = true; default = (Some Null) } ∷ []); uniques = (record { name = None; places = (1 ∷ []) } ∷ record { name = (Some (codes "u0")); places = (2 ∷ []) } ∷ []); indexes = []; comment = [] })); side = None; answer = answers.Ok 0; missed = None }
+entry_4 = record { actor = Insp; session = 1; asked = Call (requests.Create (record { name = codes "_t_gho"; columns = (record { name = codes "b"; kind = VarChar 4; nullable = true; default = (Some (Text (codes "n"))); auto = false } ∷ record { name = codes "id"; kind = Int 1 false; nullable = false; default = None; auto = false } ∷ record { name = codes "m0"; kind = Int 4 false; nullable = true; default = (Some Null); auto = false } ∷ record { name = codes "v"; kind = Int 4 false; nullable = true; default = (Some Null); auto = false } ∷ []); uniques = (record { name = None; places = (1 ∷ []) } ∷ record { name = (Some (codes "u0")); places = (2 ∷ []) } ∷ []); indexes = []; comment = []; start = None })); side = None; answer = answers.Ok 0; missed = None; draw = None }
 
 abbrev entry_5 : Entry
-entry_5 = record { actor = Insp; session = 1; asked = Call requests.LogEnd; side = None; answer = answers.At 0; missed = None }
+entry_5 = record { actor = Insp; session = 1; asked = Call requests.LogEnd; side = None; answer = answers.At 0; missed = None; draw = None }
 
 abbrev entry_6 : Entry
-entry_6 = record { actor = Op; session = 0; asked = Command commanded.NoThrottle; side = None; answer = answers.Ok 0; missed = None }
+entry_6 = record { actor = Op; session = 0; asked = Command commanded.NoThrottle; side = None; answer = answers.Ok 0; missed = None; draw = None }
 
 abbrev entry_7 : Entry
-entry_7 = record { actor = Op; session = 0; asked = Command commanded.Unpostpone; side = None; answer = answers.Ok 0; missed = None }
+entry_7 = record { actor = Op; session = 0; asked = Command commanded.Unpostpone; side = None; answer = answers.Ok 0; missed = None; draw = None }
 
 abbrev entry_8 : Entry
-entry_8 = record { actor = Op; session = 0; asked = Command (commanded.ChunkSize 1); side = None; answer = answers.Ok 0; missed = None }
+entry_8 = record { actor = Op; session = 0; asked = Command (commanded.ChunkSize 1); side = None; answer = answers.Ok 0; missed = None; draw = None }
 
 abbrev entry_9 : Entry
-entry_9 = record { actor = Op; session = 0; asked = Command commanded.Wait; side = None; answer = answers.Ok 0; missed = None }
+entry_9 = record { actor = Op; session = 0; asked = Command commanded.Wait; side = None; answer = answers.Ok 0; missed = None; draw = None }
 
 abbrev entry_10 : Entry
-entry_10 = record { actor = Op; session = 0; asked = Command commanded.Wait; side = None; answer = answers.Ok 0; missed = None }
+entry_10 = record { actor = Op; session = 0; asked = Command commanded.Wait; side = None; answer = answers.Ok 0; missed = None; draw = None }
 
 abbrev entry_11 : Entry
-entry_11 = record { actor = Op; session = 0; asked = Command commanded.Wait; side = None; answer = answers.Ok 0; missed = None }
+entry_11 = record { actor = Op; session = 0; asked = Command commanded.Wait; side = None; answer = answers.Ok 0; missed = None; draw = None }
 
 abbrev entry_12 : Entry
-entry_12 = record { actor = Op; session = 0; asked = Command commanded.Wait; side = None; answer = answers.Ok 0; missed = None }
+entry_12 = record { actor = Op; session = 0; asked = Command commanded.Wait; side = None; answer = answers.Ok 0; missed = None; draw = None }
 
 abbrev entry_13 : Entry
-entry_13 = record { actor = (Client 1); session = 2; asked = Call (requests.Do (statements.Select (codes "t") shown.Count conditions.All)); side = None; answer = answers.Rows (((Num (pos 1)) ∷ []) ∷ []); missed = None }
+entry_13 = record { actor = (Client 1); session = 2; asked = Call (requests.Do (statements.Select (codes "t") shown.Count conditions.All)); side = None; answer = answers.Rows (((Num (pos 1)) ∷ []) ∷ []); missed = None; draw = None }
 
 abbrev entry_14 : Entry
-entry_14 = record { actor = (Client 1); session = 2; asked = Call (requests.Do (statements.Delete (codes "t") (conditions.Equal (record { column = codes "id"; value = (Num (pos 3)) } ∷ [])))); side = None; answer = answers.Ok 0; missed = None }
+entry_14 = record { actor = (Client 1); session = 2; asked = Call (requests.Do (statements.Delete (codes "t") (conditions.Equal (record { column = codes "id"; value = (Num (pos 3)) } ∷ [])))); side = None; answer = answers.Ok 0; missed = None; draw = None }
 
 abbrev entry_15 : Entry
-entry_15 = record { actor = (Client 1); session = 2; asked = Call requests.Begin; side = None; answer = answers.Ok 0; missed = None }
+entry_15 = record { actor = (Client 1); session = 2; asked = Call requests.Begin; side = None; answer = answers.Ok 0; missed = None; draw = None }
 
 abbrev entry_16 : Entry
-entry_16 = record { actor = (Client 1); session = 2; asked = Call (requests.Do (statements.Insert (codes "t") (Some (codes "id" ∷ codes "m0" ∷ [])) ((Num (pos 7)) ∷ (Num (pos 6)) ∷ []))); side = None; answer = answers.Ok 1; missed = None }
+entry_16 = record { actor = (Client 1); session = 2; asked = Call (requests.Do (statements.Insert (codes "t") (Some (codes "id" ∷ codes "m0" ∷ [])) ((Num (pos 7)) ∷ (Num (pos 6)) ∷ []) None)); side = None; answer = answers.Ok 1; missed = None; draw = None }
 
 abbrev entry_17 : Entry
-entry_17 = record { actor = (Client 1); session = 2; asked = Call requests.Commit; side = None; answer = answers.Ok 0; missed = None }
+entry_17 = record { actor = (Client 1); session = 2; asked = Call requests.Commit; side = None; answer = answers.Ok 0; missed = None; draw = None }
 
 abbrev entry_18 : Entry
-entry_18 = record { actor = Insp; session = 1; asked = Call (requests.Ends (codes "t")); side = None; answer = answers.Ends (Some (record { least = ((Num (pos 5)) ∷ []); greatest = ((Num (pos 7)) ∷ []) })); missed = None }
+entry_18 = record { actor = Insp; session = 1; asked = Call (requests.Ends (codes "t")); side = None; answer = answers.Ends (Some (record { least = ((Num (pos 5)) ∷ []); greatest = ((Num (pos 7)) ∷ []) })); missed = None; draw = None }
 
 abbrev entry_19 : Entry
-entry_19 = record { actor = Copy; session = 3; asked = Call (requests.ChunkEnd (codes "t") (Closed ((Num (pos 5)) ∷ [])) ((Num (pos 7)) ∷ []) 1); side = None; answer = answers.End ((Num (pos 5)) ∷ []); missed = None }
+entry_19 = record { actor = Copy; session = 3; asked = Call (requests.ChunkEnd (codes "t") (Closed ((Num (pos 5)) ∷ [])) ((Num (pos 7)) ∷ []) 1); side = None; answer = answers.End ((Num (pos 5)) ∷ []); missed = None; draw = None }
 
 abbrev entry_20 : Entry
-entry_20 = record { actor = Apply; session = 4; asked = Call (requests.ReadLog 0 3 (codes "t" ∷ codes "_t_ghc" ∷ [])); side = None; answer = answers.Events (record { table = codes "t"; change = changes.Write ((Num (pos 7)) ∷ (Num (pos 6)) ∷ Null ∷ []) } ∷ []) 1; missed = None }
+entry_20 = record { actor = Apply; session = 4; asked = Call (requests.ReadLog 0 3 (codes "t" ∷ codes "_t_ghc" ∷ [])); side = None; answer = answers.Events (record { table = codes "t"; change = changes.Write ((Num (pos 7)) ∷ (Num (pos 6)) ∷ Null ∷ []) } ∷ []) 1; missed = None; draw = None }
 
 abbrev entry_21 : Entry
-entry_21 = record { actor = Apply; session = 4; asked = Call requests.Begin; side = None; answer = answers.Ok 0; missed = None }
+entry_21 = record { actor = Apply; session = 4; asked = Call requests.Begin; side = None; answer = answers.Ok 0; missed = None; draw = None }
 
 abbrev entry_22 : Entry
-entry_22 = record { actor = Apply; session = 4; asked = Call (requests.Do (statements.Replace (codes "_t_gho") None ((Text (codes "n")) ∷ (Num (pos 7)) ∷ (Num (pos 6)) ∷ Null ∷ []))); side = None; answer = answers.Ok 1; missed = None }
+entry_22 = record { actor = Apply; session = 4; asked = Call (requests.Do (statements.Replace (codes "_t_gho") None ((Text (codes "n")) ∷ (Num (pos 7)) ∷ (Num (pos 6)) ∷ Null ∷ []) None)); side = None; answer = answers.Ok 1; missed = None; draw = None }
 
 abbrev entry_23 : Entry
-entry_23 = record { actor = Apply; session = 4; asked = Call requests.Commit; side = None; answer = answers.Ok 0; missed = None }
+entry_23 = record { actor = Apply; session = 4; asked = Call requests.Commit; side = None; answer = answers.Ok 0; missed = None; draw = None }
 
 abbrev entry_24 : Entry
-entry_24 = record { actor = Copy; session = 3; asked = Call (requests.BeginSpan (codes "t") (record { low = (Closed ((Num (pos 5)) ∷ [])); high = (Closed ((Num (pos 5)) ∷ [])) }) 1); side = None; answer = answers.Keys (((Num (pos 5)) ∷ []) ∷ []) ((Num (pos 5)) ∷ []); missed = None }
+entry_24 = record { actor = Copy; session = 3; asked = Call (requests.BeginSpan (codes "t") (record { low = (Closed ((Num (pos 5)) ∷ [])); high = (Closed ((Num (pos 5)) ∷ [])) }) 1); side = None; answer = answers.Keys (((Num (pos 5)) ∷ []) ∷ []) ((Num (pos 5)) ∷ []); missed = None; draw = None }
 
 abbrev entry_25 : Entry
-entry_25 = record { actor = Op; session = 0; asked = Command commanded.Wait; side = None; answer = answers.Ok 0; missed = None }
+entry_25 = record { actor = Op; session = 0; asked = Command commanded.Wait; side = None; answer = answers.Ok 0; missed = None; draw = None }
 
 abbrev entry_26 : Entry
-entry_26 = record { actor = Op; session = 0; asked = Command commanded.Wait; side = None; answer = answers.Ok 0; missed = None }
+entry_26 = record { actor = Op; session = 0; asked = Command commanded.Wait; side = None; answer = answers.Ok 0; missed = None; draw = None }
 
 abbrev entry_27 : Entry
-entry_27 = record { actor = Op; session = 0; asked = Command commanded.Wait; side = None; answer = answers.Ok 0; missed = None }
+entry_27 = record { actor = Op; session = 0; asked = Command commanded.Wait; side = None; answer = answers.Ok 0; missed = None; draw = None }
 
 abbrev entry_28 : Entry
-entry_28 = record { actor = Op; session = 0; asked = Command commanded.Wait; side = None; answer = answers.Ok 0; missed = None }
+entry_28 = record { actor = Op; session = 0; asked = Command commanded.Wait; side = None; answer = answers.Ok 0; missed = None; draw = None }
 
 abbrev entry_29 : Entry
-entry_29 = record { actor = Copy; session = 3; asked = Call (requests.CopyRow (codes "t") (codes "_t_gho") map_101 ((Num (pos 5)) ∷ [])); side = None; answer = answers.Ok 1; missed = None }
+entry_29 = record { actor = Copy; session = 3; asked = Call (requests.CopyRow (codes "t") (codes "_t_gho") map_101 ((Num (pos 5)) ∷ [])); side = None; answer = answers.Ok 1; missed = None; draw = None }
 
 abbrev entry_30 : Entry
-entry_30 = record { actor = Copy; session = 3; asked = Call requests.Commit; side = None; answer = answers.Ok 0; missed = None }
+entry_30 = record { actor = Copy; session = 3; asked = Call requests.Commit; side = None; answer = answers.Ok 0; missed = None; draw = None }
 
 abbrev entry_31 : Entry
-entry_31 = record { actor = Copy; session = 3; asked = Call (requests.ChunkEnd (codes "t") (Open ((Num (pos 5)) ∷ [])) ((Num (pos 7)) ∷ []) 1); side = None; answer = answers.End ((Num (pos 7)) ∷ []); missed = None }
+entry_31 = record { actor = Copy; session = 3; asked = Call (requests.ChunkEnd (codes "t") (Open ((Num (pos 5)) ∷ [])) ((Num (pos 7)) ∷ []) 1); side = None; answer = answers.End ((Num (pos 7)) ∷ []); missed = None; draw = None }
 
 abbrev entry_32 : Entry
-entry_32 = record { actor = Copy; session = 3; asked = Call (requests.BeginSpan (codes "t") (record { low = (Open ((Num (pos 5)) ∷ [])); high = (Closed ((Num (pos 7)) ∷ [])) }) 1); side = None; answer = answers.Keys (((Num (pos 7)) ∷ []) ∷ []) ((Num (pos 7)) ∷ []); missed = None }
+entry_32 = record { actor = Copy; session = 3; asked = Call (requests.BeginSpan (codes "t") (record { low = (Open ((Num (pos 5)) ∷ [])); high = (Closed ((Num (pos 7)) ∷ [])) }) 1); side = None; answer = answers.Keys (((Num (pos 7)) ∷ []) ∷ []) ((Num (pos 7)) ∷ []); missed = None; draw = None }
 
 abbrev entry_33 : Entry
-entry_33 = record { actor = Copy; session = 3; asked = Call (requests.CopyRow (codes "t") (codes "_t_gho") map_101 ((Num (pos 7)) ∷ [])); side = None; answer = answers.Ok 0; missed = None }
+entry_33 = record { actor = Copy; session = 3; asked = Call (requests.CopyRow (codes "t") (codes "_t_gho") map_101 ((Num (pos 7)) ∷ [])); side = None; answer = answers.Ok 0; missed = None; draw = None }
 
 abbrev entry_34 : Entry
-entry_34 = record { actor = Copy; session = 3; asked = Call requests.Commit; side = None; answer = answers.Ok 0; missed = None }
+entry_34 = record { actor = Copy; session = 3; asked = Call requests.Commit; side = None; answer = answers.Ok 0; missed = None; draw = None }
 
 abbrev entry_35 : Entry
-entry_35 = record { actor = Lock; session = 5; asked = Call (requests.Create (record { name = codes "_t_del"; columns = (record { name = codes "id"; kind = Int 4 false; nullable = false; default = None } ∷ []); uniques = (record { name = None; places = (0 ∷ []) } ∷ []); indexes = []; comment = codes "ghost-cut-over-sentry" })); side = None; answer = answers.Ok 0; missed = None }
+entry_35 = record { actor = Lock; session = 5; asked = Call (requests.Create (record { name = codes "_t_del"; columns = (record { name = codes "id"; kind = Int 4 false; nullable = false; default = None; auto = false } ∷ []); uniques = (record { name = None; places = (0 ∷ []) } ∷ []); indexes = []; comment = codes "ghost-cut-over-sentry"; start = None })); side = None; answer = answers.Ok 0; missed = None; draw = None }
 
 abbrev entry_36 : Entry
-entry_36 = record { actor = Lock; session = 5; asked = Call (requests.LockTables (codes "t" ∷ codes "_t_del" ∷ [])); side = None; answer = answers.Ok 0; missed = None }
+entry_36 = record { actor = Lock; session = 5; asked = Call (requests.LockTables (codes "t" ∷ codes "_t_del" ∷ [])); side = None; answer = answers.Ok 0; missed = None; draw = None }
 
 abbrev entry_37 : Entry
-entry_37 = record { actor = Insp; session = 1; asked = Call (requests.Do (statements.Insert (codes "_t_ghc") None ((Num (pos 1)) ∷ (Text (codes "cut-over")) ∷ (Text (codes "1")) ∷ []))); side = None; answer = answers.Ok 1; missed = None }
+entry_37 = record { actor = Insp; session = 1; asked = Call (requests.Do (statements.Insert (codes "_t_ghc") None ((Num (pos 1)) ∷ (Text (codes "cut-over")) ∷ (Text (codes "1")) ∷ []) None)); side = None; answer = answers.Ok 1; missed = None; draw = None }
 
 abbrev entry_38 : Entry
-entry_38 = record { actor = Apply; session = 4; asked = Call (requests.ReadLog 1 3 (codes "t" ∷ codes "_t_ghc" ∷ [])); side = None; answer = answers.Events (record { table = codes "_t_ghc"; change = changes.Write ((Num (pos 1)) ∷ (Text (codes "cut-over")) ∷ (Text (codes "1")) ∷ []) } ∷ []) 4; missed = None }
+entry_38 = record { actor = Apply; session = 4; asked = Call (requests.ReadLog 1 3 (codes "t" ∷ codes "_t_ghc" ∷ [])); side = None; answer = answers.Events (record { table = codes "_t_ghc"; change = changes.Write ((Num (pos 1)) ∷ (Text (codes "cut-over")) ∷ (Text (codes "1")) ∷ []) } ∷ []) 4; missed = None; draw = None }
 
 abbrev entry_39 : Entry
-entry_39 = record { actor = Ren; session = 6; asked = Call (requests.Rename (record { old = codes "t"; new = codes "_t_del" } ∷ record { old = codes "_t_gho"; new = codes "t" } ∷ [])); side = None; answer = answers.Waits 5; missed = None }
+entry_39 = record { actor = Ren; session = 6; asked = Call (requests.Rename (record { old = codes "t"; new = codes "_t_del" } ∷ record { old = codes "_t_gho"; new = codes "t" } ∷ [])); side = None; answer = answers.Waits 5; missed = None; draw = None }
 
 abbrev entry_40 : Entry
-entry_40 = record { actor = Ren; session = 6; asked = Poll; side = None; answer = answers.Waits 5; missed = None }
+entry_40 = record { actor = Ren; session = 6; asked = Poll; side = None; answer = answers.Waits 5; missed = None; draw = None }
 
 abbrev entry_41 : Entry
-entry_41 = record { actor = Ren; session = 6; asked = Poll; side = None; answer = answers.Waits 5; missed = None }
+entry_41 = record { actor = Ren; session = 6; asked = Poll; side = None; answer = answers.Waits 5; missed = None; draw = None }
 
 abbrev entry_42 : Entry
-entry_42 = record { actor = Ren; session = 6; asked = Poll; side = None; answer = answers.Waits 5; missed = None }
+entry_42 = record { actor = Ren; session = 6; asked = Poll; side = None; answer = answers.Waits 5; missed = None; draw = None }
 
 abbrev entry_43 : Entry
-entry_43 = record { actor = Ren; session = 6; asked = Poll; side = None; answer = answers.Waits 5; missed = None }
+entry_43 = record { actor = Ren; session = 6; asked = Poll; side = None; answer = answers.Waits 5; missed = None; draw = None }
 
 abbrev entry_44 : Entry
-entry_44 = record { actor = Insp; session = 1; asked = Call requests.ShowWaiting; side = None; answer = answers.Waiting (record { session = 6; names = (codes "t" ∷ codes "_t_del" ∷ codes "_t_gho" ∷ []); by = 5 } ∷ []); missed = None }
+entry_44 = record { actor = Insp; session = 1; asked = Call requests.ShowWaiting; side = None; answer = answers.Waiting (record { session = 6; names = (codes "t" ∷ codes "_t_del" ∷ codes "_t_gho" ∷ []); by = 5 } ∷ []); missed = None; draw = None }
 
 abbrev entry_45 : Entry
-entry_45 = record { actor = Lock; session = 5; asked = Call (requests.Drop (codes "_t_del")); side = None; answer = answers.Ok 0; missed = None }
+entry_45 = record { actor = Lock; session = 5; asked = Call (requests.Drop (codes "_t_del")); side = None; answer = answers.Ok 0; missed = None; draw = None }
 
 abbrev entry_46 : Entry
-entry_46 = record { actor = Ren; session = 6; asked = Poll; side = None; answer = answers.Waits 5; missed = None }
+entry_46 = record { actor = Ren; session = 6; asked = Poll; side = None; answer = answers.Waits 5; missed = None; draw = None }
 
 abbrev entry_47 : Entry
-entry_47 = record { actor = Lock; session = 5; asked = Call requests.Unlock; side = None; answer = answers.Ok 0; missed = None }
+entry_47 = record { actor = Lock; session = 5; asked = Call requests.Unlock; side = None; answer = answers.Ok 0; missed = None; draw = None }
 
 abbrev journal_18 : List Entry
 journal_18 =
@@ -551,7 +553,7 @@ turn_21 = applier_turns (record { its = refl; table = refl; schema = refl; map =
 
 turn_22 : MigrationTurn m_101 limits_101 scene_101 journal_21 entry_22 now_21 now_22
 unfolding computing plans.client_names plans.client_tables plans.script_names
-turn_22 = applier_turns (record { its = refl; table = refl; schema = refl; map = refl; request = (requests.Do (statements.Replace (codes "_t_gho") None ((Text (codes "n")) ∷ (Num (pos 7)) ∷ (Num (pos 6)) ∷ Null ∷ []))); asked = refl; given = refl; uncut = refl; fits = going }) refl
+turn_22 = applier_turns (record { its = refl; table = refl; schema = refl; map = refl; request = (requests.Do (statements.Replace (codes "_t_gho") None ((Text (codes "n")) ∷ (Num (pos 7)) ∷ (Num (pos 6)) ∷ Null ∷ []) None)); asked = refl; given = refl; uncut = refl; fits = going }) refl
 
 turn_23 : MigrationTurn m_101 limits_101 scene_101 journal_22 entry_23 now_22 now_23
 unfolding computing plans.client_names plans.client_tables plans.script_names
@@ -603,7 +605,7 @@ turn_34 = copier_turns (record { its = refl; table = refl; map = refl; request =
 
 turn_35 : MigrationTurn m_101 limits_101 scene_101 journal_34 entry_35 now_34 now_34
 unfolding computing plans.client_names plans.client_tables plans.script_names
-turn_35 = others_turn (record { sides = λ may. refl; no_copier = refl; no_applier = refl; away = away_of (Some (answers.Ok 0)) ((requests.Create (record { name = codes "_t_del"; columns = (record { name = codes "id"; kind = Int 4 false; nullable = false; default = None } ∷ []); uniques = (record { name = None; places = (0 ∷ []) } ∷ []); indexes = []; comment = codes "ghost-cut-over-sentry" }))) ((refl, refl)) }) refl
+turn_35 = others_turn (record { sides = λ may. refl; no_copier = refl; no_applier = refl; away = away_of (Some (answers.Ok 0)) ((requests.Create (record { name = codes "_t_del"; columns = (record { name = codes "id"; kind = Int 4 false; nullable = false; default = None; auto = false } ∷ []); uniques = (record { name = None; places = (0 ∷ []) } ∷ []); indexes = []; comment = codes "ghost-cut-over-sentry"; start = None }))) ((refl, refl)) }) refl
 
 turn_36 : MigrationTurn m_101 limits_101 scene_101 journal_35 entry_36 now_34 now_34
 unfolding computing plans.client_names plans.client_tables plans.script_names
@@ -611,7 +613,7 @@ turn_36 = others_turn (record { sides = λ may. refl; no_copier = refl; no_appli
 
 turn_37 : MigrationTurn m_101 limits_101 scene_101 journal_36 entry_37 now_34 now_34
 unfolding computing plans.client_names plans.client_tables plans.script_names
-turn_37 = others_turn (record { sides = λ may. refl; no_copier = refl; no_applier = refl; away = away_of (Some (answers.Ok 1)) ((requests.Do (statements.Insert (codes "_t_ghc") None ((Num (pos 1)) ∷ (Text (codes "cut-over")) ∷ (Text (codes "1")) ∷ [])))) (refl) }) refl
+turn_37 = others_turn (record { sides = λ may. refl; no_copier = refl; no_applier = refl; away = away_of (Some (answers.Ok 1)) ((requests.Do (statements.Insert (codes "_t_ghc") None ((Num (pos 1)) ∷ (Text (codes "cut-over")) ∷ (Text (codes "1")) ∷ []) None))) (refl) }) refl
 
 turn_38 : MigrationTurn m_101 limits_101 scene_101 journal_37 entry_38 now_34 now_38
 unfolding computing plans.client_names plans.client_tables plans.script_names

@@ -45,13 +45,13 @@ journal_to_mark = take 25 journal_after_chunk
 -- THE PLAN
 
 abbrev old_schema : Schema
-old_schema = record { name = codes "t"; columns = (record { name = codes "id"; kind = Int 4 false; nullable = false; default = None } ∷ []); uniques = (record { name = None; places = (0 ∷ []) } ∷ []); indexes = []; comment = [] }
+old_schema = record { name = codes "t"; columns = (record { name = codes "id"; kind = Int 4 false; nullable = false; default = None; auto = false } ∷ []); uniques = (record { name = None; places = (0 ∷ []) } ∷ []); indexes = []; comment = []; start = None }
 
 abbrev old_table : TableRows
 old_table = record { schema = old_schema; rows = (((Num (pos 1)) ∷ []) ∷ ((Num (pos 2)) ∷ []) ∷ []) }
 
 abbrev made_schema : Schema
-made_schema = record { name = codes "t"; columns = (record { name = codes "id"; kind = Int 4 false; nullable = false; default = None } ∷ record { name = codes "b"; kind = Int 4 false; nullable = true; default = (Some Null) } ∷ []); uniques = (record { name = None; places = (0 ∷ []) } ∷ []); indexes = []; comment = [] }
+made_schema = record { name = codes "t"; columns = (record { name = codes "id"; kind = Int 4 false; nullable = false; default = None; auto = false } ∷ record { name = codes "b"; kind = Int 4 false; nullable = true; default = (Some Null); auto = false } ∷ []); uniques = (record { name = None; places = (0 ∷ []) } ∷ []); indexes = []; comment = []; start = None }
 
 abbrev new_table : Altered
 new_table = (made_schema, (record { kind = Int 4 false; nullable = false; origin = from.Old 0 } ∷ record { kind = Int 4 false; nullable = true; origin = from.Added Null } ∷ []))
@@ -118,31 +118,31 @@ serial = record {
 faithful : IsFaithful plan_after_chunk journal_to_mark
 unfolding computing
 faithful =
-    record { sides = λ is. refl; answer = refl; missed = refl }
-    ▸ record { sides = λ is. refl; answer = refl; missed = refl }
-    ▸ record { sides = λ is. refl; answer = refl; missed = refl }
-    ▸ record { sides = λ is. refl; answer = refl; missed = refl }
-    ▸ record { sides = λ is. refl; answer = refl; missed = refl }
-    ▸ record { sides = λ is. refl; answer = refl; missed = refl }
-    ▸ record { sides = λ is. refl; answer = refl; missed = refl }
-    ▸ record { sides = λ is. refl; answer = refl; missed = refl }
-    ▸ record { sides = λ is. refl; answer = refl; missed = refl }
-    ▸ record { sides = λ is. refl; answer = refl; missed = refl }
-    ▸ record { sides = λ is. refl; answer = refl; missed = refl }
-    ▸ record { sides = λ is. refl; answer = refl; missed = refl }
-    ▸ record { sides = λ is. refl; answer = refl; missed = refl }
-    ▸ record { sides = λ is. refl; answer = refl; missed = refl }
-    ▸ record { sides = λ is. refl; answer = refl; missed = refl }
-    ▸ record { sides = λ is. refl; answer = refl; missed = refl }
-    ▸ record { sides = λ is. refl; answer = refl; missed = refl }
-    ▸ record { sides = λ is. refl; answer = refl; missed = refl }
-    ▸ record { sides = λ is. refl; answer = refl; missed = refl }
-    ▸ record { sides = λ is. refl; answer = refl; missed = refl }
-    ▸ record { sides = λ is. refl; answer = refl; missed = refl }
-    ▸ record { sides = λ is. refl; answer = refl; missed = refl }
-    ▸ record { sides = λ is. refl; answer = refl; missed = refl }
-    ▸ record { sides = λ is. refl; answer = refl; missed = refl }
-    ▸ record { sides = λ is. refl; answer = refl; missed = refl }
+    record { sides = λ is. refl; answer = refl; missed = refl; draw = refl }
+    ▸ record { sides = λ is. refl; answer = refl; missed = refl; draw = refl }
+    ▸ record { sides = λ is. refl; answer = refl; missed = refl; draw = refl }
+    ▸ record { sides = λ is. refl; answer = refl; missed = refl; draw = refl }
+    ▸ record { sides = λ is. refl; answer = refl; missed = refl; draw = refl }
+    ▸ record { sides = λ is. refl; answer = refl; missed = refl; draw = refl }
+    ▸ record { sides = λ is. refl; answer = refl; missed = refl; draw = refl }
+    ▸ record { sides = λ is. refl; answer = refl; missed = refl; draw = refl }
+    ▸ record { sides = λ is. refl; answer = refl; missed = refl; draw = refl }
+    ▸ record { sides = λ is. refl; answer = refl; missed = refl; draw = refl }
+    ▸ record { sides = λ is. refl; answer = refl; missed = refl; draw = refl }
+    ▸ record { sides = λ is. refl; answer = refl; missed = refl; draw = refl }
+    ▸ record { sides = λ is. refl; answer = refl; missed = refl; draw = refl }
+    ▸ record { sides = λ is. refl; answer = refl; missed = refl; draw = refl }
+    ▸ record { sides = λ is. refl; answer = refl; missed = refl; draw = refl }
+    ▸ record { sides = λ is. refl; answer = refl; missed = refl; draw = refl }
+    ▸ record { sides = λ is. refl; answer = refl; missed = refl; draw = refl }
+    ▸ record { sides = λ is. refl; answer = refl; missed = refl; draw = refl }
+    ▸ record { sides = λ is. refl; answer = refl; missed = refl; draw = refl }
+    ▸ record { sides = λ is. refl; answer = refl; missed = refl; draw = refl }
+    ▸ record { sides = λ is. refl; answer = refl; missed = refl; draw = refl }
+    ▸ record { sides = λ is. refl; answer = refl; missed = refl; draw = refl }
+    ▸ record { sides = λ is. refl; answer = refl; missed = refl; draw = refl }
+    ▸ record { sides = λ is. refl; answer = refl; missed = refl; draw = refl }
+    ▸ record { sides = λ is. refl; answer = refl; missed = refl; draw = refl }
     ▸ tt
 
 planned : KeepsPlan plan_after_chunk journal_to_mark

@@ -23,17 +23,17 @@ use Rattle.proof_migration.specs.ToolPhase.Ready.{IsStuck}
 use Rattle.test_worked.proofs.Computing.{computing}
 
 abbrev plan_open_script : PlanData
-plan_open_script = record { table = codes "t"; alter = (clauses.Add (record { name = codes "b"; kind = Int 4 false; nullable = (Some false); default = (Some (Num (pos 7))) }) Unsaid ∷ []); tables = (record { schema = record { name = codes "t"; columns = (record { name = codes "id"; kind = Int 4 false; nullable = false; default = None } ∷ []); uniques = (record { name = None; places = (0 ∷ []) } ∷ []); indexes = []; comment = [] }; rows = [] } ∷ []); clients = ((record { line = 1; word = words.Begin } ∷ []) ∷ []); operator = []; faults = []; turns = []; options = record { chunk_size = 1000; dml_batch_size = 10; default_retries = 60; max_backlog = 100; drain_limit = 2000; client_wait = 20000; tool_wait = 2000; max_load = 0; turn_limit = 200000; approve_renamed_columns = false; initially_drop_ghost_table = false; initially_drop_old_table = false; ok_to_drop_table = false; postpone = false; show_history = true; show_turns = true; show_tables = true; show_replies = true } }
+plan_open_script = record { table = codes "t"; alter = (clauses.Add (record { name = codes "b"; kind = Int 4 false; nullable = (Some false); default = (Some (Num (pos 7))) }) Unsaid ∷ []); tables = (record { schema = record { name = codes "t"; columns = (record { name = codes "id"; kind = Int 4 false; nullable = false; default = None; auto = false } ∷ []); uniques = (record { name = None; places = (0 ∷ []) } ∷ []); indexes = []; comment = []; start = None }; rows = [] } ∷ []); clients = ((record { line = 1; word = words.Begin } ∷ []) ∷ []); operator = []; faults = []; turns = []; options = record { chunk_size = 1000; dml_batch_size = 10; default_retries = 60; max_backlog = 100; drain_limit = 2000; client_wait = 20000; tool_wait = 2000; max_load = 0; turn_limit = 200000; approve_renamed_columns = false; initially_drop_ghost_table = false; initially_drop_old_table = false; ok_to_drop_table = false; postpone = false; show_history = true; show_turns = true; show_tables = true; show_replies = true } }
 
 -- all its turns, in the order of a replay
 abbrev journal_open_script : List Entry
 journal_open_script =
-    record { actor = Insp; session = 1; asked = Call requests.ShowTables; side = None; answer = answers.Tables (record { name = codes "t"; comment = [] } ∷ []); missed = None }
-    ∷ record { actor = Client 1; session = 2; asked = Call requests.Begin; side = None; answer = answers.Ok 0; missed = None }
-    ∷ record { actor = Insp; session = 1; asked = Call (requests.Create (record { name = codes "_t_ghc"; columns = (record { name = codes "id"; kind = Int 8 false; nullable = false; default = None } ∷ record { name = codes "hint"; kind = VarChar 64; nullable = false; default = None } ∷ record { name = codes "value"; kind = VarChar 255; nullable = false; default = None } ∷ []); uniques = (record { name = None; places = (0 ∷ []) } ∷ []); indexes = []; comment = [] })); side = None; answer = answers.Ok 0; missed = None }
-    ∷ record { actor = Insp; session = 1; asked = Call (requests.Create (record { name = codes "_t_gho"; columns = (record { name = codes "id"; kind = Int 4 false; nullable = false; default = None } ∷ record { name = codes "b"; kind = Int 4 false; nullable = false; default = (Some (Num (pos 7))) } ∷ []); uniques = (record { name = None; places = (0 ∷ []) } ∷ []); indexes = []; comment = [] })); side = None; answer = answers.Ok 0; missed = None }
-    ∷ record { actor = Insp; session = 1; asked = Call requests.LogEnd; side = None; answer = answers.At 0; missed = None }
-    ∷ record { actor = Insp; session = 1; asked = Call (requests.Ends (codes "t")); side = None; answer = answers.Ends None; missed = None }
+    record { actor = Insp; session = 1; asked = Call requests.ShowTables; side = None; answer = answers.Tables (record { name = codes "t"; comment = [] } ∷ []); missed = None; draw = None }
+    ∷ record { actor = Client 1; session = 2; asked = Call requests.Begin; side = None; answer = answers.Ok 0; missed = None; draw = None }
+    ∷ record { actor = Insp; session = 1; asked = Call (requests.Create (record { name = codes "_t_ghc"; columns = (record { name = codes "id"; kind = Int 8 false; nullable = false; default = None; auto = false } ∷ record { name = codes "hint"; kind = VarChar 64; nullable = false; default = None; auto = false } ∷ record { name = codes "value"; kind = VarChar 255; nullable = false; default = None; auto = false } ∷ []); uniques = (record { name = None; places = (0 ∷ []) } ∷ []); indexes = []; comment = []; start = None })); side = None; answer = answers.Ok 0; missed = None; draw = None }
+    ∷ record { actor = Insp; session = 1; asked = Call (requests.Create (record { name = codes "_t_gho"; columns = (record { name = codes "id"; kind = Int 4 false; nullable = false; default = None; auto = false } ∷ record { name = codes "b"; kind = Int 4 false; nullable = false; default = (Some (Num (pos 7))); auto = false } ∷ []); uniques = (record { name = None; places = (0 ∷ []) } ∷ []); indexes = []; comment = []; start = None })); side = None; answer = answers.Ok 0; missed = None; draw = None }
+    ∷ record { actor = Insp; session = 1; asked = Call requests.LogEnd; side = None; answer = answers.At 0; missed = None; draw = None }
+    ∷ record { actor = Insp; session = 1; asked = Call (requests.Ends (codes "t")); side = None; answer = answers.Ends None; missed = None; draw = None }
     ∷ []
 
 infixr 5 ◌▸◌
@@ -44,12 +44,12 @@ first ▸ others = (first, others)
 faithful : IsFaithful plan_open_script journal_open_script
 unfolding computing
 faithful =
-    record { sides = λ is. refl; answer = refl; missed = refl }
-    ▸ record { sides = λ is. refl; answer = refl; missed = refl }
-    ▸ record { sides = λ is. refl; answer = refl; missed = refl }
-    ▸ record { sides = λ is. refl; answer = refl; missed = refl }
-    ▸ record { sides = λ is. refl; answer = refl; missed = refl }
-    ▸ record { sides = λ is. refl; answer = refl; missed = refl }
+    record { sides = λ is. refl; answer = refl; missed = refl; draw = refl }
+    ▸ record { sides = λ is. refl; answer = refl; missed = refl; draw = refl }
+    ▸ record { sides = λ is. refl; answer = refl; missed = refl; draw = refl }
+    ▸ record { sides = λ is. refl; answer = refl; missed = refl; draw = refl }
+    ▸ record { sides = λ is. refl; answer = refl; missed = refl; draw = refl }
+    ▸ record { sides = λ is. refl; answer = refl; missed = refl; draw = refl }
     ▸ tt
 
 follows : Follows plan_open_script journal_open_script

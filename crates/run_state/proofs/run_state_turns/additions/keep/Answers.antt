@@ -9,7 +9,8 @@ use Rattle.run_state.proofs.ActorStates.{renames_is}
 use Rattle.std.specs.List.{list_any}
 use Rattle.tool_program.specs.JournalWords.Histories.{entry_adds, is_alter}
 use Rattle.tool_state.specs.ToolState.Meanings.{tool_of}
-use Rattle.tool_state.specs.ToolState.Sound.{IsSound}
+use Rattle.tool_state.specs.declared.tool_state.tool.Tool.{Tool}
+use Rattle.tool_state.specs.ToolState.Sound.{IsSound, TriesGrow}
 use Rattle.run_state.specs.declared.run_state.RunState.{RunState}
 use Rattle.run_state.proofs.run_state_turns.additions.keep.Goals as goal
 
@@ -36,3 +37,6 @@ returns-clause-run_state c =
       busy = search rules;
       altered = let facts : c.is_alter_turn-alters.result ≡ list_any is_alter (entry_adds c.args.run_state.now.plan.now c.args.run_state.now.journal.items c.args.entry.now) = c.is_alter_turn-alters.ensures c.args.run_state.now.plan.now c.args.run_state.now.journal.items (search rules) (search (rules, renames_is)) in search rules;
     })
+
+pub returns-clause-tries : goal.returns-clause-tries
+returns-clause-tries c = subst (λ (tool : Tool). TriesGrow c.args.run_state.now.tool tool) (sym (ap (λ (run_state : RunState). run_state.tool) c.clients_took.ensures.rest)) c.took.ensures.tries

@@ -9,4 +9,4 @@ pub invariant_of-result : goal.invariant_of-result
 invariant_of-result g c =
     subst (λ (plan : PlanData). IsRun plan c.in_ok-open.field-0.journal.items c.in_ok-open.field-0 0 (g.V.Serve.state c.args.server)) (sym c.in_ok-open.ensures.plan)
     (subst (λ (journal : List Entry). IsRun c.args.plan.now journal c.in_ok-open.field-0 0 (g.V.Serve.state c.args.server)) (sym c.in_ok-open.ensures.journal)
-    (run_begin c.args.plan.now c.in_ok-open.field-0 (g.V.Serve.state c.args.server) c.requires.runs c.requires.server c.in_ok-open.ensures.run_state))
+    (run_begin c.args.plan.now c.in_ok-open.field-0 (g.V.Serve.state c.args.server) c.requires.runs c.requires.server c.in_ok-open.ensures.run_state c.in_ok-open.ensures.room))

@@ -4,4 +4,7 @@ use Rattle.server.proofs.server.ServerServe.connect.Goals as goal
 
 pub invariant_of-self : goal.invariant_of-self
 invariant_of-self g c =
-    connected_together c.connect.result (g.D.Data.committed c.self.inside.store) (g.D.Data.written c.self.inside.store) c.self.inside.all_sessions c.connect.new.self (c.self.inside.all_sessions.made + 1) c.args.is_tool c.self.invariant c.connect.ensures.ok c.connect.ensures.err
+    record {
+      together = connected_together c.connect.result (g.D.Data.committed c.self.inside.store) (g.D.Data.written c.self.inside.store) c.self.inside.all_sessions c.connect.new.self (c.self.inside.all_sessions.made + 1) c.args.is_tool c.self.invariant.together c.connect.ensures.ok c.connect.ensures.err;
+      blocked = rw c.forget.ensures tt;
+    }

@@ -1,4 +1,4 @@
-use Rattle.extra_event_codec.proofs.OneEncoding.{read_is_encodable}
+use Rattle.server_log.proofs.OneEncoding.{read_is_encodable}
 use Rattle.test_tables.proofs.store_calls.events.reencode.Goals as goal
 
 pub cost-cost-requires : goal.cost-cost-requires

@@ -2,7 +2,7 @@ use Rattle.std.proofs.Common.{◌+◌, ◌<◌, arith}
 use Rattle.server_model.specs.PlainServer.{limit_if}
 use Rattle.server_model.specs.States.{is_of_tool, session_of}
 use Rattle.server_sessions.proofs.LiveSessions.Polls.{polls_under}
-use Rattle.server_sessions.proofs.LiveSessions.Ready.{ready_counts, ready_forgets}
+use Rattle.server_sessions.proofs.LiveSessions.Ready.{ready_counts}
 use Rattle.server_sessions.proofs.live_sessions.all_sessions.Sessions.stay_blocked.Goals as goal
 
 pub overflow_add-waited : goal.overflow_add-waited
@@ -11,9 +11,6 @@ overflow_add-waited c =
     let polls = rw c.as_slice.ensures.value at c.polls_of-polls.ensures in
     let limit = rw (← c.self.view_is) at c.limit-limit.ensures in
     omega (arith, under, polls, limit, c.limit-limit.type_inv)
-
-pub invariant_of-self : goal.invariant_of-self
-invariant_of-self c = rw c.rest.ensures.sessions (ready_forgets c.self.inside.limits c.args.session c.self.inside.sessions.sessions c.self.inside.log.spare c.self.invariant)
 
 pub invariant_of-self-else-waited-limit : goal.invariant_of-self-else-waited-limit
 invariant_of-self-else-waited-limit c =

@@ -1,0 +1,69 @@
+"""A migration's answers one by one: the line of a trace that the server's answer makes of a turn, and what the program prints there."""
+import re
+
+END = ("done", "reverted ", "unfinished")
+# A REPLACE by an equal row counts 1 in the server, and 2 in the model.
+EQUAL_ROW = "answers of a REPLACE by an equal row, which counts 1 in the server"
+
+
+def answer_text(told):
+    """An answer of rehearsal.py as a trace has it: what the tool alone gets is `other`."""
+    if told[0] == "refused":
+        return f"error {told[1]}"
+    return f"ok {told[1]}" if told[0] == "ok" else "other"
+
+
+def loss_text(is_done, is_refused, is_over):
+    """Of a session that is lost after its call: what came of the call. `is_over` says that its wait was over in that turn."""
+    return "lost " + ("refused" if is_refused or not is_done and is_over else "done" if is_done else "waited")
+
+
+def lines_of(turns):
+    """The lines, each with the rows that a client read, sorted. A wait doesn't tell for whom: the server has no such number."""
+    lines, begun = [], set()
+    for number, turn in enumerate(turns, 1):
+        asked = "cut" if turn.note == "cut" else "word" if turn.actor == "op" else "rename" if turn.what == "rename" else "call"
+        if turn.wait and turn.note != "cut":
+            asked = "poll" if turn.wait in begun else asked
+            begun.add(turn.wait)
+        side = f"-{turn.side}" if turn.side else ""
+        rows = turn.reply[2:] if turn.reply and turn.answer.startswith("rows ") else ()
+        lines.append((f"{number} {turn.actor} {asked}{side} {turn.answer}", *sorted(rows)))
+    return lines
+
+
+def printed_lines(text):
+    """The same of what `trace` printed; none where it printed no trace."""
+    _, found, rest = text.rpartition("\n#journal\n")
+    if not found:
+        return None
+    lines, given = [], rest.split("\n")
+    while given and not given[0].startswith(END):
+        line = re.sub(r" waits \d+$", " waits", given.pop(0))
+        count = int(line.rpartition(" ")[2]) if re.search(r" rows \d+$", line) else 0
+        lines.append((line, *sorted(given[:count])))
+        del given[:count]
+    return lines
+
+
+def is_equal_row(turn, ours, theirs):
+    """Whether a REPLACE counts one row more in the model than in the server."""
+    mine, other = (re.fullmatch(r"(.* ok )(\d+)", it[0]) for it in (ours, theirs))
+    is_replace = turn.line.upper().startswith("REPLACE")
+    return bool(is_replace and mine and other and mine[1] == other[1] and int(mine[2]) == int(other[2]) + 1)
+
+
+def compared(turns, text):
+    """How many turns have the same answer, how many are a REPLACE by an equal row, and the first that has another one, in words."""
+    ours, theirs = printed_lines(text), lines_of(turns)
+    same = equal = 0
+    for at, (mine, other) in enumerate(zip(ours, theirs)):
+        if mine == other:
+            same += 1
+        elif is_equal_row(turns[at], mine, other):
+            equal += 1
+        else:
+            return same, equal, f"turn {at + 1}, {turns[at].line}: the program {mine}, the server {other}"
+    if len(ours) != len(theirs):
+        return same, equal, f"the program has {len(ours)} turns, and the server {len(theirs)}"
+    return same, equal, None

@@ -1,4 +1,0 @@
-pub mod Laws
-pub mod Decodings
-pub mod Encodings
-pub mod TxnCosts

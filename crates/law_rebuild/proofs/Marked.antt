@@ -1,0 +1,264 @@
+-- Right after the RENAME the table under the migrated one's name is the rebuilt one.
+use Rattle.std.proofs.Common.{◌≡◌, ℕ, Bool, true, false, cond, not, length, List, [], ◌∷◌, ◌++◌, Option, Some, None, Result, Ok, Err, refl, sym, ap, ◌∙◌, subst}
+use Rattle.std.specs.List.{AllByRecursion}
+use Rattle.std.specs.Option.{option_map}
+use Rattle.std.specs.Result.{result_ok}
+use Rattle.base_script.specs.declared.actor.Actor.TheVariants.{Ren}
+use Rattle.base_script.specs.declared.actor.Side.{Side}
+use Rattle.base_script.specs.declared.actor.Side.TheVariants.{Before, After}
+use Rattle.base_values.specs.declared.event.Change.{Change}
+use Rattle.base_values.specs.declared.event.RowEvent.{RowEvent}
+use Rattle.base_values.specs.declared.gho_schema.schema.Schema.{Schema}
+use Rattle.base_values.specs.GhoSchema.Rows.{key_places}
+use Rattle.base_values.specs.RowConversion.ConvertedRows.{converted_rows}
+use Rattle.base_values.specs.SchemaRules.Valid.{IsValid}
+use Rattle.base_values.specs.ToolNames.{ghost_name, old_name}
+use Rattle.base_values.proofs.SchemaRules.Steps.{some_is}
+use Rattle.table_store.specs.ClusteredKeys.{HasClusteredKey}
+use Rattle.table_store.specs.Databases.{Database, TableRows, find_table, has_table, is_named, name_table, rename_tables, with_name}
+use Rattle.table_store.specs.declared.renames.NotRenamed.TheVariants as reasons
+use Rattle.server_model.specs.declared.entry.Asked.TheVariants.{Call, Poll, Cut}
+use Rattle.server_model.specs.declared.entry.Entry.{Entry}
+use Rattle.server_model.specs.declared.session.Waiting.{Waiting}
+use Rattle.server_model.specs.Entries.{is_client, is_command}
+use Rattle.server_model.specs.LockedRows.Coverage.{IsWellFormedTable}
+use Rattle.server_model.specs.PlainServer.{leaves, serves}
+use Rattle.server_model.specs.Rows.{change_all}
+use Rattle.server_model.specs.States.{State, waiting_of}
+use Rattle.server_model.proofs.LockedRows.Tests.{turned_bytes}
+use Rattle.plan_data.specs.PlanData.{Altered, PlanData, altered_by, altered_in, plan_altered}
+use Rattle.plan_data.specs.declared.plan.AlteredSchema.{AlteredSchema}
+use Rattle.sql_change.specs.AlteredSchema.{altered}
+use Rattle.tool_program.specs.CutoverCore.Attempts.{exchange}
+use Rattle.tool_program.specs.JournalWords.Journals.{opening, opens, state_at}
+use Rattle.tool_program.proofs.OnlineCalls.Naming.{not_ghost}
+use Rattle.proof_schemas.proofs.Alters.TableNames.{keep_names}
+use Rattle.proof_journals.specs.Ghost.Copies.{IsAltered}
+use Rattle.proof_journals.specs.Ghost.Rows.Moments.{rows_at}
+use Rattle.proof_journals.specs.Machine.Runnable.{IsRunnable}
+use Rattle.proof_journals.specs.Machine.Standings.{IsAbout, is_called, is_polled, standing_of}
+use Rattle.proof_journals.specs.Plans.{IsSerialPlan}
+use Rattle.proof_journals.specs.Run.Kept.{IsKept}
+use Rattle.proof_journals.specs.Turns.{about, request_of}
+use Rattle.proof_journals.proofs.Journals.{opened_waits, state_more}
+use Rattle.proof_journals.proofs.Machine.Journals.{IsRun, IsTogether}
+use Rattle.proof_journals.proofs.Machine.Marks.{ghost_not_old}
+use Rattle.proof_journals.proofs.Machine.Seated.{IsServed, own_waiting}
+use Rattle.proof_journals.proofs.Moves.{renamed_new, renamed_other}
+use Rattle.proof_journals.proofs.Sentry.Serving.{exchanged}
+use Rattle.proof_migration.specs.CutOver.{IsRename}
+use Rattle.proof_migration.specs.Migration.Planning.{migration_of}
+use Rattle.proof_migration.specs.ToolPhase.Runnable.{IsAlterable}
+use Rattle.proof_migration.proofs.CutOver.Renames.{Found, renames_found}
+use Rattle.proof_migration.proofs.Once.Past.{ren_asks, reported_renamed}
+use Rattle.proof_migration.proofs.Once.Renames.{Renaming, exchanges, renaming}
+use Rattle.proof_migration.proofs.Program.LockerTurns.Quiet.{Quiet, quiet_served}
+use Rattle.proof_migration.proofs.Program.Turns.Follows.{kept_front, kept_run}
+use Rattle.proof_migration.proofs.ToolPhase.Runnable.Plans.{named}
+use Rattle.proof_migration.proofs.ToolPhase.Unaltered.Away.{IsKnownAsked, all_asked}
+use Rattle.proof_plans.specs.Laws.{AcceptedRenamesFindTheAltered}
+use Rattle.proof_plans.specs.ReadPlans.Laws.{ReadPlansAreAlterable, ReadPlansAreRunnable, ReadPlansAreSerial, WasRead}
+use Rattle.proof_plans.proofs.Tables.Old.{RenameLaws}
+use Rattle.law_rebuild.specs.Laws.{AcceptedMarksAreRebuilt, IsRebuiltOf}
+use Rattle.law_rebuild.specs.Marks.{changes_logged}
+use Rattle.law_rebuild.proofs.Growing.{lost_log, opened_log}
+use Rattle.law_rebuild.proofs.Leading.{Leads, log_leads}
+use Rattle.law_rebuild.proofs.Standing.{StandsSoFar, stands_so_far}
+use Rattle.law_rebuild.proofs.Together.{logs_go_together}
+
+-- the laws that this stands on
+pub record MarkLaws : Type 0 where
+  pub rename : RenameLaws
+  pub altered : AcceptedRenamesFindTheAltered
+  pub runnable : ReadPlansAreRunnable
+  pub serial : ReadPlansAreSerial
+  pub alterable : ReadPlansAreAlterable
+
+-- THE RENAME
+
+-- the new table has the migrated one's name after it
+exchange_brings : (t : List ℕ) (tables after : Database) (new : TableRows) → rename_tables (exchanged t) tables ≡ Ok after → find_table (ghost_name t) tables ≡ Some new → find_table t after ≡ Some (name_table t new)
+unfolding rename_tables
+exchange_brings t tables after new is found = by (has_table (old_name t) tables) (has_table t tables) (has_table t moved) (has_table (ghost_name t) moved) refl is where
+  moved : Database
+  moved = with_name t (old_name t) tables
+
+  by : (a b c d : Bool) → has_table t moved ≡ c → cond a (Err reasons.Exists) (cond b (cond c (Err reasons.Exists) (cond d (Ok (with_name (ghost_name t) t moved)) (Err reasons.Missing))) (Err reasons.Missing)) ≡ Ok after → find_table t after ≡ Some (name_table t new)
+  by true b c d none is = absurd cc
+  by false false c d none is = absurd cc
+  by false true true d none is = absurd cc
+  by false true false false none is = absurd cc
+  by false true false true none is =
+      let same : with_name (ghost_name t) t moved ≡ after = cc in
+      ap (find_table t) (sym same) ∙ renamed_new (ghost_name t) t moved none ∙ ap (option_map (name_table t)) (renamed_other t (old_name t) (ghost_name t) tables (turned_bytes t (ghost_name t) (not_ghost t)) (ghost_not_old t) ∙ found)
+
+module _ (laws : RenameLaws) (plan : PlanData) (runs : IsRunnable plan) (serial : IsSerialPlan plan) (journal : List Entry) (entry : Entry) (rename : IsRename plan journal entry) where
+  abbrev now : State
+  now = state_at plan journal
+
+  abbrev then : State
+  then = state_at plan (journal ++ entry ∷ [])
+
+  before : IsKept plan journal
+  before = kept_front plan journal (entry ∷ []) rename.kept
+
+  known : IsKnownAsked plan journal
+  known = all_asked plan journal runs before.faithful before.follows
+
+  run : IsRun plan journal entry
+  run = kept_run plan journal entry rename.kept
+
+  together : IsTogether plan journal
+  together = known.marking.tabled.all.tool
+
+  served : IsServed plan journal entry
+  served = record { answered = run.answered; seated = record { session = run.followed.session } }
+
+  finds : Found plan journal entry
+  finds = renames_found laws.alone laws.done laws.reported laws.turned plan journal entry runs serial rename
+
+  renaming_here : Renaming laws.done plan journal entry runs serial rename.kept rename.unaltered rename.alters
+  renaming_here = renaming laws.done plan journal entry runs serial rename.kept rename.unaltered rename.alters
+
+  renamer : entry.actor ≡ Ren
+  renamer = (exchanges laws.done plan journal entry runs serial rename.kept rename.unaltered rename.alters).0
+
+  is_about : IsAbout (exchange plan.table) (standing_of plan journal entry.actor) entry.asked
+  is_about = ren_asks laws.done plan journal entry serial runs known run finds.work finds.tool_phase finds.asks renamer
+
+  renamed : rename_tables (exchanged plan.table) now.tables ≡ Ok then.tables
+  renamed = reported_renamed laws.done plan journal entry serial runs known run finds.work finds.tool_phase is_about renaming_here.count renaming_here.is_reported
+
+  -- THE LOG
+
+  about_open : about (opens entry now) entry.session entry.asked ≡ Some (exchange plan.table)
+  about_open = by is_about where
+    by : IsAbout (exchange plan.table) (standing_of plan journal entry.actor) entry.asked → about (opens entry now) entry.session entry.asked ≡ Some (exchange plan.table)
+    by (is_called asks none) = ap (about (opens entry now) entry.session) asks
+    by (is_polled asks some) =
+        ap (about (opens entry now) entry.session) asks ∙ ap (λ (w : List Waiting). request_of (waiting_of entry.session w)) (opened_waits (is_command entry.asked) (not (is_client entry.actor)) entry.session now)
+        ∙ own_waiting plan journal entry together.known served (ap is_command asks) ∙ some
+
+  uncut : entry.asked ≡ Cut → ⊥
+  uncut cut = by is_about where
+    no_call : Call (exchange plan.table) ≡ Cut → ⊥
+    no_call same = cc
+
+    no_poll : Poll ≡ Cut → ⊥
+    no_poll same = cc
+
+    by : IsAbout (exchange plan.table) (standing_of plan journal entry.actor) entry.asked → ⊥
+    by (is_called asks none) = no_call (sym asks ∙ cut)
+    by (is_polled asks some) = no_poll (sym asks ∙ cut)
+
+  quiet : Quiet (exchange plan.table) (opens entry now) entry.session (serves (opens entry now) entry.session entry.asked)
+  quiet = quiet_served (opens entry now) entry.session entry.asked (exchange plan.table) about_open uncut refl
+
+  -- the RENAME logs nothing
+  pub log_stays : then.log ≡ now.log
+  log_stays = ap (λ (s : State). s.log) (state_more (opening plan) journal entry) ∙ by entry.side ∙ opened_log now entry where
+    by : (side : Option Side) → (leaves side (opens entry now) entry.session entry.asked).log ≡ (opens entry now).log
+    by None = quiet.log
+    by (Some Before) = lost_log entry.session (opens entry now)
+    by (Some After) = lost_log entry.session (serves (opens entry now) entry.session entry.asked).after ∙ quiet.log
+
+  pub brings : (new : TableRows) → find_table (ghost_name plan.table) now.tables ≡ Some new → find_table plan.table then.tables ≡ Some (name_table plan.table new)
+  brings new found = exchange_brings plan.table now.tables then.tables new renamed found
+
+-- AN ACCEPTED PLAN
+
+found_one : (P : TableRows → Type 0) (name : List ℕ) (tables : Database) (table : TableRows) → AllByRecursion P tables → find_table name tables ≡ Some table → P table
+found_one P name [] table all found = absurd cc
+found_one P name (first ∷ tables) table all found = by (is_named name first) found (found_one P name tables table all.1) where
+  by : (b : Bool) → cond b (Some first) (find_table name tables) ≡ Some table → (find_table name tables ≡ Some table → P table) → P table
+  by true is later = subst P (some_is first table is) all.0
+  by false is later = later is
+
+was_ok : {A E : Type 0} (r : Result A E) (x : A) → result_ok r ≡ Some x → r ≡ Ok x
+was_ok (Ok one) x is = ap Ok (some_is one x is)
+was_ok (Err reason) x is = absurd cc
+
+by_found : (plan : PlanData) (table : TableRows) (new : Altered) → find_table plan.table plan.tables ≡ Some table → plan_altered plan ≡ Some new → altered_by plan table.schema ≡ Some new
+unfolding plan_altered
+by_found plan table new found is = ap (altered_in plan) (sym found) ∙ is
+
+module _ (laws : MarkLaws) (plan : PlanData) (table : TableRows) (new : AlteredSchema) (journal : List Entry) (entry : Entry) (was : WasRead plan) (found : find_table plan.table plan.tables ≡ Some table) (alters : plan_altered plan ≡ Some (new.schema, new.map)) (rename : IsRename plan journal entry) where
+  abbrev before_it : State
+  before_it = state_at plan journal
+
+  abbrev after_it : State
+  after_it = state_at plan (journal ++ entry ∷ [])
+
+  abbrev changes : List Change
+  changes = changes_logged plan.table after_it.log
+
+  -- what is made under the new table's name
+  abbrev made_schema : Schema
+  made_schema = record (new.schema) { name = ghost_name table.schema.name }
+
+  runs_it : IsRunnable plan
+  runs_it = laws.runnable plan was
+
+  serial_it : IsSerialPlan plan
+  serial_it = laws.serial was.bytes plan was.is
+
+  is : IsAlterable plan
+  is = laws.alterable was.bytes plan was.is
+
+  same : is.table ≡ table
+  same = some_is is.table table (sym is.found ∙ found)
+
+  own_name : table.schema.name ≡ plan.table
+  own_name = ap (λ (t : TableRows). t.schema.name) (sym same) ∙ named plan is
+
+  well_formed : IsWellFormedTable table
+  well_formed = found_one IsWellFormedTable plan.table plan.tables table serial_it.tables found
+
+  valid : IsValid table.schema
+  valid = subst (λ (t : TableRows). IsValid t.schema) same is.valid
+
+  by_schema : altered_by plan table.schema ≡ Some (new.schema, new.map)
+  by_schema = by_found plan table (new.schema, new.map) found alters
+
+  taken : altered plan.options.approve_renamed_columns table.schema plan.alter ≡ Ok (new.schema, new.map)
+  taken = was_ok (altered plan.options.approve_renamed_columns table.schema plan.alter) (new.schema, new.map) by_schema
+
+  new_name : new.schema.name ≡ plan.table
+  new_name = keep_names plan.options.approve_renamed_columns table.schema plan.alter (new.schema, new.map) taken ∙ own_name
+
+  so_far : StandsSoFar plan table journal
+  so_far = stands_so_far plan table runs_it serial_it found journal (kept_front plan journal (entry ∷ []) rename.kept) rename.unaltered
+
+  altered_here : IsAltered (migration_of table.schema (new.schema, new.map)) before_it.tables
+  altered_here = laws.altered plan table (new.schema, new.map) journal entry was found by_schema rename
+
+  log_is : after_it.log ≡ before_it.log
+  log_is = log_stays laws.rename plan runs_it serial_it journal entry rename
+
+  leads : Leads plan.table table.schema table.rows after_it.log
+  leads = subst (Leads plan.table table.schema table.rows) (sym log_is) (log_leads plan.table table.schema well_formed.keyed before_it.log table.rows well_formed.is_table so_far.stood.log_fits)
+
+  -- the rows that the log leads to are those that the RENAME finds
+  rows_are : change_all (key_places table.schema) changes table.rows ≡ altered_here.rows
+  rows_are =
+      leads.leads ∙ ap (λ (l : List RowEvent). rows_at plan.table (key_places table.schema) table.rows l (length l)) log_is
+      ∙ ap (λ (t : TableRows). t.rows)
+      (some_is (record { schema = table.schema; rows = rows_at plan.table (key_places table.schema) table.rows before_it.log (length before_it.log) }) (record { schema = table.schema; rows = altered_here.rows })
+      (sym so_far.stood.found ∙ ap (λ (n : List ℕ). find_table n before_it.tables) (sym own_name) ∙ altered_here.old))
+
+  new_found : find_table (ghost_name plan.table) before_it.tables ≡ Some (record { schema = made_schema; rows = altered_here.made })
+  new_found = ap (λ (n : List ℕ). find_table (ghost_name n) before_it.tables) (sym own_name) ∙ altered_here.new
+
+  rebuilt : IsRebuiltOf table new changes (find_table plan.table after_it.tables)
+  rebuilt = record {
+    together = logs_go_together plan.options.approve_renamed_columns table.schema plan.alter new table.rows changes valid well_formed.keyed taken well_formed.is_table leads.fits;
+    made = altered_here.made;
+    converted = ap (converted_rows new.map) rows_are ∙ altered_here.altered;
+    stands =
+        brings laws.rename plan runs_it serial_it journal entry rename (record { schema = made_schema; rows = altered_here.made }) new_found
+        ∙ ap (λ (n : List ℕ). Some (record { schema = record (new.schema) { name = n }; rows = altered_here.made })) (sym new_name);
+  }
+
+-- *Marks are rebuilt*
+pub marks_rebuilt : MarkLaws → AcceptedMarksAreRebuilt
+marks_rebuilt laws plan table new journal entry was found alters rename = rebuilt laws plan table new journal entry was found alters rename

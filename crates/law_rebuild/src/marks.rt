@@ -1,0 +1,23 @@
+//! The table right after the RENAME. The function's contract is the law.
+
+ghost use Rattle.law_rebuild.specs.Laws.{AcceptedMarksAreRebuilt};
+
+use law_journals::cut_over::journals_are_turned;
+use law_journals::plans::{read_plans_are_runnable, read_plans_are_serial};
+use law_journals::runs::accepted_runs_are_serial;
+use law_journals::server_turns::{definitions_are_done, exclusive_is_alone};
+use law_journals::sessions::waits_are_reported;
+
+/// In each run of an accepted plan, right after the RENAME the table under the migrated one's name is what its opening rows and the
+/// log make, altered.
+pub fn accepted_marks_are_rebuilt()
+    ensures { AcceptedMarksAreRebuilt }
+{
+    exclusive_is_alone();
+    definitions_are_done();
+    waits_are_reported();
+    journals_are_turned();
+    accepted_runs_are_serial();
+    read_plans_are_runnable();
+    read_plans_are_serial();
+}

@@ -1,0 +1,9 @@
+pub mod BadTurns
+pub mod CountedTries
+pub mod FailedTries
+pub mod LastTurns
+pub mod Places
+pub mod Positions
+pub mod Ranks
+pub mod RisingTurns
+pub mod SpentTasks

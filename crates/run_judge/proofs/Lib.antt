@@ -1,0 +1,5 @@
+pub mod AloneSessions
+pub mod ComparedReplies
+pub mod LeastTurns
+pub mod LineOutcomes
+pub mod Marks

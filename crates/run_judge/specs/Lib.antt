@@ -1,0 +1,4 @@
+pub mod ActorMarks
+pub mod AloneSessions
+pub mod Outcomes
+pub mod Replies

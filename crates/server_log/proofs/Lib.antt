@@ -1,0 +1,13 @@
+pub mod Lists
+pub mod OneEncoding
+pub mod ReadBack
+pub mod ReadValues
+pub mod Sizes
+pub mod Encodings
+pub mod Texts
+pub mod EventCosts
+pub mod Pieces
+pub mod Segments
+pub mod KeptEvents
+pub mod WatchedCounts
+pub mod ReadEvents

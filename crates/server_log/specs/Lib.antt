@@ -1,0 +1,5 @@
+pub mod Laws
+pub mod Decodings
+pub mod Encodings
+pub mod EventCosts
+pub mod Logs

@@ -1,0 +1,94 @@
+"""Tests of how `compare/run --migrations` holds a server's answers against a trace: without a server, and without the program."""
+import importlib.util
+import pathlib
+import types
+import unittest
+
+TOP = pathlib.Path(__file__).resolve().parent.parent.parent
+# (by its file: other modules of compare have names that tools has too)
+SPEC = importlib.util.spec_from_file_location("compare_answers", TOP / "compare/answers.py")
+ANSWERS = importlib.util.module_from_spec(SPEC)
+SPEC.loader.exec_module(ANSWERS)
+
+TRACE = """version = 1
+
+#journal
+1 op word ok 0
+2 insp call other
+3 c1 call rows 2
+(2)
+(1)
+4 copy call-before lost
+5 apply call ok 2
+6 ren rename waits 4
+7 ren poll waits 4
+8 lock cut lost
+9 ren poll timeout 2
+10 c2 call-after lost waited
+done
+table t (id)
+(1)
+tables t
+"""
+
+
+def turn(actor, answer, **named):
+    return types.SimpleNamespace(**{"actor": actor, "answer": answer, "note": "", "side": "", "wait": 0, "reply": None, "line": "", "what": "", **named})
+
+
+def turns():
+    """The turns of that trace, as a server's answers make them."""
+    return [
+        turn("op", "ok 0"),
+        turn("insp", "other", what="show tables"),
+        turn("c1", "rows 2", reply=("c1", "1.1 rows 2", "(1)", "(2)")),
+        turn("copy", "lost", side="before"),
+        turn("apply", "ok 2", line="REPLACE INTO `_t_gho` (`id`) VALUES (1)"),
+        turn("ren", "waits", what="rename", wait=1, note="waits"),
+        turn("ren", "waits", what="rename", wait=1, note="waits"),
+        turn("lock", "lost", note="cut"),
+        turn("ren", "timeout 2", what="rename", wait=1),
+        turn("c2", "lost waited", side="after"),
+    ]
+
+
+class Answers(unittest.TestCase):
+    def test_lines(self):
+        self.assertEqual(ANSWERS.lines_of(turns()), ANSWERS.printed_lines(TRACE))
+        self.assertEqual(ANSWERS.compared(turns(), TRACE), (10, 0, None))
+
+    def test_no_trace(self):
+        self.assertIsNone(ANSWERS.printed_lines("usage: check | replay\n"))
+
+    def test_traces_of_the_tools(self):
+        """A line for each turn of every trace."""
+        for file in TOP.glob("tools/tests/traces/*.trace"):
+            lines = ANSWERS.printed_lines(file.read_text())
+            self.assertEqual([int(line[0].split()[0]) for line in lines], list(range(1, len(lines) + 1)), file)
+
+    def test_other_answers(self):
+        for at, change, told in (
+            (1, {"answer": "ok 0"}, "turn 2"),
+            (2, {"reply": ("c1", "1.1 rows 2", "(1)", "(3)")}, "turn 3"),
+            (5, {"what": "drop"}, "turn 6"),
+            (6, {"wait": 2}, "turn 7"),
+            (8, {"answer": "ok 0"}, "turn 9"),
+        ):
+            wrong = turns()
+            wrong[at].__dict__.update(change)
+            with self.subTest(told):
+                self.assertTrue(ANSWERS.compared(wrong, TRACE)[2].startswith(told + ","))
+        self.assertEqual(ANSWERS.compared(turns()[:-1], TRACE)[2], "the program has 10 turns, and the server 9")
+
+    def test_equal_row(self):
+        wrong = turns()
+        wrong[4].answer = "ok 1"
+        self.assertEqual(ANSWERS.compared(wrong, TRACE), (9, 1, None))
+        wrong[4].line = "INSERT INTO `_t_gho` (`id`) VALUES (1)"
+        self.assertTrue(ANSWERS.compared(wrong, TRACE)[2].startswith("turn 5, INSERT"))
+
+    def test_words(self):
+        for told, text in ((("ok", 3), "ok 3"), (("refused", 1406, "c"), "error 1406"), (("waits", True), "other"), (("at", 7), "other")):
+            self.assertEqual(ANSWERS.answer_text(told), text)
+        for case, text in (((True, False, False), "done"), ((True, True, False), "refused"), ((False, False, False), "waited"), ((False, False, True), "refused")):
+            self.assertEqual(ANSWERS.loss_text(*case), f"lost {text}")
