@@ -7,7 +7,7 @@ ghost use Rattle.law_rebuild.specs.Laws.{AlteredLogsGoTogether};
 
 mod marks;
 
-pub use marks::accepted_marks_are_rebuilt;
+pub use marks::{accepted_marks_are_rebuilt, logs_grow};
 
 /// The events of a table that was altered go together with its opening rows, where they lead through valid tables.
 pub fn altered_logs_go_together()
