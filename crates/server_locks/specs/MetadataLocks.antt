@@ -2,4 +2,5 @@ pub mod Grants
 pub mod LockTable
 pub mod Laws
 pub mod Requests
+pub mod SameNames
 pub mod WaitQueue

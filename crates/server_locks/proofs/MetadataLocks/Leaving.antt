@@ -8,7 +8,7 @@ use Rattle.std.proofs.lemmas.List.Folds.{list_any-append}
 use Rattle.std.proofs.lemmas.Bool.Decides.{nat_tests}
 use Rattle.server_locks.specs.declared.metadata_locks.request.Request.{Request}
 use Rattle.server_locks.specs.MetadataLocks.Grants.{HeldName}
-use Rattle.server_locks.specs.MetadataLocks.LockTable.{held_by}
+use Rattle.server_locks.specs.MetadataLocks.LockTable.{held_by, is_own}
 use Rattle.server_locks.specs.MetadataLocks.Requests.{locks_of, all_locks}
 
 full : (n : ℕ) → not (nat_eq (suc n) 0) ≡ true
@@ -35,27 +35,36 @@ pub ruleset of_request = (list_any-request)
 
 pub ruleset of_all = (any-append, drop_more, drop_all)
 
-names_left : (s : ℕ) (held_so : Bool) (names : List (List ℕ)) (session : ℕ) → filter (λ (held : HeldName). not (nat_eq held.session session)) (map (held_by s held_so) names) ≡ cond (not (nat_eq s session)) (map (held_by s held_so) names) []
-names_left s held_so [] session = nothing (not (nat_eq s session)) []
+-- what a session and a way of holding leaves
+names_left : (leaves : ℕ → Bool → Bool) (s : ℕ) (held_so : Bool) (names : List (List ℕ)) → filter (λ (held : HeldName). leaves held.session held.exclusive) (map (held_by s held_so) names) ≡ cond (leaves s held_so) (map (held_by s held_so) names) []
+names_left leaves s held_so [] = nothing (leaves s held_so) []
   where
     nothing : (b : Bool) (none : List HeldName) → none ≡ cond b none none
     nothing true none = refl
     nothing false none = refl
-names_left s held_so (name ∷ names) session =
-    ap (λ rest. cond (not (nat_eq s session)) (held_by s held_so name ∷ rest) rest) (names_left s held_so names session) ∙ once (not (nat_eq s session))
+names_left leaves s held_so (name ∷ names) =
+    ap (λ rest. cond (leaves s held_so) (held_by s held_so name ∷ rest) rest) (names_left leaves s held_so names) ∙ once (leaves s held_so)
   where
     once : (b : Bool) → cond b (held_by s held_so name ∷ cond b (map (held_by s held_so) names) []) (cond b (map (held_by s held_so) names) []) ≡ cond b (held_by s held_so name ∷ map (held_by s held_so) names) []
     once true = refl
     once false = refl
 
-pub locks_left : (granted : List Request) (session : ℕ) → all_locks (filter (λ (request : Request). not (nat_eq request.session session)) granted) ≡ filter (λ (held : HeldName). not (nat_eq held.session session)) (all_locks granted)
-locks_left [] session = refl
-locks_left (request ∷ granted) session =
-    parted (not (nat_eq request.session session))
-    ∙ ap (λ rest. cond (not (nat_eq request.session session)) (locks_of request) [] ++ rest) (locks_left granted session)
-    ∙ ap (λ own. own ++ filter (λ (held : HeldName). not (nat_eq held.session session)) (all_locks granted)) (sym (names_left request.session request.exclusive request.names session))
-    ∙ sym (filter-append (λ (held : HeldName). not (nat_eq held.session session)) (locks_of request) (all_locks granted))
+pub requests_left : (leaves : ℕ → Bool → Bool) (granted : List Request) → all_locks (filter (λ (request : Request). leaves request.session request.exclusive) granted) ≡ filter (λ (held : HeldName). leaves held.session held.exclusive) (all_locks granted)
+requests_left leaves [] = refl
+requests_left leaves (request ∷ granted) =
+    parted (leaves request.session request.exclusive)
+    ∙ ap (λ rest. cond (leaves request.session request.exclusive) (locks_of request) [] ++ rest) (requests_left leaves granted)
+    ∙ ap (λ own. own ++ filter (λ (held : HeldName). leaves held.session held.exclusive) (all_locks granted)) (sym (names_left leaves request.session request.exclusive request.names))
+    ∙ sym (filter-append (λ (held : HeldName). leaves held.session held.exclusive) (locks_of request) (all_locks granted))
   where
-    parted : (b : Bool) → all_locks (cond b (request ∷ filter (λ (other : Request). not (nat_eq other.session session)) granted) (filter (λ (other : Request). not (nat_eq other.session session)) granted)) ≡ cond b (locks_of request) [] ++ all_locks (filter (λ (other : Request). not (nat_eq other.session session)) granted)
+    parted : (b : Bool) → all_locks (cond b (request ∷ filter (λ (other : Request). leaves other.session other.exclusive) granted) (filter (λ (other : Request). leaves other.session other.exclusive) granted)) ≡ cond b (locks_of request) [] ++ all_locks (filter (λ (other : Request). leaves other.session other.exclusive) granted)
     parted true = refl
     parted false = refl
+
+pub locks_left : (granted : List Request) (session : ℕ) → all_locks (filter (λ (request : Request). not (nat_eq request.session session)) granted) ≡ filter (λ (held : HeldName). not (nat_eq held.session session)) (all_locks granted)
+locks_left granted session = requests_left (λ s held_so. not (nat_eq s session)) granted
+
+-- ... of those that the session holds exclusively, or else shared
+pub own_left : (granted : List Request) (session : ℕ) (exclusive : Bool)
+    → all_locks (filter (λ (request : Request). not (nat_eq request.session session && cond exclusive request.exclusive (not request.exclusive))) granted) ≡ filter (λ (held : HeldName). not (is_own session exclusive held)) (all_locks granted)
+own_left granted session exclusive = requests_left (λ s held_so. not (nat_eq s session && cond exclusive held_so (not held_so))) granted

@@ -1,5 +1,6 @@
 -- The table of locks on names, and what each call leaves of it.
-use Rattle.std.specs.Prelude.{◌≡◌, ℕ, Bool, true, false, ◌&&◌, ◌||◌, not, ◌==◌, List, [], ◌∷◌, ◌++◌, map, filter, Option, Some, None, IsSomeAnd, is_some}
+use Rattle.std.specs.Prelude.{◌≡◌, ℕ, Bool, true, false, ◌&&◌, ◌||◌, not, ◌==◌, nat_eq, List, [], ◌∷◌, ◌++◌, map, filter, Option, Some, None, IsSomeAnd, is_some, if◌then◌else◌}
+use Rattle.std.specs.Cmp.Lexicographic.{pointwise}
 use Rattle.std.specs.List.{list_any}
 use Rattle.server_locks.specs.declared.metadata_locks.request.Waiter.{Waiter}
 use Rattle.server_locks.specs.MetadataLocks.Grants.{HeldName, QueuePlace, holds, place_of, blocker_of_names}
@@ -26,6 +27,16 @@ abbrev pub added : List HeldName → ℕ → Bool → List (List ℕ) → List H
 added held session true names = map (held_by session true) names
 added held session false names = map (held_by session false) (filter (λ name. not (holds held session name false)) names)
 
+-- The session has a shared lock on the name, whether or not it holds it exclusively too.
+unfoldable pub shares : List HeldName → ℕ → List ℕ → Bool
+shares held session name = list_any (λ other. other.session == session && (pointwise nat_eq other.name name && not other.exclusive)) held
+
+-- What is granted to who tested it. Shared: the names on which the session has no shared lock yet, those included that it holds
+-- exclusively, since it holds them shared once it let go of those. Exclusive: all its names.
+abbrev pub taken : List HeldName → ℕ → Bool → List (List ℕ) → List HeldName
+taken held session true names = map (held_by session true) names
+taken held session false names = map (held_by session false) (filter (λ name. not (shares held session name)) names)
+
 -- The table as it is, as the last ask or poll finds it.
 abbrev pub last_of : NameTable → ℕ → Bool → Option LastAsk
 last_of t session exclusive = Some (record { session = session; exclusive = exclusive; held = t.held; waiting = t.waiting })
@@ -33,6 +44,14 @@ last_of t session exclusive = Some (record { session = session; exclusive = excl
 -- After a request for exclusive locks was refused: it waits after all others.
 abbrev pub lined_up : NameTable → ℕ → List (List ℕ) → NameTable
 lined_up t session names = record { held = t.held; waiting = t.waiting ++ record { session = session; names = names } ∷ []; last = last_of t session true }
+
+-- After the locks were added.
+abbrev pub with_added : NameTable → ℕ → Bool → List HeldName → NameTable
+with_added t session exclusive more = record { held = t.held ++ more; waiting = t.waiting; last = last_of t session exclusive }
+
+-- After the session was granted the names for which it tested the table before.
+abbrev pub granted : NameTable → ℕ → Bool → List (List ℕ) → NameTable
+granted t session exclusive names = with_added t session exclusive (taken t.held session exclusive names)
 
 -- After an ask, where this session refuses, or none does: the locks are held, an exclusive request waits after all others, a
 -- shared one leaves no trace.
@@ -93,6 +112,18 @@ freed_if false t session = t
 -- After all that the session holds was taken away, and its request.
 abbrev pub freed : NameTable → ℕ → NameTable
 freed t session = freed_if (is_known t session) t session
+
+-- The lock is the session's, and is exclusive or shared as this says.
+abbrev pub is_own : ℕ → Bool → HeldName → Bool
+is_own session exclusive held = held.session == session && (if exclusive then held.exclusive else not held.exclusive)
+
+-- After all that the session holds exclusively was taken away, or all that it holds shared.
+abbrev pub let_go : NameTable → ℕ → Bool → NameTable
+let_go t session exclusive = record { held = filter (λ held. not (is_own session exclusive held)) t.held; waiting = t.waiting; last = None }
+
+-- After the session's requests that wait were taken away.
+abbrev pub waits_ended : NameTable → ℕ → NameTable
+waits_ended t session = record { held = t.held; waiting = filter (λ waiter. not (waiter.session == session)) t.waiting; last = None }
 
 -- The last change was the session's ask or poll.
 abbrev pub IsLastAskOf : ℕ → NameTable → Type 0

@@ -1,13 +1,13 @@
 //! What a granted request adds to what is held, and what a session that leaves takes away.
 
-ghost use Rattle.std.specs.Prelude.{◌≡◌, ◌==◌, ◌≤◌, not, false, filter, map, vec_len, vec_capacity, IfOk};
+ghost use Rattle.std.specs.Prelude.{◌≡◌, ◌==◌, ◌≤◌, ◌&&◌, if◌then◌else◌, not, false, filter, map, vec_len, vec_capacity, IfOk};
 ghost use Rattle.std.specs.List.{list_any};
 ghost use Rattle.server_locks.specs.MetadataLocks.Grants.{holds};
-ghost use Rattle.server_locks.specs.MetadataLocks.LockTable.{added, held_by};
+ghost use Rattle.server_locks.specs.MetadataLocks.LockTable.{added, taken, shares, held_by, is_own};
 ghost use Rattle.server_locks.specs.MetadataLocks.Requests.{locks_of, all_locks};
 
 use crate::metadata_locks::refusals::holds;
-use crate::metadata_locks::request::Request;
+use crate::metadata_locks::request::{Request, has_name};
 use base_values::{Duplicate, Name, Names, Sequence};
 use std::alloc::{AllocError, Global};
 
@@ -49,6 +49,21 @@ pub fn names_to_add(
 }
 
 impl Request {
+    /// Whether the session has a shared lock on the name by this request.
+    #[tactic(auto, using(crate::proofs::MetadataLocks::Shares::of_request))]
+    fn shares(&self, session: u32, name: &Name) -> bool
+        ensures { result ≡ shares (locks_of self.now) session name.now }
+    {
+        !self.exclusive && self.session == session && has_name(&self.names, name)
+    }
+
+    /// Whether the session holds its names by this request exclusively, or else shared, as is asked.
+    fn is_own(&self, session: u32, exclusive: bool) -> bool
+        ensures { result ≡ (self.now.session == session && (if exclusive then self.now.exclusive else not self.now.exclusive)) }
+    {
+        self.session == session && self.exclusive == exclusive
+    }
+
     /// Whether the session holds a name by this request.
     #[tactic(auto, using(crate::proofs::MetadataLocks::Leaving::of_request))]
     fn is_of(&self, session: u32) -> bool
@@ -56,6 +71,54 @@ impl Request {
     {
         self.session == session && !self.names.is_empty()
     }
+}
+
+/// Whether the session has a shared lock on the name.
+#[tactic(auto, using(crate::proofs::MetadataLocks::Shares::of_all))]
+fn shares(granted: &[Request], session: u32, name: &Name) -> bool
+    ensures { result ≡ shares (all_locks granted.now) session name.now }
+{
+    for request in granted {
+        if request.shares(session, name) {
+            return true;
+        }
+    }
+    false
+}
+
+/// Those of the names on which the session has no shared lock.
+fn unshared(
+    alloc: Global,
+    granted: &[Request],
+    session: u32,
+    names: &[Name],
+) -> Result<Names, AllocError>
+    ensures { IfOk result (λ unshared. unshared ≡ filter (λ name. not (shares (all_locks granted.now) session name)) names.now) }
+{
+    let mut unshared = Sequence::new(alloc);
+    for name in names {
+        if !shares(granted, session, name) {
+            unshared.push(name.copy()?)?;
+        }
+    }
+    Ok(unshared)
+}
+
+/// The names that are added for who tested them: all where they are held exclusively, else those without a shared lock.
+pub fn names_to_take(
+    alloc: Global,
+    granted: &[Request],
+    session: u32,
+    names: &Names,
+    exclusive: bool,
+) -> Result<Names, AllocError>
+    ensures { IfOk result (λ more. map (held_by session exclusive) more ≡ taken (all_locks granted.now) session exclusive names.now) }
+{
+    if exclusive {
+        return names.copy();
+    }
+    let unshared = unshared(alloc, granted, session, names.as_slice())?;
+    Ok(unshared)
 }
 
 /// Whether the session holds a name.
@@ -77,4 +140,12 @@ pub fn take_away(granted: &mut Vec<Request>, session: u32)
     ensures room { (vec_len granted.new ≤ vec_len granted.old) × (vec_capacity granted.new ≡ vec_capacity granted.old) }
 {
     granted.retain(|request| request.session != session);
+}
+
+/// Takes away what the session was granted exclusively, or else shared, as is asked.
+pub fn take_away_own(granted: &mut Vec<Request>, session: u32, exclusive: bool)
+    ensures rest { all_locks granted.new.items ≡ filter (λ held. not (is_own session exclusive held)) (all_locks granted.old.items) }
+    ensures room { (vec_len granted.new ≤ vec_len granted.old) × (vec_capacity granted.new ≡ vec_capacity granted.old) }
+{
+    granted.retain(|request| !request.is_own(session, exclusive));
 }

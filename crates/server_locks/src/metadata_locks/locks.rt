@@ -2,15 +2,17 @@
 
 ghost use Rattle.std.specs.Prelude.{◌≡◌, ℕ, ◌+◌, ◌-◌, ◌<◌, ◌≤◌, [], ◌++◌, map, take, drop, length, true, false, Some, None, IfOk, OnOk, OnErr, vec_len, vec_capacity};
 ghost use Rattle.server_locks.specs.declared.metadata_locks.request.Waiter.{Waiter};
-ghost use Rattle.server_locks.specs.MetadataLocks.Grants.{answer_by, holder_of};
-ghost use Rattle.server_locks.specs.MetadataLocks.LockTable.{IsLastAskOf, blocker_of, blocker_of_poll, asked, asked_by, lined_up, polled, polled_by, freed, undone, ended, waits, can_end};
+ghost use Rattle.server_locks.specs.MetadataLocks.Grants.{answer_by, blocker_of_name, blocker_of_names, holder_of};
+ghost use Rattle.server_locks.specs.MetadataLocks.LockTable.{IsLastAskOf, blocker_of, blocker_of_poll, asked, asked_by, granted, with_added, held_by, lined_up, polled, polled_by, freed, let_go, undone, ended, waits, waits_ended, can_end};
 ghost use Rattle.server_locks.specs.MetadataLocks.Requests.{as_waiter};
 ghost use Rattle.server_locks.specs.MetadataLocks.WaitQueue.{IsAt, round};
 
-use crate::metadata_locks::grants::{is_holding, names_to_add, take_away};
-use crate::metadata_locks::refusals::{blocker_of_names, holder_of};
+use crate::metadata_locks::grants::{
+    is_holding, names_to_add, names_to_take, take_away, take_away_own,
+};
+use crate::metadata_locks::refusals::{blocker_of_name, blocker_of_names, holder_of};
 use crate::metadata_locks::request::{LockAnswer, Request, Waiter};
-use crate::metadata_locks::waits::place_of;
+use crate::metadata_locks::waits::{end_waits, place_of};
 use base_values::{Duplicate, Name, Names};
 use std::alloc::{AllocError, Global};
 use std::marker::Model;
@@ -80,9 +82,22 @@ impl MetaLocks {
         }
     }
 
+    /// The least session that refuses the name.
+    pub fn name_blocker(&self, session: u32, name: &Name, exclusive: bool) -> Option<u32>
+        ensures { result ≡ blocker_of_name self.now.held self.now.waiting session name.now exclusive }
+    {
+        blocker_of_name(
+            self.granted.as_slice(),
+            self.waiting.as_slice(),
+            session,
+            name,
+            exclusive,
+        )
+    }
+
     /// The least session that refuses one of the names.
-    fn blocker(&self, session: u32, names: &Names, exclusive: bool) -> Option<u32>
-        ensures { result ≡ blocker_of self.now session exclusive names.now }
+    pub fn blocker(&self, session: u32, names: &Names, exclusive: bool) -> Option<u32>
+        ensures { result ≡ blocker_of_names self.now.held self.now.waiting session exclusive names.now }
     {
         blocker_of_names(
             self.granted.as_slice(),
@@ -108,12 +123,12 @@ impl MetaLocks {
     {
         match self.blocker(session, names, exclusive) {
             None => {
-                self.grant(session, names, exclusive)?;
+                self.grant_asked(session, names, exclusive)?;
                 Ok(LockAnswer::Granted)
             }
             Some(by) => {
                 if exclusive {
-                    self.line_up(session, names)?;
+                    self.line_up(session, names.copy()?)?;
                 }
                 Ok(LockAnswer::Waits { by })
             }
@@ -121,12 +136,36 @@ impl MetaLocks {
     }
 
     /// Grants what was asked for.
-    fn grant(&mut self, session: u32, names: &Names, exclusive: bool) -> Result<(), AllocError>
+    fn grant_asked(
+        &mut self,
+        session: u32,
+        names: &Names,
+        exclusive: bool,
+    ) -> Result<(), AllocError>
         ensures ok { OnOk result (self.new ≡ asked_by None self.old session exclusive names.now) }
         ensures err { OnErr result (self.new ≡ self.old) }
     {
         let alloc = *self.granted.allocator();
         let names = names_to_add(alloc, self.granted.as_slice(), session, names, exclusive)?;
+        self.add(session, names, exclusive)
+    }
+
+    /// Gives the session all the names, for who tested them. Shared locks are added also on names that it holds exclusively,
+    /// since they stay once those are free.
+    pub fn grant(&mut self, session: u32, names: &Names, exclusive: bool) -> Result<(), AllocError>
+        ensures ok { OnOk result (self.new ≡ granted self.old session exclusive names.now) }
+        ensures err { OnErr result (self.new ≡ self.old) }
+    {
+        let alloc = *self.granted.allocator();
+        let names = names_to_take(alloc, self.granted.as_slice(), session, names, exclusive)?;
+        self.add(session, names, exclusive)
+    }
+
+    /// The session holds these names too.
+    fn add(&mut self, session: u32, names: Names, exclusive: bool) -> Result<(), AllocError>
+        ensures ok { OnOk result (self.new ≡ with_added self.old session exclusive (map (held_by session exclusive) names)) }
+        ensures err { OnErr result (self.new ≡ self.old) }
+    {
         self.granted.reserve(self.waiting.len() + 1)?;
         let mark = Mark {
             session,
@@ -145,12 +184,11 @@ impl MetaLocks {
         Ok(())
     }
 
-    /// Lets the request for exclusive locks wait after all others.
-    fn line_up(&mut self, session: u32, names: &Names) -> Result<(), AllocError>
-        ensures ok { OnOk result (self.new ≡ lined_up self.old session names.now) }
+    /// Lets the request for exclusive locks wait after all others, for who tested it.
+    pub fn line_up(&mut self, session: u32, names: Names) -> Result<(), AllocError>
+        ensures ok { OnOk result (self.new ≡ lined_up self.old session names) }
         ensures err { OnErr result (self.new ≡ self.old) }
     {
-        let names = names.copy()?;
         self.granted.reserve(self.waiting.len() + 1)?;
         let mark = Mark {
             session,
@@ -224,6 +262,22 @@ impl MetaLocks {
             }
             self.last = None;
         }
+    }
+
+    /// Takes away all that the session holds exclusively, or else all that it holds shared, as is asked.
+    pub fn let_go(&mut self, session: u32, exclusive: bool)
+        ensures { self.new ≡ let_go self.old session exclusive }
+    {
+        take_away_own(&mut self.granted, session, exclusive);
+        self.last = None;
+    }
+
+    /// The session waits no more: its requests that wait are taken away.
+    pub fn end_waits(&mut self, session: u32)
+        ensures { self.new ≡ waits_ended self.old session }
+    {
+        end_waits(&mut self.waiting, session);
+        self.last = None;
     }
 
     /// Who holds the name exclusively.

@@ -111,7 +111,7 @@ fn blocker_of_exclusive(
 }
 
 /// The least session that refuses a lock on the name.
-fn blocker_of_name(
+pub fn blocker_of_name(
     granted: &[Request],
     waiting: &[Waiter],
     session: u32,

@@ -50,7 +50,8 @@ impl Request {
     pub fn is_on(&self, name: &Name, exclusive: bool) -> bool
         ensures { result ≡ (has_name self.now.names name.now && (self.now.exclusive || not exclusive)) }
     {
-        has_name(&self.names, name) && (self.exclusive || !exclusive)
+        // Names are compared last.
+        (self.exclusive || !exclusive) && has_name(&self.names, name)
     }
 
     /// The session, where it is another one and holds the name, exclusively where that is asked.

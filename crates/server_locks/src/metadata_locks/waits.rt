@@ -1,6 +1,6 @@
 //! The requests that wait, in the order in which they came.
 
-ghost use Rattle.std.specs.Prelude.{◌≡◌, MatchOption, None, is_some};
+ghost use Rattle.std.specs.Prelude.{◌≡◌, ◌==◌, ◌≤◌, not, filter, MatchOption, None, is_some, vec_len};
 ghost use Rattle.server_locks.specs.MetadataLocks.Grants.{place_of, ahead_of};
 ghost use Rattle.server_locks.specs.MetadataLocks.WaitQueue.{IsAt};
 
@@ -27,4 +27,12 @@ pub fn ahead_of(waiting: &[Waiter], session: u32) -> &[Waiter]
         Some(place) => &waiting[..place],
         None => waiting,
     }
+}
+
+/// Takes away the session's requests.
+pub fn end_waits(waiting: &mut Vec<Waiter>, session: u32)
+    ensures rest { waiting.new.items ≡ filter (λ waiter. not (waiter.session == session)) waiting.old.items }
+    ensures room { vec_len waiting.new ≤ vec_len waiting.old }
+{
+    waiting.retain(|waiter| waiter.session != session);
 }
