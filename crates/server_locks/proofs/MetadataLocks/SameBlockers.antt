@@ -1,11 +1,11 @@
 -- Two lists with the same locks on names refuse alike.
-use Rattle.std.proofs.Common.{◌≡◌, ◌⊎◌, inl, inr, ◌∙◌, ℕ, Bool, true, false, ◌||◌, cond, List, [], ◌∷◌, Option, None, refl, sym, ap}
+use Rattle.std.proofs.Common.{◌≡◌, inl, inr, ◌∙◌, ℕ, Bool, true, false, ◌||◌, cond, List, [], ◌∷◌, Option, None, refl, sym, ap}
 use Rattle.std.specs.List.{list_any}
 use Rattle.std.proofs.lemmas.Bool.{or_cases}
 use Rattle.server_locks.specs.LeastSession.Least.{least}
 use Rattle.server_locks.proofs.LeastSession.Sessions.{least-least, least-none}
 use Rattle.server_locks.specs.declared.metadata_locks.request.Waiter.{Waiter}
-use Rattle.server_locks.specs.MetadataLocks.Grants.{HeldName, holding_session, holds, is_on, least_holder, least_waiter, ahead_of, blocker_of_name, blocker_of_names}
+use Rattle.server_locks.specs.MetadataLocks.Grants.{HeldName, holding_session, holds, least_holder, least_waiter, ahead_of, blocker_of_name, blocker_of_names}
 use Rattle.server_locks.specs.MetadataLocks.SameNames.{HasName, SameNames}
 use Rattle.server_locks.proofs.RowLocks.LockTable.Blockers.{least_comm, least_self, same_least}
 
