@@ -7,3 +7,4 @@ pub mod alone;
 mod least;
 pub mod outcomes;
 pub mod replies;
+pub mod trace_client;
