@@ -4,3 +4,4 @@ pub mod FollowedClients
 pub mod LeastTurns
 pub mod LineOutcomes
 pub mod Marks
+pub mod SeenTurns

@@ -1,6 +1,6 @@
 //! How far a client of a trace is in its script, and what its open transaction has so far.
 
-ghost use Rattle.std.specs.Prelude.{◌≡◌, ◌++◌, ℕ, Bool, true, List, [], option_to_list, IfOk, OnOk};
+ghost use Rattle.std.specs.Prelude.{◌≡◌, ◌++◌, ℕ, Bool, true, not, ◌&&◌, List, [], option_to_list, IfOk, OnOk};
 ghost use Rattle.base_script.specs.declared.script.ScriptLine.{ScriptLine};
 ghost use Rattle.run_actors.specs.ClientTurns.ActorStates.{IsReached, line_outcome_as};
 ghost use Rattle.run_audit.specs.Audits.{judged_of, reply_turn};
@@ -124,7 +124,7 @@ impl TraceClient {
     }
 
     /// Whether the client asks so next: its line is called, or polled where it waits.
-    pub fn asks_next(&self, script: &Script, asked: LineAsked) -> bool
+    fn asks_next(&self, script: &Script, asked: LineAsked) -> bool
         ensures { (client : Reached) → IsReached script.now self.now.state client → result ≡ client_asks_next client asked }
     {
         match self.state.left(script).split_first() {
@@ -136,6 +136,13 @@ impl TraceClient {
                 LineAsked::Rename | LineAsked::Word => false,
             },
         }
+    }
+
+    /// Whether the client wasn't lost, and asks something else next.
+    pub fn is_astray(&self, script: &Script, asked: LineAsked) -> bool
+        ensures { (client : Reached) → IsReached script.now self.now.state client → result ≡ (not client.is_lost && not (client_asks_next client asked)) }
+    {
+        !self.state.is_lost && !self.asks_next(script, asked)
     }
 
     /// Takes the transaction out, where it ended.
