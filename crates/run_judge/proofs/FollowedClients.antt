@@ -21,6 +21,7 @@ use Rattle.run_audit.specs.declared.line.LineAsked.{LineAsked}
 use Rattle.run_audit.specs.declared.line.LineAsked.TheVariants.{Call, Rename, Poll, Cut, Word}
 use Rattle.run_audit.specs.Audits.{judged_of, last_of, reply_turn}
 use Rattle.run_audit.specs.Rules.{asks_next, became_of_line, client_after_line, left_by, left_outside}
+use Rattle.tool_program.proofs.JournalWords.Lines.{inside_more}
 use Rattle.run_judge.specs.declared.replies.TurnReply.{TurnReply}
 use Rattle.run_judge.specs.declared.trace_client.RepliedTxn.{RepliedTxn}
 use Rattle.run_judge.specs.declared.trace_client.TraceClient.{TraceClient}
@@ -176,10 +177,6 @@ none_inside (line ∷ lines) false is = absurd (cc)
 some_outside : (lines : List TxnLine) (inside : Bool) → inside ≡ false → is_inside lines ≡ true → (not inside && not (length lines == 0)) ≡ true
 some_outside [] inside out is = absurd (cc)
 some_outside (line ∷ lines) inside out is = ap (λ (b : Bool). not b && not (suc (length lines) == 0)) out ∙ ap not (ne_eqb (suc (length lines)) 0 (λ e. omega (arith, e)))
-
-inside_more : (lines : List TxnLine) (line : TxnLine) → is_inside (lines ++ line ∷ []) ≡ true
-inside_more [] line = refl
-inside_more (first ∷ lines) line = refl
 
 outside_none : (lines : List TxnLine) → is_inside lines ≡ false → lines ≡ []
 outside_none [] is = refl

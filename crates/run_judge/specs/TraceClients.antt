@@ -1,26 +1,19 @@
 -- What is kept of the clients of a trace. (This project's rule.)
-use Rattle.std.specs.Prelude.{◌≡◌, ◌≤◌, ◌+◌, ◌==◌, ℕ, Bool, true, false, not, ◌&&◌, is_some, if◌then◌else◌, List, [], ◌∷◌, length, Option, Some, None}
-use Rattle.base_script.specs.declared.actor.Actor.{Actor}
-use Rattle.base_script.specs.declared.actor.Actor.TheVariants.{Client}
+use Rattle.std.specs.Prelude.{◌≡◌, ◌≤◌, ◌==◌, ℕ, Bool, true, false, not, ◌&&◌, if◌then◌else◌, List, [], ◌∷◌, length, Option, Some, None}
 use Rattle.base_script.specs.declared.script.ScriptLine.{ScriptLine}
 use Rattle.base_script.specs.declared.script.ScriptWord.{ScriptWord}
 use Rattle.base_script.specs.declared.script.ScriptWord.TheVariants as words
 use Rattle.server_model.specs.declared.transaction.Mark.{Mark}
 use Rattle.server_model.specs.declared.transaction.Mark.TheVariants.{TimedOut}
 use Rattle.server_model.specs.declared.transaction.TxnLine.{TxnLine}
-use Rattle.plan_data.specs.PlanData.{PlanData}
 use Rattle.run_actors.specs.declared.client_turns.outcome.LineOutcome.{LineOutcome}
 use Rattle.run_actors.specs.declared.client_turns.outcome.LineOutcome.TheVariants.{Marked}
 use Rattle.run_actors.specs.ClientTurns.ActorStates.{IsReached}
-use Rattle.tool_program.specs.JournalWords.Clients.{Reached, script_of}
-use Rattle.run_audit.specs.declared.line.TraceLine.{TraceLine}
-use Rattle.run_audit.specs.Audits.{Judged, Ended, Altered, last_of, reply_turns}
-use Rattle.run_audit.specs.Rules.{client_reached}
+use Rattle.tool_program.specs.JournalWords.Clients.{Reached}
+use Rattle.run_audit.specs.Audits.{Judged, Ended, last_of}
 use Rattle.run_judge.specs.declared.trace_client.RepliedTxn.{RepliedTxn}
 use Rattle.run_judge.specs.declared.trace_client.TraceClient.{TraceClient}
 use Rattle.run_judge.specs.Replies.{replies_of, turns_of}
-
--- ---- one client
 
 -- *Followed*: what is kept says how far the client is in its script, and has the lines of its open transaction and the replies to
 -- them, which are the last of those that it got in these turns
@@ -76,23 +69,3 @@ abbrev pub AreJudged : List Judged → Option RepliedTxn → Type 0
 AreJudged [] None = Unit {0}
 AreJudged (Ended past turns ∷ []) (Some txn) = (past.txn.lines ≡ txn.lines) × (past.replies ≡ replies_of txn.replies) × (turns ≡ turns_of txn.replies)
 AreJudged items ended = ⊥
-
--- ---- all of them
-
--- each of the scripts and of what is kept, in order, with the number of its client
-unfoldable pub AreEach : (ℕ → List ScriptLine → TraceClient → Type 0) → ℕ → List (List ScriptLine) → List TraceClient → Type 0
-AreEach P number [] [] = Unit {0}
-AreEach P number (script ∷ scripts) (kept ∷ clients) = P number script kept × AreEach P (number + 1) scripts clients
-AreEach P number scripts clients = ⊥
-
-abbrev pub IsFollowedIn : PlanData → List TraceLine → ℕ → List ScriptLine → TraceClient → Type 0
-IsFollowedIn plan before number script kept = IsFollowed script kept (client_reached plan before number) (reply_turns plan before number)
-
--- *All followed*: what is kept of each client of the plan's
-abbrev pub AreFollowed : PlanData → List TraceLine → List TraceClient → Type 0
-AreFollowed plan before clients = AreEach (IsFollowedIn plan before) 1 plan.clients clients
-
--- the plan has the actor: it has all of the tool's, and a client that has a script
-abbrev pub is_of_plan : PlanData → Actor → Bool
-is_of_plan plan (Client number) = is_some (script_of number plan)
-is_of_plan plan actor = true
