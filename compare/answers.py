@@ -33,13 +33,15 @@ def lines_of(turns):
 
 
 def printed_lines(text):
-    """The same of what `trace` printed; none where it printed no trace."""
+    """The same of what `trace` printed; none where it printed no trace. A number that was drawn is left out where the server doesn't
+    tell it: of a statement that was refused, or whose answer was lost."""
     _, found, rest = text.rpartition("\n#journal\n")
     if not found:
         return None
     lines, given = [], rest.split("\n")
     while given and not given[0].startswith(END):
         line = re.sub(r" waits \d+$", " waits", given.pop(0))
+        line = re.sub(r" (error \d+|lost done) id \d+$", r" \1", line)
         count = int(line.rpartition(" ")[2]) if re.search(r" rows \d+$", line) else 0
         lines.append((line, *sorted(given[:count])))
         del given[:count]

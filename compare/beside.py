@@ -1,6 +1,8 @@
 """Clients of transactions beside each other: a server follows the turns of a report, as far as its locks are the model's."""
 import time
 
+from counters import draws
+from numbers_given import Spare, drawn, forget
 from printing import answer_of
 from wire import Refused
 
@@ -18,11 +20,12 @@ class LocksDiffer(Exception):
 
 
 class Client:
-    def __init__(self, server, script):
+    def __init__(self, server, script, draws):
+        self.draws = draws  # whether the plan has a table that gives out numbers
         self.session = server.session()
         self.session.need("USE plan")
         self.session.need("SET innodb_lock_wait_timeout = 1000, lock_wait_timeout = 1000")
-        self.script, self.place, self.replies = script, 0, []  # replies with their lines
+        self.script, self.place, self.replies = script, 0, []  # replies with their lines, and whether a number was drawn early by then
         self.waiting, self.polls, self.inside = False, 0, False
         self.seen_at = None  # of the statement that waits: how many releases of locks had come when it was last seen to wait
 
@@ -35,20 +38,21 @@ class Client:
         is_single = not self.inside and line.upper().startswith("SELECT")
         return f"{line} LOCK IN SHARE MODE" if is_single else line
 
-    def take_answer(self):
-        reply = answer_of(self.session.answer())
+    def take_answer(self, is_early):
+        self.answer = self.session.answer()
+        reply = answer_of(self.answer, drawn(self.session, self.line(), self.answer) if self.draws else 0)
         word = self.line().split()[0].upper().rstrip(";")
         self.inside = word in ("BEGIN", "START") or self.inside and word not in ("COMMIT", "ROLLBACK")
-        self.replies.append((reply, self.line()))
+        self.replies.append((reply, self.line(), is_early))
         self.place, self.waiting = self.place + 1, False
         return not self.inside
 
-    def time_out(self, monitor):
+    def time_out(self, monitor, is_early):
         """The whole transaction is rolled back, and the next one follows."""
         monitor.need(f"KILL QUERY {self.session.number}")
         self.session.answer()
         self.session.need("ROLLBACK")
-        self.replies.append((("error", 1205), self.line()))
+        self.replies.append((("error", 1205), self.line(), is_early))
         self.place, self.waiting = self.place + 1, False
         while self.inside:
             word = self.line().split()[0].upper().rstrip(";")
@@ -58,9 +62,11 @@ class Client:
 class Beside:
     def __init__(self, server, plan):
         self.monitor, self.limit = server.session(), plan.client_wait
-        self.clients = [Client(server, script) for script in plan.clients]
+        self.clients = [Client(server, script, plan.second is not None) for script in plan.clients]
         self.releases = 0  # how often locks were given free
         self.sequence = []  # the clients by their replies
+        self.second, self.spare = plan.second, Spare(server, "plan", "u", plan.second) if plan.spares else None
+        self.is_early = False  # whether a statement that draws has waited: the server drew before, and the model draws at its answer
 
     def waits(self, client):
         """Whether its statement waits for a lock; else it is answered. What waits goes on only once a lock is given free."""
@@ -85,16 +91,22 @@ class Beside:
         """`waits` says whether the session waits in the model, at the turn's end."""
         is_poll = client.waiting
         if not is_poll:
+            if self.second:
+                forget(client.session, client.line())
             client.session.begin(client.said())
             client.polls, client.seen_at = 0, None
         if not self.waits(client):
             if waits:
                 raise LocksDiffer("the server answers where the model waits")
-            self.releases += client.take_answer()
+            line = client.line()
+            self.releases += client.take_answer(self.is_early)
+            if self.spare:
+                self.spare.see(line, client.answer)
             return
+        self.is_early = self.is_early or self.second is not None and draws(client.line(), "u", self.second)
         client.waiting, client.polls = True, client.polls + is_poll
         if client.polls == self.limit:
-            client.time_out(self.monitor)
+            client.time_out(self.monitor, self.is_early)
             self.releases += 1
         elif not waits:
             raise LocksDiffer(f"the server waits where the model doesn't, for {self.lock_of(client)}")
@@ -120,4 +132,6 @@ class Beside:
             self.monitor.ask(f"KILL {client.session.number}")
             client.session.close()
         time.sleep(0.05)
+        if self.spare:
+            self.spare.close()
         self.monitor.close()

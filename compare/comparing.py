@@ -67,6 +67,7 @@ class Comparison:
 
 
 def rule_of(plan, difference):
+    plan = plan.of_second() if difference.place == "u" else plan
     return next((rule.name for rule in [*OWN, *OWN_OF_STATEMENTS] if rule.explains(plan, difference)), None)
 
 
@@ -102,7 +103,7 @@ def has_waits(report):
 
 
 def bare(plan):
-    return dataclasses.replace(plan, rows=[], clients=[])
+    return dataclasses.replace(plan, rows=[], clients=[], second_rows=[])
 
 
 def run_both(comparison, program, plans):
@@ -127,6 +128,8 @@ def tell_counts(comparison, plans, version):
     for kind, title in titles.items():
         print(f"{title}: {count.same[kind]} of {count.compared[kind]} the same")
     print(f"rows in those tables: {count.rows_left}")
+    if count.numbers:
+        print(f"numbers that AUTO_INCREMENT columns gave out alike: {count.numbers}")
     for why, plans_left in sorted(count.left.items()):
         print(f"plans of several clients followed up to where {why}: {plans_left}")
     if count.parted:
@@ -157,10 +160,10 @@ def show_rules(program, plans):
     """Each example begins with the rule that it shows, and differs by that rule alone; and each rule has an example."""
     wrong, shown = [], set()
     with Server() as server:
-        for plan, check, replay, _ in printed_by(program, plans):
+        for plan, check, replay, turns in printed_by(program, plans):
             with open(plan.name, encoding="utf-8") as file:
                 wanted = file.readline().removeprefix("# ").strip()
-            found = {difference.rule for difference in Comparison(server).plan(plan, check, replay)}
+            found = {difference.rule for difference in Comparison(server).plan(plan, check, replay, turns)}
             shown |= found
             if found != {wanted}:
                 wrong.append(f"{plan.name} shows {found or 'no difference'}, and not: {wanted}")
@@ -190,6 +193,7 @@ PLANTS = {
     "rows": refused("refused 58 bad_row table 1 row 1\n"),
     "alter": refused("refused 30 last_column\n"),
     "answer": in_replay(r"^(\d+\.\d+ ok )(\d+)$", lambda it: f"{it.group(1)}{int(it.group(2)) + 1}"),
+    "number": in_replay(r"^(\d+\.\d+ ok \d+ id )(\d+)$", lambda it: f"{it.group(1)}{int(it.group(2)) + 1}"),
     "table": in_replay(r"^(table t .*\n)\(.*\n", r"\1"),
     "unfit": lambda check, replay: (check, Ran(re.sub(r"\Adone", "reverted unfit turn 8 key (1) column 'a' 1406", replay.text), 3)),
     "shape": lambda check, replay: (changed(check, r" INT\b", " BIGINT"), replay),
@@ -216,4 +220,5 @@ def plant_one(server, printed, kind, change):
         return False
     comparison = Comparison(server)
     comparison.plan(copy.copy(plan), *wrong, turns)
-    return kind in [difference.kind for _, difference in comparison.unexplained]
+    wanted = "answer" if kind == "number" else kind
+    return wanted in [difference.kind for _, difference in comparison.unexplained]

@@ -227,6 +227,17 @@ def drops_primary_by_name(plan, _):
     return "`PRIMARY`" in plan.alter.upper()
 
 
+def counting_item(plan):
+    """The declaration of the column that gives out numbers, in capitals."""
+    return next((joined(it).upper() for it in items(plan.create)[0] if any(word.is_word("AUTO_INCREMENT") for word in it)), "")
+
+
+def counts_beyond(plan):
+    """Whether the column holds larger numbers than are given out, or they begin out of that range."""
+    start = re.search(r"(?i)\)[^)]*AUTO_INCREMENT *=? *(\d+)[^)]*\Z", plan.create)
+    return "BIGINT UNSIGNED" in counting_item(plan) or start and not 1 <= int(start.group(1)) < 2**63
+
+
 UNSTORED = ("error 1048", "error 1264", "error 1366", "error 1406", "error 1265")
 
 
@@ -244,6 +255,15 @@ def condition_of(difference):
 def begins(difference, *wanted):
     """Whether the statement of an answer begins with one of these words."""
     return statement_of(difference).upper().startswith(wanted)
+
+
+def leaves_one_out(plan, difference):
+    """Whether the server's number is the next but one, and a statement gives the table that counts a negative number."""
+    if not difference.is_other_number() or not plan.second:
+        return False
+    ours, theirs = (int(it.rpartition(" ")[2]) for it in (difference.ours, difference.theirs))
+    lines = [line for script in plan.clients for line in script]
+    return theirs == ours + 1 and any(re.match(r"(?i)(INSERT|REPLACE) INTO u\b.*[(, ]-\d", line) for line in lines)
 
 
 def displaces_an_equal_row(_, difference):

@@ -17,6 +17,7 @@ SAME_NUMBERS = {
     22: (1060, 1061),
     27: (1067,),
     30: (1090,),
+    32: (1063, 1067, 1075),
 }
 # A row that is bad; a statement that is left out, or that is none.
 ROWS_REFUSED = (58, 42, 41)
@@ -31,6 +32,13 @@ class Difference:
     ours: str
     theirs: str
     rule: str = None
+    is_early: bool = False  # whether a statement that draws a number had waited by then
+    refused: tuple = ()  # the clients' lines that were refused before
+
+    def is_other_number(self):
+        """Whether both gave out a number, and the two differ."""
+        ours, theirs = self.ours.split(" "), self.theirs.split(" ")
+        return len(ours) == len(theirs) == 4 and ours[:3] == theirs[:3] and ours[3] != theirs[3]
 
     def key(self):
         return self.kind, self.place
@@ -44,7 +52,7 @@ class Count:
     def __init__(self):
         self.compared = dict.fromkeys(self.KINDS, 0)
         self.same = dict.fromkeys(self.KINDS, 0)
-        self.rows_left = 0
+        self.rows_left, self.numbers = 0, 0  # rows in the tables at the end; numbers that both gave out alike
         self.done = 0
         self.left = {}  # plans that were followed up to where the locks differ, by what was seen there
         self.parted = 0  # plans that were followed up to a statement that one side does and the other doesn't
@@ -54,6 +62,10 @@ class Count:
         self.same[kind] += is_same
         return is_same
 
+    def add_answer(self, ours, theirs):
+        self.numbers += ours == theirs and " id " in str(ours[1])
+        return self.add("answer", ours == theirs)
+
 
 class Judge:
     """One plan's comparison: the differences, and counts of what was compared. `rule_of` gives a difference's own rule."""
@@ -61,11 +73,16 @@ class Judge:
     def __init__(self, plan, check, replay, served, count, rule_of):
         self.plan, self.served, self.count, self.rule_of = plan, served, count, rule_of
         self.report, self.check = Report(replay), check
-        self.differences = []
+        self.differences, self.refused = [], []
 
     def judge(self):
         code = self.report.refused or 0
-        if not self.is_created(code) or self.is_refused_by_words(code):
+        first = 0 if self.report.is_of_second else code
+        if not self.is_created("", first, self.served.created):
+            return self.differences
+        if self.plan.second and not self.is_created("u", code - first, self.served.second.created):
+            return self.differences
+        if self.is_refused_by_words(first):
             return self.differences
         self.shape()
         if self.are_rows_taken(code):
@@ -77,20 +94,20 @@ class Judge:
     def parts(self):
         """Whether the last difference is explained and leaves other rows on both sides: what comes after it can't be compared."""
         last = self.differences[-1]
-        is_change = last.ours.startswith("ok") != last.theirs.startswith("ok")
+        is_change = last.ours.startswith("ok") != last.theirs.startswith("ok") or last.is_other_number()
         if not is_change or self.rule_of(self.plan, last) is None:
             return False
         self.count.parted += 1
         return True
 
-    def differ(self, kind, place, ours, theirs):
-        self.differences.append(Difference(kind, place, str(ours), str(theirs)))
+    def differ(self, kind, place, ours, theirs, is_early=False):
+        self.differences.append(Difference(kind, place, str(ours), str(theirs), is_early=is_early, refused=tuple(self.refused)))
 
-    def is_created(self, code):
-        ours, theirs = code if 10 <= code <= 19 else 0, self.served.created
+    def is_created(self, table, code, theirs):
+        ours = code if 10 <= code <= 19 or code == 32 else 0
         same = ours == theirs == 0 or theirs in SAME_NUMBERS.get(ours, ())
         if not self.count.add("create", same):
-            self.differ("create", "", ours, theirs)
+            self.differ("create", table, ours, theirs)
         return ours == theirs == 0
 
     def is_refused_by_words(self, code):
@@ -112,12 +129,18 @@ class Judge:
             self.differ("shape", "", *told)
 
     def are_rows_taken(self, code):
-        ours, theirs = code in ROWS_REFUSED, bool(self.served.rows_refused)
-        if not self.count.add("rows", ours == theirs):
-            self.differ("rows", "", code, self.served.rows_refused)
+        first = 0 if self.report.is_of_second else code
+        theirs = self.rows_taken("", first, self.served.rows_refused)
+        if self.plan.second and not theirs and not first:
+            theirs = self.rows_taken("u", code, self.served.second.rows_refused)
         if code not in (0, *ROWS_REFUSED):
             self.differ("rows", "", code, "")
         return not theirs and not code
+
+    def rows_taken(self, table, code, refused):
+        if not self.count.add("rows", (code in ROWS_REFUSED) == bool(refused)):
+            self.differ("rows", table, code, refused)
+        return bool(refused)
 
     def answers(self):
         """Whether the clients' lines could be compared to their end."""
@@ -125,7 +148,8 @@ class Judge:
             replies = self.report.replies[client] if client < len(self.report.replies) else []
             ours = replies[place] if place < len(replies) else ("none", 0)
             theirs = self.served.answers[client, place]
-            if not self.count.add("answer", ours == theirs):
+            self.refused += [line] if theirs[0] == "error" else []
+            if not self.count.add_answer(ours, theirs):
                 self.differ("answer", f"client {client + 1} line {place + 1}: {line}", told(ours), told(theirs))
                 if self.parts():
                     return False
@@ -137,11 +161,12 @@ class Judge:
             self.count.left[self.served.left] = self.count.left.get(self.served.left, 0) + 1
         places = [0] * len(self.served.replies)
         for client in self.served.sequence:
-            ours, (answer, line) = self.report.replies[client], self.served.replies[client][places[client]]
+            ours, (answer, line, is_early) = self.report.replies[client], self.served.replies[client][places[client]]
             told_by_us = ours[places[client]] if places[client] < len(ours) else ("none", 0)
             places[client] += 1
-            if not self.count.add("answer", told_by_us == answer):
-                self.differ("answer", f"client {client + 1} reply {places[client]}: {line}", told(told_by_us), told(answer))
+            self.refused += [line] if answer[0] == "error" else []
+            if not self.count.add_answer(told_by_us, answer):
+                self.differ("answer", f"client {client + 1} reply {places[client]}: {line}", told(told_by_us), told(answer), is_early)
                 if self.parts():
                     return False
         if not self.served.left and places != [len(it) for it in self.report.replies]:
@@ -154,10 +179,17 @@ class Judge:
         self.count.add("alter", same)
         theirs = self.served.columns
         tables = (self.report.columns, self.report.rows), (theirs and ", ".join(theirs), self.served.rows)
-        self.count.rows_left += len(self.report.rows)
         self.count.done += self.report.done()
-        if not self.count.add("table", tables[0] == tables[1]):
-            self.differ("table", "", f"({tables[0][0]}) {' '.join(tables[0][1])}", f"({tables[1][0]}) {' '.join(tables[1][1] or [])}")
+        self.compare_tables("", *tables)
+        if self.plan.second:
+            theirs = self.served.second.columns
+            second = (theirs and ", ".join(theirs), self.served.second.rows)
+            self.compare_tables("u", (self.report.second_columns, self.report.second_rows), second)
+
+    def compare_tables(self, place, ours, theirs):
+        self.count.rows_left += len(ours[1] or [])
+        if not self.count.add("table", ours == theirs):
+            self.differ("table", place, *(f"({columns}) {' '.join(rows or [])}" for columns, rows in (ours, theirs)))
 
     def is_fit(self):
         ours = self.report.unfit or (0, None)

@@ -22,6 +22,7 @@ class Column:
     def __init__(self, name, kind, length=0, unsigned=False, nullable=True):
         self.name, self.kind, self.length, self.unsigned, self.nullable = name, kind, length, unsigned, nullable
         self.default, self.in_unique, self.in_clustered, self.indexed = None, False, False, False
+        self.is_auto = False
 
     def bare(self):
         return self.name.strip("`").lower()
@@ -156,6 +157,8 @@ def make_columns(r):
 
 class Table:
     """A table's text and what the other parts need to know of it."""
+
+    name, counts = "t", False
 
     def __init__(self, r):
         self.columns, self.key = make_columns(r)

@@ -21,6 +21,7 @@ CASES = f"{TOP}/crates/test_plans/data/cases"
 CLASSES = f"{os.path.dirname(os.path.realpath(__file__))}/classes"
 
 
+DRAWN_EARLY = "a statement that waits draws in the turn that answers it"
 # The classes of what differs: rules of this project's own that docs/MODEL.md tells, each with a plan in compare/classes.
 EXPLAINED = {
     "the server answers where the model waits, and the plan goes another way",
@@ -29,6 +30,8 @@ EXPLAINED = {
     "a deadlock of names: LOCK TABLES waits for a transaction that has read, which then writes",
     "sessions wait for each other, and in the model they don't",
     "a REPLACE by an equal row counts 1 in the server, and isn't logged",
+    DRAWN_EARLY,
+    "the server waits longer, and the tool goes another way meanwhile",
     # (a key names one column twice)
     "the server refuses the plan's tables by 1060",
 }
@@ -87,6 +90,14 @@ ALTERS = [
     "DROP COLUMN v",
     "CHANGE v w VARCHAR(20) NOT NULL, ADD COLUMN z INT",
     "MODIFY v VARBINARY(3)",
+]
+
+
+# Tables beside the migrated one, which give out numbers.
+COUNTING = [
+    ("id INT AUTO_INCREMENT PRIMARY KEY, v INT, m VARCHAR(3)", ""),
+    ("id INT AUTO_INCREMENT PRIMARY KEY, m INT UNIQUE, v INT NOT NULL", " AUTO_INCREMENT=5"),
+    ("v INT, m SMALLINT UNIQUE, id TINYINT NOT NULL AUTO_INCREMENT, PRIMARY KEY (id)", " AUTO_INCREMENT=122"),
 ]
 
 
@@ -183,6 +194,40 @@ class Maker:
         if self.losses:
             tree["faults"] = self.faults(actors)
         return {**tree, "options": options, "tables": [{"create": f"CREATE TABLE t ({self.columns})", "rows": rows}]}
+
+
+class NumbersMaker(Maker):
+    """The same with a table `u` beside the migrated one, of which clients draw numbers."""
+
+    def value_beside(self, name):
+        if name == "id":
+            return self.r.choice(["NULL", "NULL", "0", "'0'", str(self.r.randrange(1, 12))])
+        if self.chance(10):
+            return self.r.choice(["NULL", "99999999999", "'abcd'"])
+        return str(self.r.randrange(1, 7))
+
+    def beside(self):
+        """A statement of `u`; most draw a number."""
+        names, form = re.findall(r"(\w+) (?:INT|VARCHAR|SMALLINT|TINYINT)", self.counting), self.r.randrange(20)
+        if form < 13:
+            names = [it for it in names if it != "id" or self.chance(50)]
+            return f"{'REPLACE' if form < 3 else 'INSERT'} INTO u ({', '.join(names)}) VALUES ({', '.join(map(self.value_beside, names))})"
+        where = f" WHERE id = {self.r.randrange(1, 9)}"
+        if form < 16:
+            return f"UPDATE u SET {self.r.choice(['id', 'v'])} = {self.r.randrange(1, 15)}{where}"
+        return self.r.choice([f"DELETE FROM u{where}", "DELETE FROM u", f"SELECT * FROM u{where}", "SELECT * FROM u"])
+
+    def script(self):
+        lines = []
+        for line in super().script().split("\n"):
+            lines += [line, *(self.beside() for _ in range(self.r.choice([0, 1, 1, 2])))]
+        return "\n".join(lines)
+
+    def plan(self):
+        self.counting, start = self.r.choice(COUNTING)
+        tree = super().plan()
+        rows = ["(1, 1, 1)"] if self.chance(50) else []
+        return {**tree, "version": 2, "tables": [*tree["tables"], {"create": f"CREATE TABLE u ({self.counting}){start}", "rows": rows}]}
 
 
 # ---------------------------------------------------------------------- one plan
@@ -312,12 +357,16 @@ class Pair:
         turn = turns[high - 1]
         if rehearsal.early_at and high >= rehearsal.early_at:
             return "the server answers where the model waits, and the plan goes another way"
+        is_drawn_early = rehearsal.early_draw_at and high >= rehearsal.early_draw_at
         if ours == theirs or turn.actor not in rehearsal.clients:
             return None
         model, server = (it[turn.actor][-1].split(" ") if it[turn.actor] else [] for it in (ours, theirs))
         if len(ours[turn.actor]) != len(theirs[turn.actor]):
             what = "the server answers where the model waits" if len(ours[turn.actor]) < len(theirs[turn.actor]) else "the server waits longer"
             return f"{what}, and the plan goes another way" if turn.by_rows else None
+        if is_drawn_early and (len(model) == len(server) == 5 and model[:4] == server[:4] or ["error", "1264"] in (model[1:], server[1:])):
+            # (other numbers, of which one side has none left)
+            return DRAWN_EARLY
         if model[:2] == server[:2] and model[1] == "error":
             return f"{FAULTS_TOLD}: {model[2]}, and {server[2]} by the server"
         if turn.line.upper().startswith("REPLACE") and model[1] == server[1] == "ok" and int(model[2]) == int(server[2]) + 1:
@@ -368,9 +417,9 @@ def masked(text):
 
 
 # ---------------------------------------------------------------------- all of them
-def plans_asked(series, first, count):
+def plans_asked(series, first, count, maker=Maker):
     for number in range(first, first + count):
-        yield f"plan {number}", Maker(series, number, number % 2 == 1).plan()
+        yield f"plan {number}", maker(series, number, number % 2 == 1).plan()
 
 
 def given_plans():
@@ -421,17 +470,30 @@ def other_answer(rehearsal):
     rehearsal.told = lambda call, talk: ("ok", 2) if call.what == "hint" else told(call, talk)
 
 
+def other_number(rehearsal):
+    """The next number but one, wherever a client draws one."""
+    told = rehearsal.told
+
+    def next_but_one(call, talk):
+        answer = told(call, talk)
+        return ("ok", answer[1], answer[2] + 1) if answer[0] == "ok" and len(answer) == 3 and answer[2] else answer
+
+    rehearsal.told = next_but_one
+
+
 FAULTS = {
     "another DEFAULT in the new table": another_default,
     "an applier without DELETE": no_removal,
     "LOCK TABLES without the table": no_lock,
     "two rows in the answer to the hint": other_answer,
+    "another number where a client draws one": other_number,
 }
 
 
 def plant_faults(program):
     """The status: 0 where each planted fault is told by some plan."""
-    plans, missed = list(plans_of_cases("worked")) + list(plans_of_folder(CLASSES)), 0
+    drawing = [(name, tree) for name, tree in plans_of_folder(f"{TOP}/examples") if tree["version"] == 2]
+    plans, missed = [*plans_of_cases("worked"), *plans_of_folder(CLASSES), *drawing], 0
     with Server(*log_options()) as server:
         plain = Pair(program, server)
         same = [(name, tree) for name, tree in plans if plain.rehearse(name, tree)[0] == "same"]

@@ -20,17 +20,26 @@ class Plan:
     steps: list = None
     carried: list = None
     order: list = None
+    # The CREATE TABLE of a table `u` beside the migrated one, which gives out numbers, and its rows: the plan is of version 2 then.
+    second: str = None
+    second_rows: list = None
+    # Whether the server gives out a number too where it refuses a statement before it would.
+    spares: bool = False
+
+    def of_second(self):
+        """The plan as rules look at it where they are asked of the second table."""
+        return dataclasses.replace(self, create=self.second, rows=self.second_rows)
 
     def toml(self):
-        text = f'version = 1\ntable = "t"\nalter = {quoted(self.alter)}\n'
+        text = f'version = {2 if self.second else 1}\ntable = "t"\nalter = {quoted(self.alter)}\n'
         if self.clients:
             scripts = ", ".join(quoted("\n".join(script)) for script in self.clients)
             text += f"clients = [{scripts}]\n"
             # The tool waits until all clients are done, as the server is told the ALTER after their lines.
             text += f'turns = "{self.order_of_clients()}"\n'
-        text += f"[[tables]]\ncreate = {quoted(self.create)}\n"
-        if self.rows:
-            text += f"rows = [{', '.join(quoted(row) for row in self.rows)}]\n"
+        text += table_text(self.create, self.rows)
+        if self.second:
+            text += table_text(self.second, self.second_rows)
         options = ["approve_renamed_columns = true"] if self.approve else []
         options += [f"client_wait = {self.client_wait}", "show_turns = true"] if self.client_wait else []
         options += [f"turn_limit = {self.turn_limit}"] if self.turn_limit else []
@@ -55,6 +64,11 @@ class Plan:
                     yield number, place, script[place]
 
 
+def table_text(create, rows):
+    listed = f"rows = [{', '.join(quoted(row) for row in rows)}]\n" if rows else ""
+    return f"[[tables]]\ncreate = {quoted(create)}\n{listed}"
+
+
 def quoted(text):
     return json.dumps(text, ensure_ascii=False).replace("\x7f", "\\u007f")
 
@@ -74,11 +88,13 @@ def plan_of_file(path):
     except (tomllib.TOMLDecodeError, UnicodeDecodeError):
         return None
     tables = read.get("tables", [])
-    if set(read) - {"version", "table", "alter", "clients", "tables", "options"} or len(tables) != 1:
+    if set(read) - {"version", "table", "alter", "clients", "tables", "options"} or len(tables) != read.get("version", 1):
         return None
     scripts = [[it for it in script.split("\n") if it.strip()] for script in read.get("clients", [])]
     options = read.get("options", {})
     approve = options.get("approve_renamed_columns", False)
-    if read["table"] != "t" or set(options) - {"approve_renamed_columns"}:
+    if read["table"] != "t" or set(options) - {"approve_renamed_columns", "client_wait", "show_turns"}:
         return None
-    return Plan(path, tables[0]["create"], tables[0].get("rows", []), read["alter"], scripts, approve)
+    second = (tables[1]["create"], tables[1].get("rows", [])) if len(tables) == 2 else (None, None)
+    wait = options.get("client_wait", 0)
+    return Plan(path, tables[0]["create"], tables[0].get("rows", []), read["alter"], scripts, approve, wait, second=second[0], second_rows=second[1])

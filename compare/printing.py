@@ -24,9 +24,10 @@ def printed_row(row):
     return f"({', '.join(printed(value) for value in row)})"
 
 
-def answer_of(answer):
+def answer_of(answer, drawn=0):
+    """`drawn` is the number that an AUTO_INCREMENT column got, 0 where none was given out."""
     if isinstance(answer, Ok):
-        return "ok", answer.changed
+        return "ok", f"{answer.changed} id {drawn}" if drawn else answer.changed
     if isinstance(answer, Refused):
         return "error", answer.number
     return "rows", sorted(printed_row(row) for row in answer.rows)

@@ -9,7 +9,10 @@ import time
 
 from answers import answer_text, loss_text
 from binlog import Columns, Log
+from clients import Client
+from counters import auto_column, draws
 from migration import TOOL, Bad, Call, Shape, Tool
+from numbers_given import NO_NUMBER_LEFT, Spare, drawn, forget
 from printing import printed_row, refusal_of
 from rephrasing import carried
 from words import clauses, words
@@ -68,8 +71,10 @@ class Talk:
         self.call, self.left, self.answers, self.result = None, [], [], None
         self.is_open = self.is_locked = False
         self.polls, self.wait, self.seen_at, self.asked_at = 0, 0, None, None
+        self.number = None  # the number that a client's statement drew, once it was asked for
 
     def begin(self, call):
+        self.number = None
         self.call, self.left, self.answers, self.result = call, list(call.lines), [], None
         self.polls, self.wait, self.seen_at, self.asked_at = 0, 0, None, None
         self.session.begin(self.left.pop(0))
@@ -83,42 +88,6 @@ class Talk:
             else:
                 self.result = self.answers[-1]
         return self.result is not None
-
-
-class Client:
-    def __init__(self, script):
-        self.lines = [it.strip().rstrip("; ") for it in script.split("\n")]
-        self.lines = [it for it in self.lines if it and it[0] != "#" and not it.startswith("-- ")]
-        self.at, self.is_over = 0, not self.lines
-        self.transaction, self.statement, self.is_inside = 1, 1, False
-
-    def word(self):
-        return self.lines[self.at].split()[0].upper()
-
-    def said(self):
-        """A SELECT outside a transaction takes its locks as one inside does."""
-        return f"{self.lines[self.at]} LOCK IN SHARE MODE" if self.word() == "SELECT" and not self.is_inside else self.lines[self.at]
-
-    def place(self):
-        return f"{self.transaction}.{self.statement}"
-
-    def answered(self):
-        """Goes on by a line; whether that ended a transaction."""
-        word = self.word()
-        self.is_inside = word in ("BEGIN", "START") or self.is_inside and word not in ("COMMIT", "ROLLBACK")
-        self.at, self.statement = self.at + 1, self.statement + 1
-        if not self.is_inside:
-            self.transaction, self.statement = self.transaction + 1, 1
-        self.is_over = self.at >= len(self.lines)
-        return not self.is_inside
-
-    def timed_out(self):
-        """The rest of the transaction isn't said."""
-        while self.is_inside and self.word() not in ("COMMIT", "ROLLBACK"):
-            self.at += 1
-        self.at, self.is_inside = self.at + 1, False
-        self.transaction, self.statement = self.transaction + 1, 1
-        self.is_over = self.at >= len(self.lines)
 
 
 class Rehearsal:
@@ -144,6 +113,7 @@ class Rehearsal:
         self.model_waits = lambda turns, actor, always=False: False
         self.common_order = lambda found: found
         self.read_at, self.row_waits = None, set()
+        self.early_draw_at = 0  # the turn after which a statement that draws a number first waited: the server draws before, the model then
         self.early_at = 0  # the turn at which a server first answered what the model lets wait
 
     # ------------------------------------------------------------------ the plan
@@ -156,6 +126,9 @@ class Rehearsal:
                 answer = answer if isinstance(answer, Refused) else self.monitor.ask(f"INSERT INTO {self.name_in(table['create'])} VALUES {row}")
             if isinstance(answer, Refused):
                 raise Stop(f"the server refuses the plan's tables by {answer.number}", answer.text)
+        creates = {self.name_in(it["create"]).strip("`"): it["create"] for it in self.tree["tables"]}
+        self.counting = next(((name, create) for name, create in creates.items() if auto_column(create)[0]), None)
+        self.spare = Spare(self.server, self.database, *self.counting) if self.counting else None
         self.create = next(it["create"] for it in self.tree["tables"] if self.name_in(it["create"]).strip("`") == self.table)
         old_columns, types, key, _ = self.columns_of(self.table)
         self.shape = Shape([], old_columns, key, [])
@@ -386,6 +359,8 @@ class Rehearsal:
         for actor in [*waiting, *self.talks]:
             self.kill(actor)
         self.wakeups.close()
+        if self.spare:
+            self.spare.close()
         self.monitor.close()
 
     # ------------------------------------------------------------------ a turn
@@ -457,8 +432,12 @@ class Rehearsal:
             talk.begin(Call("read log", ["DO 0"]))
             talk.is_answered(PATIENCE)
             return True
+        if self.counting and actor in self.clients:
+            forget(talk.session, call.lines[-1])
         talk.begin(call)
         how = self.is_waiting(talk)
+        if how and self.counting and draws(call.lines[-1], *self.counting):
+            self.early_draw_at = self.early_draw_at or len(self.turns) + 1
         if how == "row" and self.waits_longer(actor, talk, call):
             self.held.add(actor)
             return False
@@ -532,6 +511,8 @@ class Rehearsal:
         self.count("losses after a call")
         if is_done and call.what == "rename" and isinstance(talk.result, Ok):
             self.renamed()
+        if is_done:
+            self.draw_as_the_model(call, talk)
         if not is_done or actor in self.early:
             self.count("losses of a call that waits")
         self.lost(actor, call)
@@ -625,13 +606,23 @@ class Rehearsal:
             raise Stop("a client's table is missing", f"{actor}: {client.lines[client.at]}")
         entry.reply = (actor, *self.reply_of(client, told))
         entry.answer = entry.reply[1].partition(" ")[2]
+        self.draw_as_the_model(Call("line", [client.lines[client.at]]), talk)
         transaction = client.transaction
         if client.answered():
             self.history.append(f"{actor}.{transaction}")
         talk.is_open = client.is_inside
 
+    def draw_as_the_model(self, call, talk):
+        """In the model a refused statement has drawn its number, also where the server refuses it before."""
+        if self.spare and self.spare.see(call.lines[-1], talk.result):
+            self.count("numbers that the model draws for a refused statement, and the server doesn't")
+        if talk.number:
+            self.count("numbers drawn by clients")
+
     @staticmethod
     def reply_of(client, told):
+        if told[0] == "ok" and len(told) == 3 and told[2]:
+            return (f"{client.place()} ok {told[1]} id {told[2]}",)
         if told[0] == "rows":
             return f"{client.place()} rows {len(told[1])}", *sorted(printed_row(row) for row in told[1])
         return (f"{client.place()} {'ok' if told[0] == 'ok' else 'error'} {told[1]}",)
@@ -667,13 +658,19 @@ class Rehearsal:
         for answer in talk.answers:
             if isinstance(answer, Refused):
                 number, column = refusal_of(answer)
+                if number in NO_NUMBER_LEFT:
+                    self.count("statements that the server refuses by 167 or 1467, and the model by 1264: no number is left")
+                    number = 1264
                 return "refused", number, column
         last = talk.answers[-1]
         if call.what == "log end":
             self.log.read()
             return "at", len(self.log.events)
         if isinstance(last, Ok):
-            return "ok", last.changed
+            if not self.counting or call.what != "line":
+                return "ok", last.changed
+            talk.number = drawn(talk.session, call.lines[-1], last) if talk.number is None else talk.number
+            return "ok", last.changed, talk.number
         rows = [tuple(row) for row in last.rows]
         if call.what == "show tables":
             return "tables", [tuple(it.decode() if isinstance(it, bytes) else it for it in row) for row in rows]

@@ -38,12 +38,16 @@ def without_collation(plan):
     return dataclasses.replace(plan, create=create, alter=alter) if (create, alter) != (plan.create, plan.alter) else None
 
 
+def texts_of(create):
+    return {name for name, kind in Known(create).families.items() if kind in ("VARCHAR", "VARBINARY")}
+
+
 def keys_as_texts(plan):
-    known = Known(plan.create)
-    texts = {name for name, kind in known.families.items() if kind in ("VARCHAR", "VARBINARY")}
+    texts_of_table = {"t": texts_of(plan.create), "u": texts_of(plan.second) if plan.second else set()}
 
     def line_of(line):
         listed, column, quoted_one, inside = words(line), None, False, False
+        texts = next((texts_of_table[it.name()] for it in listed if it.name() in texts_of_table), set())
         for word in listed:
             inside = inside or word.is_word("WHERE")
             column = word.name() if word.name() and not word.is_word("AND", "BETWEEN") else column
@@ -53,6 +57,10 @@ def keys_as_texts(plan):
 
     clients = [[line_of(line) for line in script] for script in plan.clients]
     return dataclasses.replace(plan, clients=clients) if clients != plan.clients else None
+
+
+def with_spare_numbers(plan):
+    return dataclasses.replace(plan, spares=True) if plan.second and not plan.spares else None
 
 
 def with_two_keys(plan):
@@ -79,12 +87,12 @@ def quoted(listed, is_name):
 
 def with_backquotes(plan):
     """Each reserved word in backquotes; and each keyword for itself, which may be a name there."""
-    create, alter = words(plan.create), words(plan.alter)
-    if any(it.is_word(*RESERVED) for it in create + alter):
-        texts = [quoted(listed, lambda _, it: it.is_word(*RESERVED)) for listed in (create, alter)]
+    create, alter, second = words(plan.create), words(plan.alter), words(plan.second or "")
+    if any(it.is_word(*RESERVED) for it in create + alter + second):
+        texts = [quoted(listed, lambda _, it: it.is_word(*RESERVED)) for listed in (create, alter, second)]
         # A statement's first word is never a name.
         clients = [[quoted(words(line), lambda at, it: at > 0 and it.is_word(*RESERVED)) for line in script] for script in plan.clients]
-        yield dataclasses.replace(plan, create=texts[0], alter=texts[1], clients=clients)
+        yield dataclasses.replace(plan, create=texts[0], alter=texts[1], second=texts[2] or None, clients=clients)
     for part, listed in (("create", create), ("alter", alter)):
         for place in [at for at, it in enumerate(listed) if it.is_word(*KEYWORDS)]:
             yield dataclasses.replace(plan, **{part: quoted(listed, lambda at, _, place=place: at == place)})

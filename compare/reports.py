@@ -6,6 +6,7 @@ from serving import Shape
 COLUMN = re.compile(r"`([^`]*)` (\w+(?:\(\d+\))?(?: UNSIGNED)?)( NOT NULL)?(?: DEFAULT (.*))?\Z")
 KEY = re.compile(r"(?:PRIMARY KEY|UNIQUE KEY `[^`]*`|KEY `[^`]*`) \(.*\)\Z")
 REFUSED = re.compile(r"refused (\d+) (\w+)(?: (.*))?\n\Z")
+NUMBER = re.compile(r"\d+\.\d+ ok (\d+ id \d+)\Z")
 UNFIT = re.compile(r"reverted unfit turn \d+ key \((.*)\) column '(.*)' (\d+)\Z")
 TABLE = re.compile(r"table t \((.*)\)\Z")
 
@@ -14,12 +15,15 @@ class Report:
     def __init__(self, ran):
         self.status, self.text = ran.status, ran.text
         self.refused, self.unfit = None, None  # a code; a number and a column
+        self.is_of_second = False  # whether the second table is refused
+        self.second_columns, self.second_rows = None, None
         self.replies = []  # a list for each client
         self.columns, self.rows = None, None
         self.order = []  # the clients by their turns, from 0, where the report has the order
         refused = REFUSED.match(ran.text)
         if refused:
             self.refused = int(refused.group(1))
+            self.is_of_second = (refused.group(3) or "").startswith("table 2")
         else:
             self.read(ran.text.split("\n"))
 
@@ -36,14 +40,21 @@ class Report:
         table = TABLE.match(lines[at])
         self.columns = table.group(1) if table else None
         self.rows = sorted(rows_from(lines, at + 1))
+        self.read_second(lines)
         self.order = [client for line in lines if line.startswith("order ") for client in clients_of(line)]
+
+    def read_second(self, lines):
+        at = next((at for at, line in enumerate(lines) if line.startswith("table u (")), None)
+        if at is not None:
+            self.second_columns, self.second_rows = lines[at][len("table u (") : -1], sorted(rows_from(lines, at + 1))
 
     def read_client(self, lines, at):
         replies = []
         while re.match(r"\d+\.\d+ ", lines[at]):
             _, form, count = lines[at].split(" ")[:3] if lines[at].count(" ") > 1 else (*lines[at].split(" "), "0")
             rows = lines[at + 1 : at + 1 + int(count)] if form == "rows" else []
-            replies.append((form, sorted(rows) if form == "rows" else int(count)))
+            number = NUMBER.match(lines[at])
+            replies.append((form, number.group(1) if number else sorted(rows) if form == "rows" else int(count)))
             at += 1 + len(rows)
         self.replies.append(replies)
         return at

@@ -16,6 +16,7 @@ from facts import (
     begins_otherwise,
     changes_clustered_key,
     condition_of,
+    counts_beyond,
     converts_between_families,
     converts_unique_column,
     displaces_an_equal_row,
@@ -31,6 +32,7 @@ from facts import (
     has_word,
     is_left_out_of_alter,
     is_left_out_of_create,
+    leaves_one_out,
     odd_literals,
     renames_column,
     repeats_a_name,
@@ -38,7 +40,8 @@ from facts import (
     rows_are_taken,
     statement_of,
 )
-from rephrasing import as_copied, clause_by_clause, keys_as_texts, with_backquotes, with_two_keys, without_collation
+from numbers_given import NO_NUMBER_LEFT, has_moved
+from rephrasing import as_copied, clause_by_clause, keys_as_texts, with_backquotes, with_spare_numbers, with_two_keys, without_collation
 from words import clauses, items
 
 
@@ -89,6 +92,9 @@ OWN = [
     Own("ENGINE, CHARSET and COLLATE take any word", ("create", "alter"), (0,), has_odd_option),
     Own("of several faults the first by a fixed order is named", ("create",), (12,), repeats_a_name),
     Own("the PRIMARY KEY has no name", ("alter",), (21,), drops_primary_by_name),
+    Own("what gives out numbers is the clustered key's one column", ("create",), (32,), lambda plan, it: it.theirs == "0" and not counts_beyond(plan)),
+    Own("numbers are given out up to 9223372036854775807", ("create",), (32,), lambda plan, it: it.theirs == "0" and counts_beyond(plan)),
+    Own("a row of a table has its number", ("rows",), (58,), lambda plan, it: rows_are_taken(it) and any("NULL" in row for row in plan.rows)),
 ]
 
 
@@ -102,6 +108,10 @@ OWN_OF_STATEMENTS = [
     Own("a REPLACE counts each row that it displaces, also an equal one", ("answer",), (0,), displaces_an_equal_row),
     Own("a value that doesn't fit is told before a column that has none", ("answer",), (1048, 1264, 1366, 1406), lambda _, it: it.theirs == "error 1364"),
     Own("of several columns that don't store the first of the table is named", ("answer",), (1048, 1264, 1366, 1406), lambda _, it: it.theirs in UNSTORED),
+    Own("a number past its column's range is refused like any other value", ("answer",), (1264,), lambda _, it: it.theirs in [f"error {number}" for number in NO_NUMBER_LEFT]),
+    Own("a statement that waits draws in the turn that answers it", ("answer",), (0,), lambda _, it: it.is_early and it.is_other_number()),
+    Own("MariaDB leaves a number out behind a negative one", ("answer",), (0,), leaves_one_out),
+    Own("an UPDATE that is refused moves nothing", ("answer",), (0,), has_moved),
 ]
 
 
@@ -135,6 +145,7 @@ REPHRASINGS = [
     Rephrasing("texts compare by their bytes, whatever COLLATE says", without_collation),
     Rephrasing("a number is compared with a text as its decimal text", keys_as_texts),
     Rephrasing("no word is reserved", with_backquotes, "1064"),
+    Rephrasing("a refused statement has drawn its number", with_spare_numbers),
     Rephrasing("MariaDB makes one key of UNIQUE and PRIMARY KEY behind one column", with_two_keys),
     Rephrasing("a row that an ALTER can't convert gets the number that an INSERT gets", as_copied),
     Rephrasing("an ALTER's clauses are taken from left to right", clause_by_clause),

@@ -1,5 +1,6 @@
 """What a server says to a plan: the table's shape before and after the ALTER, each answer, and the rows that are left."""
 from beside import Beside
+from numbers_given import Spare, drawn, forget
 from printing import answer_of, number_of, printed, printed_row, refusal_of
 from wire import Refused
 
@@ -18,6 +19,14 @@ class Served:
         self.copied = None  # the number of the refusal of the ALTER on the table with its rows, or 0
         self.column = None  # the column that this refusal names
         self.columns, self.rows = None, None  # the table at the end
+        self.second = Second()  # the table beside it
+
+
+class Second:
+    """The same of a table beside the migrated one."""
+
+    def __init__(self):
+        self.created, self.rows_refused, self.columns, self.rows = None, [], None, None
 
 
 class Shape:
@@ -57,18 +66,50 @@ class Bench:
         served.altered = self.alter(plan)[0]
         served.shape = self.shape() if not served.altered else None
         self.create("plan", plan)
-        for place, row in enumerate(plan.rows):
-            number = number_of(self.session.ask(f"INSERT INTO t VALUES {row}"))
-            served.rows_refused += [(place, number)] if number else []
+        served.rows_refused = self.fill("t", plan.rows)
+        if plan.second and not self.create_second(plan, served.second):
+            return served
         if turns:
             served.replies, served.sequence, served.left = self.beside(plan, turns)
-        for client, place, line in plan.turns() if not turns else ():
-            served.answers[client, place] = answer_of(self.session.ask(line))
+        elif plan.clients:
+            served.answers = self.answers(plan)
+        served.second.columns, served.second.rows = self.rows_of("u") if plan.second else (None, None)
         served.copied, served.column = self.alter(plan) if plan.carried is None else self.copy(plan)
-        left = self.session.ask("SELECT * FROM t")
-        if not isinstance(left, Refused):
-            served.columns, served.rows = left.names, sorted(printed_row(row) for row in left.rows)
+        served.columns, served.rows = self.rows_of("t")
         return served
+
+    def rows_of(self, table):
+        left = self.session.ask(f"SELECT * FROM {table}")
+        return (None, None) if isinstance(left, Refused) else (left.names, sorted(printed_row(row) for row in left.rows))
+
+    def fill(self, table, rows):
+        """The rows that are refused, by their places and numbers."""
+        answers = [number_of(self.session.ask(f"INSERT INTO {table} VALUES {row}")) for row in rows]
+        return [(place, number) for place, number in enumerate(answers) if number]
+
+    def create_second(self, plan, second):
+        """Whether the table beside is there. A 0 among its rows is a number, as where mysqldump's files are read."""
+        second.created = number_of(self.session.ask(plan.second))
+        if not second.created:
+            self.session.need("SET @mode = @@sql_mode, sql_mode = CONCAT(@@sql_mode, ',NO_AUTO_VALUE_ON_ZERO')")
+            second.rows_refused = self.fill("u", plan.second_rows)
+            self.session.need("SET sql_mode = @mode")
+        return not second.created
+
+    def answers(self, plan):
+        """The answer to each client's line, with the number that it got."""
+        if not plan.second:
+            return {(client, place): answer_of(self.session.ask(line)) for client, place, line in plan.turns()}
+        found, spare = {}, Spare(self.server, "plan", "u", plan.second) if plan.spares else None
+        for client, place, line in plan.turns():
+            forget(self.session, line)
+            answer = self.session.ask(line)
+            found[client, place] = answer_of(answer, drawn(self.session, line, answer))
+            if spare:
+                spare.see(line, answer)
+        if spare:
+            spare.close()
+        return found
 
     def beside(self, plan, turns):
         clients = Beside(self.server, plan)

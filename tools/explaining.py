@@ -9,6 +9,8 @@ from faults import Fault, Search, nearest, short, words_of
 from sql import closing
 
 CREATE_WORDS = (10, 11)
+# An AUTO_INCREMENT that no number can be given out of, and one that the program can't migrate.
+NUMBERS_GIVEN, NOT_BUILT = 32, 60
 ALTER_WORDS = (20, 25, 26, 29, 31)
 LINE_WORDS = (40, 41, 42)
 NAME = "explained_"
@@ -53,6 +55,11 @@ def pieces(text, words, sign=","):
     return [(text[part[0].at : part[-1].end()], part[0].at) for part in [*found, words[first:]] if part]
 
 
+def without_numbers(text):
+    """A text without AUTO_INCREMENT, as an attribute and as a table's option."""
+    return re.sub(r"(?i)\s*\bAUTO_INCREMENT\b(\s*=?\s*\d+)?", "", text)
+
+
 def first_line(text, at):
     return 1 + text[:at].count("\n")
 
@@ -83,7 +90,7 @@ class Explanation:
     def __init__(self, asking, data, options):
         self.asking, self.data, self.options = asking, data, options
         self.found, self.codes = [], set()
-        self.is_refused, self.has_clause = False, True
+        self.is_refused, self.has_clause, self.version = False, True, 1
 
     def lines(self):
         refusal = self.asking.bytes(self.data)
@@ -133,9 +140,10 @@ class Explanation:
         except (tomllib.TOMLDecodeError, UnicodeDecodeError) as error:
             self.point(f"this script can't read the plan: {error}")
             return
+        self.version = 2 if plan.get("version") == 2 else 1
         if 51 <= first.code <= 55:
             plan = self.mended_keys(plan)
-        for part in (self.tables, self.rows, self.names, self.alter, self.clients, self.operator, self.faults, self.turns):
+        for part in (self.tables, self.rows, self.names, self.alter, self.clients, self.operator, self.faults, self.turns, self.not_built):
             if plan is not None:
                 plan = part(plan)
         if plan is not None:
@@ -154,7 +162,7 @@ class Explanation:
 
     def least(self, **keys):
         """The least plan, with other keys in it."""
-        return {"version": 1, "table": NAME, "alter": CLAUSE, "tables": [{"create": f"CREATE TABLE {NAME} ({COLUMN})"}], **keys}
+        return {"version": self.version, "table": NAME, "alter": CLAUSE, "tables": [{"create": f"CREATE TABLE {NAME} ({COLUMN})"}], **keys}
 
     def mended_keys(self, plan):
         """The plan with keys, types and numbers that are read; none where one can't be mended."""
@@ -229,7 +237,7 @@ class Explanation:
 
     def create_code(self, text):
         code = self.code(self.least(table=self.table, tables=[{"create": text}]))
-        return code if code is not None and 10 <= code <= 19 else None
+        return code if code is not None and (10 <= code <= 19 or code == NUMBERS_GIVEN) else None
 
     def words_code(self, text):
         """The same where words are refused."""
@@ -256,8 +264,26 @@ class Explanation:
         for item, at in pieces(text, words[opening + 1 : end]):
             items.append(self.piece(number, text, at, item, lambda part: f"CREATE TABLE {NAME} ({COLUMN}, {part}\n)", ITEM_ENDS))
         tail = self.piece(number, text, words[end].end(), tail, lambda part: f"CREATE TABLE {NAME} ({COLUMN}){part}", TAIL_ENDS)
-        create = lambda items: f"{mended} ({', '.join(items)}){tail or ''}"
-        return self.mended_table(number, create, [item for item in items if item is not None])
+        return self.mended_table(number, *self.mended_numbers(number, mended, [item for item in items if item is not None], tail or ""))
+
+    def mended_numbers(self, number, head, items, tail):
+        """What makes a table of items, and the items, with which its numbers can be given out where all else is read."""
+        create = lambda items, tail=tail: f"{head} ({', '.join(items)}){tail}"
+        if self.create_code(create(items)) != NUMBERS_GIVEN:
+            return create, items
+        if self.create_code(create(items, without_numbers(tail))) is None:
+            self.point(f"table {number}", tail.strip())
+            self.reason(NUMBERS_GIVEN, "the table option AUTO_INCREMENT is out of range: without it the table is read")
+            return lambda items: create(items, without_numbers(tail)), items
+        for at, item in [(at, item) for at, item in enumerate(items) if without_numbers(item) != item]:
+            forms = [("UNSIGNED", re.sub(r"(?i)\s+UNSIGNED\b", "", item)), ("AUTO_INCREMENT", without_numbers(item))]
+            for word, other in [it for it in forms if it[1] != item]:
+                mended = [*items[:at], other, *items[at + 1 :]]
+                if self.create_code(create(mended)) is None:
+                    self.point(f"table {number}", item)
+                    self.reason(NUMBERS_GIVEN, f"it gives out no numbers: without `{word}` the table is read")
+                    return create, mended
+        return create, items
 
     def piece(self, number, text, at, part, around, ends):
         """A part of a CREATE TABLE that is read, or none where it can't be mended. `around` makes a whole text of it."""
@@ -407,6 +433,7 @@ class Explanation:
 
     def value_code(self, column, value):
         """Whether a column alone refuses a value."""
+        column = without_numbers(column)
         create = f"CREATE TABLE {NAME} ({COLUMN}, {column}\n)"
         if self.create_code(create) is not None:
             return self.rows_refusal(f"CREATE TABLE {NAME} ({column}\n)", [f"({value})"])
@@ -601,6 +628,29 @@ class Explanation:
             self.nearest(refusal.code, words, at, forms, lambda text: self.code({**plan, "turns": text}) is None)
             words = [word for word in words if word]
         return None
+
+    def not_built(self, plan):
+        """What the program reads, but can't do yet: where the table to be migrated gives out numbers, and options of later versions."""
+        refusal = self.asking.plan(plan)
+        if refusal is None or refusal.code != NOT_BUILT:
+            return plan
+        plan = self.without_counter(plan)
+        for key, it in list(plan.get("options", {}).items()):
+            if self.code(self.least(options={key: it})) == NOT_BUILT:
+                self.point(f"options, key {key}", value(it))
+                self.reason(NOT_BUILT, "this program doesn't do it yet: without it the plan is read")
+                plan = {**plan, "options": {name: other for name, other in plan["options"].items() if name != key}}
+        return plan
+
+    def without_counter(self, plan):
+        """The plan without AUTO_INCREMENT of the table to be migrated."""
+        for at, table in enumerate(plan["tables"]):
+            plain = {**table, "create": without_numbers(table["create"])}
+            if plain != table and self.code(self.least(table=plan["table"], tables=[table])) == NOT_BUILT:
+                self.point(f"table {at + 1}", next(item for item in self.columns(table["create"]) if without_numbers(item) != item))
+                self.reason(NOT_BUILT, "the table to be migrated gives out numbers: without `AUTO_INCREMENT`, here and in the ALTER, the plan is read")
+                return {**plan, "tables": [*plan["tables"][:at], plain, *plan["tables"][at + 1 :]], "alter": without_numbers(plan["alter"])}
+        return plan
 
     def actors(self, plan):
         clients = [f"c{number}" for number in range(1, len(plan.get("clients", [])) + 1)]

@@ -27,9 +27,9 @@ def block(value):
     return '"""' + "\n".join(lines) + '"""'
 
 
-def plan(table, alter, clients, tables):
+def plan(table, alter, clients, tables, version=1):
     """A plan: `clients` are lists of lines, `tables` pairs of a CREATE TABLE and rows."""
-    parts = ["version = 1\n", f"table = {text(table)}\n", f"alter = {text(alter)}\n"]
+    parts = [f"version = {version}\n", f"table = {text(table)}\n", f"alter = {text(alter)}\n"]
     if clients:
         parts.append(f"clients = [{', '.join(block(chr(10).join(lines)) for lines in clients)}]\n")
     for create, rows in tables:

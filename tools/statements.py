@@ -306,13 +306,15 @@ class Scripts:
             word = places[at] if at < len(places) else Word("name", "")
             is_auto = auto is not None and word.name().lower() == auto
             value = value_of(words)
-            if is_auto and (value.sort in ("null", "default") or (value.sort == "number" and value.value == 0)):
+            if is_auto and table.is_counting and value.sort == "default":
+                texts.append("NULL")
+            elif is_auto and not table.is_counting and (value.sort in ("null", "default") or (value.sort == "number" and value.value == 0)):
                 texts.append(str(table.take_number()))
             else:
                 texts.append(self.literal(table, word, words))
                 if is_auto:
                     table.see_number(texts[-1])
-        if auto is not None and names and auto not in [name.name().lower() for name in names]:
+        if auto is not None and not table.is_counting and names and auto not in [name.name().lower() for name in names]:
             name = table.columns[auto].name
             names = [Word("name" if is_name_text(name) else "quoted", name if is_name_text(name) else f"`{name}`"), *names]
             if any(word.kind == "quoted" for word in names[1:]):

@@ -18,6 +18,7 @@ class Column:
         self.default = None
         self.is_nullable = True
         self.is_auto = False
+        self.auto_place = None  # of AUTO_INCREMENT, where it isn't known yet whether it stays
         self.collation = None
 
 
@@ -42,6 +43,7 @@ class Table:
         self.keys = []
         self.rows = []
         self.next_number = 1
+        self.is_counting = False  # whether the program gives out its numbers, and not the converter
         self.collation = None
 
     def create(self):
@@ -51,6 +53,17 @@ class Table:
 
     def auto_column(self):
         return next((name for name, column in self.columns.items() if column.is_auto), None)
+
+    def why_no_counter(self):
+        """Why the program lets none of the table's columns give out numbers; none where it does."""
+        column = self.columns[self.auto_column()]
+        if sum(it.is_auto for it in self.columns.values()) > 1:
+            return "two columns have it"
+        if column.kind.family != "integer" or column.kind.now.upper().startswith("BIGINT UNSIGNED"):
+            return f"a column of {column.kind.now} gives out no numbers in the program"
+        if self.clustered_key() != [self.auto_column()]:
+            return "in the program the column is the PRIMARY KEY alone"
+        return "the column has a DEFAULT" if column.default is not None else None
 
     def take_number(self):
         self.next_number += 1
@@ -74,11 +87,17 @@ class Table:
         return [key.columns for key in sorted(self.keys, key=lambda key: key.sort != "PRIMARY") if key.is_unique()]
 
 
-class Tables:
-    """Reads tables and notes what is changed. `file` names the place of each note."""
+def left_out(column):
+    return f"column {column.name}: AUTO_INCREMENT is left out: an INSERT without a number gets the next one here, as the scripts stand and not as they run"
 
-    def __init__(self, notes, file):
-        self.notes, self.file = notes, file
+
+class Tables:
+    """Reads tables and notes what is changed. `file` names the place of each note, and `migrated` the table that is altered, in
+    lower case: others keep AUTO_INCREMENT where that is known."""
+
+    def __init__(self, notes, file, migrated=None):
+        self.notes, self.file, self.migrated = notes, file, migrated
+        self.is_beside = False  # whether the table that is read is another one
 
     def place(self, words):
         return f"{self.file}:{words[0].line}" if words and not self.file.startswith("--") else self.file
@@ -120,8 +139,9 @@ class Tables:
             column.is_nullable = False
             return 2, "NOT NULL"
         if word.is_word("AUTO_INCREMENT"):
-            column.is_auto = True
-            note("AUTO_INCREMENT is left out: an INSERT without a number gets the next one here, as the scripts stand and not as they run")
+            column.is_auto, column.auto_place = True, place
+            if not self.is_beside:
+                self.notes.change(place, left_out(column))
             return 1, ""
         if word.is_word("ON"):
             note("ON UPDATE is left out: an UPDATE changes it only where it names it")
@@ -238,13 +258,28 @@ class Tables:
             self.notes.leave(self.place(words), f"{written(words[: at + 2])} .. has no columns in parentheses")
             return None
         table = Table(words[at], self.place(words))
+        self.is_beside = self.migrated not in (None, table.name.lower())
         end = closing(words, at + 1)
         items = split(words[at + 2 : end])
         texts = [self.column_item(item, table) for item in items if not self.is_constraint(item)]
         table.items = [text for text in texts if text]
         self.add_keys([item for item in items if self.is_constraint(item)], table)
+        self.keep_numbers(table)
         table.options = self.options(words[end + 1 :], table)
+        self.is_beside = False
         return table
+
+    def keep_numbers(self, table):
+        """AUTO_INCREMENT of a table beside the migrated one stays, where the program takes it."""
+        auto = table.auto_column()
+        if not self.is_beside or auto is None or table.is_counting:
+            return
+        why = table.why_no_counter()
+        if why is not None:
+            self.notes.change(table.columns[auto].auto_place, f"{left_out(table.columns[auto])}: {why}")
+            return
+        table.items[list(table.columns).index(auto)] += " AUTO_INCREMENT"
+        table.is_counting = True
 
     def after_database(self, words, at):
         """Where a table's name stands, after its database and a point where they are written."""
@@ -289,9 +324,12 @@ class Tables:
             column = table.columns.get(clause[2 if clause[1].is_word("COLUMN") else 1].name().lower())
             if column is None:
                 return False
+            self.is_beside = self.migrated not in (None, table.name.lower())
             self.attribute(column, clause, position(clause, "AUTO_INCREMENT"), self.place(clause))
+            self.keep_numbers(table)
+            self.is_beside = False
         elif clause[0].is_word("AUTO_INCREMENT"):
-            self.options(clause, table)
+            table.options += self.options(clause, table)
         else:
             return clause[0].is_word("ENABLE", "DISABLE")
         return True
@@ -325,6 +363,10 @@ class Tables:
             name = next((word.text.upper() for word in option if not word.is_word("DEFAULT")), "")
             if name == "AUTO_INCREMENT":
                 table.next_number = int(option[-1].text)
+                if table.is_counting and 0 < table.next_number < 2**63:
+                    text += f" AUTO_INCREMENT={table.next_number}"
+                    at += width
+                    continue
                 self.notes.change(self.place(option), f"{written(option)} is left out: the scripts' numbers go on from it")
             elif name in OPTIONS:
                 if name == "COLLATE":

@@ -203,6 +203,41 @@ class Files(unittest.TestCase):
         first = "INSERT INTO t (id, a) VALUES (5, 1)\nINSERT INTO t VALUES (20, 1)\nINSERT INTO t VALUES (21, 1)\n"
         self.assertEqual(plan["clients"], [first, "INSERT INTO t (id, a) VALUES (22, 1)\n"])
 
+    def test_numbers_of_tables_beside(self):
+        """AUTO_INCREMENT stays where a table isn't the altered one, and its INSERTs ask for numbers as they did."""
+        notes = "CREATE TABLE notes (id INT UNSIGNED NOT NULL AUTO_INCREMENT, a INT, PRIMARY KEY (id)) ENGINE=InnoDB AUTO_INCREMENT=7"
+        text = f"CREATE TABLE t (id INT AUTO_INCREMENT PRIMARY KEY, a INT) AUTO_INCREMENT=4; {notes}; INSERT INTO notes VALUES (6, 1)"
+        self.write("c", "INSERT INTO t (a) VALUES (1); INSERT INTO notes (a) VALUES (1); INSERT INTO notes VALUES (0, 2); REPLACE INTO notes SET a = 3, id = DEFAULT")
+        plan, said = self.convert(text, "--alter", "ALTER TABLE t ADD b INT", "--client", "c")
+        self.assertEqual(plan["version"], 2)
+        self.assertEqual([table["create"].split("\n")[1] for table in plan["tables"]], ["  id INT PRIMARY KEY,", "  id INT UNSIGNED NOT NULL AUTO_INCREMENT,"])
+        self.assertEqual([table["create"].strip().split("\n")[-1] for table in plan["tables"]], [")", ") ENGINE=InnoDB AUTO_INCREMENT=7"])
+        lines = "INSERT INTO t (id, a) VALUES (4, 1)\nINSERT INTO notes (a) VALUES (1)\nINSERT INTO notes VALUES (0, 2)\nREPLACE INTO notes (a, id) VALUES (3, NULL)\n"
+        self.assertEqual(plan["clients"], [lines])
+        first, second, third, _ = said.split("\n", 3)
+        self.assertEqual(first, "1: column id: AUTO_INCREMENT is left out: an INSERT without a number gets the next one here, as the scripts stand and not as they run")
+        self.assertEqual((second, third), ("1: AUTO_INCREMENT=4 is left out: the scripts' numbers go on from it", "c:1: INSERT .. SET as INSERT .. VALUES"))
+        plan, _ = self.convert(text, "--table", "NOTES", "--alter", "ADD b INT")
+        self.assertEqual([" AUTO_INCREMENT" in table["create"] for table in plan["tables"]], [True, False])
+
+    def test_numbers_behind_the_tables(self):
+        """The same where keys and numbers are added behind all tables, as phpMyAdmin prints them."""
+        behind = "ALTER TABLE u ADD PRIMARY KEY (id); ALTER TABLE u MODIFY id INT NOT NULL AUTO_INCREMENT, AUTO_INCREMENT=40"
+        plan, said = self.convert(f"CREATE TABLE t (id INT PRIMARY KEY); CREATE TABLE u (id INT NOT NULL); {behind}", "--table", "t", "--alter", "ADD b INT")
+        self.assertEqual((plan["version"], plan["tables"][1]["create"]), (2, "CREATE TABLE u (\n  id INT NOT NULL AUTO_INCREMENT,\n  PRIMARY KEY (id)\n) AUTO_INCREMENT=40\n"))
+        self.assertEqual(said, " 0 changes\n")
+
+    def test_numbers_that_the_program_does_not_give_out(self):
+        for columns, why in (
+            ("id BIGINT UNSIGNED AUTO_INCREMENT PRIMARY KEY", "a column of BIGINT UNSIGNED gives out no numbers in the program"),
+            ("id INT AUTO_INCREMENT, a INT NOT NULL, PRIMARY KEY (id, a)", "in the program the column is the PRIMARY KEY alone"),
+            ("a INT PRIMARY KEY, id INT AUTO_INCREMENT UNIQUE", "in the program the column is the PRIMARY KEY alone"),
+        ):
+            self.write("c", "INSERT INTO u (a) VALUES (5)")
+            plan, said = self.convert(f"CREATE TABLE t (id INT PRIMARY KEY); CREATE TABLE u ({columns}) AUTO_INCREMENT=3", "--table", "t", "--alter", "ADD b INT", "--client", "c")
+            self.assertEqual((plan["version"], plan["clients"]), (1, ["INSERT INTO u (id, a) VALUES (3, 5)\n"]))
+            self.assertIn(f"1: column id: AUTO_INCREMENT is left out: an INSERT without a number gets the next one here, as the scripts stand and not as they run: {why}\n", said)
+
     def test_alter_of_which_nothing_is_left(self):
         plan, notes = self.convert("CREATE TABLE t (id INT NOT NULL COMMENT 'a', PRIMARY KEY (id))", "--alter", "ENGINE=InnoDB")
         self.assertEqual(plan["alter"], "MODIFY COLUMN `id` INT NOT NULL COMMENT 'a'")

@@ -9,6 +9,7 @@ import re
 import subprocess
 import sys
 import tempfile
+import tomllib
 import unittest
 
 HERE = pathlib.Path(__file__).resolve().parent
@@ -126,6 +127,39 @@ class Script(unittest.TestCase):
         status, out, _ = self.call("--program", "PROGRAM", program="echo refused 51 unknown_key; exit 2", plan=b"x = ")
         self.assertEqual((status, out.split("\n")[0]), (2, "refused 51 unknown_key"))
         self.assertIn("this script can't read the plan: ", out)
+
+
+class Numbers(unittest.TestCase):
+    """AUTO_INCREMENT in plans of version 2, with a program that knows nothing else: a table `t` that has it isn't migrated yet, and
+    another one is refused where it has no PRIMARY KEY, or begins at 0."""
+
+    def answer(self, data):
+        plan = tomllib.loads(data.decode())
+        if plan["version"] != 2:
+            return "refused 54 out_of_range\n"
+        for number, table in enumerate(plan["tables"], 1):
+            if "AUTO_INCREMENT" in table["create"] and ("PRIMARY KEY" not in table["create"] or "AUTO_INCREMENT=0" in table["create"]):
+                return f"refused 32 auto_column table {number}\n"
+        migrated = next((it["create"] for it in plan["tables"] if f"TABLE {plan['table']} " in it["create"]), "")
+        return "refused 60 not_built\n" if "AUTO_INCREMENT" in migrated or "notes" in plan.get("options", {}) else ""
+
+    def explained(self, *creates, **keys):
+        plan = {"version": 2, "table": "t", "alter": "ADD b INT", "tables": [{"create": create} for create in creates], **keys}
+        return explained(Asking(self.answer), toml(plan).encode()).split("\n")[:-1]
+
+    def test_numbers(self):
+        small, beside = "CREATE TABLE t (id INT PRIMARY KEY)", "CREATE TABLE u (id INT AUTO_INCREMENT PRIMARY KEY)"
+        self.assertEqual(self.explained(small, beside), ["the plan isn't refused"])
+        lines = ["refused 32 auto_column table 2", "table 2: a INT AUTO_INCREMENT", "    32: it gives out no numbers: without `AUTO_INCREMENT` the table is read"]
+        self.assertEqual(self.explained(small, "CREATE TABLE u (a INT AUTO_INCREMENT)"), lines)
+        lines = ["refused 32 auto_column table 2", "table 2: AUTO_INCREMENT=0", "    32: the table option AUTO_INCREMENT is out of range: without it the table is read"]
+        self.assertEqual(self.explained(small, f"{beside} AUTO_INCREMENT=0"), lines)
+
+    def test_what_is_not_built(self):
+        lines = ["refused 60 not_built", "table 1: id INT AUTO_INCREMENT PRIMARY KEY"]
+        lines += ["    60: the table to be migrated gives out numbers: without `AUTO_INCREMENT`, here and in the ALTER, the plan is read"]
+        lines += ["options, key notes: 3", "    60: this program doesn't do it yet: without it the plan is read"]
+        self.assertEqual(self.explained("CREATE TABLE t (id INT AUTO_INCREMENT PRIMARY KEY) AUTO_INCREMENT=9", options={"notes": 3}), lines)
 
 
 class Searching(unittest.TestCase):

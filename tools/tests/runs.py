@@ -93,6 +93,21 @@ class Looked(unittest.TestCase):
         _, printed, _ = run("stats", given=plan + b"#journal\n" + text.encode() + b"unfinished\ntables t\n")
         self.assertRegex(printed, r"(?m)^setups that were begun again +2$")
 
+    def test_numbers(self):
+        """A plan of version 2, whose client draws a number of a table beside the migrated one; also where its answer tells the number."""
+        plan = trace("beside").replace(b"version = 1", b"version = 2").replace(b"DELETE FROM t WHERE id = 1", b"INSERT INTO u (v) VALUES (1)")
+        plan = plan.replace(b"\n#journal", b"\n[[tables]]\ncreate = 'CREATE TABLE u (id INT AUTO_INCREMENT PRIMARY KEY, v INT)'\n\n#journal")
+        for number in (b"", b" id 7"):
+            given = plan.replace(b"\n12 c1 poll ok 1\n", b"\n12 c1 poll ok 1" + number + b"\n")
+            status, printed, told = run("timeline", "--table", "--from", "12", "--to", "12", given=given)
+            self.assertEqual((status, printed.split(), told), (0, ["12", "c1", *"INSERT INTO u (v) VALUES (1) ok 1".split(), *number.decode().split()], ""))
+            self.assertIn(" ok 1" + number.decode(), run("timeline", given=given)[1])
+            status, printed, _ = run("stats", given=given)
+            self.assertEqual(status, 0)
+            self.assertRegex(printed, r"(?m)^clients' waits +1$")
+            # (the event is none of the migrated table)
+            self.assertRegex(printed, r"(?m)^most events behind +1$")
+
     def test_no_turns(self):
         plan, _, _ = trace("beside").partition(b"#journal\n")
         for words in ([], ["--table"], ["--overview"]):

@@ -1,4 +1,5 @@
 -- A refusal changes neither tables nor the log, nor what its session wrote.
+use Rattle.server_model.specs.Drawing.{filled}
 use Rattle.std.proofs.Common.{◌≡◌, ℕ, ◌==◌, Bool, true, false, cond, List, [], ◌∷◌, ◌++◌, Option, Some, None, refl, sym, ap, ◌∙◌, subst}
 use Rattle.std.specs.Prelude.{Result, Ok, Err, map}
 use Rattle.std.specs.List.{list_any}
@@ -29,7 +30,7 @@ use Rattle.server_model.specs.Rows.{rows_met}
 use Rattle.server_model.specs.Chunks.{span_keys}
 use Rattle.server_model.specs.Effects.{Effect, Rests, Grows, Writes, Forgets, Moves, Locks, Unlocks, begins, defined, locks_if, result_effect, is_outside, effect_unless, effect_within}
 use Rattle.server_model.specs.Operations.{Operation, result_in, operation_result, operation_of, statement_result, after_events, copy_operation, events_of}
-use Rattle.server_model.specs.PlainServer.{holding, at_rest, does, done, without_waiting, called_unless, calls, is_over, polled_over, polled_unless, polled_of, polls, serves}
+use Rattle.server_model.specs.PlainServer.{holding, at_rest, does, done, did, without_waiting, called_unless, calls, is_over, polled_over, polled_unless, polled_of, polls, serves}
 use Rattle.server_model.specs.States.{State, session_of, with_session, is_in_transaction, writes_of, view, waiting_of}
 use Rattle.server_model.specs.StatementResults.{TableResult, only, tells, updated, updates, result_or_refusal, selected}
 use Rattle.law_journals.specs.Refusals.{IsUnchanged, RefusalsChangeNothing}
@@ -160,13 +161,16 @@ module _ (state : State) (number : ℕ) (outside : is_in_transaction (session_of
   within_unchanged busy is seen requests.ShowTables refused = same
   within_unchanged busy is seen requests.ShowWaiting refused = same
 
-  done_unchanged : (request : Request) → IsRefused (done state number request).answer → Unchanged (done state number request).after
-  unfolding done
-  done_unchanged request refused = by (is_outside (session_of number state.sessions) request) refused where
+  did_unchanged : (request : Request) → IsRefused (did state number request).answer → Unchanged (did state number request).after
+  unfolding did
+  did_unchanged request refused = by (is_outside (session_of number state.sessions) request) refused where
     by : (b : Bool) → IsRefused (does (effect_unless b (is_in_transaction (session_of number state.sessions)) (view number state) state request) state number).answer
         → Unchanged (does (effect_unless b (is_in_transaction (session_of number state.sessions)) (view number state) state request) state number).after
     by true refused = same
     by false refused = within_unchanged (is_in_transaction (session_of number state.sessions)) refl (view number state) request refused
+
+  done_unchanged : (request : Request) → IsRefused (done state number request).answer → Unchanged (done state number request).after
+  done_unchanged request refused = did_unchanged (filled state number request) refused
 
 -- A CALL, AND A POLL
 

@@ -1,5 +1,6 @@
 //! What holds of every journal: its history is serial. What holds of all journals.
 
+ghost use Rattle.proof_journals.specs.Rising.{NumbersRise};
 ghost use Rattle.proof_journals.specs.Laws.{ScenesAreSerial, PlainScenesAreSerial, PlanRunsAreSceneRuns, JournalsAreSerial, TurnsHaveJournals, ExchangeAlters};
 
 /// What ended in a run of a scene leads, one transaction or ALTER at a time, from the clients' tables at the start and an empty log to those at its end and to what was committed; and each open transaction has the replies that it has alone. No plan is needed for that.
@@ -30,4 +31,9 @@ pub fn plan_runs_are_scene_runs()
 /// The journal of each run of a plan is serial.
 pub fn journals_are_serial()
     ensures { JournalsAreSerial }
+{}
+
+/// The numbers that are drawn from tables of one name rise, turn by turn.
+pub fn numbers_rise()
+    ensures { NumbersRise }
 {}

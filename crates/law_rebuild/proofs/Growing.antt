@@ -9,10 +9,11 @@ use Rattle.server_model.specs.declared.entry.Entry.{Entry}
 use Rattle.server_model.specs.declared.request.Request.{Request}
 use Rattle.server_model.specs.declared.session.Waiting.{Waiting}
 use Rattle.server_model.specs.Blockers.{blocker, need}
+use Rattle.server_model.specs.Drawing.{filled}
 use Rattle.server_model.specs.Effects.{Effect, effect}
 use Rattle.server_model.specs.Effects.Effect.{Rests, Grows, Writes, Forgets, Moves, Locks, Unlocks}
 use Rattle.server_model.specs.Entries.{is_client, is_command}
-use Rattle.server_model.specs.PlainServer.{Served, called_unless, calls, does, done, is_over, leaves, loses, polled_of, polled_over, polled_unless, polls, serves, without_waiting}
+use Rattle.server_model.specs.PlainServer.{Served, called_unless, calls, did, does, done, is_over, leaves, loses, polled_of, polled_over, polled_unless, polls, serves, without_waiting}
 use Rattle.server_model.specs.States.{State, session_of, waiting_of, writes_of}
 use Rattle.plan_data.specs.PlanData.{PlanData}
 use Rattle.tool_program.specs.JournalWords.Journals.{after_entry, opening, opens, state_after}
@@ -43,8 +44,8 @@ does_more (Locks answer names) state number = same_log state.log
 does_more (Unlocks answer) state number = same_log state.log
 
 done_more : (state : State) (number : ℕ) (request : Request) → Longer state.log (done state number request).after.log
-unfolding done
-done_more state number request = does_more (effect state number request) state number
+unfolding did
+done_more state number request = does_more (effect state number (filled state number request)) state number
 
 calls_more : (state : State) (number : ℕ) (request : Request) → Longer state.log (calls state number request).after.log
 unfolding calls

@@ -1,2 +1,4 @@
+pub mod Numerals
 pub mod TurnOrders
 pub mod Workloads
+pub mod PrintedTraces

@@ -1,2 +1,3 @@
 pub mod TurnOrders
 pub mod Workloads
+pub mod PrintedTraces

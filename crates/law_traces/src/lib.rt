@@ -5,7 +5,10 @@ ghost use Rattle.law_traces.specs.Laws.{TracesAreAudited};
 ghost use Rattle.proof_audit.specs.AuditedTraces.{AuditsNameTheFirst, AuditsSayYes, LinesDecideTables};
 ghost use Rattle.proof_audit.specs.Laws.{LinesTellClients, LinesTellSessions};
 
+use law_journals::cut_over::renames_come_once;
+use law_journals::marked::marked_journals_are_runs;
 use law_journals::plans::{read_plans_are_runnable, read_plans_are_serial, read_plans_are_worded};
+use law_journals::reverts::renames_find_the_altered;
 use law_journals::runs::{accepted_runs_are_serial, accepted_runs_go_on};
 
 /// The lines of a run's trace tell how far each client is, and which actors have a session.
@@ -37,6 +40,9 @@ pub fn traces_are_audited()
 {
     accepted_runs_are_serial();
     accepted_runs_go_on();
+    marked_journals_are_runs();
+    renames_find_the_altered();
+    renames_come_once();
     read_plans_are_runnable();
     read_plans_are_serial();
     read_plans_are_worded();

@@ -1,9 +1,10 @@
 -- Which keys a plan has, and which it has to have. This project's rule. Inside a value of another type than it has to be
 -- no key is looked at.
-use Rattle.std.specs.Prelude.{codes, ℕ, Bool, true, ◌&&◌, ◌||◌, is_some, List, Option, Some, None}
+use Rattle.std.specs.Prelude.{codes, ℕ, pos, ℤ, Bool, true, false, not, ◌&&◌, ◌||◌, is_some, List, Option, Some, None}
 use Rattle.std.specs.Option.{option_and_then}
+use Rattle.std.specs.Ordering.{int_eq}
 use Rattle.std.specs.Str.{bytes_eq}
-use Rattle.toml.specs.Data.{Data, Items, Members, get_member, as_array, as_table}
+use Rattle.toml.specs.Data.{Data, Items, Members, get_member, as_integer, as_array, as_table}
 use Rattle.plan_keys.specs.Walks.{all_keys, all_items}
 
 -- the keys of a plan
@@ -31,8 +32,24 @@ is_truth_key key =
     || bytes_eq key (codes "show_history") || bytes_eq key (codes "show_turns") || bytes_eq key (codes "show_tables")
     || bytes_eq key (codes "show_replies")
 
-abbrev pub is_option_key : List ℕ → Bool
-is_option_key key = is_number_key key || is_truth_key key
+-- those that version 2 has besides
+unfoldable pub is_later_key : List ℕ → Bool
+is_later_key key =
+    bytes_eq key (codes "notes") || bytes_eq key (codes "note_every") || bytes_eq key (codes "replica_step")
+    || bytes_eq key (codes "replica_pause") || bytes_eq key (codes "max_lag") || bytes_eq key (codes "resume")
+
+-- the keys of the options of a plan, where `first` tells of version 1
+abbrev pub is_option_key : Bool → List ℕ → Bool
+is_option_key first key = is_number_key key || is_truth_key key || (not first && is_later_key key)
+
+-- the number 1
+abbrev pub is_one : Option ℤ → Bool
+is_one (Some number) = int_eq number (pos 1)
+is_one None = false
+
+-- the document says that it is of version 1
+unfoldable pub is_first_version : Members → Bool
+is_first_version members = is_one (option_and_then as_integer (get_member (codes "version") members))
 
 -- each key of a table passes the test, where there is a table
 abbrev pub all_pass : (List ℕ → Bool) → Option Members → Bool
@@ -51,12 +68,16 @@ array_at key members = option_and_then as_array (get_member key members)
 abbrev pub table_at : List ℕ → Members → Option Members
 table_at key members = option_and_then as_table (get_member key members)
 
--- Each key is one of a plan: at the top, in each of the tables, and in the options.
+-- Each key is one of a plan of its version: at the top, in each of the tables, and in the options.
 abbrev pub knows_keys : Members → Bool
 knows_keys members =
     all_keys is_plan_key members
     && all_items_pass (λ value. all_pass is_table_key (as_table value)) (array_at (codes "tables") members)
-    && all_pass is_option_key (table_at (codes "options") members)
+    && all_pass (is_option_key (is_first_version members)) (table_at (codes "options") members)
+
+-- an option of version 2 is there, which isn't built yet
+abbrev pub has_later_key : Members → Bool
+has_later_key members = not (all_pass (λ key. not (is_later_key key)) (table_at (codes "options") members))
 
 -- the table has the key
 abbrev pub has_key : List ℕ → Members → Bool

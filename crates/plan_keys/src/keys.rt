@@ -8,7 +8,7 @@ ghost use Rattle.base_values.specs.Faults.{Answers};
 
 use crate::documents::{member_at, needed_number, table_or_none};
 use crate::fault::{KeyFault, KeyRefusal};
-use crate::known::{has_needed_keys, knows_keys};
+use crate::known::{has_later_key, has_needed_keys, knows_keys};
 use crate::limits::has_too_many;
 use crate::options::{NumberKeys, TruthKeys, numbers_in, options_within, truths_in, within};
 use crate::texts::{PlanTexts, texts_of};
@@ -19,10 +19,14 @@ use toml::Table;
 /// What the keys of a plan say.
 #[derive(Drop)]
 pub struct PlanKeys<'a> {
+    /// The plan's version, 1 or 2.
+    pub version: u32,
     /// What the other keys say, still as texts: schemas, rows, scripts and orders.
     pub texts: PlanTexts<'a>,
     /// The options, within their ranges.
     pub options: Options,
+    /// Whether it has options of version 2 that aren't built yet.
+    pub later: bool,
 }
 
 /// What is at the keys, each value of its type.
@@ -36,6 +40,8 @@ pub struct TypedKeys<'a> {
     pub numbers: NumberKeys,
     /// The options that are true or false.
     pub truths: TruthKeys,
+    /// Whether there are options of version 2 that aren't built yet.
+    pub later: bool,
 }
 
 #[tactic(auto, unfolding(crate::specs::PlanKeys::typed_of))]
@@ -52,6 +58,7 @@ fn typed_of<'a>(alloc: Global, document: &'a Table) -> Result<TypedKeys<'a>, Key
         texts,
         numbers,
         truths,
+        later: has_later_key(document),
     })
 }
 
@@ -59,11 +66,13 @@ fn typed_of<'a>(alloc: Global, document: &'a Table) -> Result<TypedKeys<'a>, Key
 fn in_range(keys: TypedKeys<'_>) -> Result<PlanKeys<'_>, KeyFault>
     ensures { Answers key_data result (in_range (typed_data keys.entry)) }
 {
-    let _ = within(1, 1, keys.version)?;
+    let version = within(1, 2, keys.version)?;
     let options = options_within(keys.numbers, keys.truths)?;
     Ok(PlanKeys {
+        version,
         texts: keys.texts,
         options,
+        later: keys.later,
     })
 }
 

@@ -1,10 +1,10 @@
 //! Which keys a plan has, and which it has to have.
 
-ghost use Rattle.std.specs.Prelude.{◌≡◌, is_some, option_map};
+ghost use Rattle.std.specs.Prelude.{◌≡◌, not, is_some, option_map};
 ghost use Rattle.std.specs.Str.{bytes_eq};
 ghost use Rattle.toml.specs.Data.{as_array, as_table};
 ghost use Rattle.toml.specs.View.{view, table_view, items_view};
-ghost use Rattle.plan_keys.specs.Known.{is_plan_key, is_table_key, is_number_key, is_truth_key, is_option_key, all_pass, all_items_pass, array_at, table_at, knows_keys, has_key, has_create, has_needed_keys};
+ghost use Rattle.plan_keys.specs.Known.{is_plan_key, is_table_key, is_number_key, is_truth_key, is_later_key, is_option_key, is_one, is_first_version, has_later_key, all_pass, all_items_pass, array_at, table_at, knows_keys, has_key, has_create, has_needed_keys};
 ghost use Rattle.plan_keys.specs.Walks.{all_keys, all_items};
 
 use crate::documents::member_at;
@@ -68,10 +68,36 @@ fn is_truth_key(key: &[u8]) -> bool
         || is_word(key, "show_replies")
 }
 
-fn is_option_key(key: &[u8]) -> bool
-    ensures { result ≡ is_option_key key.now }
+#[tactic(auto, unfolding(crate::specs::Known::is_later_key))]
+fn is_later_key(key: &[u8]) -> bool
+    ensures { result ≡ is_later_key key.now }
 {
-    is_number_key(key) || is_truth_key(key)
+    is_word(key, "notes")
+        || is_word(key, "note_every")
+        || is_word(key, "replica_step")
+        || is_word(key, "replica_pause")
+        || is_word(key, "max_lag")
+        || is_word(key, "resume")
+}
+
+fn is_option_key(first: bool, key: &[u8]) -> bool
+    ensures { result ≡ is_option_key first key.now }
+{
+    is_number_key(key) || is_truth_key(key) || (!first && is_later_key(key))
+}
+
+/// Whether the document says that it is of version 1, which has fewer options than version 2.
+#[tactic(auto, unfolding(crate::specs::Known::is_first_version))]
+fn is_first_version(document: &Table) -> bool
+    ensures { result ≡ is_first_version (table_view document.now) }
+{
+    match member_at(document, "version") {
+        None => false,
+        Some(value) => match value.as_integer() {
+            None => false,
+            Some(number) => number == 1,
+        },
+    }
 }
 
 fn knows_plan_keys(table: &Table) -> bool
@@ -89,13 +115,29 @@ fn knows_table_keys(table: Option<&Table>) -> bool
     }
 }
 
-fn knows_option_keys(table: Option<&Table>) -> bool
-    ensures { result ≡ all_pass is_option_key (option_map (λ table. table_view table.now) table.entry) }
+fn knows_option_keys(first: bool, table: Option<&Table>) -> bool
+    ensures { result ≡ all_pass (is_option_key first) (option_map (λ table. table_view table.now) table.entry) }
 {
     match table {
         None => true,
-        Some(table) => table.keys().all(|key| is_option_key(key.as_bytes())),
+        Some(table) => table.keys().all(|key| is_option_key(first, key.as_bytes())),
     }
+}
+
+fn has_no_later_key(table: Option<&Table>) -> bool
+    ensures { result ≡ all_pass (λ key. not (is_later_key key)) (option_map (λ table. table_view table.now) table.entry) }
+{
+    match table {
+        None => true,
+        Some(table) => table.keys().all(|key| !is_later_key(key.as_bytes())),
+    }
+}
+
+/// Whether an option of version 2 is there, which isn't built yet.
+pub fn has_later_key(document: &Table) -> bool
+    ensures { result ≡ has_later_key (table_view document.now) }
+{
+    !has_no_later_key(table_at(document, "options"))
 }
 
 fn knows_items_keys(items: &[Value]) -> bool
@@ -136,13 +178,13 @@ fn knows_tables_keys(items: Option<&[Value]>) -> bool
     }
 }
 
-/// Whether each key is one of a plan.
+/// Whether each key is one of a plan of its version.
 pub fn knows_keys(document: &Table) -> bool
     ensures { result ≡ knows_keys (table_view document.now) }
 {
     knows_plan_keys(document)
         && knows_tables_keys(array_at(document, "tables"))
-        && knows_option_keys(table_at(document, "options"))
+        && knows_option_keys(is_first_version(document), table_at(document, "options"))
 }
 
 fn has_key(table: &Table, key: &str) -> bool

@@ -43,7 +43,7 @@ there_was refusal None table is = absurd (cc)
 
 -- what an opening says, part by part
 pub record IsOpening (keys : KeyData) (opening : OpeningData) : Type 0 where
-  pub tables : tables_of keys.texts.table keys.texts.tables ≡ Ok opening.tables
+  pub tables : tables_of keys.version keys.texts.table keys.texts.tables ≡ Ok opening.tables
   pub table : TableRows
   pub found : find_table keys.texts.table opening.tables ≡ Some table
   pub alters : altered keys.options.approve_renamed_columns table.schema opening.alter ≡ Ok opening.new
@@ -51,15 +51,15 @@ pub record IsOpening (keys : KeyData) (opening : OpeningData) : Type 0 where
 pub opening_is : (keys : KeyData) (opening : OpeningData) → opening_of keys ≡ Ok opening → IsOpening keys opening
 unfolding opening_of
 opening_is keys opening is =
-    let tables = bind_ok (of_tables (tables_of keys.texts.table keys.texts.tables)) _ opening is in
+    let tables = bind_ok (of_tables (tables_of keys.version keys.texts.table keys.texts.tables)) _ opening is in
     let table = bind_ok (migrated_in keys.texts.table tables.0) _ opening tables.2 in
     let allowed = bind_ok (without_leftovers keys.texts.table keys.options tables.0) _ opening table.2 in
-    let clauses = bind_ok (of_alter (alter_at keys.texts.table keys.texts.alter)) _ opening allowed.2 in
+    let clauses = bind_ok (of_alter (alter_at keys.version keys.texts.table keys.texts.alter)) _ opening allowed.2 in
     let new = bind_ok (of_alter (altered keys.options.approve_renamed_columns table.0.schema clauses.0)) (λ new. Ok (record { tables = allowed.0; alter = clauses.0; new = new })) opening clauses.2 in
     let parts = kept_out _ tables.0 allowed.0 Leftover allowed.1 in
     let made : OpeningData = record { tables = allowed.0; alter = clauses.0; new = new.0 } in
     let known : IsOpening keys made = record {
-      tables = tables_were (tables_of keys.texts.table keys.texts.tables) tables.0 tables.1 ∙ ap (λ (t : Database). Ok t) parts.1;
+      tables = tables_were (tables_of keys.version keys.texts.table keys.texts.tables) tables.0 tables.1 ∙ ap (λ (t : Database). Ok t) parts.1;
       table = table.0;
       found = subst (λ (t : Database). find_table keys.texts.table t ≡ Some table.0) parts.1 (there_was NoTable (find_table keys.texts.table tables.0) table.0 table.1);
       alters = alter_was (altered keys.options.approve_renamed_columns table.0.schema clauses.0) new.0 new.1;

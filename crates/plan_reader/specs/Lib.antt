@@ -1,3 +1,4 @@
+pub mod Built
 pub mod Clients
 pub mod Openings
 pub mod Orders

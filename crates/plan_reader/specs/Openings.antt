@@ -53,10 +53,10 @@ migrated_in migrated tables = or_refused NoTable (find_table migrated tables)
 -- the ALTER, then what it would make of the table.
 unfoldable pub opening_of : KeyData → Result OpeningData PlanRefusal
 opening_of keys = do
-  tables ← of_tables (tables_of keys.texts.table keys.texts.tables)
+  tables ← of_tables (tables_of keys.version keys.texts.table keys.texts.tables)
   table ← migrated_in keys.texts.table tables
   tables ← without_leftovers keys.texts.table keys.options tables
-  clauses ← of_alter (alter_at keys.texts.table keys.texts.alter)
+  clauses ← of_alter (alter_at keys.version keys.texts.table keys.texts.alter)
   new ← of_alter (altered keys.options.approve_renamed_columns table.schema clauses)
   Ok (record { tables = tables; alter = clauses; new = new })
 

@@ -49,7 +49,7 @@ pub enum PlanRefusal {
     NotToml,
     /// 51 to 55: a key, its type, its range, or how many of something there are.
     Keys(KeyRefusal),
-    /// 10 to 19 and 58: a table's text or one of its rows.
+    /// 10 to 19, 32 and 58: a table's text or one of its rows.
     Tables(TableRefusal),
     /// 56: no table has the name of the one to migrate.
     NoTable,
@@ -75,6 +75,8 @@ pub enum PlanRefusal {
     },
     /// 56: a word of the order of turns.
     Turn(TurnRefusal),
+    /// 60: the plan asks for what this program doesn't do yet.
+    NotBuilt,
 }
 
 fn table_place(refusal: TableRefusal) -> Place
@@ -115,6 +117,7 @@ impl PlanRefusal {
             PlanRefusal::Operator(refusal) => refusal.code(),
             PlanRefusal::Fault { refusal, .. } => refusal.code(),
             PlanRefusal::Turn(_) => (56, "unknown_name"),
+            PlanRefusal::NotBuilt => (60, "not_built"),
         }
     }
 
@@ -137,6 +140,7 @@ impl PlanRefusal {
             PlanRefusal::Operator(refusal) => operator_place(refusal),
             PlanRefusal::Fault { fault, .. } => Place::Fault(fault),
             PlanRefusal::Turn(refusal) => Place::TurnWord(refusal.word),
+            PlanRefusal::NotBuilt => Place::Nowhere,
         }
     }
 }

@@ -42,10 +42,15 @@ pub struct Opening {
 /// The tables, with their rows.
 fn tables_of(alloc: Global, keys: &PlanKeys<'_>) -> Result<Tables, PlanFault>
     requires { ReadSchemasAreValid }
-    ensures tables { Answers database result (of_tables (tables_of keys.now.texts.table.now (map table_data keys.now.texts.tables.items))) }
+    ensures tables { Answers database result (of_tables (tables_of keys.now.version keys.now.texts.table.now (map table_data keys.now.texts.tables.items))) }
     ensures sound { IfOk result (λ tables. AllByRecursion IsSound (database tables)) }
 {
-    let tables = read_tables(alloc, keys.texts.table, keys.texts.tables.as_slice());
+    let tables = read_tables(
+        alloc,
+        keys.version,
+        keys.texts.table,
+        keys.texts.tables.as_slice(),
+    );
     because(tables, PlanRefusal::Tables)
 }
 
@@ -116,10 +121,18 @@ fn without_leftovers(
 }
 
 /// The clauses of the ALTER.
-fn clauses_of(alloc: Global, migrated: &Name, text: &str) -> Result<Clauses, PlanFault>
-    ensures { Answers (λ clauses. clauses) result (of_alter (alter_at migrated.now text.now)) }
+fn clauses_of(
+    alloc: Global,
+    version: u32,
+    migrated: &Name,
+    text: &str,
+) -> Result<Clauses, PlanFault>
+    ensures { Answers (λ clauses. clauses) result (of_alter (alter_at version migrated.now text.now)) }
 {
-    because(read_alter(alloc, text, migrated), PlanRefusal::Alter)
+    because(
+        read_alter(alloc, text, migrated, version),
+        PlanRefusal::Alter,
+    )
 }
 
 /// What the clauses make of a schema.
@@ -148,7 +161,7 @@ pub fn opening_of(alloc: Global, migrated: &Name, keys: &PlanKeys<'_>) -> Result
     let tables = tables_of(alloc, keys)?;
     let table = migrated_in(migrated, &tables)?;
     without_leftovers(alloc, migrated, keys.options, &tables)?;
-    let alter = clauses_of(alloc, migrated, keys.texts.alter)?;
+    let alter = clauses_of(alloc, keys.version, migrated, keys.texts.alter)?;
     let new = altered_of(alloc, keys.options, table.schema(), &alter)?;
     Ok(Opening { tables, alter, new })
 }

@@ -1,6 +1,6 @@
 -- The trace of a run that is kept is audited yes.
 use Rattle.std.proofs.Common.{◌≡◌, ◌≢◌, ℕ, ◌+◌, ◌-◌, ◌≤◌, ◌==◌, ◌&&◌, ◌||◌, Bool, true, false, not, cond, List, [], ◌∷◌, ◌++◌, length, take, drop, map, Option, Some, None, refl, sym, ap, ◌∙◌, subst, append_assoc, arith, suc}
-use Rattle.std.specs.Prelude.{count_by}
+use Rattle.std.specs.Prelude.{count_by, is_some}
 use Rattle.std.specs.List.{list_any, slice_get}
 use Rattle.std.proofs.lemmas.Bool.Decides.{nat_tests}
 use Rattle.std.proofs.lemmas.List.{map-append}
@@ -8,6 +8,7 @@ use Rattle.std.proofs.lemmas.List.Folds.{list_any-append}
 use Rattle.std.proofs.lemmas.List.Sums.{sum_by-append, sum_by-cons}
 use Rattle.base_script.specs.declared.actor.Actor.{Actor}
 use Rattle.base_script.specs.declared.actor.Actor.TheVariants.{Op, Insp, Copy, Apply, Lock, Ren, Client}
+use Rattle.table_store.specs.Databases.{Database}
 use Rattle.server_model.specs.declared.request.Request.{Request}
 use Rattle.server_model.specs.declared.answer.Answer.{Answer}
 use Rattle.server_model.specs.declared.answer.Answer.TheVariants as answers
@@ -20,6 +21,7 @@ use Rattle.server_model.specs.Along.{Along, Along-keeps, gathered, gathered-more
 use Rattle.server_model.specs.Entries.{is_client}
 use Rattle.plan_data.specs.PlanData.{PlanData}
 use Rattle.tool_program.specs.Failures.{Stands}
+use Rattle.tool_program.specs.JournalWords.Clients.{Reached}
 use Rattle.tool_program.specs.JournalWords.Histories.{HistoryItem, Txn, Alter, about, adds, alters, entry_adds, history, is_alter, renames_away, answer_in}
 use Rattle.tool_program.specs.JournalWords.Journals.{state_at}
 use Rattle.tool_program.specs.JournalWords.Serials.{tables_left}
@@ -30,19 +32,21 @@ use Rattle.proof_journals.specs.Run.Kept.{IsKept}
 use Rattle.proof_journals.proofs.Ghost.Turns.{along_next}
 use Rattle.run_audit.specs.declared.trace.Audit.TheVariants as audits
 use Rattle.run_audit.specs.declared.line.TraceLine.{TraceLine}
-use Rattle.run_audit.specs.Audits.{Altered, audited, cause_holds, first_no, first_other, item_of, judged, judged_in, least, opening_tables, tables_reached, unended, verdict_holds, wrong_turns}
-use Rattle.run_audit.specs.Lines.{line_of, lines_of, printed_table, trace_of}
-use Rattle.run_audit.specs.Rules.{alter_turns, alters_in, breaks, broken_turns, has_altered, is_within, keeps_losses, keeps_script, next_turn, turn_if}
+use Rattle.run_audit.specs.Audits.{Altered, audited, cause_holds, first_draws, first_no, first_other, item_of, judged, judged_in, least, may_draw, misdrawn_turns, misdraws, opening_tables, tables_reached, unended, verdict_holds, wrong_turns}
+use Rattle.run_audit.specs.declared.line.LineAnswer.{LineAnswer}
+use Rattle.run_audit.specs.Lines.{drawn_shown, line_of, lines_of, printed_table, trace_of}
+use Rattle.run_audit.specs.Rules.{alter_turns, alters_in, breaks, broken_turns, client_reached, has_altered, is_within, keeps_losses, keeps_script, next_turn, turn_if}
 use Rattle.proof_audit.proofs.Sessions.{IsLostRightly}
 use Rattle.proof_audit.proofs.Struck.{both}
 use Rattle.proof_audit.proofs.Verdicts.{tries_in_lines, unfit_in_line}
-use Rattle.proof_audit.specs.Laws.{LinesTellAlters, KeptAreSerial, MarksAgree, AreSerialLines, SerialTracesAreAudited}
+use Rattle.proof_audit.specs.Laws.{DrawsAsLeft, LinesTellAlters, KeptAreSerial, MayDraw, MarksAgree, AreSerialLines, SerialTracesAreAudited}
 use Rattle.proof_audit.proofs.Ended.{lines_end, panic_in_lines, turn_splits}
 use Rattle.proof_audit.proofs.Idle.{idle_write_nothing}
-use Rattle.proof_audit.proofs.Kept.{kept_lost}
+use Rattle.proof_audit.proofs.Kept.{kept_lost, tell_clients}
 use Rattle.proof_audit.proofs.Refusals.{refusals_keep}
 use Rattle.proof_audit.proofs.Rules.{keep_rules, kept_before}
 use Rattle.proof_audit.proofs.Serials.{are_serial, kept_prefixes}
+use Rattle.proof_audit.proofs.Whole.{so_may}
 
 -- ---- the ALTER
 
@@ -142,7 +146,7 @@ marks_agree plan serial known before entry kept not_client = by entry.actor refl
 
 -- ---- no turn is broken
 
-not_broken : (s w l x : Bool) → s ≡ true → l ≡ true → x ≡ false → (not s || (w && not l) || x || false) ≡ false
+not_broken : (s w l x : Bool) → s ≡ true → l ≡ true → x ≡ false → (not s || (w && not l) || x) ≡ false
 not_broken true true true false script losses once = refl
 not_broken true false true false script losses once = refl
 not_broken false w l x script losses once = absurd cc
@@ -170,6 +174,30 @@ none_broken plan journal fit serial known kept =
           let front : IsKept plan (some ++ entry ∷ []) = kept_before plan (some ++ entry ∷ []) later (subst (IsKept plan) (sym (append_assoc some (entry ∷ []) later)) whole) in
           ap (λ (b : Bool). turn_if b (lines_of some))
           (not_broken (keeps_script plan (lines_of some) (line_of entry)) (is_within plan (lines_of some)) (keeps_losses plan (lines_of some) (line_of entry)) (alters_in (lines_of some) (line_of entry) && has_altered (lines_of some)) rules.script rules.losses (alters_once plan some entry serial known front))
+
+-- a number that a line shows was drawn
+shown_some : (draw : Option ℕ) (said : LineAnswer) → is_some (drawn_shown draw said) ≡ true → is_some draw ≡ true
+shown_some None said shows = absurd cc
+shown_some (Some number) said shows = refl
+
+-- what may be drawn, by the lines
+may_by_lines : (plan : PlanData) (before : List Entry) (actor : Actor) → ScriptsFit plan → tables_reached plan (opening_tables plan) (judged plan (lines_of before)) ≡ tables_left plan (state_at plan before).tables → IsKept plan before → MayDraw plan before actor → may_draw plan (lines_of before) actor ≡ true
+may_by_lines plan before (Client c) fit reached kept may =
+    ap (λ (tables : Database). first_draws tables (client_reached plan (lines_of before) c).left) reached
+    ∙ ap (λ (client : Reached). first_draws (tables_left plan (state_at plan before).tables) client.left) (tell_clients plan before c fit kept) ∙ may
+may_by_lines plan before actor fit reached kept may = absurd may
+
+none_misdrawn : (plan : PlanData) (journal : List Entry) → ScriptsFit plan → DrawsAsLeft plan
+    → ((before : List Entry) → IsKept plan before → tables_reached plan (opening_tables plan) (judged plan (lines_of before)) ≡ tables_left plan (state_at plan before).tables) → IsKept plan journal → misdrawn_turns plan (lines_of journal) ≡ []
+unfolding misdrawn_turns
+none_misdrawn plan journal fit draws reached kept =
+    gathered_none (λ some line. turn_if (misdraws plan some line) some) [] (lines_of journal) (lines_along plan (λ some line. turn_if (misdraws plan some line) some ≡ []) each [] journal kept) where
+      each : (some : List Entry) (entry : Entry) (later : List Entry) → IsKept plan (some ++ entry ∷ later) → turn_if (misdraws plan (lines_of some) (line_of entry)) (lines_of some) ≡ []
+      each some entry later whole =
+          let front : IsKept plan (some ++ entry ∷ []) = kept_before plan (some ++ entry ∷ []) later (subst (IsKept plan) (sym (append_assoc some (entry ∷ []) later)) whole) in
+          ap (λ (b : Bool). turn_if b (lines_of some))
+          (so_may (is_some (line_of entry).drawn) (may_draw plan (lines_of some) entry.actor)
+          (λ shows. let begun : IsKept plan some = kept_before plan some (entry ∷ []) front in may_by_lines plan some entry.actor fit (reached some begun) begun (draws some entry front (shown_some entry.draw (line_of entry).answer shows))))
 
 -- ---- the verdict
 
@@ -211,16 +239,16 @@ holds_here plan journal (verdicts.Reverted cause) is altered kept within stands 
 
 -- ---- the answer
 
-answer_yes : (broken wrong left : List ℕ) (other : Option (List ℕ)) (holds : Bool) → broken ≡ [] → wrong ≡ [] → left ≡ [] → other ≡ None → holds ≡ true → first_no (least (broken ++ wrong ++ left)) other holds ≡ audits.Yes
+answer_yes : (broken wrong drawn left : List ℕ) (other : Option (List ℕ)) (holds : Bool) → broken ≡ [] → wrong ≡ [] → drawn ≡ [] → left ≡ [] → other ≡ None → holds ≡ true → first_no (least (broken ++ wrong ++ drawn ++ left)) other holds ≡ audits.Yes
 unfolding least
-answer_yes broken wrong left other holds one two three four five = rw (one, two, three, four, five) refl
+answer_yes broken wrong drawn left other holds one two three four five six = rw (one, two, three, four, five, six) refl
 
 -- *Traces are audited yes*
 pub traces_audited : SerialTracesAreAudited
 unfolding audited trace_of
-traces_audited plan journal fit serial known kept within stands =
-    let tells : AreSerialLines plan journal = are_serial plan journal fit serial (marks_agree plan serial known) (refusals_keep plan (idle_write_nothing plan)) kept in
-    answer_yes (broken_turns plan (lines_of journal)) (wrong_turns plan (opening_tables plan) (judged plan (lines_of journal))) (unended plan (trace_of plan journal (verdict_of plan journal) (state_at plan journal).tables))
+traces_audited plan journal fit serial known draws kept within stands =
+    let tells : (some : List Entry) → IsKept plan some → AreSerialLines plan some = λ some. are_serial plan some fit serial (marks_agree plan serial known) (refusals_keep plan (idle_write_nothing plan)) in
+    answer_yes (broken_turns plan (lines_of journal)) (wrong_turns plan (opening_tables plan) (judged plan (lines_of journal))) (misdrawn_turns plan (lines_of journal)) (unended plan (trace_of plan journal (verdict_of plan journal) (state_at plan journal).tables))
     (first_other (map printed_table (tables_left plan (state_at plan journal).tables)) (tables_reached plan (opening_tables plan) (judged plan (lines_of journal)))) (verdict_holds plan (lines_of journal) (verdict_of plan journal))
-    (none_broken plan journal fit serial known kept) tells.turns (lines_end plan journal fit kept) tells.printed
+    (none_broken plan journal fit serial known kept) (tells journal kept).turns (none_misdrawn plan journal fit draws (λ before begun. (tells before begun).reached) kept) (lines_end plan journal fit kept) (tells journal kept).printed
     (holds_here plan journal (verdict_of plan journal) refl (altered_is plan journal known kept) kept within stands)

@@ -1,4 +1,5 @@
 -- A session outside a transaction has written nothing, after any turns.
+use Rattle.server_model.specs.Drawing.{filled}
 use Rattle.std.proofs.Common.{◌≡◌, ℕ, ◌==◌, ◌||◌, Bool, true, false, cond, List, [], ◌∷◌, ◌++◌, find, filter, Option, Some, None, refl}
 use Rattle.std.specs.List.{AllByRecursion}
 use Rattle.base_script.specs.declared.actor.Side.{Side}
@@ -10,7 +11,7 @@ use Rattle.server_model.specs.declared.entry.Entry.{Entry}
 use Rattle.server_model.specs.declared.session.Session.{Session}
 use Rattle.server_model.specs.declared.session.Waiting.{Waiting}
 use Rattle.server_model.specs.Effects.{Effect, Rests, Grows, Writes, Forgets, Moves, Locks, Unlocks, effect}
-use Rattle.server_model.specs.PlainServer.{called_unless, calls, does, done, leaves, loses, polled_of, polled_over, polled_unless, polls, serves, without_waiting}
+use Rattle.server_model.specs.PlainServer.{called_unless, calls, does, done, did, leaves, loses, polled_of, polled_over, polled_unless, polls, serves, without_waiting}
 use Rattle.server_model.specs.States.{State, connected, is_in_transaction, session_of, waiting_of, with_session, writes_of}
 use Rattle.tool_program.specs.JournalWords.Journals.{after_entry, opening, opens, opens_if, state_at, state_after}
 use Rattle.proof_audit.specs.Laws.{IdleWriteNothing}
@@ -61,8 +62,8 @@ does_idle (Locks answer names) state number all = changed number _ state.session
 does_idle (Unlocks answer) state number all = changed number _ state.sessions (λ session is. is) all
 
 done_idle : (state : State) (number : ℕ) (request : Request) → AreIdle state.sessions → AreIdle (done state number request).after.sessions
-unfolding done
-done_idle state number request all = does_idle (effect state number request) state number all
+unfolding did
+done_idle state number request all = does_idle (effect state number (filled state number request)) state number all
 
 called_idle : (by : Option ℕ) (state : State) (number : ℕ) (request : Request) → AreIdle state.sessions → AreIdle (called_unless by state number request).after.sessions
 called_idle None state number request all = done_idle state number request all

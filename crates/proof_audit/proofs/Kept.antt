@@ -14,7 +14,8 @@ use Rattle.server_model.specs.declared.entry.Asked.{Asked}
 use Rattle.server_model.specs.declared.entry.Asked.TheVariants.{Call, Poll, Command, Cut}
 use Rattle.server_model.specs.declared.entry.Entry.{Entry}
 use Rattle.server_model.specs.Along.{Along}
-use Rattle.server_model.specs.PlainServer.{given_at, serves}
+use Rattle.server_model.specs.Counting.{drawn_if, is_answered}
+use Rattle.server_model.specs.PlainServer.{drawn_in, given_at, serves}
 use Rattle.server_model.specs.States.{State}
 use Rattle.plan_data.specs.PlanData.{PlanData}
 use Rattle.tool_program.specs.JournalWords.Clients.{client_asks, client_at, word_asks}
@@ -48,6 +49,17 @@ lost_rightly state entry is = record {
   sided = λ side at. is.answer ∙ ap (λ (s : Option Side). heard s (inner_answer state entry)) at;
   cut = cut_lost state entry is;
 }
+
+-- a loss between calls draws nothing
+cut_undrawn : (state : State) (entry : Entry) → IsAnswered state entry → entry.asked ≡ Cut → entry.draw ≡ None
+cut_undrawn state entry is cut = is.draw ∙ ap (λ (asked : Asked). drawn_in (opens entry state) entry.session asked (inner_answer state entry)) cut ∙ by (inner_answer state entry) where
+  none : (b : Bool) → drawn_if b None ≡ None
+  none true = refl
+  none false = refl
+
+  by : (inner : Option Answer) → drawn_in (opens entry state) entry.session Cut inner ≡ None
+  by None = refl
+  by (Some answer) = none (is_answered answer)
 
 -- what the server answers to a line is a client's
 served_client : (word : ScriptWord) (answer : Answer) → serves_to (word_asks word) answer ≡ true → IsClients answer
@@ -118,6 +130,7 @@ client_turn plan before entry c is none run planned same = record {
   heard = λ other side. heard_clients plan before entry c is run same (takes_asks plan before c entry.asked other (subst (λ (a : Actor). TakesNext plan before a entry.asked) same planned.next)) side;
   timed = λ other side. heard_no_begin plan before entry c is run same (takes_asks plan before c entry.asked other (subst (λ (a : Actor). TakesNext plan before a entry.asked) same planned.next)) side;
   lost = λ at. (lost_rightly (state_at plan before) entry run.answered).sided Before at;
+  uncut = cut_undrawn (state_at plan before) entry run.answered;
 }
 
 client_turns : (plan : PlanData) (before journal : List Entry) → ClientsTogether plan before → LostHaveNone plan before → Along (IsRun plan) before journal → Along (IsPlanned plan) before journal

@@ -78,22 +78,22 @@ unfolding lines_run run_with
 run_more tables ran [] line = refl
 run_more tables ran (first ∷ lines) line = run_more tables (run_with tables ran first) lines line
 
-lost_replies : (tables : Database) (lines : List TxnLine) (word : ScriptWord) (one other : Side) → (lines_run tables nothing_ran (lines ++ lost_line word one)).replies ≡ (lines_run tables nothing_ran (lines ++ lost_line word other)).replies
+lost_replies : (tables : Database) (lines : List TxnLine) (word drawn : ScriptWord) (one other : Side) → (lines_run tables nothing_ran (lines ++ lost_line word one)).replies ≡ (lines_run tables nothing_ran (lines ++ lost_line drawn other)).replies
 unfolding run_with
-lost_replies tables lines word one other =
-    ap (λ (ran : Ran). ran.replies) (run_more tables nothing_ran lines (record { word = word; mark = marks.Lost one })) ∙ sym (ap (λ (ran : Ran). ran.replies) (run_more tables nothing_ran lines (record { word = word; mark = marks.Lost other })))
+lost_replies tables lines word drawn one other =
+    ap (λ (ran : Ran). ran.replies) (run_more tables nothing_ran lines (record { word = word; mark = marks.Lost one })) ∙ sym (ap (λ (ran : Ran). ran.replies) (run_more tables nothing_ran lines (record { word = drawn; mark = marks.Lost other })))
 
 outcome_replies : (b : Bool) (tables : Database) (ran : Ran) → (outcome_if b tables ran).replies ≡ ran.replies
 outcome_replies true tables ran = refl
 outcome_replies false tables ran = refl
 
--- it has the same replies on whichever side the line was lost
-pub alone_replies : (tables : Database) (lines : List TxnLine) (word : ScriptWord) (one other : Side) → (alone tables (lines ++ lost_line word one)).replies ≡ (alone tables (lines ++ lost_line word other)).replies
+-- it has the same replies on whichever side the line was lost, with a number or without
+pub alone_replies : (tables : Database) (lines : List TxnLine) (word drawn : ScriptWord) (one other : Side) → (alone tables (lines ++ lost_line word one)).replies ≡ (alone tables (lines ++ lost_line drawn other)).replies
 unfolding alone
-alone_replies tables lines word one other =
+alone_replies tables lines word drawn one other =
     outcome_replies (stays (lines ++ lost_line word one)) tables (lines_run tables nothing_ran (lines ++ lost_line word one))
-    ∙ lost_replies tables lines word one other
-    ∙ sym (outcome_replies (stays (lines ++ lost_line word other)) tables (lines_run tables nothing_ran (lines ++ lost_line word other)))
+    ∙ lost_replies tables lines word drawn one other
+    ∙ sym (outcome_replies (stays (lines ++ lost_line drawn other)) tables (lines_run tables nothing_ran (lines ++ lost_line drawn other)))
 
 -- where it wasn't done, nothing of the transaction stays
 pub alone_leaves : (tables : Database) (lines : List TxnLine) (word : ScriptWord) → (alone tables (lines ++ lost_line word Before)).tables ≡ tables
@@ -102,9 +102,9 @@ alone_leaves tables lines word = ap (λ (b : Bool). (outcome_if b tables (lines_
 
 -- *A lost line that was refused*: where the transaction with its last line done leads from a database to that same database, so it
 -- does with that line not done
-pub refused_leads : (plan : PlanData) (one other : Past) (tables : Database) (lines : List TxnLine) (word : ScriptWord) → one.txn.lines ≡ lines ++ lost_line word After → other.txn.lines ≡ lines ++ lost_line word Before → one.replies ≡ other.replies
+pub refused_leads : (plan : PlanData) (one other : Past) (tables : Database) (lines : List TxnLine) (drawn word : ScriptWord) → one.txn.lines ≡ lines ++ lost_line drawn After → other.txn.lines ≡ lines ++ lost_line word Before → one.replies ≡ other.replies
     → Leads plan (Txn one) tables tables → Leads plan (Txn other) tables tables
-refused_leads plan one other tables lines word one_is other_is same leads = (
-  sym same ∙ leads.0 ∙ ap (λ (all : List TxnLine). (alone tables all).replies) one_is ∙ alone_replies tables lines word After Before ∙ sym (ap (λ (all : List TxnLine). (alone tables all).replies) other_is),
+refused_leads plan one other tables lines drawn word one_is other_is same leads = (
+  sym same ∙ leads.0 ∙ ap (λ (all : List TxnLine). (alone tables all).replies) one_is ∙ alone_replies tables lines drawn word After Before ∙ sym (ap (λ (all : List TxnLine). (alone tables all).replies) other_is),
   sym (alone_leaves tables lines word) ∙ sym (ap (λ (all : List TxnLine). (alone tables all).tables) other_is),
 )

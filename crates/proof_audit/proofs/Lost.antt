@@ -18,7 +18,7 @@ use Rattle.server_model.specs.Alone.{reply_of}
 use Rattle.server_model.specs.Along.{Along, Along-keeps}
 use Rattle.server_model.specs.Entries.{same_actor}
 use Rattle.plan_data.specs.PlanData.{PlanData}
-use Rattle.tool_program.specs.JournalWords.Clients.{Reached, after_turn, became_in, became_of, client_after, client_asks, client_at, is_loss, marked}
+use Rattle.tool_program.specs.JournalWords.Clients.{Reached, after_turn, became_in, became_of, client_after, client_asks, client_at, is_loss, marked, with_draw}
 use Rattle.tool_program.specs.JournalWords.KeptPlans.{IsPlanned, IsStruck, cut_among, cut_by, cut_due, or_first, TakesNext}
 use Rattle.tool_program.specs.JournalWords.Sessions.{live_session, session_left}
 use Rattle.proof_audit.proofs.Clients.{at_more, same_client}
@@ -41,12 +41,16 @@ heard_lost client (answers.TimedOut waited) lives lost = marked_lost client mark
 heard_lost client (answers.Waits by) lives lost = cc
 heard_lost client answer lives lost = cc
 
-loses : (client : Reached) (asked : Asked) (side : Option Side) (answer : Answer) (missed : Option Answer) → client.is_lost ≡ false → (client_after (became_in client.waits asked side answer missed) client).is_lost ≡ true → Loses asked side
-loses client Cut side answer missed lives lost = record { how = inl refl }
-loses client asked (Some side) answer missed lives lost = record { how = inr (side, refl) }
-loses client (Call request) None answer missed lives lost = absurd (heard_lost client answer lives lost)
-loses client Poll None answer missed lives lost = absurd (heard_lost client answer lives lost)
-loses client (Command word) None answer missed lives lost = absurd (heard_lost client answer lives lost)
+loses : (client : Reached) (waits : Bool) (asked : Asked) (side : Option Side) (answer : Answer) (missed : Option Answer) → client.is_lost ≡ false → (client_after (became_in waits asked side answer missed) client).is_lost ≡ true → Loses asked side
+loses client waits Cut side answer missed lives lost = record { how = inl refl }
+loses client waits asked (Some side) answer missed lives lost = record { how = inr (side, refl) }
+loses client waits (Call request) None answer missed lives lost = absurd (heard_lost client answer lives lost)
+loses client waits Poll None answer missed lives lost = absurd (heard_lost client answer lives lost)
+loses client waits (Command word) None answer missed lives lost = absurd (heard_lost client answer lives lost)
+
+drawn_lost : (draw : Option ℕ) (client : Reached) → (with_draw draw client).is_lost ≡ client.is_lost
+drawn_lost None client = refl
+drawn_lost (Some number) client = refl
 
 lost_left : (asked : Asked) (session : ℕ) → session_left asked answers.Lost session ≡ None
 lost_left (Command word) session = refl
@@ -135,12 +139,19 @@ lost_step plan before entry turn none c lost = by (same_actor entry.actor (Clien
   Goal : Type 0
   Goal = live_session (before ++ entry ∷ []) (Client c) ≡ None
 
+  -- with the number that its line drew, and after its turn
+  drawn : Reached
+  drawn = with_draw entry.draw (client_at plan before c)
+
+  after_own : Reached
+  after_own = client_after (became_in (client_at plan before c).waits entry.asked entry.side entry.answer entry.missed) drawn
+
   own : entry.actor ≡ Client c → (b : Bool) → (client_at plan before c).is_lost ≡ b → (after_turn c (client_at plan before c) entry).is_lost ≡ true → same_actor entry.actor (Client c) ≡ true → session_left entry.asked entry.answer entry.session ≡ None
   own is true was after same = absurd (lost_before plan before entry c turn none is was)
   own is false lives after same =
       left_none entry turn.rightly
-      (loses (client_at plan before c) entry.asked entry.side entry.answer entry.missed lives
-      (sym (ap (λ (b : Bool). (cond b (client_after (became_in (client_at plan before c).waits entry.asked entry.side entry.answer entry.missed) (client_at plan before c)) (client_at plan before c)).is_lost) same) ∙ after))
+      (loses drawn (client_at plan before c).waits entry.asked entry.side entry.answer entry.missed (drawn_lost entry.draw (client_at plan before c) ∙ lives)
+      (sym (ap (λ (b : Bool). (cond b after_own (client_at plan before c)).is_lost) same) ∙ after))
 
   by : (b : Bool) → same_actor entry.actor (Client c) ≡ b → Goal
   by true same =
@@ -151,7 +162,7 @@ lost_step plan before entry turn none c lost = by (same_actor entry.actor (Clien
       live_more before entry (Client c)
       ∙ ap (λ (b : Bool). cond b (session_left entry.asked entry.answer entry.session) (live_session before (Client c))) other
       ∙ none c
-      (sym (ap (λ (b : Bool). (cond b (client_after (became_in (client_at plan before c).waits entry.asked entry.side entry.answer entry.missed) (client_at plan before c)) (client_at plan before c)).is_lost) other)
+      (sym (ap (λ (b : Bool). (cond b after_own (client_at plan before c)).is_lost) other)
       ∙ ap (λ (client : Reached). client.is_lost) (sym (at_more plan before entry c)) ∙ lost)
 
 -- *Lost clients have no session*

@@ -1,4 +1,5 @@
 -- A call that was refused changes no table.
+use Rattle.server_model.specs.Drawing.{filled}
 use Rattle.std.proofs.Common.{◌≡◌, ℕ, ◌||◌, Bool, true, false, cond, List, [], ◌∷◌, ◌++◌, map, Option, Some, None, Result, Ok, Err, refl, sym, ap, ◌∙◌, subst}
 use Rattle.std.specs.List.{list_any}
 use Rattle.base_values.specs.declared.value.Value.{Value}
@@ -24,7 +25,7 @@ use Rattle.server_model.specs.declared.work.Work.TheVariants as works
 use Rattle.server_model.specs.Effects.{Effect, all_exist, begins, effect_unless, effect_within, defined, is_outside, locks_if, result_effect}
 use Rattle.server_model.specs.Operations.{Operation, after_events, events_of, operation_result, result_in}
 use Rattle.server_model.specs.StatementResults.{TableResult, result_or_refusal, tells, updated, updates}
-use Rattle.server_model.specs.PlainServer.{called_unless, calls, does, done, given_at, leaves, loses, polled_of, polled_over, polled_unless, polls, serves, without_waiting}
+use Rattle.server_model.specs.PlainServer.{called_unless, calls, does, done, did, given_at, leaves, loses, polled_of, polled_over, polled_unless, polls, serves, without_waiting}
 use Rattle.server_model.specs.States.{State, connected, is_in_transaction, session_of, waiting_of, writes_of}
 use Rattle.server_model.specs.declared.session.Waiting.{Waiting}
 use Rattle.tool_program.specs.JournalWords.Journals.{after_entry, inner_answer, missed, opening, opens, opens_if, state_at, state_after}
@@ -123,8 +124,8 @@ abbrev IdleWrote : State → ℕ → Type 0
 IdleWrote state number = is_in_transaction (session_of number state.sessions) ≡ false → writes_of (session_of number state.sessions) ≡ []
 
 done_keeps : (state : State) (number : ℕ) (request : Request) → IdleWrote state number → IsRefusal (done state number request).answer → (done state number request).after.tables ≡ state.tables
-unfolding done
-done_keeps state number request idle is = unless_keeps (is_outside (session_of number state.sessions) request) (is_in_transaction (session_of number state.sessions)) _ state number request idle is
+unfolding did
+done_keeps state number request idle is = unless_keeps (is_outside (session_of number state.sessions) (filled state number request)) (is_in_transaction (session_of number state.sessions)) _ state number (filled state number request) idle is
 
 called_keeps : (by : Option ℕ) (state : State) (number : ℕ) (request : Request) → IdleWrote state number → IsRefusal (called_unless by state number request).answer → (called_unless by state number request).after.tables ≡ state.tables
 called_keeps None state number request idle is = done_keeps state number request idle is

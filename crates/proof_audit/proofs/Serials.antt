@@ -7,6 +7,7 @@ use Rattle.base_script.specs.declared.actor.Actor.TheVariants.{Op, Insp, Copy, A
 use Rattle.base_script.specs.declared.actor.Side.{Side}
 use Rattle.base_script.specs.declared.actor.Side.TheVariants.{Before, After}
 use Rattle.base_script.specs.declared.script.ScriptLine.{ScriptLine}
+use Rattle.base_script.specs.declared.script.ScriptWord.{ScriptWord}
 use Rattle.server_model.specs.declared.transaction.Mark.{Mark}
 use Rattle.server_model.specs.declared.transaction.Mark.TheVariants as marks
 use Rattle.server_model.specs.declared.transaction.Reply.{Reply}
@@ -19,10 +20,10 @@ use Rattle.server_model.specs.declared.entry.Asked.TheVariants.{Call, Poll, Comm
 use Rattle.server_model.specs.declared.entry.Entry.{Entry}
 use Rattle.server_model.specs.Along.{Along, Along-keeps, gathered, gathered-more}
 use Rattle.server_model.specs.Entries.{is_client}
-use Rattle.server_model.specs.PlainServer.{given_at, serves}
+use Rattle.server_model.specs.PlainServer.{drawn_in, given_at, serves}
 use Rattle.server_model.specs.States.{State}
 use Rattle.plan_data.specs.PlanData.{PlanData}
-use Rattle.tool_program.specs.JournalWords.Clients.{Became, Nothing, Waits, Marked, Broken, Reached, became_in, client_at, is_inside, ends_with, number_of, with_line, with_reply}
+use Rattle.tool_program.specs.JournalWords.Clients.{Became, Nothing, Waits, Marked, Broken, Reached, became_in, client_at, is_inside, ends_with, lines_drawn, number_of, with_draw, with_line, with_reply, word_numbered}
 use Rattle.tool_program.specs.JournalWords.Histories.{HistoryItem, Txn, Past, adds, breaks, client_ends, ends_so, entry_adds, history, line_ends}
 use Rattle.tool_program.specs.JournalWords.Journals.{IsAnswered, inner_answer, missed, opens, state_at}
 use Rattle.tool_program.specs.JournalWords.Serials.{IsSerial, Leads, Serial, tables_left}
@@ -31,12 +32,13 @@ use Rattle.proof_journals.specs.Run.Kept.{IsKept}
 use Rattle.proof_journals.proofs.Machine.Journals.{IsRun}
 use Rattle.run_audit.specs.declared.line.LineAsked.{LineAsked}
 use Rattle.run_audit.specs.declared.line.LineAsked.TheVariants as asks
+use Rattle.run_audit.specs.declared.line.LineAnswer.{LineAnswer}
 use Rattle.run_audit.specs.declared.line.LineAnswer.TheVariants as line_answers
 use Rattle.run_audit.specs.declared.line.TraceLine.{TraceLine}
 use Rattle.run_audit.specs.Audits.{Judged, item_of, first_other, judged, judged_in, judged_of, opening_tables, reply_turns, straight_lines}
-use Rattle.run_audit.specs.Lines.{asked_of, line_of, lines_of, printed_table, line_answer}
+use Rattle.run_audit.specs.Lines.{asked_of, drawn_shown, line_answer, line_of, lines_of, printed_table}
 use Rattle.run_audit.specs.Rules.{became_of_line, is_astray, was_lost}
-use Rattle.proof_audit.proofs.Clients.{IsClientTurn, IsClients, became_side, before_alike, heard_alike, request_not_cut, side_alike}
+use Rattle.proof_audit.proofs.Clients.{IsClientTurn, IsClients, became_side, before_alike, heard_alike, heard_shown, request_not_cut, side_alike}
 use Rattle.proof_audit.proofs.Judging.{serial_is_judged}
 use Rattle.proof_audit.proofs.Losing.{leads_to_one, refused_leads}
 use Rattle.proof_audit.proofs.Printing.{no_other}
@@ -94,30 +96,58 @@ record IsRefusedLoss (said became : Became) (side : Option Side) (missed : Optio
   pub said_is : said ≡ Marked (marks.Lost Before) None
   pub became_is : became ≡ Marked (marks.Lost After) None
 
-call_so : (client : Reached) (kind : LineAsked) (side : Option Side) (answer : Answer) (missed : Option Answer) → kind ≢ asks.Cut → (side ≡ None → IsClients answer) → (side ≡ Some Before → answer ≡ answers.Lost) → (side ≡ Some After → missed ≢ None)
-    → (became_of_line client.waits kind (line_answer true side answer missed) ≡ became_side side answer missed) ⊎ IsRefusedLoss (became_of_line client.waits kind (line_answer true side answer missed)) (became_side side answer missed) side missed
-call_so client kind None answer missed other heard lost some = inl (heard_alike client.waits answer kind other (heard refl))
-call_so client kind (Some Before) answer missed other heard lost some = inl (before_alike client.waits answer missed kind other (lost refl))
-call_so client kind (Some After) answer None other heard lost some = absurd (some refl refl)
-call_so client kind (Some After) answer (Some (answers.Refused number column)) other heard lost some =
-    inr (record { number = number; column = column; at = refl; refused = refl; said_is = (lost_kind client.waits kind other).1; became_is = refl })
-call_so client kind (Some After) answer (Some (answers.Waits by)) other heard lost some = inl (lost_kind client.waits kind other).0
-call_so client kind (Some After) answer (Some (answers.TimedOut waited)) other heard lost some = inl (lost_kind client.waits kind other).1
-call_so client kind (Some After) answer (Some missed) other heard lost some = inl (lost_kind client.waits kind other).2
+-- the line says what became of it, and shows its number
+abbrev IsAlike : Option ℕ → Became → Became → Option Side → Answer → Option Answer → Type 0
+IsAlike draw said became side answer missed = (said ≡ became) × (drawn_shown draw (line_answer true side answer missed) ≡ draw)
 
-turn_so : (client : Reached) (asked : Asked) (side : Option Side) (answer : Answer) (missed : Option Answer) → (asked ≢ Cut → side ≡ None → IsClients answer) → (side ≡ Some Before → answer ≡ answers.Lost) → (asked ≢ Cut → side ≡ Some After → missed ≢ None)
-    → (became_of_line client.waits (asked_of asked) (line_answer true side answer missed) ≡ became_in client.waits asked side answer missed)
+shown_waited : (draw : Option ℕ) → drawn_shown draw line_answers.LostWaited ≡ draw
+shown_waited None = refl
+shown_waited (Some number) = refl
+
+shown_done : (draw : Option ℕ) → drawn_shown draw line_answers.LostDone ≡ draw
+shown_done None = refl
+shown_done (Some number) = refl
+
+shown_none : (draw : Option ℕ) (said : LineAnswer) → draw ≡ None → drawn_shown draw said ≡ draw
+shown_none draw said none = subst (λ (one : Option ℕ). drawn_shown one said ≡ one) (sym none) refl
+
+call_so : (draw : Option ℕ) (client : Reached) (kind : LineAsked) (side : Option Side) (answer : Answer) (missed : Option Answer) → kind ≢ asks.Cut → (side ≡ None → IsClients answer) → (side ≡ Some Before → answer ≡ answers.Lost) → (side ≡ Some After → missed ≢ None)
+    → ((waited : ℕ) → side ≡ Some After → missed ≡ Some (answers.TimedOut waited) → draw ≡ None)
+    → IsAlike draw (became_of_line client.waits kind (line_answer true side answer missed)) (became_side side answer missed) side answer missed ⊎ IsRefusedLoss (became_of_line client.waits kind (line_answer true side answer missed)) (became_side side answer missed) side missed
+call_so draw client kind None answer missed other heard lost some over = inl (heard_alike client.waits answer kind other (heard refl), heard_shown draw answer)
+call_so draw client kind (Some Before) answer missed other heard lost some over = inl (before_alike client.waits answer missed kind other (lost refl), heard_shown draw answer)
+call_so draw client kind (Some After) answer None other heard lost some over = absurd (some refl refl)
+call_so draw client kind (Some After) answer (Some (answers.Refused number column)) other heard lost some over =
+    inr (record { number = number; column = column; at = refl; refused = refl; said_is = (lost_kind client.waits kind other).1; became_is = refl })
+call_so draw client kind (Some After) answer (Some (answers.Waits by)) other heard lost some over = inl ((lost_kind client.waits kind other).0, shown_waited draw)
+call_so draw client kind (Some After) answer (Some (answers.TimedOut waited)) other heard lost some over = inl ((lost_kind client.waits kind other).1, shown_none draw line_answers.LostRefused (over waited refl refl))
+call_so draw client kind (Some After) answer (Some missed) other heard lost some over = inl ((lost_kind client.waits kind other).2, shown_done draw)
+
+-- the same of what the journal says
+as_asked : (draw : Option ℕ) (client : Reached) (asked : Asked) (side : Option Side) (answer : Answer) (missed : Option Answer) (said : Became) → asked ≢ Cut → IsAlike draw said (became_side side answer missed) side answer missed ⊎ IsRefusedLoss said (became_side side answer missed) side missed
+    → IsAlike draw said (became_in client.waits asked side answer missed) side answer missed ⊎ IsRefusedLoss said (became_in client.waits asked side answer missed) side missed
+as_asked draw client asked side answer missed said uncut is =
+    subst (λ (b : Became). IsAlike draw said b side answer missed ⊎ IsRefusedLoss said b side missed) (side_alike client asked side answer missed uncut) is
+
+turn_so : (draw : Option ℕ) (client : Reached) (asked : Asked) (side : Option Side) (answer : Answer) (missed : Option Answer) → (asked ≢ Cut → side ≡ None → IsClients answer) → (side ≡ Some Before → answer ≡ answers.Lost) → (asked ≢ Cut → side ≡ Some After → missed ≢ None)
+    → ((waited : ℕ) → side ≡ Some After → missed ≡ Some (answers.TimedOut waited) → draw ≡ None) → (asked ≡ Cut → draw ≡ None)
+    → IsAlike draw (became_of_line client.waits (asked_of asked) (line_answer true side answer missed)) (became_in client.waits asked side answer missed) side answer missed
     ⊎ IsRefusedLoss (became_of_line client.waits (asked_of asked) (line_answer true side answer missed)) (became_in client.waits asked side answer missed) side missed
-turn_so client Cut side answer missed heard lost some = inl refl
-turn_so client (Call request) side answer missed heard lost some =
-    subst (λ (b : Became). (became_of_line client.waits (asked_of (Call request)) (line_answer true side answer missed) ≡ b) ⊎ IsRefusedLoss (became_of_line client.waits (asked_of (Call request)) (line_answer true side answer missed)) b side missed)
-    (side_alike client (Call request) side answer missed (λ is. absurd cc)) (call_so client (asked_of (Call request)) side answer missed (request_not_cut request) (heard (λ is. absurd cc)) lost (some (λ is. absurd cc)))
-turn_so client Poll side answer missed heard lost some =
-    subst (λ (b : Became). (became_of_line client.waits asks.Poll (line_answer true side answer missed) ≡ b) ⊎ IsRefusedLoss (became_of_line client.waits asks.Poll (line_answer true side answer missed)) b side missed)
-    (side_alike client Poll side answer missed (λ is. absurd cc)) (call_so client asks.Poll side answer missed (λ is. absurd cc) (heard (λ is. absurd cc)) lost (some (λ is. absurd cc)))
-turn_so client (Command word) side answer missed heard lost some =
-    subst (λ (b : Became). (became_of_line client.waits asks.Word (line_answer true side answer missed) ≡ b) ⊎ IsRefusedLoss (became_of_line client.waits asks.Word (line_answer true side answer missed)) b side missed)
-    (side_alike client (Command word) side answer missed (λ is. absurd cc)) (call_so client asks.Word side answer missed (λ is. absurd cc) (heard (λ is. absurd cc)) lost (some (λ is. absurd cc)))
+turn_so draw client Cut side answer missed heard lost some over uncut = inl (refl, shown_none draw (line_answer true side answer missed) (uncut refl))
+turn_so draw client (Call request) side answer missed heard lost some over uncut =
+    as_asked draw client (Call request) side answer missed (became_of_line client.waits (asked_of (Call request)) (line_answer true side answer missed)) (λ is. absurd cc)
+    (call_so draw client (asked_of (Call request)) side answer missed (request_not_cut request) (heard (λ is. absurd cc)) lost (some (λ is. absurd cc)) over)
+turn_so draw client Poll side answer missed heard lost some over uncut =
+    as_asked draw client Poll side answer missed (became_of_line client.waits asks.Poll (line_answer true side answer missed)) (λ is. absurd cc)
+    (call_so draw client asks.Poll side answer missed (λ is. absurd cc) (heard (λ is. absurd cc)) lost (some (λ is. absurd cc)) over)
+turn_so draw client (Command word) side answer missed heard lost some over uncut =
+    as_asked draw client (Command word) side answer missed (became_of_line client.waits asks.Word (line_answer true side answer missed)) (λ is. absurd cc)
+    (call_so draw client asks.Word side answer missed (λ is. absurd cc) (heard (λ is. absurd cc)) lost (some (λ is. absurd cc)) over)
+
+-- none is shown of a call that was refused and lost
+none_shown : (draw : Option ℕ) (answer : Answer) (number : ℕ) (column : Option ℕ) → drawn_shown draw (line_answer true (Some After) answer (Some (answers.Refused number column))) ≡ None
+none_shown None answer number column = refl
+none_shown (Some drawn) answer number column = refl
 
 -- what was missed of a call is there
 missed_some : (state : State) (entry : Entry) → IsAnswered state entry → entry.asked ≢ Cut → entry.side ≡ Some After → entry.missed ≢ None
@@ -135,68 +165,104 @@ missed_some state entry is other at none = by entry.asked refl where
   by Poll same = let some : None ≡ Some said = whole ∙ ap (λ (asked : Asked). given_at (Some After) asked said) same in absurd (cc some)
   by (Command word) same = let some : None ≡ Some said = whole ∙ ap (λ (asked : Asked). given_at (Some After) asked said) same in absurd (cc some)
 
+-- nothing is drawn where the wait was over
+over_undrawn : (state : State) (entry : Entry) → IsAnswered state entry → (waited : ℕ) → entry.side ≡ Some After → entry.missed ≡ Some (answers.TimedOut waited) → entry.draw ≡ None
+over_undrawn state entry is waited at over =
+    is.draw ∙ ap (drawn_in (opens entry state) entry.session entry.asked) (sym (ap (λ (side : Option Side). missed side (inner_answer state entry)) at) ∙ sym is.missed ∙ over)
+
 -- ---- one turn
+
+-- the transaction that a lost line ends
+abbrev lost_past : ℕ → Reached → ScriptWord → Side → Past
+lost_past number client word side = record { client = number; number = number_of client; txn = record { lines = with_line client word (marks.Lost side); ended = ends.Lost }; replies = with_reply client None }
+
+refused_line : (plan : PlanData) (number : ℕ) (client : Reached) (drawn word : ScriptWord) (tables after : Database) → after ≡ tables → Serial plan tables (Txn (lost_past number client drawn After) ∷ []) after → Serial plan tables (Txn (lost_past number client word Before) ∷ []) after
+refused_line plan number client drawn word tables after same is =
+    let between : is.0 ≡ tables = sym is.2 ∙ same in
+    let one : Past = lost_past number client drawn After in
+    let other : Past = lost_past number client word Before in
+    (tables, refused_leads plan one other tables client.lines drawn word refl refl refl (subst (λ (d : Database). Leads plan (Txn one) tables d) between is.1), same)
 
 refused_items : (plan : PlanData) (number : ℕ) (client : Reached) (left : List ScriptLine) (tables after : Database) → after ≡ tables → Serial plan tables (line_ends number client (marks.Lost After) None left) after
     → Serial plan tables (line_ends number client (marks.Lost Before) None left) after
 refused_items plan number client [] tables after same is = is
-refused_items plan number client (line ∷ lines) tables after same is =
-    let between : is.0 ≡ tables = sym is.2 ∙ same in
-    let one : Past = record { client = number; number = number_of client; txn = record { lines = with_line client line.word (marks.Lost After); ended = ends.Lost }; replies = with_reply client None } in
-    let other : Past = record { client = number; number = number_of client; txn = record { lines = with_line client line.word (marks.Lost Before); ended = ends.Lost }; replies = with_reply client None } in
-    (tables, refused_leads plan one other tables client.lines line.word refl refl refl (subst (λ (d : Database). Leads plan (Txn one) tables d) between is.1), same)
+refused_items plan number client (line ∷ lines) tables after same is = refused_line plan number client line.word line.word tables after same is
+
+-- whether its line drew, or not
+drawn_items : (plan : PlanData) (number : ℕ) (draw : Option ℕ) (client : Reached) (tables after : Database) → after ≡ tables → Serial plan tables (line_ends number (with_draw draw client) (marks.Lost After) None (with_draw draw client).left) after
+    → Serial plan tables (line_ends number client (marks.Lost Before) None client.left) after
+drawn_items plan number None client tables after same is = refused_items plan number client client.left tables after same is
+drawn_items plan number (Some drawn) client tables after same is = by client.left is where
+  by : (left : List ScriptLine) → Serial plan tables (line_ends number (with_draw (Some drawn) client) (marks.Lost After) None (lines_drawn drawn left)) after → Serial plan tables (line_ends number client (marks.Lost Before) None left) after
+  by [] is = is
+  by (line ∷ lines) is = refused_line plan number client (word_numbered (Some drawn) line.word) line.word tables after same is
 
 client_serial : (plan : PlanData) (before : List Entry) (entry : Entry) (c : ℕ) → ScriptsFit plan → RefusalsKeepTables plan → IsKept plan (before ++ entry ∷ []) → entry.actor ≡ Client c
     → Serial plan (tables_left plan (state_at plan before).tables) (entry_adds plan before entry) (tables_left plan (state_at plan (before ++ entry ∷ [])).tables)
     → Serial plan (tables_left plan (state_at plan before).tables) (map item_of (judged_in plan (lines_of before) (line_of entry) entry.actor)) (tables_left plan (state_at plan (before ++ entry ∷ [])).tables)
-client_serial plan before entry c fit keep kept same is = by (turn_so client entry.asked entry.side entry.answer entry.missed turn.heard turn.lost (missed_some (state_at plan before) entry run.answered)) where
-  client : Reached
-  client = client_at plan before c
+client_serial plan before entry c fit keep kept same is =
+    by (turn_so entry.draw client entry.asked entry.side entry.answer entry.missed turn.heard turn.lost (missed_some (state_at plan before) entry run.answered) (over_undrawn (state_at plan before) entry run.answered) turn.uncut) where
+      client : Reached
+      client = client_at plan before c
 
-  run : IsRun plan before entry
-  run = run_next plan before entry [] kept
+      run : IsRun plan before entry
+      run = run_next plan before entry [] kept
 
-  turn : IsClientTurn plan before entry c
-  turn = client_turn_kept plan before entry c fit kept same
+      turn : IsClientTurn plan before entry c
+      turn = client_turn_kept plan before entry c fit kept same
 
-  turns : List ℕ
-  turns = reply_turns plan (lines_of before ++ line_of entry ∷ []) c
+      turns : List ℕ
+      turns = reply_turns plan (lines_of before ++ line_of entry ∷ []) c
 
-  now : Database
-  now = tables_left plan (state_at plan before).tables
+      now : Database
+      now = tables_left plan (state_at plan before).tables
 
-  later : Database
-  later = tables_left plan (state_at plan (before ++ entry ∷ [])).tables
+      later : Database
+      later = tables_left plan (state_at plan (before ++ entry ∷ [])).tables
 
-  said : Became
-  said = became_of_line client.waits (asked_of entry.asked) (line_answer true entry.side entry.answer entry.missed)
+      said : Became
+      said = became_of_line client.waits (asked_of entry.asked) (line_answer true entry.side entry.answer entry.missed)
 
-  became : Became
-  became = became_in client.waits entry.asked entry.side entry.answer entry.missed
+      became : Became
+      became = became_in client.waits entry.asked entry.side entry.answer entry.missed
 
-  judged_is : map item_of (judged_in plan (lines_of before) (line_of entry) entry.actor) ≡ client_ends c client said
-  judged_is =
-      ap (λ (a : Actor). map item_of (judged_in plan (lines_of before) (line_of entry) a)) same
-      ∙ ap (λ (r : Reached). map item_of (cond r.is_lost [] (judged_of turns (client_ends c r (became_of_line r.waits (asked_of entry.asked) (line_answer (is_client entry.actor) entry.side entry.answer entry.missed)))))) (tell_clients plan before c fit (kept_before plan before (entry ∷ []) kept))
-      ∙ ap (λ (b : Bool). map item_of (cond b [] (judged_of turns (client_ends c client (became_of_line client.waits (asked_of entry.asked) (line_answer (is_client entry.actor) entry.side entry.answer entry.missed)))))) turn.lives
-      ∙ ap (λ (b : Bool). map item_of (judged_of turns (client_ends c client (became_of_line client.waits (asked_of entry.asked) (line_answer b entry.side entry.answer entry.missed))))) (ap is_client same)
-      ∙ client_items turns c client said
+      -- with the number that its line drew; and that the trace's line shows
+      drawn : Reached
+      drawn = with_draw entry.draw client
 
-  adds_is : entry_adds plan before entry ≡ client_ends c client became
-  adds_is = ap (adds plan before entry) same
+      shown : Reached → Bool → Reached
+      shown r b = with_draw (drawn_shown entry.draw (line_answer b entry.side entry.answer entry.missed)) r
 
-  added : Serial plan now (client_ends c client became) later
-  added = subst (λ (items : List HistoryItem). Serial plan now items later) adds_is is
+      judged_is : map item_of (judged_in plan (lines_of before) (line_of entry) entry.actor) ≡ client_ends c (shown client true) said
+      judged_is =
+          ap (λ (a : Actor). map item_of (judged_in plan (lines_of before) (line_of entry) a)) same
+          ∙ ap (λ (r : Reached). map item_of (cond r.is_lost [] (judged_of turns (client_ends c (shown r (is_client entry.actor)) (became_of_line r.waits (asked_of entry.asked) (line_answer (is_client entry.actor) entry.side entry.answer entry.missed)))))) (tell_clients plan before c fit (kept_before plan before (entry ∷ []) kept))
+          ∙ ap (λ (b : Bool). map item_of (cond b [] (judged_of turns (client_ends c (shown client (is_client entry.actor)) (became_of_line client.waits (asked_of entry.asked) (line_answer (is_client entry.actor) entry.side entry.answer entry.missed)))))) turn.lives
+          ∙ ap (λ (b : Bool). map item_of (judged_of turns (client_ends c (shown client b) (became_of_line client.waits (asked_of entry.asked) (line_answer b entry.side entry.answer entry.missed))))) (ap is_client same)
+          ∙ client_items turns c (shown client true) said
 
-  Goal : Type 0
-  Goal = Serial plan now (map item_of (judged_in plan (lines_of before) (line_of entry) entry.actor)) later
+      adds_is : entry_adds plan before entry ≡ client_ends c drawn became
+      adds_is = ap (adds plan before entry) same
 
-  by : (said ≡ became) ⊎ IsRefusedLoss said became entry.side entry.missed → Goal
-  by (inl alike) = subst (λ (items : List HistoryItem). Serial plan now items later) (sym (judged_is ∙ ap (client_ends c client) alike)) added
-  by (inr loss) =
-      subst (λ (items : List HistoryItem). Serial plan now items later) (sym (judged_is ∙ ap (client_ends c client) loss.said_is))
-      (refused_items plan c client client.left now later (ap (tables_left plan) (keep before entry loss.number loss.column kept loss.at loss.refused))
-      (subst (λ (b : Became). Serial plan now (client_ends c client b) later) loss.became_is added))
+      added : Serial plan now (client_ends c drawn became) later
+      added = subst (λ (items : List HistoryItem). Serial plan now items later) adds_is is
+
+      loss_shown : IsRefusedLoss said became entry.side entry.missed → drawn_shown entry.draw (line_answer true entry.side entry.answer entry.missed) ≡ None
+      loss_shown loss =
+          ap (λ (side : Option Side). drawn_shown entry.draw (line_answer true side entry.answer entry.missed)) loss.at
+          ∙ ap (λ (one : Option Answer). drawn_shown entry.draw (line_answer true (Some After) entry.answer one)) loss.refused
+          ∙ none_shown entry.draw entry.answer loss.number loss.column
+
+      Goal : Type 0
+      Goal = Serial plan now (map item_of (judged_in plan (lines_of before) (line_of entry) entry.actor)) later
+
+      by : IsAlike entry.draw said became entry.side entry.answer entry.missed ⊎ IsRefusedLoss said became entry.side entry.missed → Goal
+      by (inl alike) = subst (λ (items : List HistoryItem). Serial plan now items later) (sym (judged_is ∙ ap (λ (draw : Option ℕ). client_ends c (with_draw draw client) said) alike.1 ∙ ap (client_ends c drawn) alike.0)) added
+      by (inr loss) =
+          subst (λ (items : List HistoryItem). Serial plan now items later)
+          (sym (judged_is ∙ ap (λ (draw : Option ℕ). client_ends c (with_draw draw client) said) (loss_shown loss) ∙ ap (client_ends c client) loss.said_is))
+          (drawn_items plan c entry.draw client now later (ap (tables_left plan) (keep before entry loss.number loss.column kept loss.at loss.refused))
+          (subst (λ (b : Became). Serial plan now (client_ends c drawn b) later) loss.became_is added))
 
 one_serial : (plan : PlanData) (before : List Entry) (entry : Entry) → ScriptsFit plan → MarksAgree plan → RefusalsKeepTables plan → IsKept plan (before ++ entry ∷ [])
     → Serial plan (tables_left plan (state_at plan before).tables) (entry_adds plan before entry) (tables_left plan (state_at plan (before ++ entry ∷ [])).tables)

@@ -23,7 +23,7 @@ use Rattle.server_model.specs.Along.{gathered, gathered-more}
 use Rattle.server_model.specs.Entries.{same_actor}
 use Rattle.server_model.specs.Operations.{after_events}
 use Rattle.plan_data.specs.PlanData.{PlanData}
-use Rattle.tool_program.specs.JournalWords.Clients.{Became, Nothing, Waits, Marked, Broken, Reached, client_after, cut_off, ends_with, is_inside, kept_unless, marked, number_of, with_line, with_reply}
+use Rattle.tool_program.specs.JournalWords.Clients.{Became, Nothing, Waits, Marked, Broken, Reached, client_after, cut_off, ends_with, is_inside, kept_unless, marked, number_of, with_draw, with_line, with_reply}
 use Rattle.tool_program.specs.JournalWords.Histories.{breaks, client_ends, ends_so, line_ends, past_of}
 use Rattle.proof_journals.proofs.Actors.{same_actor_itself}
 use Rattle.proof_journals.proofs.Replies.{IsReply, line_replies_so}
@@ -191,11 +191,17 @@ after_timely client turns turn Broken is counted = no_more (record client { line
 left_timely : (client : Reached) (turns : List ℕ) (became : Became) → IsTimely (client_after became client) turns → IsTimely (client_after_line became client) turns
 left_timely client turns became is = record { counted = is.counted; got = is.got }
 
+-- which number its line drew neither
+drawn_timely : (draw : Option ℕ) (client : Reached) (turns : List ℕ) → IsTimely client turns → IsTimely (with_draw draw client) turns
+drawn_timely None client turns is = is
+drawn_timely (Some number) client turns is = record { counted = is.counted; got = is.got }
+
 turn_timely : (client : Reached) (turns : List ℕ) (turn : ℕ) (line : TraceLine) (own lost : Bool) → IsTimely client turns
-    → IsTimely (cond own (cond lost client (client_after_line (became_by client line) client)) client) (turns ++ cond (own && not lost) (reply_turn turn (became_by client line)) [])
+    → IsTimely (cond own (cond lost client (client_after_line (became_by client line) (with_draw line.drawn client))) client) (turns ++ cond (own && not lost) (reply_turn turn (became_by client line)) [])
 turn_timely client turns turn line false lost is = no_more client turns is
 turn_timely client turns turn line true true is = no_more client turns is
-turn_timely client turns turn line true false is = left_timely client (turns ++ reply_turn turn (became_by client line)) (became_by client line) (after_timely client turns turn (became_by client line) is (line_counted client.waits line.asked line.answer))
+turn_timely client turns turn line true false is =
+    left_timely (with_draw line.drawn client) (turns ++ reply_turn turn (became_by client line)) (became_by client line) (after_timely (with_draw line.drawn client) turns turn (became_by client line) (drawn_timely line.drawn client turns is) (line_counted client.waits line.asked line.answer))
 
 turns_more : (plan : PlanData) (lines : List TraceLine) (line : TraceLine) (c : ℕ) → reply_turns plan (lines ++ line ∷ []) c ≡ reply_turns plan lines c ++ reply_turn_in plan c lines line
 unfolding reply_turns
@@ -274,11 +280,14 @@ in_timed plan before line (Client c) same = by (client_reached plan before c).is
   turns_are : client.is_lost ≡ false → reply_turns plan (before ++ line ∷ []) c ≡ turns ++ reply_turn (next_turn before) (became_by client line)
   turns_are lives = turns_more plan before line c ∙ ap (λ (b : Bool). turns ++ cond (b && not client.is_lost) (reply_turn (next_turn before) (became_by client line)) []) own ∙ ap (λ (b : Bool). turns ++ cond (true && not b) (reply_turn (next_turn before) (became_by client line)) []) lives
 
-  by : (lost : Bool) → client.is_lost ≡ lost → AllByRecursion IsTimed (cond lost [] (judged_of (reply_turns plan (before ++ line ∷ []) c) (client_ends c client (became_by client line))))
+  drawn : Reached
+  drawn = with_draw line.drawn client
+
+  by : (lost : Bool) → client.is_lost ≡ lost → AllByRecursion IsTimed (cond lost [] (judged_of (reply_turns plan (before ++ line ∷ []) c) (client_ends c drawn (became_by client line))))
   by true lost = tt
   by false lives =
-      subst (λ (all : List ℕ). AllByRecursion IsTimed (judged_of all (client_ends c client (became_by client line)))) (sym (turns_are lives))
-      (client_timed c client turns (next_turn before) (became_by client line) (timely_from plan c [] before (timely_begins plan c)) (line_counted client.waits line.asked line.answer))
+      subst (λ (all : List ℕ). AllByRecursion IsTimed (judged_of all (client_ends c drawn (became_by client line)))) (sym (turns_are lives))
+      (client_timed c drawn turns (next_turn before) (became_by client line) (drawn_timely line.drawn client turns (timely_from plan c [] before (timely_begins plan c))) (line_counted client.waits line.asked line.answer))
 
 all_timed : (plan : PlanData) (before lines : List TraceLine) → AllByRecursion IsTimed (gathered (λ some line. judged_in plan some line line.actor) before lines)
 all_timed plan before [] = tt

@@ -10,7 +10,7 @@ use Rattle.plan_data.specs.PlanData.{PlanData}
 use Rattle.run_audit.specs.declared.line.TraceLine.{TraceLine}
 use Rattle.run_audit.specs.declared.trace.Audit.TheVariants as audits
 use Rattle.run_audit.specs.declared.trace.Trace.{Trace}
-use Rattle.run_audit.specs.Audits.{audited, bad_turns, first_no, first_other, is_unfinished, judged, least, least_with, opening_tables, tables_reached, unended, verdict_holds, wrong_turns}
+use Rattle.run_audit.specs.Audits.{audited, bad_turns, first_no, first_other, is_unfinished, judged, least, least_with, may_draw, misdrawn_turns, misdraws, opening_tables, tables_reached, unended, verdict_holds, wrong_turns}
 use Rattle.run_audit.specs.Lines.{printed_table}
 use Rattle.run_audit.specs.Rules.{all_are_over, alters_in, breaks, broken_turns, has_altered, is_within, keeps_losses, keeps_script, next_turn, turn_if}
 use Rattle.proof_audit.specs.AuditedTraces.{AuditsSayYes, IsAudited}
@@ -56,37 +56,41 @@ along_each keeps holds each before (line ∷ lines) all = (each before line all.
 
 abbrev kept_so : PlanData → List TraceLine → TraceLine → Type 0
 kept_so plan before line =
-    (keeps_script plan before line ≡ true) × (is_within plan before ≡ true → keeps_losses plan before line ≡ true) × (alters_in before line ≡ true → has_altered before ≡ false) × (line.drawn ≡ None)
+    (keeps_script plan before line ≡ true) × (is_within plan before ≡ true → keeps_losses plan before line ≡ true) × (alters_in before line ≡ true → has_altered before ≡ false)
 
-drawn_none : (drawn : Option ℕ) → is_some drawn ≡ false → drawn ≡ None
-drawn_none None is = refl
-drawn_none (Some number) is = absurd cc
+parts_so : (script within losses alters altered : Bool) → (not script || (within && not losses) || (alters && altered)) ≡ false → (script ≡ true) × (within ≡ true → losses ≡ true) × (alters ≡ true → altered ≡ false)
+parts_so false within losses alters altered is = absurd cc
+parts_so true true false alters altered is = absurd cc
+parts_so true true true true true is = absurd cc
+parts_so true true true true false is = (refl, λ at. refl, λ at. refl)
+parts_so true true true false altered is = (refl, λ at. refl, λ at. absurd cc)
+parts_so true false losses true true is = absurd cc
+parts_so true false losses true false is = (refl, λ at. absurd cc, λ at. refl)
+parts_so true false losses false altered is = (refl, λ at. absurd cc, λ at. absurd cc)
 
-parts_so : (script within losses alters altered : Bool) (drawn : Option ℕ) → (not script || (within && not losses) || (alters && altered) || is_some drawn) ≡ false
-    → (script ≡ true) × (within ≡ true → losses ≡ true) × (alters ≡ true → altered ≡ false) × (drawn ≡ None)
-parts_so false within losses alters altered drawn is = absurd cc
-parts_so true true false alters altered drawn is = absurd cc
-parts_so true true true true true drawn is = absurd cc
-parts_so true true true true false drawn is = (refl, λ at. refl, λ at. refl, drawn_none drawn is)
-parts_so true true true false altered drawn is = (refl, λ at. refl, λ at. absurd cc, drawn_none drawn is)
-parts_so true false losses true true drawn is = absurd cc
-parts_so true false losses true false drawn is = (refl, λ at. absurd cc, λ at. refl, drawn_none drawn is)
-parts_so true false losses false altered drawn is = (refl, λ at. absurd cc, λ at. absurd cc, drawn_none drawn is)
+all_so : (script within losses alters altered : Bool) → script ≡ true → (within ≡ true → losses ≡ true) → (alters ≡ true → altered ≡ false) → (not script || (within && not losses) || (alters && altered)) ≡ false
+all_so false within losses alters altered one two three = absurd cc
+all_so true true false alters altered one two three = let no : false ≡ true = two refl in absurd (cc no)
+all_so true true true true true one two three = let no : true ≡ false = three refl in absurd (cc no)
+all_so true true true true false one two three = refl
+all_so true true true false altered one two three = refl
+all_so true false losses true true one two three = let no : true ≡ false = three refl in absurd (cc no)
+all_so true false losses true false one two three = refl
+all_so true false losses false altered one two three = refl
 
-all_so : (script within losses alters altered : Bool) (drawn : Option ℕ) → script ≡ true → (within ≡ true → losses ≡ true) → (alters ≡ true → altered ≡ false) → drawn ≡ None
-    → (not script || (within && not losses) || (alters && altered) || is_some drawn) ≡ false
-all_so false within losses alters altered drawn one two three four = absurd cc
-all_so true within losses alters altered (Some number) one two three four = absurd cc
-all_so true true false alters altered None one two three four = let no : false ≡ true = two refl in absurd (cc no)
-all_so true true true true true None one two three four = let no : true ≡ false = three refl in absurd (cc no)
-all_so true true true true false None one two three four = refl
-all_so true true true false altered None one two three four = refl
-all_so true false losses true true None one two three four = let no : true ≡ false = three refl in absurd (cc no)
-all_so true false losses true false None one two three four = refl
-all_so true false losses false altered None one two three four = refl
+-- a number that is shown may be drawn
+may_so : (shows may : Bool) → (shows && not may) ≡ false → shows ≡ true → may ≡ true
+may_so true true is shows = refl
+may_so true false is shows = absurd cc
+may_so false may is shows = absurd cc
+
+pub so_may : (shows may : Bool) → (shows ≡ true → may ≡ true) → (shows && not may) ≡ false
+so_may true true is = refl
+so_may true false is = let no : false ≡ true = is refl in absurd (cc no)
+so_may false may is = refl
 
 line_kept : (plan : PlanData) (before : List TraceLine) (line : TraceLine) → breaks plan before line ≡ false → kept_so plan before line
-line_kept plan before line is = parts_so (keeps_script plan before line) (is_within plan before) (keeps_losses plan before line) (alters_in before line) (has_altered before) line.drawn is
+line_kept plan before line is = parts_so (keeps_script plan before line) (is_within plan before) (keeps_losses plan before line) (alters_in before line) (has_altered before) is
 
 within_so : (plan : PlanData) (before : List TraceLine) → length before < plan.options.turn_limit → is_within plan before ≡ true
 within_so plan before less = grind (arith, nat_tests)
@@ -178,13 +182,14 @@ yes_is plan trace rules =
     ∙ ap (first_no None None) rules.verdict
 
 audited_only : (plan : PlanData) (trace : Trace) → audited plan trace ≡ audits.Yes → IsAudited plan trace
-unfolding broken_turns
+unfolding broken_turns misdrawn_turns
 audited_only plan trace is = record {
   scripts = along_each (kept_so plan) (λ before line. keeps_script plan before line ≡ true) (λ before line so. so.0) [] trace.lines kept;
   over = over_of plan trace rest.1;
   losses = along_each (kept_so plan) (λ before line. length before < plan.options.turn_limit → keeps_losses plan before line ≡ true) (λ before line so less. so.1 (within_so plan before less)) [] trace.lines kept;
   once = along_each (kept_so plan) (λ before line. alters_in before line ≡ true → has_altered before ≡ false) (λ before line so. so.2) [] trace.lines kept;
-  undrawn = along_each (kept_so plan) (λ before line. line.drawn ≡ None) (λ before line so. so.3) [] trace.lines kept;
+  drawn = along_each (λ before line. misdraws plan before line ≡ false) (λ before line. is_some line.drawn ≡ true → may_draw plan before line.actor ≡ true) (λ before line. may_so (is_some line.drawn) (may_draw plan before line.actor)) [] trace.lines
+      (along_turns (misdraws plan) [] trace.lines drawn_turns.1);
   tables = reached;
   serial = judged_is_serial plan (opening_tables plan) (judged plan trace.lines) (judged_timed plan (opening_tables plan) trace.lines) rest.0;
   others = printed.others;
@@ -197,11 +202,17 @@ audited_only plan trace is = record {
   reached : Database
   reached = tables_reached plan (opening_tables plan) (judged plan trace.lines)
 
-  parts : (broken_turns plan trace.lines ++ wrong_turns plan (opening_tables plan) (judged plan trace.lines) ≡ []) × (unended plan trace ≡ [])
-  parts = none_of_both (broken_turns plan trace.lines ++ wrong_turns plan (opening_tables plan) (judged plan trace.lines)) (unended plan trace) rules.turns
+  judged_turns : List ℕ
+  judged_turns = broken_turns plan trace.lines ++ wrong_turns plan (opening_tables plan) (judged plan trace.lines)
+
+  parts : (judged_turns ++ misdrawn_turns plan trace.lines ≡ []) × (unended plan trace ≡ [])
+  parts = none_of_both (judged_turns ++ misdrawn_turns plan trace.lines) (unended plan trace) rules.turns
+
+  drawn_turns : (judged_turns ≡ []) × (misdrawn_turns plan trace.lines ≡ [])
+  drawn_turns = none_of_both judged_turns (misdrawn_turns plan trace.lines) parts.0
 
   turns : (broken_turns plan trace.lines ≡ []) × (wrong_turns plan (opening_tables plan) (judged plan trace.lines) ≡ [])
-  turns = none_of_both (broken_turns plan trace.lines) (wrong_turns plan (opening_tables plan) (judged plan trace.lines)) parts.0
+  turns = none_of_both (broken_turns plan trace.lines) (wrong_turns plan (opening_tables plan) (judged plan trace.lines)) drawn_turns.0
 
   rest : (wrong_turns plan (opening_tables plan) (judged plan trace.lines) ≡ []) × (unended plan trace ≡ [])
   rest = (turns.1, parts.1)
@@ -212,19 +223,20 @@ audited_only plan trace is = record {
   printed : ArePrinted trace.tables reached
   printed = no_other trace.tables reached rules.tables
 
-four_kept : (plan : PlanData) (before lines : List TraceLine) → Along (λ some line. keeps_script plan some line ≡ true) before lines → Along (λ some line. length some < plan.options.turn_limit → keeps_losses plan some line ≡ true) before lines
-    → Along (λ some line. alters_in some line ≡ true → has_altered some ≡ false) before lines → Along (λ some line. line.drawn ≡ None) before lines → Along (λ some line. breaks plan some line ≡ false) before lines
-four_kept plan before [] scripts losses once undrawn = tt
-four_kept plan before (line ∷ lines) scripts losses once undrawn = (
-  all_so (keeps_script plan before line) (is_within plan before) (keeps_losses plan before line) (alters_in before line) (has_altered before) line.drawn scripts.0 (λ within. losses.0 (less_so plan before within)) once.0 undrawn.0,
-  four_kept plan (before ++ line ∷ []) lines scripts.1 losses.1 once.1 undrawn.1,
+all_kept : (plan : PlanData) (before lines : List TraceLine) → Along (λ some line. keeps_script plan some line ≡ true) before lines → Along (λ some line. length some < plan.options.turn_limit → keeps_losses plan some line ≡ true) before lines
+    → Along (λ some line. alters_in some line ≡ true → has_altered some ≡ false) before lines → Along (λ some line. breaks plan some line ≡ false) before lines
+all_kept plan before [] scripts losses once = tt
+all_kept plan before (line ∷ lines) scripts losses once = (
+  all_so (keeps_script plan before line) (is_within plan before) (keeps_losses plan before line) (alters_in before line) (has_altered before) scripts.0 (λ within. losses.0 (less_so plan before within)) once.0,
+  all_kept plan (before ++ line ∷ []) lines scripts.1 losses.1 once.1,
 )
 
 audited_where : (plan : PlanData) (trace : Trace) → IsAudited plan trace → audited plan trace ≡ audits.Yes
-unfolding broken_turns
+unfolding broken_turns misdrawn_turns
 audited_where plan trace is = yes_is plan trace (record {
-  turns = ap (λ (broken : List ℕ). broken ++ wrong_turns plan (opening_tables plan) (judged plan trace.lines) ++ unended plan trace) (turns_along (breaks plan) [] trace.lines (four_kept plan [] trace.lines is.scripts is.losses is.once is.undrawn))
-      ∙ ap (λ (wrong : List ℕ). wrong ++ unended plan trace) found.0
+  turns = ap (λ (broken : List ℕ). broken ++ wrong_turns plan (opening_tables plan) (judged plan trace.lines) ++ misdrawn_turns plan trace.lines ++ unended plan trace) (turns_along (breaks plan) [] trace.lines (all_kept plan [] trace.lines is.scripts is.losses is.once))
+      ∙ ap (λ (wrong : List ℕ). wrong ++ misdrawn_turns plan trace.lines ++ unended plan trace) found.0
+      ∙ ap (λ (drawn : List ℕ). drawn ++ unended plan trace) (turns_along (misdraws plan) [] trace.lines (along_each (λ before line. is_some line.drawn ≡ true → may_draw plan before line.actor ≡ true) (λ before line. misdraws plan before line ≡ false) (λ before line. so_may (is_some line.drawn) (may_draw plan before line.actor)) [] trace.lines is.drawn))
       ∙ of_over plan trace is.over;
   tables = ap (λ (all : List (List ℕ)). first_other all (tables_reached plan (opening_tables plan) (judged plan trace.lines))) is.printed ∙ ap (first_other (map printed_table is.tables ++ is.others)) found.1 ∙ printed_none is.tables is.others;
   verdict = is.verdict;

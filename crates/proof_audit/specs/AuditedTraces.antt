@@ -1,5 +1,5 @@
 -- *Audited*, as facts: what each answer of an audit means. (This project's rule.)
-use Rattle.std.specs.Prelude.{◌≡◌, ◌≤◌, ◌<◌, ℕ, nat_eq, true, false, List, [], ◌++◌, length, map, Some, None}
+use Rattle.std.specs.Prelude.{◌≡◌, ◌≤◌, ◌<◌, ℕ, nat_eq, true, false, List, [], ◌++◌, is_some, length, map, None, Some}
 use Rattle.std.specs.List.{AllByRecursion, list_any}
 use Rattle.table_store.specs.Databases.{Database}
 use Rattle.server_model.specs.Along.{Along}
@@ -7,7 +7,7 @@ use Rattle.plan_data.specs.PlanData.{PlanData}
 use Rattle.tool_program.specs.JournalWords.Serials.{Serial}
 use Rattle.run_audit.specs.declared.trace.Audit.TheVariants.{Yes, Line, Table, Verdict}
 use Rattle.run_audit.specs.declared.trace.Trace.{Trace}
-use Rattle.run_audit.specs.Audits.{audited, bad_turns, first_other, is_unfinished, item_of, judged, opening_tables, tables_reached, verdict_holds}
+use Rattle.run_audit.specs.Audits.{audited, bad_turns, first_other, is_unfinished, item_of, judged, may_draw, opening_tables, tables_reached, verdict_holds}
 use Rattle.run_audit.specs.Lines.{printed_table}
 use Rattle.run_audit.specs.Rules.{all_are_over, alters_in, has_altered, keeps_losses, keeps_script}
 
@@ -21,8 +21,8 @@ pub record IsAudited (plan : PlanData) (trace : Trace) : Type 0 where
   pub losses : Along (λ before line. length before < plan.options.turn_limit → keeps_losses plan before line ≡ true) [] trace.lines
   -- the ALTER is done once at most
   pub once : Along (λ before line. alters_in before line ≡ true → has_altered before ≡ false) [] trace.lines
-  -- no statement drew a number
-  pub undrawn : Along (λ before line. line.drawn ≡ None) [] trace.lines
+  -- each number was drawn by a statement that draws, with its table as it was at that turn
+  pub drawn : Along (λ before line. is_some line.drawn ≡ true → may_draw plan before line.actor ≡ true) [] trace.lines
   -- the history of the lines is serial, and leads to these tables
   pub tables : Database
   pub serial : Serial plan (opening_tables plan) (map item_of (judged plan trace.lines)) tables

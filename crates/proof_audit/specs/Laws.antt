@@ -1,6 +1,7 @@
 -- What holds of the lines of a journal that a run keeps. (This project's rule.)
 use Rattle.std.specs.Prelude.{◌≡◌, ◌≤◌, ℕ, length, true, false, List, [], ◌∷◌, ◌++◌, map, is_some, Option, Some, None}
 use Rattle.base_script.specs.declared.actor.Actor.{Actor}
+use Rattle.base_script.specs.declared.actor.Actor.TheVariants.{Client}
 use Rattle.base_script.specs.declared.actor.Side.TheVariants.{After}
 use Rattle.server_model.specs.declared.answer.Answer.TheVariants.{Refused}
 use Rattle.server_model.specs.declared.entry.Entry.{Entry}
@@ -20,7 +21,7 @@ use Rattle.proof_journals.specs.Machine.Scripts.{ScriptsFit}
 use Rattle.proof_journals.specs.Run.Kept.{IsKept}
 use Rattle.tool_program.specs.Failures.{IsPanic, Stands}
 use Rattle.tool_program.specs.Verdicts.{verdict_of}
-use Rattle.run_audit.specs.Audits.{audited, first_other, is_panic_at, item_of, judged, judged_in, line_at, opening_tables, tables_reached, unended, wrong_turns}
+use Rattle.run_audit.specs.Audits.{audited, first_other, is_panic_at, item_of, first_draws, judged, judged_in, line_at, opening_tables, tables_reached, unended, wrong_turns}
 use Rattle.run_audit.specs.Lines.{line_of, lines_of, printed_table, trace_of}
 use Rattle.run_audit.specs.Rules.{alters_in, client_reached, has_session, keeps_losses, keeps_script}
 
@@ -75,11 +76,20 @@ LinesTellPanic = (plan : PlanData) (journal : List Entry) (turn : ℕ) → IsKep
 abbrev pub LinesTellAlters : PlanData → Type 0
 LinesTellAlters plan = (before : List Entry) (entry : Entry) → IsKept plan (before ++ entry ∷ []) → alters_in (lines_of before) (line_of entry) ≡ list_any is_alter (entry_adds plan before entry)
 
+-- the actor is a client, whose next line draws a number with its table as it is left
+abbrev pub MayDraw : PlanData → List Entry → Actor → Type 0
+MayDraw plan before (Client c) = first_draws (tables_left plan (state_at plan before).tables) (client_at plan before c).left ≡ true
+MayDraw plan before actor = ⊥
+
+-- a number is drawn there alone
+abbrev pub DrawsAsLeft : PlanData → Type 0
+DrawsAsLeft plan = (before : List Entry) (entry : Entry) → IsKept plan (before ++ entry ∷ []) → is_some entry.draw ≡ true → MayDraw plan before entry.actor
+
 -- *Serial traces are audited yes*: of a plan whose kept journals are serial, the trace of one that has no more turns than the plan
 -- allows and whose cause stands, with its verdict and the tables at its end.
 abbrev pub SerialTracesAreAudited : Type 0
 SerialTracesAreAudited =
-    (plan : PlanData) (journal : List Entry) → ScriptsFit plan → KeptAreSerial plan → LinesTellAlters plan → IsKept plan journal → length journal ≤ plan.options.turn_limit
+    (plan : PlanData) (journal : List Entry) → ScriptsFit plan → KeptAreSerial plan → LinesTellAlters plan → DrawsAsLeft plan → IsKept plan journal → length journal ≤ plan.options.turn_limit
     → ((cause : Cause) → verdict_of plan journal ≡ Reverted cause → Stands plan journal cause) → audited plan (trace_of plan journal (verdict_of plan journal) (state_at plan journal).tables) ≡ Yes
 
 -- a session outside a transaction has written nothing

@@ -1,4 +1,5 @@
 -- Each line of a client's script takes one turn and as many more as the plan lets it wait.
+use Rattle.proof_bounds.proofs.Drawn.{drawn_front, drawn_length}
 use Rattle.std.proofs.Common.{◌≡◌, ◌⊎◌, inl, inr, ◌≤◌, ◌<◌, ℕ, zero, suc, ◌+◌, ◌*◌, ◌-◌, ◌==◌, Bool, true, false, cond, not, ◌&&◌, List, [], ◌∷◌, ◌++◌, length, Option, Some, None, refl, sym, ap, ◌∙◌, subst, arith, mul-le-mul_right}
 use Rattle.std.specs.Prelude.{sum, map, unwrap_or}
 use Rattle.std.specs.List.{slice_get}
@@ -26,7 +27,7 @@ use Rattle.server_model.specs.Entries.{same_actor, is_command, is_cut}
 use Rattle.plan_data.specs.PlanData.{PlanData}
 use Rattle.server_model.specs.Alone.{reply_of}
 use Rattle.tool_program.specs.JournalWords.Journals.{turns_of, state_at, IsFaithful}
-use Rattle.tool_program.specs.JournalWords.Clients.{Reached, Became, Marked, lost_side, is_inside, closes, after_transaction, left_after, marked, client_after, became, became_of, became_in, script_of, client_at, client_asks, word_asks}
+use Rattle.tool_program.specs.JournalWords.Clients.{Reached, Became, Marked, lost_side, is_inside, closes, after_transaction, left_after, marked, client_after, became, became_of, became_in, script_of, client_at, client_asks, word_asks, with_draw}
 use Rattle.tool_program.specs.JournalWords.Sessions.{live_session}
 use Rattle.tool_program.specs.declared.cutover_core.cutover.Phase.{Phase}
 use Rattle.tool_program.specs.declared.cutover_core.cutover.Phase.TheVariants.{Resting, Attempting, Ending, Finishing, Finished}
@@ -73,8 +74,8 @@ mark_takes client mark reply line lines is =
     omega (arith, short, one, two)
 
 -- a turn in which the line was answered, or its session lost
-answered_takes : (client : Reached) (line : ScriptLine) (lines : List ScriptLine) → client.left ≡ line ∷ lines → (answer : Answer) → serves_to (word_asks line.word) answer ≡ true → ((one : ℕ) → answer ≡ answers.Waits one → ⊥) → length (client_after (became_of answer) client).left + 1 ≤ length client.left
-answered_takes client line lines is answer fits heard = by line.word answer fits heard where
+answered_takes : (client : Reached) (line : ScriptLine) (lines : List ScriptLine) → client.left ≡ line ∷ lines → (word : ScriptWord) (answer : Answer) → serves_to (word_asks word) answer ≡ true → ((one : ℕ) → answer ≡ answers.Waits one → ⊥) → length (client_after (became_of answer) client).left + 1 ≤ length client.left
+answered_takes client line lines is = by where
   by : (word : ScriptWord) (answer : Answer) → serves_to (word_asks word) answer ≡ true → ((one : ℕ) → answer ≡ answers.Waits one → ⊥) → length (client_after (became_of answer) client).left + 1 ≤ length client.left
   by word (answers.Ok count) fits heard = mark_takes client marks.Answered (reply_of (answers.Ok count)) line lines is
   by word (answers.Rows rows) fits heard = mark_takes client marks.Answered (reply_of (answers.Rows rows)) line lines is
@@ -111,6 +112,13 @@ module _ (plan : PlanData) (may : MayWait plan) (c : ℕ) (journal : List Entry)
   abbrev client : Reached
   client = client_at plan journal c
 
+  -- with the number that its line drew
+  abbrev drawn : Reached
+  drawn = with_draw entry.draw client
+
+  same_long : length drawn.left ≡ length client.left
+  same_long = drawn_length entry.draw client
+
   abbrev each : ℕ
   each = 1 + plan.options.client_wait
 
@@ -122,7 +130,7 @@ module _ (plan : PlanData) (may : MayWait plan) (c : ℕ) (journal : List Entry)
   other_spent : same_actor entry.actor (Client c) ≡ false → IsSpent plan c more
   other_spent differ =
       let turns : turns_by c more ≡ turns_by c journal + 0 = turns_more c journal entry ∙ ap (λ (b : Bool). turns_by c journal + cond (b && not (is_cut entry.asked)) 1 0) differ in
-      let left : (client_at plan more c).left ≡ client.left = ap (λ (r : Reached). r.left) (client_more plan journal entry c ∙ ap (λ (b : Bool). cond b (client_after (became client entry) client) client) differ) in
+      let left : (client_at plan more c).left ≡ client.left = ap (λ (r : Reached). r.left) (client_more plan journal entry c ∙ ap (λ (b : Bool). cond b (client_after (became client entry) drawn) client) differ) in
       let waits : waited_by plan more (Client c) ≡ waited_by plan journal (Client c) = others_wait plan may journal entry is.together is.clients is.both.living run is.few (Client c) differ in
       subst (λ (n : ℕ). n + length (client_at plan more c).left * each ≤ all_lines plan c * each + waited_by plan more (Client c)) (sym (turns ∙ none (turns_by c journal)))
       (subst (λ (l : List ScriptLine). turns_by c journal + length l * each ≤ all_lines plan c * each + waited_by plan more (Client c)) (sym left)
@@ -136,8 +144,8 @@ module _ (plan : PlanData) (may : MayWait plan) (c : ℕ) (journal : List Entry)
     itself : same_actor entry.actor (Client c) ≡ true
     itself = ap (λ (a : Actor). same_actor a (Client c)) who ∙ same_actor_itself (Client c)
 
-    client_is : client_at plan more c ≡ client_after (became client entry) client
-    client_is = client_more plan journal entry c ∙ ap (λ (b : Bool). cond b (client_after (became client entry) client) client) itself
+    client_is : client_at plan more c ≡ client_after (became client entry) drawn
+    client_is = client_more plan journal entry c ∙ ap (λ (b : Bool). cond b (client_after (became client entry) drawn) client) itself
 
     turns_are : (b : Bool) → is_cut entry.asked ≡ b → turns_by c more ≡ turns_by c journal + cond (not b) 1 0
     turns_are b cut = turns_more c journal entry ∙ ap (λ (s : Bool). turns_by c journal + cond (s && not (is_cut entry.asked)) 1 0) itself ∙ ap (λ (s : Bool). turns_by c journal + cond (not s) 1 0) cut
@@ -146,10 +154,10 @@ module _ (plan : PlanData) (may : MayWait plan) (c : ℕ) (journal : List Entry)
     most = waits_short plan journal is.few (Client c)
 
     -- the line is gone, and nothing waits
-    gone : is_cut entry.asked ≡ false → length (client_after (became client entry) client).left + 1 ≤ length client.left → waited_by plan more (Client c) ≡ 0 → IsSpent plan c more
+    gone : is_cut entry.asked ≡ false → length (client_after (became client entry) drawn).left + 1 ≤ length drawn.left → waited_by plan more (Client c) ≡ 0 → IsSpent plan c more
     gone uncut less idle =
         let turns = turns_are false uncut in
-        let left : length (client_at plan more c).left + 1 ≤ length client.left = subst (λ (r : Reached). length r.left + 1 ≤ length client.left) (sym client_is) less in
+        let left : length (client_at plan more c).left + 1 ≤ length client.left = subst (λ (n : ℕ). length (client_at plan more c).left + 1 ≤ n) same_long (subst (λ (r : Reached). length r.left + 1 ≤ length drawn.left) (sym client_is) less) in
         let times = times_less (length (client_at plan more c).left) (length client.left) each left in
         let short = most in
         join (turns_by c more) (turns_by c journal) (length (client_at plan more c).left * each) (length client.left * each) (all_lines plan c * each) (waited_by plan journal (Client c)) (waited_by plan more (Client c)) plan.options.client_wait turns times short spent where
@@ -157,10 +165,10 @@ module _ (plan : PlanData) (may : MayWait plan) (c : ℕ) (journal : List Entry)
           join t old l before all waits now v turns times short spent = omega (arith, turns, times, short, spent)
 
     -- the line waits
-    waits : is_cut entry.asked ≡ false → (client_after (became client entry) client).left ≡ client.left → waited_by plan more (Client c) ≡ waited_by plan journal (Client c) + 1 → IsSpent plan c more
+    waits : is_cut entry.asked ≡ false → (client_after (became client entry) drawn).left ≡ drawn.left → waited_by plan more (Client c) ≡ waited_by plan journal (Client c) + 1 → IsSpent plan c more
     waits uncut same once =
         let turns = turns_are false uncut in
-        let left : length (client_at plan more c).left ≡ length client.left = ap (λ (r : Reached). length r.left) client_is ∙ ap length same in
+        let left : length (client_at plan more c).left ≡ length client.left = ap (λ (r : Reached). length r.left) client_is ∙ ap length same ∙ same_long in
         let times : length (client_at plan more c).left * each ≡ length client.left * each = ap (λ (n : ℕ). n * each) left in
         join (turns_by c more) (turns_by c journal) (length (client_at plan more c).left * each) (length client.left * each) (all_lines plan c * each) (waited_by plan journal (Client c)) (waited_by plan more (Client c)) turns times once spent where
           join : (t old l before all waits now : ℕ) → t ≡ old + 1 → l ≡ before → now ≡ waits + 1 → old + before ≤ all + waits → t + l ≤ all + now
@@ -175,20 +183,22 @@ module _ (plan : PlanData) (may : MayWait plan) (c : ℕ) (journal : List Entry)
       idle : waited_by plan more (Client c) ≡ 0
       idle = subst (λ (a : Actor). waited_by plan more a ≡ 0) who (waits_cut plan may journal entry is.together is.clients is.both.living run is.few cut)
 
-      client_cut : (b : Bool) → client.waits ≡ b → client_at plan more c ≡ client_after (became_in b Cut entry.side entry.answer entry.missed) client
-      client_cut b waits = client_is ∙ ap (λ (a : Asked). client_after (became_in client.waits a entry.side entry.answer entry.missed) client) cut ∙ ap (λ (w : Bool). client_after (became_in w Cut entry.side entry.answer entry.missed) client) waits
+      client_cut : (b : Bool) → client.waits ≡ b → client_at plan more c ≡ client_after (became_in b Cut entry.side entry.answer entry.missed) drawn
+      client_cut b waits = client_is ∙ ap (λ (a : Asked). client_after (became_in client.waits a entry.side entry.answer entry.missed) drawn) cut ∙ ap (λ (w : Bool). client_after (became_in w Cut entry.side entry.answer entry.missed) drawn) waits
 
       by : (b : Bool) → client.waits ≡ b → IsSpent plan c more
       by true waits =
           let held = (is.clients.each c).held waits in
-          let less : length (client_at plan more c).left + 1 ≤ length client.left = subst (λ (r : Reached). length r.left + 1 ≤ length client.left) (sym (client_cut true waits)) (mark_takes client (marks.Lost Before) None held.0 held.1 held.2) in
+          let front = drawn_front entry.draw client held.0 held.1 held.2 in
+          let less : length (client_at plan more c).left + 1 ≤ length client.left =
+          subst (λ (n : ℕ). length (client_at plan more c).left + 1 ≤ n) same_long (subst (λ (r : Reached). length r.left + 1 ≤ length drawn.left) (sym (client_cut true waits)) (mark_takes drawn (marks.Lost Before) None front.0 held.1 front.1)) in
           let times = times_less (length (client_at plan more c).left) (length client.left) each less in
           let short = most in
           join (turns_by c more) (turns_by c journal) (length (client_at plan more c).left * each) (length client.left * each) (all_lines plan c * each) (waited_by plan journal (Client c)) (waited_by plan more (Client c)) plan.options.client_wait turns times short spent where
             join : (t old l before all waits now v : ℕ) → t ≡ old + 0 → l + (1 + v) ≤ before → waits ≤ v → old + before ≤ all + waits → t + l ≤ all + now
             join t old l before all waits now v turns times short spent = omega (arith, turns, times, short, spent)
       by false off =
-          let left : length (client_at plan more c).left ≡ length client.left = ap (λ (r : Reached). length r.left) (client_cut false off) in
+          let left : length (client_at plan more c).left ≡ length client.left = ap (λ (r : Reached). length r.left) (client_cut false off) ∙ same_long in
           let times : length (client_at plan more c).left * each ≡ length client.left * each = ap (λ (n : ℕ). n * each) left in
           join (turns_by c more) (turns_by c journal) (length (client_at plan more c).left * each) (length client.left * each) (all_lines plan c * each) (waited_by plan journal (Client c)) (waited_by plan more (Client c)) turns times no_wait spent where
             no_wait : waited_by plan journal (Client c) ≡ 0
@@ -203,10 +213,13 @@ module _ (plan : PlanData) (may : MayWait plan) (c : ℕ) (journal : List Entry)
       became_is : (side : Option Side) → entry.side ≡ side → became client entry ≡ became_in client.waits entry.asked side entry.answer entry.missed
       became_is side at = ap (λ (s : Option Side). became_in client.waits entry.asked s entry.answer entry.missed) at
 
-      lost_is : (asked : Asked) (side : Side) → is_cut asked ≡ false → length (client_after (became_in client.waits asked (Some side) entry.answer entry.missed) client).left + 1 ≤ length client.left
-      lost_is (Call request) side uncut = mark_takes client (marks.Lost (lost_side (Some side) entry.missed)) None line lines left
-      lost_is Poll side uncut = mark_takes client (marks.Lost (lost_side (Some side) entry.missed)) None line lines left
-      lost_is (Command word) side uncut = mark_takes client (marks.Lost (lost_side (Some side) entry.missed)) None line lines left
+      front : (first : ScriptLine) × (drawn.left ≡ first ∷ lines)
+      front = drawn_front entry.draw client line lines left
+
+      lost_is : (asked : Asked) (side : Side) → is_cut asked ≡ false → length (client_after (became_in client.waits asked (Some side) entry.answer entry.missed) drawn).left + 1 ≤ length drawn.left
+      lost_is (Call request) side uncut = mark_takes drawn (marks.Lost (lost_side (Some side) entry.missed)) None front.0 lines front.1
+      lost_is Poll side uncut = mark_takes drawn (marks.Lost (lost_side (Some side) entry.missed)) None front.0 lines front.1
+      lost_is (Command word) side uncut = mark_takes drawn (marks.Lost (lost_side (Some side) entry.missed)) None front.0 lines front.1
       lost_is Cut side uncut = absurd (true≢false uncut)
 
       heard_is : (asked : Asked) → is_cut asked ≡ false → became_in client.waits asked None entry.answer entry.missed ≡ became_of entry.answer
@@ -221,20 +234,20 @@ module _ (plan : PlanData) (may : MayWait plan) (c : ℕ) (journal : List Entry)
       heard : entry.side ≡ None → (answer : Answer) → entry.answer ≡ answer → IsSpent plan c more
       heard no_side (answers.Waits one) waits_so =
           waits uncut
-          (ap (λ (b : Became). (client_after b client).left) (became_is None no_side ∙ heard_is entry.asked uncut ∙ ap became_of waits_so))
+          (ap (λ (b : Became). (client_after b drawn).left) (became_is None no_side ∙ heard_is entry.asked uncut ∙ ap became_of waits_so))
           (subst (λ (a : Actor). waited_by plan more a ≡ waited_by plan journal a + 1) who (waits_on plan may journal entry is.together is.clients is.both.living run is.few one called uncut waits_so).counts)
       heard no_side answer answer_so = done_so (λ one same. let bad : answer ≡ answers.Waits one = sym answer_so ∙ same in cc) where
         done_so : ((one : ℕ) → entry.answer ≡ answers.Waits one → ⊥) → IsSpent plan c more
         done_so heard =
             gone uncut
-            (subst (λ (b : Became). length (client_after b client).left + 1 ≤ length client.left) (sym (became_is None no_side ∙ heard_is entry.asked uncut))
-            (answered_takes client line lines left entry.answer (own_heard plan journal entry is.together.known served (word_asks line.word) about no_side) heard))
+            (subst (λ (b : Became). length (client_after b drawn).left + 1 ≤ length drawn.left) (sym (became_is None no_side ∙ heard_is entry.asked uncut))
+            (answered_takes drawn front.0 lines front.1 line.word entry.answer (own_heard plan journal entry is.together.known served (word_asks line.word) about no_side) heard))
             (ends heard)
 
       by : (side : Option Side) → entry.side ≡ side → IsSpent plan c more
       by None no_side = heard no_side entry.answer refl
       by (Some side) at =
-          gone uncut (subst (λ (b : Became). length (client_after b client).left + 1 ≤ length client.left) (sym (became_is (Some side) at)) (lost_is entry.asked side uncut))
+          gone uncut (subst (λ (b : Became). length (client_after b drawn).left + 1 ≤ length drawn.left) (sym (became_is (Some side) at)) (lost_is entry.asked side uncut))
           (ends (λ one same. let lost = own_missed plan journal entry is.together.known served side at in never lost same)) where
             never : {one : ℕ} → entry.answer ≡ answers.Lost → entry.answer ≡ answers.Waits one → ⊥
             never lost waits = no (sym lost ∙ waits) where

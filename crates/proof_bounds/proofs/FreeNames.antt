@@ -31,7 +31,7 @@ use Rattle.server_model.specs.Blockers.{need, blocker}
 use Rattle.server_model.specs.Chunks.{keys_of, ends_of}
 use Rattle.server_model.specs.Effects.{created, defined, dropped, effect_unless, is_outside, of_table}
 use Rattle.server_model.specs.Entries.{same_actor, is_client, is_command}
-use Rattle.server_model.specs.PlainServer.{does, done, called_unless, calls, serves}
+use Rattle.server_model.specs.PlainServer.{does, done, did, called_unless, calls, serves}
 use Rattle.server_model.specs.States.{State, names_held, waiters, session_of, waiting_of, names_in, is_in_transaction, kept_names, locked_names, shared_names, view}
 use Rattle.plan_data.specs.PlanData.{PlanData}
 use Rattle.tool_program.specs.JournalWords.Journals.{opens, state_at}
@@ -63,13 +63,13 @@ use Rattle.proof_bounds.proofs.Unblocked.{Off, WaitsOff, WaitsApart, IsFreeName,
 -- WHAT IS DONE
 
 drop_done : (state : State) (number : ℕ) (name : List ℕ) → is_outside (session_of number state.sessions) (requests.Drop name) ≡ false → has_table name state.tables ≡ true → (done state number (requests.Drop name)).answer ≡ ok
-unfolding done
+unfolding did
 drop_done state number name inside there =
     ap (λ (b : Bool). (does (effect_unless b (is_in_transaction (session_of number state.sessions)) (view number state) state (requests.Drop name)) state number).answer) inside
     ∙ ap (λ (b : Bool). (does (defined (dropped b name state.tables)) state number).answer) there
 
 create_done : (state : State) (number : ℕ) (schema : Schema) → is_outside (session_of number state.sessions) (requests.Create schema) ≡ false → has_table schema.name state.tables ≡ false → (done state number (requests.Create schema)).answer ≡ ok
-unfolding done
+unfolding did
 create_done state number schema inside none =
     ap (λ (b : Bool). (does (effect_unless b (is_in_transaction (session_of number state.sessions)) (view number state) state (requests.Create schema)) state number).answer) inside
     ∙ ap (λ (b : Bool). (does (defined (created b schema state.tables)) state number).answer) none
@@ -79,7 +79,7 @@ ends_is [] = (_, refl)
 ends_is (key ∷ keys) = (_, refl)
 
 ends_done : (state : State) (number : ℕ) (name : List ℕ) (schema : Schema) → is_outside (session_of number state.sessions) (requests.Ends name) ≡ false → schema_of name state.tables ≡ Some schema → (range : Option KeyRange) × ((done state number (requests.Ends name)).answer ≡ answers.Ends range)
-unfolding done
+unfolding did
 ends_done state number name schema inside there = by (find_table name state.tables) refl there where
   answer : Option TableRows → Answer
   answer found = of_table found (λ t. ends_of (keys_of (key_places t.schema) t.rows))

@@ -13,6 +13,7 @@ use Rattle.base_script.specs.declared.actor.Side.{Side}
 use Rattle.base_values.specs.declared.value.Value.{Value}
 use Rattle.base_values.specs.ToolNames.{ghost_name, log_name, old_name, is_tool_name}
 use Rattle.base_values.proofs.SchemaRules.Lists.{All-anything}
+use Rattle.server_model.specs.declared.counter.Counter.{Counter}
 use Rattle.server_model.specs.Along.{Along, Along-keeps}
 use Rattle.server_model.specs.declared.entry.Asked.{Asked}
 use Rattle.server_model.specs.declared.entry.Asked.TheVariants.{Call, Poll, Command, Cut}
@@ -23,7 +24,7 @@ use Rattle.server_model.specs.declared.session.Waiting.{Waiting}
 use Rattle.server_model.specs.Conditions.{MayPoll}
 use Rattle.server_model.specs.Entries.{same_actor, is_client, is_command}
 use Rattle.server_model.specs.Operations.{table_of}
-use Rattle.server_model.specs.PlainServer.{leaves}
+use Rattle.server_model.specs.PlainServer.{leaves, recounted}
 use Rattle.server_model.specs.States.{State, session_of, connected, waiting_of, names_in}
 use Rattle.plan_data.specs.PlanData.{PlanData}
 use Rattle.tool_changelog.specs.ToolTables.{sentry_schema}
@@ -160,7 +161,9 @@ module _ (plan : PlanData) (runs : IsRunnable plan) (journal : List Entry) (entr
   asked_serving (Command word) asks gives = subst (λ (side : Option Side). IsServing (leaves side (open_if true) entry.session (Command word))) (sym (run.answered.sides (ap may_lose asks))) (opened_serving true (not (is_client entry.actor)) entry.session state_now serving)
 
   serving_more : IsServing (state_at plan (journal ++ entry ∷ []))
-  serving_more = subst IsServing (sym (state_more plan journal entry)) (asked_serving entry.asked refl run.followed.given)
+  serving_more = subst IsServing (sym (state_more plan journal entry)) (recount (asked_serving entry.asked refl run.followed.given)) where
+    recount : {state : State} {counters : List Counter} → IsServing state → IsServing (recounted counters state)
+    recount is = record { well_formed = is.well_formed; own = is.own; apart = is.apart; alone = is.alone; waits = is.waits }
 
 -- WHAT EACH MAY HOLD AND WAIT FOR
 

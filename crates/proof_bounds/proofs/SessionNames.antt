@@ -1,4 +1,6 @@
 -- Of which tables one session holds names and row locks, and after a turn of its own.
+use Rattle.server_model.proofs.Filling.{filled_case, numbered_table}
+use Rattle.server_model.specs.Drawing.{filled}
 use Rattle.std.proofs.Common.{◌≡◌, ℕ, ◌+◌, Bool, true, false, not, ◌||◌, List, [], ◌∷◌, ◌++◌, map, filter, cond, Option, Some, None, Result, Ok, Err, refl, sym, ap, ◌∙◌, subst}
 use Rattle.std.specs.Prelude.{◌==◌, is_some}
 use Rattle.std.specs.List.{AllByRecursion}
@@ -30,10 +32,10 @@ use Rattle.server_model.specs.Effects.{Effect, Rests, Grows, Writes, Forgets, Mo
 use Rattle.server_model.specs.Blockers.{span_lock, span_needs, row_locks_of, need_within, need, blocker}
 use Rattle.server_model.specs.Needs.{lock_on, point_lock, points_from, points, points_of, new_rows, needs}
 use Rattle.server_model.specs.Operations.{Operation, operation_of, operation_result, statement_result, copy_operation, needs_in, operation_needs}
-use Rattle.server_model.specs.PlainServer.{shared, exclusive, holding, at_rest, locking, unlocking, counting, does, done, without_waiting, called_unless, calls, is_over, polled_over, polled_unless, polled_of, polls, loses, serves, leaves}
+use Rattle.server_model.specs.PlainServer.{shared, exclusive, holding, at_rest, locking, unlocking, counting, does, done, did, without_waiting, called_unless, calls, is_over, polled_over, polled_unless, polled_of, polls, loses, serves, leaves}
 use Rattle.server_model.specs.Rows.{rows_met}
 use Rattle.server_model.specs.StatementResults.{displaced}
-use Rattle.server_model.specs.States.{State, with_session, session_of, new_session, connected, waiting_of, names_in, is_in_transaction, polls_of, view}
+use Rattle.server_model.specs.States.{State, with_session, session_of, new_session, connected, waiting_of, names_in, is_in_transaction, is_of_tool, polls_of, view}
 use Rattle.server_model.proofs.LockedRows.Tests.{are_same}
 use Rattle.tool_program.specs.JournalWords.Journals.{opens_if}
 use Rattle.proof_journals.specs.Turns.{request_of}
@@ -45,6 +47,11 @@ named_so name (first ∷ tables) table is = by (is_named name first) refl is (na
   by : (b : Bool) → is_named name first ≡ b → cond b (Some first) (find_table name tables) ≡ Some table → (find_table name tables ≡ Some table → table.schema.name ≡ name) → table.schema.name ≡ name
   by true named is later = let one : first ≡ table = cc in subst (λ (t : TableRows). t.schema.name ≡ name) one (are_same first.schema.name name named)
   by false named is later = later is
+
+-- a statement names the same table with its number
+pub filled_names : (state : State) (number : ℕ) (request : Request) → names_in (filled state number request) ≡ names_in request
+filled_names state number request =
+    filled_case (λ asked full. names_in full ≡ names_in asked) (λ r. refl) (λ statement n. ap (λ (name : List ℕ). name ∷ []) (numbered_table n statement)) (is_of_tool (session_of number state.sessions)) state.tables state.counters request
 
 module _ (P : List ℕ → Type 0) where
   -- all these names are such
@@ -215,9 +222,13 @@ module _ (P : List ℕ → Type 0) where
   effect_adds false busy seen state requests.ShowWaiting all = tt
 
   done_within : (state : State) (number : ℕ) (request : Request) → AllNames (names_in request) → WithinIn (session_of number state.sessions) → WithinIn (session_of number (done state number request).after.sessions)
-  unfolding done
+  unfolding did
   done_within state number request all is =
-      does_within (effect state number request) state number (effect_adds (is_outside (session_of number state.sessions) request) (is_in_transaction (session_of number state.sessions)) (view number state) state request all) is
+      let full : Request = filled state number request in
+      does_within (effect state number full) state number
+      (effect_adds (is_outside (session_of number state.sessions) full) (is_in_transaction (session_of number state.sessions)) (view number state) state full
+      (subst AllNames (sym (filled_names state number request)) all))
+      is
 
   -- CALLS, POLLS AND LOSSES
 

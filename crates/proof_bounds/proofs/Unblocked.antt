@@ -1,4 +1,5 @@
 -- Nobody blocks a request for names that no other session holds or waits for; and no session waits with two requests.
+use Rattle.server_model.specs.Drawing.{filled}
 use Rattle.std.proofs.Common.{◌≡◌, ℕ, Bool, true, false, not, ◌&&◌, ◌||◌, List, [], ◌∷◌, ◌++◌, map, filter, cond, Option, Some, None, refl, sym, ap, ◌∙◌, subst}
 use Rattle.std.specs.Prelude.{◌==◌}
 use Rattle.std.specs.List.{AllByRecursion}
@@ -30,7 +31,7 @@ use Rattle.proof_journals.proofs.Journals.{done_waits}
 use Rattle.proof_journals.proofs.Sentry.Holding.{both_none}
 use Rattle.proof_journals.proofs.Waiting.{filter_there}
 use Rattle.proof_migration.proofs.Program.LockerTurns.Apart.{IsApart}
-use Rattle.proof_bounds.proofs.SessionNames.{WithinIn, locks_on}
+use Rattle.proof_bounds.proofs.SessionNames.{WithinIn, filled_names, locks_on}
 
 -- NO SESSION WAITS TWICE
 
@@ -270,5 +271,7 @@ module _ (state : State) (number : ℕ) (apart : IsApart state.sessions) (waits_
   -- *Nobody blocks it*, where all its names are free
   pub unblocked : (request : Request) → AllByRecursion (IsFreeName state number) (names_in request) → blocker state number (need state number request) ≡ None
   unblocked request all =
-      both_none (blocker_of_names (names_held state.sessions) (waiters state.waiting) number (is_exclusive request) (names_in request)) (blocker_of_set (locks_held state.sessions) number (row_locks_of (view number state) request))
-      (names_free (is_exclusive request) (names_in request) all) (locks_free (row_locks_of (view number state) request) (locks_on (IsFreeName state number) (view number state) request all))
+      let full : Request = filled state number request in
+      let free = subst (AllByRecursion (IsFreeName state number)) (sym (filled_names state number request)) all in
+      both_none (blocker_of_names (names_held state.sessions) (waiters state.waiting) number (is_exclusive full) (names_in full)) (blocker_of_set (locks_held state.sessions) number (row_locks_of (view number state) full))
+      (names_free (is_exclusive full) (names_in full) free) (locks_free (row_locks_of (view number state) full) (locks_on (IsFreeName state number) (view number state) full free))

@@ -1,5 +1,6 @@
 -- How long an actor waits: each turn that is answered Waits counts one more, up to the plan's limit, and each other turn of the
 -- actor's ends the wait.
+use Rattle.server_model.specs.PlainServer.{counters_left, recounted}
 use Rattle.std.proofs.Common.{◌≡◌, ◌≤◌, ◌<◌, ℕ, ◌+◌, ◌==◌, Bool, true, false, cond, not, List, [], ◌∷◌, ◌++◌, Option, Some, None, refl, sym, ap, ◌∙◌, subst, arith}
 use Rattle.std.specs.Prelude.{is_some}
 use Rattle.std.specs.List.{slice_get}
@@ -166,8 +167,10 @@ module _ (plan : PlanData) (may : MayWait plan) (journal : List Entry) (entry : 
   open_waits : open_now.waiting ≡ now.waiting
   open_waits = opened_waits (is_command entry.asked) (not (is_client entry.actor)) own now
 
-  after_is : entry.side ≡ None → (asked : Asked) → entry.asked ≡ asked → state_at plan more ≡ (serves open_now own asked).after
-  after_is no_side asked asks = state_more plan journal entry ∙ ap (λ (side : Option Side). leaves side open_now own entry.asked) no_side ∙ ap (λ (a : Asked). (serves open_now own a).after) asks
+  after_is : entry.side ≡ None → (asked : Asked) → entry.asked ≡ asked → state_at plan more ≡ recounted (counters_left None open_now own asked) (serves open_now own asked).after
+  after_is no_side asked asks =
+      state_more plan journal entry ∙ ap (λ (side : Option Side). recounted (counters_left side open_now own entry.asked) (leaves side open_now own entry.asked)) no_side
+      ∙ ap (λ (a : Asked). recounted (counters_left None open_now own a) (serves open_now own a).after) asks
 
   answer_is : entry.side ≡ None → (asked : Asked) → entry.asked ≡ asked → entry.answer ≡ (serves open_now own asked).answer
   answer_is no_side asked asks = sym (own_given plan journal entry together.known served no_side) ∙ ap (λ (a : Asked). (serves open_now own a).answer) asks
@@ -188,7 +191,7 @@ module _ (plan : PlanData) (may : MayWait plan) (journal : List Entry) (entry : 
         (sym (answer_is no_side (Call request) asks ∙ ap (λ (b : Option ℕ). (called_unless b open_now own request).answer) free_now) ∙ waits))
     by (Some other) blocked =
         let opened = is_open plan journal entry together.known served (ap is_command asks) in
-        ap (λ (s : State). polls_of (session_of own s.sessions)) (after_is no_side (Call request) asks ∙ ap (λ (b : Option ℕ). (called_unless b open_now own request).after) blocked) ∙ counted_polls open_now 0 opened.found opened.is
+        ap (λ (s : State). polls_of (session_of own s.sessions)) (after_is no_side (Call request) asks ∙ ap (λ (b : Option ℕ). recounted (counters_left None open_now own (Call request)) (called_unless b open_now own request).after) blocked) ∙ counted_polls open_now 0 opened.found opened.is
 
   -- what waits was there before: the session was live
   was_live : entry.asked ≡ Poll → is_some (waiting_of own now.waiting) ≡ true → live_session journal entry.actor ≡ Some own
@@ -230,8 +233,8 @@ module _ (plan : PlanData) (may : MayWait plan) (journal : List Entry) (entry : 
     answer : (waiting : Option Waiting) → waiting_of own open_now.waiting ≡ waiting → entry.answer ≡ (polled_of waiting open_now own).answer
     answer waiting old = answer_is no_side Poll asks ∙ ap (λ (o : Option Waiting). (polled_of o open_now own).answer) old
 
-    after : (waiting : Option Waiting) → waiting_of own open_now.waiting ≡ waiting → state_at plan more ≡ (polled_of waiting open_now own).after
-    after waiting old = after_is no_side Poll asks ∙ ap (λ (o : Option Waiting). (polled_of o open_now own).after) old
+    after : (waiting : Option Waiting) → waiting_of own open_now.waiting ≡ waiting → state_at plan more ≡ recounted (counters_left None open_now own Poll) (polled_of waiting open_now own).after
+    after waiting old = after_is no_side Poll asks ∙ ap (λ (o : Option Waiting). recounted (counters_left None open_now own Poll) (polled_of o open_now own).after) old
 
     timed_not : (n : ℕ) → answers.TimedOut n ≡ answers.Waits one → ⊥
     timed_not n same = cc
@@ -243,7 +246,8 @@ module _ (plan : PlanData) (may : MayWait plan) (journal : List Entry) (entry : 
       lives = lives;
       was = some;
       once =
-          ap (λ (s : State). polls_of (session_of own s.sessions)) (after (Some old) was ∙ ap (λ (b : Option ℕ). (polled_unless b open_now own old.request).after) blocked ∙ ap (λ (b : Bool). (polled_over b other open_now own).after) is)
+          ap (λ (s : State). polls_of (session_of own s.sessions)) (after (Some old) was ∙ ap (λ (b : Option ℕ). recounted (counters_left None open_now own Poll) (polled_unless b open_now own old.request).after) blocked
+          ∙ ap (λ (b : Bool). recounted (counters_left None open_now own Poll) (polled_over b other open_now own).after) is)
           ∙ counted_polls open_now (polls_of (session_of own open_now.sessions) + 1) opened.found opened.is ∙ ap (λ (s : State). polls_of (session_of own s.sessions) + 1) (still_open lives);
       less =
           over_not (polls_of (session_of own now.sessions)) (wait_of plan entry.actor) (limit_if (is_of_tool (session_of own now.sessions)) now.limits) (few entry.actor own lives some) (limit_is lives)

@@ -1,4 +1,5 @@
 -- What a client's session hears is an answer of a line; what its entry has is so.
+use Rattle.proof_journals.proofs.Serves.{filled_word, filled_asks}
 use Rattle.std.proofs.Common.{◌≡◌, ℕ, Bool, true, false, Option, Some, None, refl, sym, ap, ◌∙◌, subst}
 use Rattle.base_script.specs.declared.actor.Side.{Side}
 use Rattle.base_script.specs.declared.actor.Side.TheVariants.{Before, After}
@@ -18,7 +19,7 @@ use Rattle.server_model.specs.Operations.{statement_result}
 use Rattle.server_model.specs.States.{State, session_of, is_in_transaction, view, waiting_of}
 use Rattle.server_model.specs.Blockers.{need, need_within, blocker}
 use Rattle.server_model.specs.Effects.{result_effect, effect_within, effect_unless, is_outside}
-use Rattle.server_model.specs.PlainServer.{does, done, called_unless, calls, is_over, polled_over, polled_unless, polled_of, polls, serves, without_waiting}
+use Rattle.server_model.specs.PlainServer.{does, done, did, called_unless, calls, is_over, polled_over, polled_unless, polled_of, polls, serves, without_waiting}
 use Rattle.tool_program.specs.JournalWords.Journals.{may_lose}
 use Rattle.tool_program.specs.JournalWords.Clients.{Reached, lost_side, word_asks}
 use Rattle.proof_journals.specs.Turns.{answer_at, missed_at, was_given, mark_lost, request_of}
@@ -42,12 +43,15 @@ within_reply state number words.Rollback = tt
 within_reply state number (words.Do statement) =
     result_reply (is_in_transaction (session_of number state.sessions)) (need_within (view number state) (requests.Do statement)) (statement_result (view number state) statement) state number (line_replies_so (view number state) (words.Do statement))
 
-done_reply : (state : State) (number : ℕ) (word : ScriptWord) → IsReply (done state number (word_asks word)).answer
-unfolding done
-done_reply state number word = at (is_outside (session_of number state.sessions) (word_asks word)) where
+did_reply : (state : State) (number : ℕ) (word : ScriptWord) → IsReply (did state number (word_asks word)).answer
+unfolding did
+did_reply state number word = at (is_outside (session_of number state.sessions) (word_asks word)) where
   at : (b : Bool) → IsReply (does (effect_unless b (is_in_transaction (session_of number state.sessions)) (view number state) state (word_asks word)) state number).answer
   at true = tt
   at false = within_reply state number word
+
+done_reply : (state : State) (number : ℕ) (word : ScriptWord) → IsReply (done state number (word_asks word)).answer
+done_reply state number word = subst (λ (r : Request). IsReply (did state number r).answer) (sym (filled_asks state number word)) (did_reply state number (filled_word state number word))
 
 called_line : (state : State) (number : ℕ) (word : ScriptWord) → IsLineAnswer (calls state number (word_asks word)).answer
 unfolding calls

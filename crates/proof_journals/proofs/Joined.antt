@@ -14,8 +14,8 @@ use Rattle.server_model.specs.PlainServer.{serves}
 use Rattle.table_store.specs.Databases.{TableRows, Database, find_table, with_change}
 use Rattle.proof_journals.specs.Scenes.{Scene, Stored, PlainItem, Txn, Alter, LeadsTo, SerialHistory}
 use Rattle.server_model.specs.Alone.{alone}
-use Rattle.proof_journals.specs.Turns.{scene_state, inner, answer_at, missed_at, IsReported}
-use Rattle.server_model.specs.PlainServer.{given_at}
+use Rattle.proof_journals.specs.Turns.{scene_state, inner, answer_at, missed_at, drawn_side, drawn_at, IsReported}
+use Rattle.server_model.specs.PlainServer.{drawn_in, given_at}
 use Rattle.tool_program.specs.JournalWords.Journals.{opens, heard, missed, may_lose, inner_answer, IsAnswered}
 use Rattle.std.proofs.lemmas.Bool.{false≢true}
 
@@ -60,11 +60,29 @@ pub reported_missed : (state : State) (entry : Entry) → IsAnswered state entry
 unfolding inner_answer
 reported_missed state entry is = is.missed ∙ missed_is entry.side (opens entry state) entry.session entry.asked (cut_sides entry is.sides)
 
+drawn_is : (side : Option Side) (state : State) (number : ℕ) (asked : Asked) → drawn_in state number asked (given_at side asked (serves state number asked).answer) ≡ drawn_side side state number asked
+drawn_is None state number (Call request) = refl
+drawn_is None state number Poll = refl
+drawn_is None state number (Command word) = refl
+drawn_is None state number Cut = refl
+drawn_is (Some Before) state number (Call request) = refl
+drawn_is (Some Before) state number Poll = refl
+drawn_is (Some Before) state number (Command word) = refl
+drawn_is (Some Before) state number Cut = refl
+drawn_is (Some After) state number (Call request) = refl
+drawn_is (Some After) state number Poll = refl
+drawn_is (Some After) state number (Command word) = refl
+drawn_is (Some After) state number Cut = refl
+
+pub reported_draw : (state : State) (entry : Entry) → IsAnswered state entry → entry.draw ≡ drawn_at entry.side state entry
+unfolding inner_answer
+reported_draw state entry is = is.draw ∙ drawn_is entry.side (opens entry state) entry.session entry.asked
+
 -- a faithful journal's entries have them
 pub faithful_reported : (limits : Limits) (scene : Scene) (before journal : List Entry) → Along (λ some entry. IsAnswered (scene_state limits scene some) entry) before journal → Along (IsReported limits scene) before journal
 faithful_reported limits scene before [] all = tt
 faithful_reported limits scene before (entry ∷ journal) all =
-    (record { answer = reported_answer (scene_state limits scene before) entry all.0; missed = reported_missed (scene_state limits scene before) entry all.0 }, faithful_reported limits scene (before ++ entry ∷ []) journal all.1)
+    (record { answer = reported_answer (scene_state limits scene before) entry all.0; missed = reported_missed (scene_state limits scene before) entry all.0; draw = reported_draw (scene_state limits scene before) entry all.0 }, faithful_reported limits scene (before ++ entry ∷ []) journal all.1)
 
 -- SERIAL, OF TABLES ALONE: the ALTER by a function of databases
 

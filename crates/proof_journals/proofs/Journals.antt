@@ -17,7 +17,7 @@ use Rattle.proof_journals.specs.Scenes.{PlainItem, Stored, Scene, is_mine, table
 use Rattle.server_model.specs.declared.answer.Answer.{Answer}
 use Rattle.server_model.specs.declared.answer.Answer.TheVariants as answers
 use Rattle.server_model.specs.Answers.{ok}
-use Rattle.proof_journals.specs.Turns.{scene_state, inner, answer_at, missed_at, reported_at, IsReported, LineOutcome, Still, word_given, was_given, broken, word_lost, word_asked, line_outcome_renamed, request_of, about, is_busy, line_outcome_if, line_outcome, happens, goings_after, goings_from, goings_at, entry_adds, history, MayAskIf, MayAsk, ClientAsks, ToolAsks, RenamesSo, DefinesSo, AtRest, IsAllowed, IsSceneRun}
+use Rattle.proof_journals.specs.Turns.{scene_state, inner, answer_at, missed_at, drawn_side, drawn_at, drawn_request, reported_at, IsReported, LineOutcome, Still, word_given, was_given, broken, word_lost, word_asked, line_outcome_renamed, request_of, about, is_busy, line_outcome_if, line_outcome, happens, goings_after, goings_from, goings_at, entry_adds, history, MayAskIf, MayAsk, ClientAsks, ToolAsks, RenamesSo, DefinesSo, AtRest, IsAllowed, IsSceneRun}
 use Rattle.tool_program.specs.JournalWords.Histories.{renames_away}
 use Rattle.server_model.specs.declared.entry.Asked.{Asked}
 use Rattle.server_model.specs.declared.entry.Asked.TheVariants.{Call, Poll, Cut, Command}
@@ -34,17 +34,19 @@ use Rattle.proof_journals.proofs.Names.{OneIn, one_rests, one_counts, one_less, 
 use Rattle.proof_journals.proofs.Turning.{Turned, turned_still, tool_rests}
 use Rattle.proof_journals.proofs.Answering.{AtWork, own_fits, rests_with, lost_faces, word_timed_out, word_undone, session_lost}
 use Rattle.proof_journals.proofs.Tooling.{ToolWork, final, tool_stays, tool_forgets, tool_counts}
-use Rattle.proof_journals.proofs.Serves.{IsFree, granted, done_one, client_done, client_lost, lost_line_outcome, tool_done}
+use Rattle.proof_journals.proofs.Serves.{IsFree, granted, done_one, asks_numbered, drawn_word, undrawn_waits, undrawn_over, client_done, client_lost, lost_line_outcome, tool_done}
 use Rattle.server_model.specs.declared.request.Request.TheVariants.{BeginSpan, ChunkEnd, CopyRow, Create, Drop, Ends, LockTables, LogEnd, ReadLog, Rename, ShowTables, ShowWaiting, Unlock}
 use Rattle.server_model.specs.declared.request.Request.{Request}
 use Rattle.std.specs.Prelude.{is_some}
 use Rattle.server_model.specs.States.{connected, State, is_in_transaction, opened, polls_of, session_of, waiting_of, with_session}
 use Rattle.server_model.specs.declared.request.Request.TheVariants as requests
 use Rattle.server_model.specs.Effects.{Effect, Forgets, Grows, Locks, Moves, Rests, Unlocks, Writes, effect}
-use Rattle.server_model.specs.PlainServer.{at_rest, called_unless, calls, counting, does, done, is_over, leaves, loses, polled_of, polled_over, polled_unless, polls, serves, without_waiting}
+use Rattle.server_model.specs.Drawing.{filled}
+use Rattle.server_model.specs.Counting.{drawn_by}
+use Rattle.server_model.specs.PlainServer.{at_rest, called_unless, calls, counting, does, done, did, is_over, leaves, loses, polled_of, polled_over, polled_unless, polls, serves, without_waiting}
 use Rattle.server_model.specs.declared.session.Waiting.{Waiting}
 use Rattle.proof_journals.specs.LineRequests.{word_in}
-use Rattle.tool_program.specs.JournalWords.Clients.{word_asks}
+use Rattle.tool_program.specs.JournalWords.Clients.{word_numbered, word_asks}
 use Rattle.server_model.specs.Blockers.{need, blocker}
 use Rattle.tool_program.specs.JournalWords.Journals.{after_entry, opens, opens_if, state_after}
 use Rattle.server_model.proofs.LockedRows.Tests.{are_one}
@@ -121,15 +123,21 @@ word_back (words.Do statement) = refl
 
 -- a call
 call_kept : (scene : Scene) (state : State) (number : ℕ) (going : ℕ → Going) (past : List PlainItem) (work : AtWork scene state number going past) → OneIn state.sessions → (word : ScriptWord) → NamesTable scene.mine word → (by : Option ℕ) → blocker state number (need state number (word_asks word)) ≡ by
-    → Turned scene (stored (called_unless by state number (word_asks word)).after) (face_of (called_unless by state number (word_asks word)).after.sessions) number (word_given (is_busy number state) word (called_unless by state number (word_asks word)).answer) going past
-call_kept scene state number going past work one word named None is = client_done scene state number going past work word named (granted state number (need state number (word_asks word)) one is)
+    → Turned scene (stored (called_unless by state number (word_asks word)).after) (face_of (called_unless by state number (word_asks word)).after.sessions) number (word_given (is_busy number state) (word_numbered (drawn_by state number (Some (word_asks word)) (called_unless by state number (word_asks word)).answer) word) (called_unless by state number (word_asks word)).answer) going past
+call_kept scene state number going past work one word named None is =
+    subst (λ (w : ScriptWord). Turned scene (stored (done state number (word_asks word)).after) (face_of (done state number (word_asks word)).after.sessions) number (word_given (is_busy number state) w (done state number (word_asks word)).answer) going past)
+    (sym (drawn_word scene state number going past work word)) (client_done scene state number going past work word named (granted state number (need state number (word_asks word)) one is))
 call_kept scene state number going past work one word named (Some by) is = waited_still scene state number 0 going past work
 
 call_lost : (scene : Scene) (state : State) (number : ℕ) (going : ℕ → Going) (past : List PlainItem) (work : AtWork scene state number going past) → OneIn state.sessions → (word : ScriptWord) → NamesTable scene.mine word → (by : Option ℕ) → blocker state number (need state number (word_asks word)) ≡ by
-    → Turned scene (stored (loses number (called_unless by state number (word_asks word)).after)) (face_of (loses number (called_unless by state number (word_asks word)).after).sessions) number (lost_line_outcome word (called_unless by state number (word_asks word)).answer) going past
+    → Turned scene (stored (loses number (called_unless by state number (word_asks word)).after)) (face_of (loses number (called_unless by state number (word_asks word)).after).sessions) number (lost_line_outcome (word_numbered (drawn_by state number (Some (word_asks word)) (called_unless by state number (word_asks word)).answer) word) (called_unless by state number (word_asks word)).answer) going past
 unfolding loses
-call_lost scene state number going past work one word named None is = client_lost scene state number going past work word named (granted state number (need state number (word_asks word)) one is)
-call_lost scene state number going past work one word named (Some by) is = word_undone scene state (with_session number (counting 0) state.sessions) (face_in (Some work.found)) number going past work word named (counted scene state number 0 going past work)
+call_lost scene state number going past work one word named None is =
+    subst (λ (w : ScriptWord). Turned scene (stored (loses number (done state number (word_asks word)).after)) (face_of (loses number (done state number (word_asks word)).after).sessions) number (lost_line_outcome w (done state number (word_asks word)).answer) going past)
+    (sym (drawn_word scene state number going past work word)) (client_lost scene state number going past work word named (granted state number (need state number (word_asks word)) one is))
+call_lost scene state number going past work one word named (Some by) is =
+    subst (λ (w : ScriptWord). Turned scene (stored state) (face_of (filter (λ session. not (session.number == number)) (with_session number (counting 0) state.sessions))) number (lost_line_outcome w (answers.Waits by)) going past)
+    (sym (undrawn_waits state number by word)) (word_undone scene state (with_session number (counting 0) state.sessions) (face_in (Some work.found)) number going past work word named (counted scene state number 0 going past work))
 
 -- a poll
 without_work : (scene : Scene) (state : State) (number : ℕ) (going : ℕ → Going) (past : List PlainItem) (work : AtWork scene state number going past) → AtWork scene (without_waiting number state) number going past
@@ -139,23 +147,33 @@ free_without : (state : State) (number : ℕ) (request : Request) → IsFree sta
 free_without state number request free = record { apart = free.apart; names = free.names }
 
 poll_kept : (scene : Scene) (state : State) (number : ℕ) (going : ℕ → Going) (past : List PlainItem) (work : AtWork scene state number going past) → OneIn state.sessions → (word : ScriptWord) → NamesTable scene.mine word → (by : Option ℕ) → blocker state number (need state number (word_asks word)) ≡ by
-    → Turned scene (stored (polled_unless by state number (word_asks word)).after) (face_of (polled_unless by state number (word_asks word)).after.sessions) number (word_given (is_busy number state) word (polled_unless by state number (word_asks word)).answer) going past
+    → Turned scene (stored (polled_unless by state number (word_asks word)).after) (face_of (polled_unless by state number (word_asks word)).after.sessions) number (word_given (is_busy number state) (word_numbered (drawn_by state number (Some (word_asks word)) (polled_unless by state number (word_asks word)).answer) word) (polled_unless by state number (word_asks word)).answer) going past
 poll_kept scene state number going past work one word named None is =
-    client_done scene (without_waiting number state) number going past (without_work scene state number going past work) word named (free_without state number (word_asks word) (granted state number (need state number (word_asks word)) one is))
+    subst (λ (w : ScriptWord). Turned scene (stored (done (without_waiting number state) number (word_asks word)).after) (face_of (done (without_waiting number state) number (word_asks word)).after.sessions) number (word_given (is_busy number state) w (done (without_waiting number state) number (word_asks word)).answer) going past)
+    (sym (drawn_word scene (without_waiting number state) number going past (without_work scene state number going past work) word))
+    (client_done scene (without_waiting number state) number going past (without_work scene state number going past work) word named (free_without state number (word_asks word) (granted state number (need state number (word_asks word)) one is)))
 poll_kept scene state number going past work one word named (Some by) is = at (is_over state number) where
-  at : (b : Bool) → Turned scene (stored (polled_over b by state number).after) (face_of (polled_over b by state number).after.sessions) number (word_given (is_busy number state) word (polled_over b by state number).answer) going past
-  at true = word_timed_out scene state number going past work word named
+  at : (b : Bool) → Turned scene (stored (polled_over b by state number).after) (face_of (polled_over b by state number).after.sessions) number (word_given (is_busy number state) (word_numbered (drawn_by state number (Some (word_asks word)) (polled_over b by state number).answer) word) (polled_over b by state number).answer) going past
+  at true =
+      subst (λ (w : ScriptWord). Turned scene (stored (polled_over true by state number).after) (face_of (polled_over true by state number).after.sessions) number (word_given (is_busy number state) w (polled_over true by state number).answer) going past)
+      (sym (undrawn_over state number (polls_of (session_of number state.sessions) + 1) word)) (word_timed_out scene state number going past work word named)
   at false = waited_still scene state number (polls_of (session_of number state.sessions) + 1) going past work
 
 poll_lost : (scene : Scene) (state : State) (number : ℕ) (going : ℕ → Going) (past : List PlainItem) (work : AtWork scene state number going past) → OneIn state.sessions → (word : ScriptWord) → NamesTable scene.mine word → (by : Option ℕ) → blocker state number (need state number (word_asks word)) ≡ by
-    → Turned scene (stored (loses number (polled_unless by state number (word_asks word)).after)) (face_of (loses number (polled_unless by state number (word_asks word)).after).sessions) number (lost_line_outcome word (polled_unless by state number (word_asks word)).answer) going past
+    → Turned scene (stored (loses number (polled_unless by state number (word_asks word)).after)) (face_of (loses number (polled_unless by state number (word_asks word)).after).sessions) number (lost_line_outcome (word_numbered (drawn_by state number (Some (word_asks word)) (polled_unless by state number (word_asks word)).answer) word) (polled_unless by state number (word_asks word)).answer) going past
 unfolding loses
 poll_lost scene state number going past work one word named None is =
-    client_lost scene (without_waiting number state) number going past (without_work scene state number going past work) word named (free_without state number (word_asks word) (granted state number (need state number (word_asks word)) one is))
+    subst (λ (w : ScriptWord). Turned scene (stored (loses number (done (without_waiting number state) number (word_asks word)).after)) (face_of (loses number (done (without_waiting number state) number (word_asks word)).after).sessions) number (lost_line_outcome w (done (without_waiting number state) number (word_asks word)).answer) going past)
+    (sym (drawn_word scene (without_waiting number state) number going past (without_work scene state number going past work) word))
+    (client_lost scene (without_waiting number state) number going past (without_work scene state number going past work) word named (free_without state number (word_asks word) (granted state number (need state number (word_asks word)) one is)))
 poll_lost scene state number going past work one word named (Some by) is = at (is_over state number) where
-  at : (b : Bool) → Turned scene (stored (loses number (polled_over b by state number).after)) (face_of (loses number (polled_over b by state number).after).sessions) number (lost_line_outcome word (polled_over b by state number).answer) going past
-  at true = word_undone scene state (with_session number at_rest state.sessions) no_face number going past work word named (rests_with scene state number going past work)
-  at false = word_undone scene state (with_session number (counting (polls_of (session_of number state.sessions) + 1)) state.sessions) (face_in (Some work.found)) number going past work word named (counted scene state number (polls_of (session_of number state.sessions) + 1) going past work)
+  at : (b : Bool) → Turned scene (stored (loses number (polled_over b by state number).after)) (face_of (loses number (polled_over b by state number).after).sessions) number (lost_line_outcome (word_numbered (drawn_by state number (Some (word_asks word)) (polled_over b by state number).answer) word) (polled_over b by state number).answer) going past
+  at true =
+      subst (λ (w : ScriptWord). Turned scene (stored (loses number (polled_over true by state number).after)) (face_of (loses number (polled_over true by state number).after).sessions) number (lost_line_outcome w (polled_over true by state number).answer) going past)
+      (sym (undrawn_over state number (polls_of (session_of number state.sessions) + 1) word)) (word_undone scene state (with_session number at_rest state.sessions) no_face number going past work word named (rests_with scene state number going past work))
+  at false =
+      subst (λ (w : ScriptWord). Turned scene (stored (loses number (polled_over false by state number).after)) (face_of (loses number (polled_over false by state number).after).sessions) number (lost_line_outcome w (polled_over false by state number).answer) going past)
+      (sym (undrawn_waits state number by word)) (word_undone scene state (with_session number (counting (polls_of (session_of number state.sessions) + 1)) state.sessions) (face_in (Some work.found)) number going past work word named (counted scene state number (polls_of (session_of number state.sessions) + 1) going past work))
 
 -- a line of a request that a client may ask
 word_of : (scene : Scene) (request : Request) (P : Request → Type 0) → ClientAsks scene request → ((word : ScriptWord) → NamesTable scene.mine word → P (word_asks word)) → P request
@@ -179,39 +197,39 @@ word_of scene (CopyRow from into columns key) P asks f = absurd asks
 
 -- the fate of a turn that was answered as the server answers
 abbrev pub line_outcome_by : Bool → Scene → Option Side → State → ℕ → Asked → LineOutcome
-line_outcome_by own scene side state number asked = line_outcome_if own scene state number asked side (answer_at side (serves state number asked).answer) (missed_at side (serves state number asked).answer)
+line_outcome_by own scene side state number asked = line_outcome_if own scene state number asked side (answer_at side (serves state number asked).answer) (missed_at side (serves state number asked).answer) (drawn_side side state number asked)
 
 abbrev pub TurnsSo : Bool → Scene → Option Side → State → ℕ → Asked → (ℕ → Going) → List PlainItem → Type 0
 TurnsSo own scene side state number asked going past = Turned scene (stored (leaves side state number asked)) (face_of (leaves side state number asked).sessions) number (line_outcome_by own scene side state number asked) going past
 
 client_polled : (scene : Scene) (state : State) (number : ℕ) (going : ℕ → Going) (past : List PlainItem) (work : AtWork scene state number going past) → OneIn state.sessions → (waiting : Option Waiting) → AsksWord scene (request_of waiting)
-    → Turned scene (stored (polled_of waiting state number).after) (face_of (polled_of waiting state number).after.sessions) number (word_asked (is_busy number state) (request_of waiting) (polled_of waiting state number).answer) going past
+    → Turned scene (stored (polled_of waiting state number).after) (face_of (polled_of waiting state number).after.sessions) number (word_asked (is_busy number state) (drawn_request (drawn_by state number (request_of waiting) (polled_of waiting state number).answer) (request_of waiting)) (polled_of waiting state number).answer) going past
 client_polled scene state number going past work one None asks = turned_still scene (stored state) (face_of state.sessions) (face_of state.sessions) number going past (λ n. refl) work.holds
 client_polled scene state number going past work one (Some waiting) asks =
-    word_of scene waiting.request (λ request. Turned scene (stored (polled_of (Some (record { session = waiting.session; request = request })) state number).after) (face_of (polled_of (Some (record { session = waiting.session; request = request })) state number).after.sessions) number (word_asked (is_busy number state) (Some request) (polled_of (Some (record { session = waiting.session; request = request })) state number).answer) going past) asks
-    (λ word named. rw (word_back word) (poll_kept scene state number going past work one word named (blocker state number (need state number (word_asks word))) refl))
+    word_of scene waiting.request (λ request. Turned scene (stored (polled_of (Some (record { session = waiting.session; request = request })) state number).after) (face_of (polled_of (Some (record { session = waiting.session; request = request })) state number).after.sessions) number (word_asked (is_busy number state) (drawn_request (drawn_by state number (Some request) (polled_of (Some (record { session = waiting.session; request = request })) state number).answer) (Some request)) (polled_of (Some (record { session = waiting.session; request = request })) state number).answer) going past) asks
+    (λ word named. rw (asks_numbered (drawn_by state number (Some (word_asks word)) (polled_unless (blocker state number (need state number (word_asks word))) state number (word_asks word)).answer) word, word_back (word_numbered (drawn_by state number (Some (word_asks word)) (polled_unless (blocker state number (need state number (word_asks word))) state number (word_asks word)).answer) word)) (poll_kept scene state number going past work one word named (blocker state number (need state number (word_asks word))) refl))
 
 client_poll_lost : (scene : Scene) (state : State) (number : ℕ) (going : ℕ → Going) (past : List PlainItem) (work : AtWork scene state number going past) → OneIn state.sessions → (waiting : Option Waiting) → AsksWord scene (request_of waiting)
-    → Turned scene (stored (loses number (polled_of waiting state number).after)) (face_of (loses number (polled_of waiting state number).after).sessions) number (word_lost (is_busy number state) (request_of waiting) (Some (polled_of waiting state number).answer)) going past
+    → Turned scene (stored (loses number (polled_of waiting state number).after)) (face_of (loses number (polled_of waiting state number).after).sessions) number (word_lost (is_busy number state) (drawn_request (drawn_by state number (request_of waiting) (polled_of waiting state number).answer) (request_of waiting)) (Some (polled_of waiting state number).answer)) going past
 unfolding loses
 client_poll_lost scene state number going past work one None asks = quiet (is_busy number state) refl where
   quiet : (busy : Bool) → is_busy number state ≡ busy → Turned scene (stored state) (face_of (filter (λ session. not (session.number == number)) state.sessions)) number (broken busy) going past
   quiet busy is = lost_before scene state state.sessions (face_in (Some work.found)) number going past work None None refl tt busy is (itself scene state number going past work)
 client_poll_lost scene state number going past work one (Some waiting) asks =
-    word_of scene waiting.request (λ request. Turned scene (stored (loses number (polled_of (Some (record { session = waiting.session; request = request })) state number).after)) (face_of (loses number (polled_of (Some (record { session = waiting.session; request = request })) state number).after).sessions) number (word_lost (is_busy number state) (Some request) (Some (polled_of (Some (record { session = waiting.session; request = request })) state number).answer)) going past) asks
-    (λ word named. rw (word_back word) (poll_lost scene state number going past work one word named (blocker state number (need state number (word_asks word))) refl))
+    word_of scene waiting.request (λ request. Turned scene (stored (loses number (polled_of (Some (record { session = waiting.session; request = request })) state number).after)) (face_of (loses number (polled_of (Some (record { session = waiting.session; request = request })) state number).after).sessions) number (word_lost (is_busy number state) (drawn_request (drawn_by state number (Some request) (polled_of (Some (record { session = waiting.session; request = request })) state number).answer) (Some request)) (Some (polled_of (Some (record { session = waiting.session; request = request })) state number).answer)) going past) asks
+    (λ word named. rw (asks_numbered (drawn_by state number (Some (word_asks word)) (polled_unless (blocker state number (need state number (word_asks word))) state number (word_asks word)).answer) word, word_back (word_numbered (drawn_by state number (Some (word_asks word)) (polled_unless (blocker state number (need state number (word_asks word))) state number (word_asks word)).answer) word)) (poll_lost scene state number going past work one word named (blocker state number (need state number (word_asks word))) refl))
 
 client_turn : (scene : Scene) (side : Option Side) (state : State) (number : ℕ) (asked : Asked) (going : ℕ → Going) (past : List PlainItem) (work : AtWork scene state number going past) → OneIn state.sessions → AsksWord scene (about state number asked) → AsksWord scene (request_of (waiting_of number state.waiting)) → TurnsSo true scene side state number asked going past
 unfolding calls polls loses
 client_turn scene None state number (Call request) going past work one asks waits =
-    word_of scene request (λ r. TurnsSo true scene None state number (Call r) going past) asks (λ word named. rw (word_back word) (call_kept scene state number going past work one word named (blocker state number (need state number (word_asks word))) refl))
+    word_of scene request (λ r. TurnsSo true scene None state number (Call r) going past) asks (λ word named. rw (asks_numbered (drawn_by state number (Some (word_asks word)) (called_unless (blocker state number (need state number (word_asks word))) state number (word_asks word)).answer) word, word_back (word_numbered (drawn_by state number (Some (word_asks word)) (called_unless (blocker state number (need state number (word_asks word))) state number (word_asks word)).answer) word)) (call_kept scene state number going past work one word named (blocker state number (need state number (word_asks word))) refl))
 client_turn scene None state number Poll going past work one asks waits = client_polled scene state number going past work one (waiting_of number state.waiting) waits
 client_turn scene None state number Cut going past work one asks waits =
     lost_before scene state state.sessions (face_in (Some work.found)) number going past work (about state number Cut) None refl waits (is_busy number state) refl (itself scene state number going past work)
 client_turn scene (Some Before) state number asked going past work one asks waits =
     lost_before scene state state.sessions (face_in (Some work.found)) number going past work (about state number asked) None refl asks (is_busy number state) refl (itself scene state number going past work)
 client_turn scene (Some After) state number (Call request) going past work one asks waits =
-    word_of scene request (λ r. TurnsSo true scene (Some After) state number (Call r) going past) asks (λ word named. rw (word_back word) (call_lost scene state number going past work one word named (blocker state number (need state number (word_asks word))) refl))
+    word_of scene request (λ r. TurnsSo true scene (Some After) state number (Call r) going past) asks (λ word named. rw (asks_numbered (drawn_by state number (Some (word_asks word)) (called_unless (blocker state number (need state number (word_asks word))) state number (word_asks word)).answer) word, word_back (word_numbered (drawn_by state number (Some (word_asks word)) (called_unless (blocker state number (need state number (word_asks word))) state number (word_asks word)).answer) word)) (call_lost scene state number going past work one word named (blocker state number (need state number (word_asks word))) refl))
 client_turn scene (Some After) state number Poll going past work one asks waits = client_poll_lost scene state number going past work one (waiting_of number state.waiting) waits
 client_turn scene None state number (Command word) going past work one asks waits = turned_still scene (stored state) (face_of state.sessions) (face_of state.sessions) number going past (λ n. refl) work.holds
 client_turn scene (Some After) state number (Command word) going past work one asks waits =
@@ -292,8 +310,8 @@ does_waits (Locks given names) state number = refl
 does_waits (Unlocks given) state number = refl
 
 pub done_waits : (state : State) (number : ℕ) (request : Request) → (done state number request).after.waiting ≡ state.waiting
-unfolding done
-done_waits state number request = does_waits (effect state number request) state number
+unfolding did
+done_waits state number request = does_waits (effect state number (filled state number request)) state number
 
 waits_found : (scene : Scene) (number : ℕ) (waiting : List Waiting) → ProperWaits scene waiting → AsksIf (scene.client number) scene (request_of (waiting_of number waiting))
 waits_found scene number [] proper = tt
@@ -434,14 +452,15 @@ live_turn scene side state number Poll going past mine holds one live commands s
 live_turn scene side state number Cut going past mine holds one live commands so asks waits =
     found_live (session_of number state.sessions) (TurnsSo (scene.client number) scene side state number Cut going past) (live refl) (λ found here. any_turn scene side state number Cut going past mine holds one found here so (scene.client number) refl asks waits)
 
-line_outcome_is : (scene : Scene) (state : State) (entry : Entry) → entry.answer ≡ answer_at entry.side (inner state entry) → entry.missed ≡ missed_at entry.side (inner state entry) → line_outcome scene state entry ≡ line_outcome_by (scene.client entry.session) scene entry.side (opens entry state) entry.session entry.asked
-line_outcome_is scene state entry answer missed =
-    ap (λ (g : Answer). line_outcome_if (scene.client entry.session) scene (opens entry state) entry.session entry.asked entry.side g entry.missed) answer
-    ∙ ap (λ (m : Option Answer). line_outcome_if (scene.client entry.session) scene (opens entry state) entry.session entry.asked entry.side (answer_at entry.side (inner state entry)) m) missed
+line_outcome_is : (scene : Scene) (state : State) (entry : Entry) → entry.answer ≡ answer_at entry.side (inner state entry) → entry.missed ≡ missed_at entry.side (inner state entry) → entry.draw ≡ drawn_at entry.side state entry → line_outcome scene state entry ≡ line_outcome_by (scene.client entry.session) scene entry.side (opens entry state) entry.session entry.asked
+line_outcome_is scene state entry answer missed draw =
+    ap (λ (g : Answer). line_outcome_if (scene.client entry.session) scene (opens entry state) entry.session entry.asked entry.side g entry.missed entry.draw) answer
+    ∙ ap (λ (m : Option Answer). line_outcome_if (scene.client entry.session) scene (opens entry state) entry.session entry.asked entry.side (answer_at entry.side (inner state entry)) m entry.draw) missed
+    ∙ ap (λ (d : Option ℕ). line_outcome_if (scene.client entry.session) scene (opens entry state) entry.session entry.asked entry.side (answer_at entry.side (inner state entry)) (missed_at entry.side (inner state entry)) d) draw
 
-entry_kept : (scene : Scene) (state : State) (going : ℕ → Going) (past : List PlainItem) (entry : Entry) → is_mine scene scene.migrated ≡ true → entry.answer ≡ answer_at entry.side (inner state entry) → entry.missed ≡ missed_at entry.side (inner state entry) → MayAsk scene entry.session entry.asked → (is_command entry.asked ≡ true → entry.side ≡ None)
+entry_kept : (scene : Scene) (state : State) (going : ℕ → Going) (past : List PlainItem) (entry : Entry) → is_mine scene scene.migrated ≡ true → entry.answer ≡ answer_at entry.side (inner state entry) → entry.missed ≡ missed_at entry.side (inner state entry) → entry.draw ≡ drawn_at entry.side state entry → MayAsk scene entry.session entry.asked → (is_command entry.asked ≡ true → entry.side ≡ None)
     → AtRest (is_busy entry.session (opens entry state)) (about (opens entry state) entry.session entry.asked) → (reported_at entry.side entry.answer entry.missed ≡ Some ok → RenamesSo scene state.tables (about (opens entry state) entry.session entry.asked)) → BookHolds scene state going past → BookHolds scene (after_entry state entry) (goings_after entry.session (line_outcome scene state entry) going) (past ++ happens (line_outcome scene state entry) (going entry.session))
-entry_kept scene state going past entry mine answer missed may commands rest so is =
+entry_kept scene state going past entry mine answer missed draw may commands rest so is =
     let nothing : Bool = is_command entry.asked in
     let tool : Bool = not (is_client entry.actor) in
     let number : ℕ = entry.session in
@@ -458,7 +477,7 @@ entry_kept scene state going past entry mine answer missed may commands rest so 
     let turned : TurnsSo (scene.client number) scene entry.side now number entry.asked going past =
     live_turn scene entry.side now number entry.asked going past mine holds one (opened_live nothing tool number state) commands (rest, renames) (asks_about scene now number entry.asked may asks) asks in
     record {
-      holds = subst (λ (f : LineOutcome). Turned scene (stored (after_entry state entry)) (face_of (after_entry state entry).sessions) number f going past) (sym (line_outcome_is scene state entry answer missed)) turned;
+      holds = subst (λ (f : LineOutcome). Turned scene (stored (after_entry state entry)) (face_of (after_entry state entry).sessions) number f going past) (sym (line_outcome_is scene state entry answer missed draw)) turned;
       waits = turn_waits scene entry.side now number entry.asked may waits;
       one = turn_one entry.side now number entry.asked one;
     }
@@ -491,7 +510,7 @@ pub step : (limits : Limits) (scene : Scene) → is_mine scene scene.migrated �
 unfolding history
 step limits scene mine journal entry good is =
     rw (state_more (opened limits scene.opening) journal entry, goings_more scene (opened limits scene.opening) (λ n. not_going) journal entry, gathered-more (entry_adds limits scene) [] journal entry)
-    (entry_kept scene (scene_state limits scene journal) (goings_at limits scene journal) (history limits scene journal) entry mine good.0.answer good.0.missed good.1.may good.1.commands good.1.rests good.1.renames is)
+    (entry_kept scene (scene_state limits scene journal) (goings_at limits scene journal) (history limits scene journal) entry mine good.0.answer good.0.missed good.0.draw good.1.may good.1.commands good.1.rests good.1.renames is)
 
 pub begins : (limits : Limits) (scene : Scene) → IsWellFormedDatabase scene.opening → JournalHolds limits scene []
 unfolding state_after goings_from history

@@ -31,4 +31,5 @@ pub mod Ghost
 pub mod Run
 pub mod Sentry
 pub mod Machine
+pub mod Rising
 pub mod ServerFacts

@@ -30,12 +30,12 @@ use Rattle.server_model.specs.PlainServer.{serves, leaves, loses}
 use Rattle.plan_data.specs.PlanData.{PlanData}
 use Rattle.tool_program.specs.JournalWords.Journals.{opening, opens, after_entry, state_at, missed, may_lose}
 use Rattle.tool_program.specs.JournalWords.Sessions.{session_left, live_session, sessions_named}
-use Rattle.tool_program.specs.JournalWords.Clients.{Reached, became, client_after, after_turn, client_at, new_client, script_of, is_inside, client_asks, line_asks, word_asks}
+use Rattle.tool_program.specs.JournalWords.Clients.{with_draw, Reached, became, client_after, after_turn, client_at, new_client, script_of, is_inside, client_asks, line_asks, word_asks}
 use Rattle.tool_program.specs.JournalWords.KeptPlans.{TakesNext}
 use Rattle.tool_program.specs.JournalWords.Histories as histories
 use Rattle.tool_program.specs.JournalWords.Histories.{HistoryItem, waits_after, waits_in, request_waiting, asked_about, answer_in, renames_away, alters, adds, client_ends}
 use Rattle.proof_journals.specs.Scenes.{PlainItem, AltersTo, Scene, NamesTable, Going, not_going}
-use Rattle.proof_journals.specs.Turns.{request_of, LineOutcome, line_outcome_renamed, line_outcome_if, client_line_outcome, going_on, goings_after, happens, reported_at, is_busy, inner, line_outcome, ClientAsks, LineOf, MayAsk, MayAskIf, AtRest, RenamesSo, IsAllowed, answer_at, missed_at}
+use Rattle.proof_journals.specs.Turns.{request_of, LineOutcome, line_outcome_renamed, line_outcome_if, client_line_outcome, going_on, goings_after, happens, reported_at, is_busy, inner, line_outcome, ClientAsks, LineOf, MayAsk, MayAskIf, AtRest, RenamesSo, IsAllowed, answer_at, missed_at, drawn_at, drawn_request}
 use Rattle.proof_journals.specs.Turns as law
 use Rattle.proof_journals.specs.Holdings.{Face, Fits, face_in, face_of}
 use Rattle.server_model.specs.declared.session.Session.{Session}
@@ -44,7 +44,7 @@ use Rattle.proof_journals.proofs.Actors.{same_actor_is, same_actor_itself, live_
 use Rattle.proof_journals.proofs.Faces.{faces_opened}
 use Rattle.proof_journals.proofs.Journals.{opened_waits, state_more, word_back}
 use Rattle.proof_journals.proofs.Waiting.{waits_there, waits_called, waits_polled, none_waits, filter_gone}
-use Rattle.proof_journals.proofs.Progress.{plain, going_of, LineWaits, Free, Held, Alike, AsksNext, Calls, Polls, IsCut, HeardSo, client_alike, client_gone, lines_stay}
+use Rattle.proof_journals.proofs.Progress.{plain, going_of, LineWaits, Free, Held, Alike, AsksNext, Calls, Polls, IsCut, HeardSo, drawn_alike, drawn_gone, drawn_going, drawn_named, drawn_no_wait, lines_stay}
 use Rattle.proof_journals.proofs.Hearing.{heard_so}
 use Rattle.server_model.proofs.LockedRows.Tests.{same_number, turned}
 
@@ -92,6 +92,7 @@ pub record Known (plan : PlanData) (whole journal : List Entry) (entry : Entry) 
   pub sides : may_lose entry.asked ≡ false → entry.side ≡ None
   pub answer : entry.answer ≡ answer_at entry.side (inner (state_at plan journal) entry)
   pub missed : entry.missed ≡ missed_at entry.side (inner (state_at plan journal) entry)
+  pub draw : entry.draw ≡ drawn_at entry.side (state_at plan journal) entry
   pub kind : is_command entry.asked ≡ false → is_client_session whole entry.session ≡ is_client entry.actor
   pub zero : is_client_session whole 0 ≡ false
   pub next : TakesNext plan journal entry.actor entry.asked
@@ -214,18 +215,19 @@ module _ (plan : PlanData) (whole journal : List Entry) (entry : Entry) (going :
   about_here (Command word) old is = refl
 
   own_line_outcome : (c : ℕ) → entry.actor ≡ Client c
-      → line_outcome_now ≡ client_line_outcome entry.side (is_inside (client_at plan journal c).lines) entry.asked (asked_about entry.asked (request_waiting journal (Client c))) entry.answer entry.missed
+      → line_outcome_now ≡ client_line_outcome entry.side (is_inside (client_at plan journal c).lines) entry.asked (drawn_request entry.draw (asked_about entry.asked (request_waiting journal (Client c)))) entry.answer entry.missed
   own_line_outcome c is =
-      ap (λ (own : Bool). line_outcome_if own (scene_of plan whole) open_now entry.session entry.asked entry.side entry.answer entry.missed) (own_kind c is)
-      ∙ ap (λ (b : Bool). client_line_outcome entry.side b entry.asked (law.about open_now entry.session entry.asked) entry.answer entry.missed) (own_busy c is)
-      ∙ ap (λ (asks : Option Request). client_line_outcome entry.side (is_inside (client_at plan journal c).lines) entry.asked asks entry.answer entry.missed)
+      ap (λ (own : Bool). line_outcome_if own (scene_of plan whole) open_now entry.session entry.asked entry.side entry.answer entry.missed entry.draw) (own_kind c is)
+      ∙ ap (λ (b : Bool). client_line_outcome entry.side b entry.asked (drawn_request entry.draw (law.about open_now entry.session entry.asked)) entry.answer entry.missed) (own_busy c is)
+      ∙ ap (λ (asks : Option Request). client_line_outcome entry.side (is_inside (client_at plan journal c).lines) entry.asked (drawn_request entry.draw asks) entry.answer entry.missed)
       (about_here entry.asked (request_waiting journal (Client c)) (waits_here (no_command (client_at plan journal c) (asks_next c is)) ∙ ap (request_waiting journal) is))
 
-  own_alike : (c : ℕ) → entry.actor ≡ Client c → Alike c (client_at plan journal c) (became (client_at plan journal c) entry) line_outcome_now (waits_after entry.asked entry.answer (request_waiting journal (Client c)))
+  own_alike : (c : ℕ) → entry.actor ≡ Client c → Alike c (with_draw entry.draw (client_at plan journal c)) (became (client_at plan journal c) entry) line_outcome_now (waits_after entry.asked entry.answer (request_waiting journal (Client c)))
   own_alike c is =
-      subst (λ (f : LineOutcome). Alike c (client_at plan journal c) (became (client_at plan journal c) entry) f (waits_after entry.asked entry.answer (request_waiting journal (Client c)))) (sym (own_line_outcome c is))
-      (client_alike c (client_at plan journal c) entry.side entry.asked entry.answer entry.missed (request_waiting journal (Client c)) (linked.lines c) (asks_next c is) (own_heard c is)
-      (λ b. ((own_fits c is).rests (sym (face_busy entry.session open_now) ∙ own_busy c is ∙ b)).1))
+      subst (λ (f : LineOutcome). Alike c (with_draw entry.draw (client_at plan journal c)) (became (client_at plan journal c) entry) f (waits_after entry.asked entry.answer (request_waiting journal (Client c)))) (sym (own_line_outcome c is))
+      (drawn_alike c (client_at plan journal c) entry.side entry.asked entry.answer entry.missed entry.draw (request_waiting journal (Client c)) (linked.lines c) (asks_next c is) (own_heard c is)
+      (λ b. ((own_fits c is).rests (sym (face_busy entry.session open_now) ∙ own_busy c is ∙ b)).1)
+      (λ n some by waits. drawn_no_wait entry.side open_now entry.session entry.asked n by (sym known.draw ∙ some) (sym known.answer ∙ waits)))
 
   -- A TURN OF THE TOOL
 
@@ -336,21 +338,21 @@ module _ (plan : PlanData) (whole journal : List Entry) (entry : Entry) (going :
       let old = linked.fresh n (named_less journal entry linked.known_sessions known.placed n above) in
       (ap (λ (s : State). waiting_of n s.waiting) state_is ∙ other_waits n differ ∙ old.0, goings_there n differ ∙ old.1)
 
-  client_same : (c : ℕ) → entry.actor ≡ Client c → client_at plan more c ≡ client_after (became (client_at plan journal c) entry) (client_at plan journal c)
-  client_same c is = client_more plan journal entry c ∙ ap (λ (b : Bool). cond b (client_after (became (client_at plan journal c) entry) (client_at plan journal c)) (client_at plan journal c)) (ap (λ (a : Actor). same_actor a (Client c)) is ∙ same_number c)
+  client_same : (c : ℕ) → entry.actor ≡ Client c → client_at plan more c ≡ client_after (became (client_at plan journal c) entry) (with_draw entry.draw (client_at plan journal c))
+  client_same c is = client_more plan journal entry c ∙ ap (λ (b : Bool). cond b (client_after (became (client_at plan journal c) entry) (with_draw entry.draw (client_at plan journal c))) (client_at plan journal c)) (ap (λ (a : Actor). same_actor a (Client c)) is ∙ same_number c)
 
   client_other : (c : ℕ) → same_actor entry.actor (Client c) ≡ false → client_at plan more c ≡ client_at plan journal c
-  client_other c differ = client_more plan journal entry c ∙ ap (λ (b : Bool). cond b (client_after (became (client_at plan journal c) entry) (client_at plan journal c)) (client_at plan journal c)) differ
+  client_other c differ = client_more plan journal entry c ∙ ap (λ (b : Bool). cond b (client_after (became (client_at plan journal c) entry) (with_draw entry.draw (client_at plan journal c))) (client_at plan journal c)) differ
 
   runs_after : (c n : ℕ) → live_session more (Client c) ≡ Some n → goings n ≡ going_of (client_at plan more c)
   runs_after c n lives = live_cases journal entry linked.known_sessions known.placed (Client c) n (goings n ≡ going_of (client_at plan more c)) lives
-      (λ same call is. ap goings is ∙ goings_here ∙ ap (going_on line_outcome_now) (going_here c (sym same)) ∙ (own_alike c (sym same)).going ∙ ap going_of (sym (client_same c (sym same))))
+      (λ same call is. ap goings is ∙ goings_here ∙ ap (going_on line_outcome_now) (going_here c (sym same) ∙ sym (drawn_going entry.draw (client_at plan journal c))) ∙ (own_alike c (sym same)).going ∙ ap going_of (sym (client_same c (sym same))))
       (λ differ old. goings_there n (others_differ journal entry linked.known_sessions known.placed (Client c) n differ old) ∙ linked.runs c n old ∙ ap going_of (sym (client_other c differ)))
 
   closed_after : (c : ℕ) → live_session more (Client c) ≡ None → going_of (client_at plan more c) ≡ not_going
   closed_after c none = none_cases (Client c) (going_of (client_at plan more c) ≡ not_going) none
       (λ same left. let is : entry.actor ≡ Client c = same_actor_is entry.actor (Client c) same in
-      ap going_of (client_same c is) ∙ client_gone (client_at plan journal c) entry.side entry.asked entry.answer entry.missed (request_waiting journal (Client c)) entry.session (linked.lines c) (asks_next c is) (own_heard c is) left)
+      ap going_of (client_same c is) ∙ drawn_gone (client_at plan journal c) entry.side entry.asked entry.answer entry.missed entry.draw (request_waiting journal (Client c)) entry.session (linked.lines c) (asks_next c is) (own_heard c is) left)
       (λ differ old. ap going_of (client_other c differ) ∙ linked.closed c old)
 
   same_cases : (c : ℕ) (P : Type 0) → (entry.actor ≡ Client c → P) → (same_actor entry.actor (Client c) ≡ false → P) → P
@@ -372,7 +374,7 @@ module _ (plan : PlanData) (whole journal : List Entry) (entry : Entry) (going :
 
   named_after : (c : ℕ) → AllByRecursion (λ line. NamesTable (client_names plan) line.word) (client_at plan more c).left
   named_after c = same_cases c (AllByRecursion (λ line. NamesTable (client_names plan) line.word) (client_at plan more c).left)
-      (λ is. rw (client_same c is) (lines_stay (λ line. NamesTable (client_names plan) line.word) (became (client_at plan journal c) entry) (client_at plan journal c) (linked.named c)))
+      (λ is. rw (client_same c is) (lines_stay (λ line. NamesTable (client_names plan) line.word) (became (client_at plan journal c) entry) (with_draw entry.draw (client_at plan journal c)) (drawn_named (client_names plan) entry.draw (client_at plan journal c) (linked.named c))))
       (λ differ. rw (client_other c differ) (linked.named c))
 
   -- what the tool's turn adds to the history
@@ -441,11 +443,11 @@ module _ (plan : PlanData) (whole journal : List Entry) (entry : Entry) (going :
   adds_same : happens line_outcome_now (going entry.session) ≡ map plain (adds plan journal entry entry.actor)
   adds_same = by_actor (happens line_outcome_now (going entry.session) ≡ map plain (adds plan journal entry entry.actor)) own tool where
     own : (c : ℕ) → entry.actor ≡ Client c → happens line_outcome_now (going entry.session) ≡ map plain (adds plan journal entry entry.actor)
-    own c is = ap (happens line_outcome_now) (going_here c is) ∙ (own_alike c is).items ∙ ap (λ (a : Actor). map plain (adds plan journal entry a)) (sym is)
+    own c is = ap (happens line_outcome_now) (going_here c is ∙ sym (drawn_going entry.draw (client_at plan journal c))) ∙ (own_alike c is).items ∙ ap (λ (a : Actor). map plain (adds plan journal entry a)) (sym is)
 
     tool : is_client entry.actor ≡ false → IsAway plan journal entry → happens line_outcome_now (going entry.session) ≡ map plain (adds plan journal entry entry.actor)
     tool no_client away =
-        ap (λ (own : Bool). happens (line_outcome_if own (scene_of plan whole) open_now entry.session entry.asked entry.side entry.answer entry.missed) (going entry.session)) (tool_kind no_client)
+        ap (λ (own : Bool). happens (line_outcome_if own (scene_of plan whole) open_now entry.session entry.asked entry.side entry.answer entry.missed entry.draw) (going entry.session)) (tool_kind no_client)
         ∙ ap (λ (asks : Option Request). happens (line_outcome_renamed (renames_away plan.table asks) (reported_at entry.side entry.answer entry.missed)) (going entry.session)) about_is
         ∙ tool_reported entry.asked refl (going entry.session) ∙ ap (map plain) (sym (adds_tool entry.actor no_client))
 

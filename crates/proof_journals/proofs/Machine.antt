@@ -11,6 +11,7 @@ pub mod Counting
 pub mod Asking
 pub mod Journals
 pub mod Clients
+pub mod Drawn
 pub mod ClientJournals
 pub mod Forming
 pub mod Calling

@@ -25,7 +25,7 @@ use Rattle.proof_journals.specs.Laws.{SceneSerial, PlanRunsAreSceneRuns, Journal
 use Rattle.proof_journals.specs.Plans.{client_names, is_client_session, limits_of, scene_of, KeepsAway, IsSerialPlan, IsPlanRun}
 use Rattle.proof_journals.proofs.Actors.{placed, sessions_begin, Kinds, KindSo, all_kinds}
 use Rattle.proof_journals.proofs.Journals.{JournalHolds, scene_serial, step, begins, goings_more}
-use Rattle.proof_journals.proofs.Joined.{faithful_reported, reported_answer, reported_missed, SerialPlain, LeadsPlain, AltersAs, serial_plain}
+use Rattle.proof_journals.proofs.Joined.{faithful_reported, reported_answer, reported_missed, reported_draw, SerialPlain, LeadsPlain, AltersAs, serial_plain}
 use Rattle.proof_journals.proofs.Linking.{Linked, Known, linked_more, allowed_here}
 use Rattle.proof_journals.proofs.Naming.{migrated_named, script_lines, extras_open, extras_serial, left_is}
 use Rattle.proof_journals.proofs.Openings.{opening_well_formed}
@@ -50,6 +50,7 @@ known_of plan whole journal entry zero good is = record {
   sides = good.answered.sides;
   answer = reported_answer (state_at plan journal) entry good.answered;
   missed = reported_missed (state_at plan journal) entry good.answered;
+  draw = reported_draw (state_at plan journal) entry good.answered;
   kind = λ call. (good.kind call).0;
   zero = zero;
   next = good.planned.next;
@@ -65,7 +66,7 @@ plan_step plan whole journal entry zero good is =
     let known : Known plan whole journal entry going = known_of plan whole journal entry zero good is in
     record {
       holds = step (limits_of plan) (scene_of plan whole) (migrated_named plan) journal entry
-          (record { answer = known.answer; missed = known.missed }, allowed_here plan whole journal entry going past is.linked known) is.holds;
+          (record { answer = known.answer; missed = known.missed; draw = known.draw }, allowed_here plan whole journal entry going past is.linked known) is.holds;
       linked = rw (goings_more (scene_of plan whole) (opened (limits_of plan) plan.tables) (λ n. not_going) journal entry, gathered-more (entry_adds (limits_of plan) (scene_of plan whole)) [] journal entry)
           (linked_more plan whole journal entry going past is.linked known);
     }
@@ -107,7 +108,7 @@ goes plan whole before (entry ∷ journal) zero good is =
       (allowed_here plan whole before entry (goings_at (limits_of plan) (scene_of plan whole) before) (history (limits_of plan) (scene_of plan whole) before) is.linked (known_of plan whole before entry zero good.0 is), rest.1),
     )
 
-plan_goes : (plan : PlanData) (journal : List Entry) → IsPlanRun plan journal → PlanHolds plan journal journal × Along (IsAllowed (limits_of plan) (scene_of plan journal)) [] journal
+pub plan_goes : (plan : PlanData) (journal : List Entry) → IsPlanRun plan journal → PlanHolds plan journal journal × Along (IsAllowed (limits_of plan) (scene_of plan journal)) [] journal
 unfolding KeepsPlan KeepsSessions
 plan_goes plan journal run =
     let kinds : Kinds journal = all_kinds journal run.seated in

@@ -2,10 +2,10 @@
 -- script, and by what the server's state says of its session.
 use Rattle.std.proofs.Common.{◌≡◌, ℕ, Bool, true, false, List, [], ◌∷◌, map, Option, Some, None, refl, sym, ap, ◌∙◌, subst}
 use Rattle.std.specs.Prelude.{option_to_list}
-use Rattle.std.specs.List.{AllByRecursion}
+use Rattle.std.specs.List.{AllByRecursion, list_any}
 use Rattle.std.proofs.lemmas.Bool.{true≢false}
 use Rattle.base_script.specs.declared.actor.Side.{Side}
-use Rattle.base_script.specs.declared.actor.Side.TheVariants.{Before}
+use Rattle.base_script.specs.declared.actor.Side.TheVariants.{Before, After}
 use Rattle.base_script.specs.declared.script.ScriptLine.{ScriptLine}
 use Rattle.base_script.specs.declared.script.ScriptWord.{ScriptWord}
 use Rattle.base_script.specs.declared.script.ScriptWord.TheVariants as words
@@ -21,12 +21,17 @@ use Rattle.server_model.specs.declared.transaction.Reply.TheVariants as replies
 use Rattle.server_model.specs.declared.transaction.TxnEnd.{TxnEnd}
 use Rattle.server_model.specs.declared.transaction.TxnEnd.TheVariants as ends
 use Rattle.server_model.specs.Alone.{reply_of}
-use Rattle.tool_program.specs.JournalWords.Clients.{Reached, Became, Nothing, Waits, Marked, Broken, became_of, lost_side, cut_off, became_in, is_inside, answered_ends, ends_with, closes, after_transaction, left_after, kept_unless, with_line, with_reply, marked, client_after, word_asks}
+use Rattle.tool_program.specs.JournalWords.Clients.{word_numbered, lines_drawn, with_draw, Reached, Became, Nothing, Waits, Marked, Broken, became_of, lost_side, cut_off, became_in, is_inside, answered_ends, ends_with, closes, after_transaction, left_after, kept_unless, with_line, with_reply, marked, client_after, word_asks}
 use Rattle.tool_program.specs.JournalWords.Histories as histories
 use Rattle.tool_program.specs.JournalWords.Histories.{HistoryItem, waits_after, asked_about, ends_so, line_ends, breaks, client_ends}
-use Rattle.proof_journals.specs.Scenes.{PlainItem, Txn, Alter, Going, not_going}
+use Rattle.server_model.specs.States.{State}
+use Rattle.server_model.specs.PlainServer.{serves, asks_for}
+use Rattle.server_model.specs.Counting.{drawn_by}
+use Rattle.server_model.proofs.Filling.{numbered_table}
+use Rattle.std.specs.Str.{bytes_eq}
+use Rattle.proof_journals.specs.Scenes.{NamesTable, PlainItem, Txn, Alter, Going, not_going}
 use Rattle.proof_journals.specs.Turns as fates
-use Rattle.proof_journals.specs.Turns.{LineOutcome, line_outcome_answered, word_given, was_given, mark_lost, broken, word_lost, word_asked, client_line_outcome, going_on, happens}
+use Rattle.proof_journals.specs.Turns.{answer_at, drawn_side, request_numbered, drawn_request, LineOutcome, line_outcome_answered, word_given, was_given, mark_lost, broken, word_lost, word_asked, client_line_outcome, going_on, happens}
 use Rattle.proof_journals.proofs.Journals.{word_back}
 use Rattle.tool_program.specs.JournalWords.Sessions.{session_left}
 use Rattle.server_model.specs.Entries.{is_command}
@@ -220,6 +225,81 @@ client_alike number client side asked answer missed old waits (Polls held asks) 
   poll_cut same = cc
 client_alike number client side asked answer missed old waits (IsCut asks) (LostAt lost called at same is) rests = absurd (called asks)
 
+-- A LINE THAT DREW A NUMBER
+
+abbrev pub asked_numbered : ℕ → Asked → Asked
+asked_numbered n (Call request) = Call (request_numbered n request)
+asked_numbered n Poll = Poll
+asked_numbered n (Command word) = Command word
+asked_numbered n Cut = Cut
+
+word_number : (n : ℕ) (word : ScriptWord) → request_numbered n (word_asks word) ≡ word_asks (word_numbered (Some n) word)
+word_number n words.Begin = refl
+word_number n words.Commit = refl
+word_number n words.Rollback = refl
+word_number n (words.Do statement) = refl
+
+abbrev pub line_numbered : ℕ → ScriptLine → ScriptLine
+line_numbered n line = record line { word = word_numbered (Some n) line.word }
+
+waits_numbered : (n : ℕ) (client : Reached) (old : Option Request) → LineWaits client old → LineWaits (with_draw (Some n) client) (drawn_request (Some n) old)
+waits_numbered n client old (Free free none) = Free free (ap (drawn_request (Some n)) none)
+waits_numbered n client old (Held line lines held left some) =
+    Held (line_numbered n line) lines held (ap (lines_drawn n) left) (ap (drawn_request (Some n)) some ∙ ap (λ (r : Request). let o : Option Request = Some r in o) (word_number n line.word))
+
+asks_so : (n : ℕ) (client : Reached) (asked : Asked) → AsksNext client asked → AsksNext (with_draw (Some n) client) (asked_numbered n asked)
+asks_so n client asked (Calls line lines free left asks) = Calls (line_numbered n line) lines free (ap (lines_drawn n) left) (ap (asked_numbered n) asks ∙ ap Call (word_number n line.word))
+asks_so n client asked (Polls held asks) = Polls held (ap (asked_numbered n) asks)
+asks_so n client asked (IsCut asks) = IsCut (ap (asked_numbered n) asks)
+
+uncut : (n : ℕ) (asked : Asked) → (asked ≡ Cut → ⊥) → asked_numbered n asked ≡ Cut → ⊥
+uncut n (Call request) called same = absurd (cc)
+uncut n Poll called same = absurd (cc)
+uncut n (Command word) called same = absurd (cc)
+uncut n Cut called same = called refl
+
+heard_numbered : (n : ℕ) (side : Option Side) (asked : Asked) (answer : Answer) (missed : Option Answer) → HeardSo side asked answer missed → HeardSo side (asked_numbered n asked) answer missed
+heard_numbered n side asked answer missed (Heard none is) = Heard none is
+heard_numbered n side asked answer missed (CutOff none also) = CutOff none (ap (asked_numbered n) also)
+heard_numbered n side asked answer missed (LostAt lost called at same is) = LostAt lost (uncut n asked called) at same is
+
+line_outcome_numbered : (n : ℕ) (side : Option Side) (busy : Bool) (asked : Asked) (old : Option Request) (answer : Answer) (missed : Option Answer)
+    → client_line_outcome side busy (asked_numbered n asked) (asked_about (asked_numbered n asked) (drawn_request (Some n) old)) answer missed ≡ client_line_outcome side busy asked (drawn_request (Some n) (asked_about asked old)) answer missed
+line_outcome_numbered n None busy (Call request) old answer missed = refl
+line_outcome_numbered n None busy Poll old answer missed = refl
+line_outcome_numbered n None busy (Command word) old answer missed = refl
+line_outcome_numbered n None busy Cut old answer missed = refl
+line_outcome_numbered n (Some side) busy (Call request) old answer missed = refl
+line_outcome_numbered n (Some side) busy Poll old answer missed = refl
+line_outcome_numbered n (Some side) busy (Command word) old answer missed = refl
+line_outcome_numbered n (Some side) busy Cut old answer missed = refl
+
+became_numbered : (n : ℕ) (waits : Bool) (asked : Asked) (side : Option Side) (answer : Answer) (missed : Option Answer) → became_in waits (asked_numbered n asked) side answer missed ≡ became_in waits asked side answer missed
+became_numbered n waits (Call request) None answer missed = refl
+became_numbered n waits (Call request) (Some side) answer missed = refl
+became_numbered n waits Poll side answer missed = refl
+became_numbered n waits (Command word) side answer missed = refl
+became_numbered n waits Cut side answer missed = refl
+
+-- nothing waits after an answer that isn't a wait
+after_numbered : (n : ℕ) (asked : Asked) (answer : Answer) (old : Option Request) → ((by : ℕ) → answer ≡ answers.Waits by → ⊥) → waits_after (asked_numbered n asked) answer (drawn_request (Some n) old) ≡ waits_after asked answer old
+after_numbered n (Call request) (answers.Waits by) old never = absurd (never by refl)
+after_numbered n Poll (answers.Waits by) old never = absurd (never by refl)
+after_numbered n (Call request) other old never = refl
+after_numbered n Poll other old never = refl
+after_numbered n (Command word) answer old never = refl
+after_numbered n Cut answer old never = refl
+
+-- *what became of a client's line, with the number that it drew*: a turn that draws waits for nothing
+pub drawn_alike : (number : ℕ) (client : Reached) (side : Option Side) (asked : Asked) (answer : Answer) (missed : Option Answer) (draw : Option ℕ) (old : Option Request) → LineWaits client old → AsksNext client asked → HeardSo side asked answer missed → (is_inside client.lines ≡ false → going_of client ≡ not_going)
+    → ((n : ℕ) → draw ≡ Some n → (by : ℕ) → answer ≡ answers.Waits by → ⊥)
+    → Alike number (with_draw draw client) (became_in client.waits asked side answer missed) (client_line_outcome side (is_inside client.lines) asked (drawn_request draw (asked_about asked old)) answer missed) (waits_after asked answer old)
+drawn_alike number client side asked answer missed None old waits next heard rests never = client_alike number client side asked answer missed old waits next heard rests
+drawn_alike number client side asked answer missed (Some n) old waits next heard rests never =
+    subst (λ (b : Became). Alike number (with_draw (Some n) client) b (client_line_outcome side (is_inside client.lines) asked (drawn_request (Some n) (asked_about asked old)) answer missed) (waits_after asked answer old)) (became_numbered n client.waits asked side answer missed)
+    (alike_as number (with_draw (Some n) client) (became_in client.waits (asked_numbered n asked) side answer missed) _ _ _ _ (sym (line_outcome_numbered n side (is_inside client.lines) asked old answer missed)) (sym (after_numbered n asked answer old (never n refl)))
+    (client_alike number (with_draw (Some n) client) side (asked_numbered n asked) answer missed (drawn_request (Some n) old) (waits_numbered n client old waits) (asks_so n client asked next) (heard_numbered n side asked answer missed heard) rests))
+
 -- A CLIENT THAT IS LOST HAS NOTHING OPEN
 
 gone_marked : (client : Reached) (line : ScriptLine) (lines : List ScriptLine) → client.left ≡ line ∷ lines → (side : Side) (reply : Option Reply) → going_of (client_after (Marked (marks.Lost side) reply) client) ≡ not_going
@@ -262,6 +342,46 @@ client_gone client side asked answer missed old session waits (Calls line lines 
 client_gone client side asked answer missed old session waits (Polls held asks) (Heard none is) left = absurd (some_none (sym (left_some Poll answer session is (λ same. cc) refl) ∙ ap (λ (a : Asked). session_left a answer session) (sym asks) ∙ left)) where
   some_none : Some session ≡ None → ⊥
   some_none same = cc
+
+left_numbered : (n : ℕ) (asked : Asked) (answer : Answer) (session : ℕ) → session_left (asked_numbered n asked) answer session ≡ session_left asked answer session
+left_numbered n (Call request) answers.Lost session = refl
+left_numbered n (Call request) other session = refl
+left_numbered n Poll answer session = refl
+left_numbered n (Command word) answer session = refl
+left_numbered n Cut answer session = refl
+
+pub drawn_gone : (client : Reached) (side : Option Side) (asked : Asked) (answer : Answer) (missed : Option Answer) (draw : Option ℕ) (old : Option Request) (session : ℕ) → LineWaits client old → AsksNext client asked → HeardSo side asked answer missed → session_left asked answer session ≡ None
+    → going_of (client_after (became_in client.waits asked side answer missed) (with_draw draw client)) ≡ not_going
+drawn_gone client side asked answer missed None old session waits next heard left = client_gone client side asked answer missed old session waits next heard left
+drawn_gone client side asked answer missed (Some n) old session waits next heard left =
+    ap (λ (b : Became). going_of (client_after b (with_draw (Some n) client))) (sym (became_numbered n client.waits asked side answer missed))
+    ∙ client_gone (with_draw (Some n) client) side (asked_numbered n asked) answer missed (drawn_request (Some n) old) session (waits_numbered n client old waits) (asks_so n client asked next) (heard_numbered n side asked answer missed heard) (left_numbered n asked answer session ∙ left)
+
+-- a number changes nothing of what the client has so far
+pub drawn_going : (draw : Option ℕ) (client : Reached) → going_of (with_draw draw client) ≡ going_of client
+drawn_going None client = refl
+drawn_going (Some n) client = refl
+
+pub drawn_named : (mine : List (List ℕ)) (draw : Option ℕ) (client : Reached) → AllByRecursion (λ line. NamesTable mine line.word) client.left → AllByRecursion (λ line. NamesTable mine line.word) (with_draw draw client).left
+drawn_named mine None client all = all
+drawn_named mine (Some n) client all = by client.left all where
+  one : (word : ScriptWord) → NamesTable mine word → NamesTable mine (word_numbered (Some n) word)
+  one words.Begin named = named
+  one words.Commit named = named
+  one words.Rollback named = named
+  one (words.Do statement) named = subst (λ (name : List ℕ). list_any (bytes_eq name) mine ≡ true) (sym (numbered_table (Some n) statement)) named
+
+  by : (lines : List ScriptLine) → AllByRecursion (λ line. NamesTable mine line.word) lines → AllByRecursion (λ line. NamesTable mine line.word) (lines_drawn n lines)
+  by [] all = tt
+  by (line ∷ lines) all = (one line.word all.0, all.1)
+
+-- a turn that draws waits for nothing
+pub drawn_no_wait : (side : Option Side) (state : State) (number : ℕ) (asked : Asked) (n by : ℕ) → drawn_side side state number asked ≡ Some n → answer_at side (serves state number asked).answer ≡ answers.Waits by → ⊥
+drawn_no_wait None state number asked n by some waits = none (sym (ap (λ (a : Answer). drawn_by state number (asks_for state number asked) a) waits) ∙ some) where
+  none : None ≡ Some n → ⊥
+  none same = cc
+drawn_no_wait (Some Before) state number asked n by none waits = absurd (cc)
+drawn_no_wait (Some After) state number asked n by some waits = absurd (cc)
 
 -- THE SCRIPT THAT IS LEFT
 

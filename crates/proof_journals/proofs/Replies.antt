@@ -33,7 +33,7 @@ use Rattle.server_model.specs.declared.work.Selection.{Selection}
 use Rattle.server_model.specs.declared.work.Selection.TheVariants.{AllColumns, Columns, Count}
 use Rattle.server_model.specs.declared.work.Work.{Work}
 use Rattle.server_model.specs.declared.work.Work.TheVariants.{Refuse, Insert, Copy, Replace, Delete, Update, Select}
-use Rattle.server_model.specs.Checks.{◌>>=◌, unless, or_unknown, place_of, places_named, are_distinct, value_at, given_or, beside, row_from, places_listed, new_row, wanted_at, wanted_each, keyed, reach_equal, reach_range, reach_of, selection_of, or_refused, update_of, select_of, work_of}
+use Rattle.server_model.specs.Checks.{◌>>=◌, unless, or_unknown, place_of, places_named, are_distinct, value_at, given_or, beside, row_from, places_listed, new_row, drawn_row, wanted_at, wanted_each, keyed, reach_equal, reach_range, reach_of, selection_of, or_refused, update_of, select_of, work_of}
 use Rattle.server_model.specs.StatementResults.{TableResult, only, clashes_besides, change_first, with_sets, updates, result_or_refusal, updated, selected, tells}
 use Rattle.server_model.specs.Operations.{Operation, result_in, operation_of, operation_result, copy_work, copy_from, copy_operation}
 use Rattle.std.specs.Option.{option_map}
@@ -161,8 +161,8 @@ works_or (Err e) is = is
 
 work_replies : (schema : Schema) (statement : Statement) → WorkReplies (work_of schema statement)
 unfolding work_of
-work_replies schema (statements.Insert table columns values drawn) = or_replies (new_row schema columns values) Insert (new_replies schema columns values) (λ row. tt)
-work_replies schema (statements.Replace table columns values drawn) = or_replies (new_row schema columns values) Replace (new_replies schema columns values) (λ row. tt)
+work_replies schema (statements.Insert table columns values drawn) = or_replies (drawn_row schema columns values drawn) Insert (new_replies schema _ _) (λ row. tt)
+work_replies schema (statements.Replace table columns values drawn) = or_replies (drawn_row schema columns values drawn) Replace (new_replies schema _ _) (λ row. tt)
 work_replies schema (statements.Delete table condition) = or_replies (reach_of schema condition) Delete (reach_replies schema condition) (λ reach. tt)
 work_replies schema (statements.Update table sets condition) =
     works_or (update_of schema sets condition)

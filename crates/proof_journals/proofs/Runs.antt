@@ -25,6 +25,8 @@ use Rattle.table_store.specs.Databases.{TableRows, Database}
 use Rattle.base_script.specs.declared.actor.Side.TheVariants.{Before, After}
 use Rattle.server_model.specs.declared.transaction.Reply.{Reply}
 use Rattle.server_model.specs.declared.transaction.Reply.TheVariants as replies
+use Rattle.server_model.specs.Drawing as X6
+use Rattle.server_model.specs.Checks as X7
 use Rattle.server_model.specs.States as Y
 use Rattle.server_model.specs.Listings as Y9
 use Rattle.server_locks.specs.RowLocks.Grants as Y1
@@ -50,7 +52,7 @@ use Rattle.server_model.specs.declared.entry.Entry.{Entry}
 use Rattle.server_model.specs.declared.request.Request.TheVariants.{BeginSpan, CopyRow, Create, Drop, Ends, LockTables, LogEnd, ReadLog, Rename, ShowTables, ShowWaiting, Unlock}
 use Rattle.server_model.specs.declared.request.Request.{Request}
 use Rattle.server_model.specs.declared.request.Request.TheVariants as requests
-use Rattle.server_model.specs.PlainServer.{calls, done, loses, polls}
+use Rattle.server_model.specs.PlainServer.{calls, did, loses, polls}
 use Rattle.server_model.specs.Listings.{events_read, read_from, tables_shown, waits_shown}
 use Rattle.tool_program.specs.JournalWords.Journals.{opens_if, state_after}
 
@@ -115,12 +117,12 @@ answers_are : map (λ (e : Entry). e.answer) (journal_of limits scene turns)
     ∷ (answers.Waiting (record { session = 12; names = codes "t" ∷ codes "d" ∷ codes "g" ∷ []; by = 11 } ∷ [])) ∷ ok ∷ answers.Waits 11 ∷ ok ∷ answers.Waits 12
     ∷ (answers.Events (record { table = codes "t"; change = changes.Write (n 2 ∷ []) } ∷ []) 2) ∷ ok ∷ (answers.Refused 1136 None)
     ∷ (answers.Tables (record { name = codes "d"; comment = [] } ∷ record { name = codes "t"; comment = [] } ∷ [])) ∷ (answers.At 2) ∷ []
-unfolding col keyed n tables altered limits scene actor_of by poll statement_result put exchange turns reported ok kept_from state_after opens_if calls polls loses done Y9.distinct read_from events_read tables_shown waits_shown D.rename_tables operation_result operation_needs after_events work_of tells updates with_sets reach_of reach_range reach_equal new_row row_from places_named wanted_each are_distinct sets_from beside lies_under change_rows needs points_from X.same_name X1.clustered_among X2.seeks X2.stores X2.text_number X2.in_range X2.half X3.key_of X4.has X4.meets X5.compare_values X3.with_row Y.with_session Y1.conflict Y1.refusal Y1.blocker_of_lock Y1.blocker_of_set Y2.holds Y2.least_holder Y2.least_waiter Y2.place_of Y2.blocker_of_name Y2.blocker_of_names
+unfolding col keyed n tables altered limits scene actor_of by poll statement_result put exchange turns reported ok kept_from state_after opens_if calls polls loses did Y9.distinct read_from events_read tables_shown waits_shown D.rename_tables operation_result operation_needs after_events work_of tells updates with_sets reach_of reach_range reach_equal new_row row_from places_named wanted_each are_distinct sets_from beside lies_under change_rows needs points_from X.same_name X1.clustered_among X2.seeks X2.stores X2.text_number X2.in_range X2.half X3.key_of X4.has X4.meets X5.compare_values X3.with_row Y.with_session Y1.conflict Y1.refusal Y1.blocker_of_lock Y1.blocker_of_set Y2.holds Y2.least_holder Y2.least_waiter Y2.place_of Y2.blocker_of_name Y2.blocker_of_names X6.offered_in X7.draws
 answers_are = refl
 
 -- client 1 commits, the table is altered, and client 2 is refused by the new table
 history_is : reported (history limits scene (journal_of limits scene turns)) ≡ (replies.Ok 0 ∷ replies.Ok 1 ∷ replies.Ok 0 ∷ []) ∷ [] ∷ (replies.Error 1136 ∷ []) ∷ []
-unfolding col keyed n tables altered limits scene actor_of by poll statement_result put exchange turns reported ok kept_from state_after opens_if calls polls loses done Y9.distinct read_from events_read tables_shown waits_shown D.rename_tables operation_result operation_needs after_events work_of tells updates with_sets reach_of reach_range reach_equal new_row row_from places_named wanted_each are_distinct sets_from beside lies_under change_rows needs points_from X.same_name X1.clustered_among X2.seeks X2.stores X2.text_number X2.in_range X2.half X3.key_of X4.has X4.meets X5.compare_values X3.with_row Y.with_session Y1.conflict Y1.refusal Y1.blocker_of_lock Y1.blocker_of_set Y2.holds Y2.least_holder Y2.least_waiter Y2.place_of Y2.blocker_of_name Y2.blocker_of_names history goings_from
+unfolding col keyed n tables altered limits scene actor_of by poll statement_result put exchange turns reported ok kept_from state_after opens_if calls polls loses did Y9.distinct read_from events_read tables_shown waits_shown D.rename_tables operation_result operation_needs after_events work_of tells updates with_sets reach_of reach_range reach_equal new_row row_from places_named wanted_each are_distinct sets_from beside lies_under change_rows needs points_from X.same_name X1.clustered_among X2.seeks X2.stores X2.text_number X2.in_range X2.half X3.key_of X4.has X4.meets X5.compare_values X3.with_row Y.with_session Y1.conflict Y1.refusal Y1.blocker_of_lock Y1.blocker_of_set Y2.holds Y2.least_holder Y2.least_waiter Y2.place_of Y2.blocker_of_name Y2.blocker_of_names history goings_from X6.offered_in X7.draws
 history_is = refl
 
 -- *the journal is allowed*, and so the law speaks of it
@@ -151,7 +153,7 @@ renames : RenamesSo scene exchanged (Some (Rename exchange))
 renames = exchange_alters scene exchanged exchange one_mine is_exchange
 
 journal_is_allowed : Along (IsAllowed limits scene) [] (journal_of limits scene turns)
-unfolding col keyed n tables altered limits scene actor_of by poll statement_result put exchange turns reported ok kept_from state_after opens_if calls polls loses done Y9.distinct read_from events_read tables_shown waits_shown D.rename_tables operation_result operation_needs after_events work_of tells updates with_sets reach_of reach_range reach_equal new_row row_from places_named wanted_each are_distinct sets_from beside lies_under change_rows needs points_from X.same_name X1.clustered_among X2.seeks X2.stores X2.text_number X2.in_range X2.half X3.key_of X4.has X4.meets X5.compare_values X3.with_row Y.with_session Y1.conflict Y1.refusal Y1.blocker_of_lock Y1.blocker_of_set Y2.holds Y2.least_holder Y2.least_waiter Y2.place_of Y2.blocker_of_name Y2.blocker_of_names exchanged
+unfolding col keyed n tables altered limits scene actor_of by poll statement_result put exchange turns reported ok kept_from state_after opens_if calls polls loses did Y9.distinct read_from events_read tables_shown waits_shown D.rename_tables operation_result operation_needs after_events work_of tells updates with_sets reach_of reach_range reach_equal new_row row_from places_named wanted_each are_distinct sets_from beside lies_under change_rows needs points_from X.same_name X1.clustered_among X2.seeks X2.stores X2.text_number X2.in_range X2.half X3.key_of X4.has X4.meets X5.compare_values X3.with_row Y.with_session Y1.conflict Y1.refusal Y1.blocker_of_lock Y1.blocker_of_set Y2.holds Y2.least_holder Y2.least_waiter Y2.place_of Y2.blocker_of_name Y2.blocker_of_names exchanged X6.offered_in X7.draws
 journal_is_allowed =
     (record { may = tt; commands = λ is. refl; rests = tt; renames = λ reported. tt }, (record { may = refl; commands = λ is. refl; rests = tt; renames = λ reported. tt }, (record { may = (refl, new_keyed); commands = λ is. refl; rests = refl; renames = λ reported. tt }, (record { may = tt; commands = λ is. refl; rests = tt; renames = λ reported. tt }, (record { may = refl; commands = λ is. refl; rests = tt; renames = λ reported. tt }, (record { may = tt; commands = λ is. refl; rests = tt; renames = λ reported. tt }, (record { may = tt; commands = λ is. refl; rests = tt; renames = λ reported. tt }, (record { may = tt; commands = λ is. refl; rests = tt; renames = λ reported. tt }, (record { may = refl; commands = λ is. refl; rests = tt; renames = λ reported. tt }, (record { may = inr (refl, refl); commands = λ is. refl; rests = refl; renames = λ may takes after is. absurd (cc) }, (record { may = tt; commands = λ is. refl; rests = tt; renames = λ reported. tt }, (record { may = refl; commands = λ is. refl; rests = refl; renames = λ reported. tt }, (record { may = tt; commands = λ is. refl; rests = tt; renames = λ reported. tt }, (record { may = tt; commands = λ is. refl; rests = tt; renames = λ reported. tt }, (record { may = tt; commands = λ is. refl; rests = tt; renames = λ reported. tt }, (record { may = tt; commands = λ is. refl; rests = tt; renames = λ reported. tt }, (record { may = tt; commands = λ is. refl; rests = refl; renames = λ reported. renames }, (record { may = tt; commands = λ is. refl; rests = tt; renames = λ reported. tt }, (record { may = tt; commands = λ is. refl; rests = tt; renames = λ reported. tt }, (record { may = tt; commands = λ is. refl; rests = tt; renames = λ reported. tt }, tt))))))))))))))))))))
 
@@ -166,9 +168,9 @@ losses =
 
 -- 1 was done though its COMMIT was lost, 3 and 4 did nothing, the ALTER stands where its answer was missed, 5 meets the new table
 losses_are : reported (history limits scene (journal_of limits scene losses)) ≡ [] ∷ (replies.Ok 0 ∷ replies.Ok 1 ∷ []) ∷ [] ∷ [] ∷ (replies.Error 1136 ∷ []) ∷ []
-unfolding col keyed n tables altered limits scene actor_of by poll statement_result put exchange turns reported ok kept_from state_after opens_if calls polls loses done Y9.distinct read_from events_read tables_shown waits_shown D.rename_tables operation_result operation_needs after_events work_of tells updates with_sets reach_of reach_range reach_equal new_row row_from places_named wanted_each are_distinct sets_from beside lies_under change_rows needs points_from X.same_name X1.clustered_among X2.seeks X2.stores X2.text_number X2.in_range X2.half X3.key_of X4.has X4.meets X5.compare_values X3.with_row Y.with_session Y1.conflict Y1.refusal Y1.blocker_of_lock Y1.blocker_of_set Y2.holds Y2.least_holder Y2.least_waiter Y2.place_of Y2.blocker_of_name Y2.blocker_of_names lost losses history goings_from
+unfolding col keyed n tables altered limits scene actor_of by poll statement_result put exchange turns reported ok kept_from state_after opens_if calls polls loses did Y9.distinct read_from events_read tables_shown waits_shown D.rename_tables operation_result operation_needs after_events work_of tells updates with_sets reach_of reach_range reach_equal new_row row_from places_named wanted_each are_distinct sets_from beside lies_under change_rows needs points_from X.same_name X1.clustered_among X2.seeks X2.stores X2.text_number X2.in_range X2.half X3.key_of X4.has X4.meets X5.compare_values X3.with_row Y.with_session Y1.conflict Y1.refusal Y1.blocker_of_lock Y1.blocker_of_set Y2.holds Y2.least_holder Y2.least_waiter Y2.place_of Y2.blocker_of_name Y2.blocker_of_names lost losses history goings_from X6.offered_in X7.draws
 losses_are = refl
 
 tables_are : (scene_state limits scene (journal_of limits scene losses)).tables ≡ record { schema = keyed (codes "d") (col (codes "id") 4 ∷ []); rows = (n 1 ∷ []) ∷ (n 2 ∷ []) ∷ [] } ∷ record { schema = keyed (codes "t") (col (codes "id") 4 ∷ col (codes "b") 1 ∷ []); rows = (n 1 ∷ n 7 ∷ []) ∷ (n 2 ∷ n 7 ∷ []) ∷ [] } ∷ []
-unfolding col keyed n tables altered limits scene actor_of by poll statement_result put exchange turns reported ok kept_from state_after opens_if calls polls loses done Y9.distinct read_from events_read tables_shown waits_shown D.rename_tables operation_result operation_needs after_events work_of tells updates with_sets reach_of reach_range reach_equal new_row row_from places_named wanted_each are_distinct sets_from beside lies_under change_rows needs points_from X.same_name X1.clustered_among X2.seeks X2.stores X2.text_number X2.in_range X2.half X3.key_of X4.has X4.meets X5.compare_values X3.with_row Y.with_session Y1.conflict Y1.refusal Y1.blocker_of_lock Y1.blocker_of_set Y2.holds Y2.least_holder Y2.least_waiter Y2.place_of Y2.blocker_of_name Y2.blocker_of_names lost losses
+unfolding col keyed n tables altered limits scene actor_of by poll statement_result put exchange turns reported ok kept_from state_after opens_if calls polls loses did Y9.distinct read_from events_read tables_shown waits_shown D.rename_tables operation_result operation_needs after_events work_of tells updates with_sets reach_of reach_range reach_equal new_row row_from places_named wanted_each are_distinct sets_from beside lies_under change_rows needs points_from X.same_name X1.clustered_among X2.seeks X2.stores X2.text_number X2.in_range X2.half X3.key_of X4.has X4.meets X5.compare_values X3.with_row Y.with_session Y1.conflict Y1.refusal Y1.blocker_of_lock Y1.blocker_of_set Y2.holds Y2.least_holder Y2.least_waiter Y2.place_of Y2.blocker_of_name Y2.blocker_of_names lost losses X6.offered_in X7.draws
 tables_are = refl

@@ -19,14 +19,14 @@ use Rattle.server_model.specs.declared.session.Session.{Session}
 use Rattle.server_model.specs.LockedRows.Coverage.{Apart}
 use Rattle.server_model.specs.Operations.{statement_result, operation_result, after_events, copy_operation}
 use Rattle.proof_journals.specs.Scenes.{PlainItem, Alter, Scene, seen, is_mine, AltersTo, NamesTable, Going, not_going, IsFine}
-use Rattle.proof_journals.specs.Turns.{LineOutcome, Still, Alters, ClientAsks, ToolAsks, AllOther, RenamesSo, DefinesSo, line_outcome_renamed, word_given, mark_lost, was_given, happens, is_busy}
+use Rattle.proof_journals.specs.Turns.{LineOutcome, Still, Alters, drawn_request, ClientAsks, ToolAsks, AllOther, RenamesSo, DefinesSo, line_outcome_renamed, word_given, mark_lost, was_given, happens, is_busy}
 use Rattle.tool_program.specs.JournalWords.Histories.{takes_away, renames_away}
 use Rattle.proof_journals.specs.Turns as fates
 use Rattle.server_model.specs.declared.transaction.TxnEnd.TheVariants as ends
 use Rattle.server_model.specs.declared.work.StatementResult.{StatementResult}
 use Rattle.proof_journals.specs.Holdings.{face_of, stored}
 use Rattle.server_model.specs.Alone.{line_says}
-use Rattle.proof_journals.proofs.Replies.{given_so, done_so, line_replies_so}
+use Rattle.proof_journals.proofs.Replies.{IsReply, given_so, done_so, line_replies_so}
 use Rattle.proof_journals.proofs.Kept.{serial-more, serial-alike}
 use Rattle.server_locks.proofs.LeastSession.Sessions.{none_of}
 use Rattle.proof_journals.proofs.Faces.{granted_apart}
@@ -40,13 +40,17 @@ use Rattle.server_model.specs.declared.request.Request.TheVariants.{BeginSpan, C
 use Rattle.server_model.specs.declared.request.Request.{Request}
 use Rattle.server_model.specs.Answers.{refuses, ok}
 use Rattle.server_model.specs.declared.request.Request.TheVariants as requests
-use Rattle.server_model.specs.PlainServer.{Served, commits, does, done, exclusive, goes_on, loses}
+use Rattle.server_model.specs.Drawing.{filled, numbered, offered}
+use Rattle.server_model.specs.Counting.{is_answered, drawn_by}
+use Rattle.server_model.proofs.Filling.{numbered_table, filled_case}
+use Rattle.server_model.specs.declared.answer.Answer.TheVariants as answers
+use Rattle.server_model.specs.PlainServer.{Served, commits, does, done, did, exclusive, goes_on, loses}
 use Rattle.server_model.specs.Effects.{all_exist, begins, created, effect_unless, effect_within, defined, dropped, is_beyond, is_outside, locks_if, nothing_needed, renamed_or, result_effect}
 use Rattle.server_model.specs.declared.need.Need.{Need}
 use Rattle.server_model.specs.Blockers.{need, need_within, blocker}
-use Rattle.server_model.specs.States.{State, is_in_transaction, locks_held, names_held, pair_names, session_of, tables_named, view, waits_for, writes_of}
+use Rattle.server_model.specs.States.{State, is_of_tool, is_in_transaction, locks_held, names_held, pair_names, session_of, tables_named, view, waits_for, writes_of}
 use Rattle.proof_journals.specs.LineRequests.{does_word, need_of_word}
-use Rattle.tool_program.specs.JournalWords.Clients.{word_asks}
+use Rattle.tool_program.specs.JournalWords.Clients.{word_asks, word_numbered}
 use Rattle.server_model.proofs.LockedRows.Tests.{are_same}
 
 -- WHAT A GRANT TELLS
@@ -100,9 +104,13 @@ effect_one false busy seen state number (CopyRow from into columns key) one free
   at true = one_goes number (need_within seen (CopyRow from into columns key)) (operation_result seen (copy_operation seen from into columns key)).events state.sessions one free
   at false = one_rests number state.sessions one
 
+pub did_one : (state : State) (number : ℕ) (request : Request) → OneIn state.sessions → IsFree state number (need_within (view number state) request) → OneIn (did state number request).after.sessions
+unfolding did
+did_one state number request one free = effect_one (is_outside (session_of number state.sessions) request) (is_in_transaction (session_of number state.sessions)) (view number state) state number request one free.names
+
 pub done_one : (state : State) (number : ℕ) (request : Request) → OneIn state.sessions → IsFree state number (need state number request) → OneIn (done state number request).after.sessions
-unfolding done
-done_one state number request one free = effect_one (is_outside (session_of number state.sessions) request) (is_in_transaction (session_of number state.sessions)) (view number state) state number request one free.names
+unfolding did
+done_one state number request one free = effect_one (is_outside (session_of number state.sessions) (filled state number request)) (is_in_transaction (session_of number state.sessions)) (view number state) state number (filled state number request) one free.names
 
 -- A CLIENT'S LINE
 
@@ -130,10 +138,10 @@ inside : (scene : Scene) (state : State) (number : ℕ) (going : ℕ → Going) 
 inside scene state number going past work request =
     ap (λ (o : Option Session). is_outside o request) work.is ∙ ap (λ (locked : List (List ℕ)). is_beyond locked (tables_named request)) ((own_fits scene state number going past work).unlocked refl)
 
-pub client_done : (scene : Scene) (state : State) (number : ℕ) (going : ℕ → Going) (past : List PlainItem) (work : AtWork scene state number going past) (word : ScriptWord) → NamesTable scene.mine word → IsFree state number (need state number (word_asks word))
-    → Turned scene (stored (done state number (word_asks word)).after) (face_of (done state number (word_asks word)).after.sessions) number (word_given (is_busy number state) word (done state number (word_asks word)).answer) going past
-unfolding done
-client_done scene state number going past work word named free = at (is_outside (session_of number state.sessions) (word_asks word)) (inside scene state number going past work (word_asks word)) free where
+client_did : (scene : Scene) (state : State) (number : ℕ) (going : ℕ → Going) (past : List PlainItem) (work : AtWork scene state number going past) (word : ScriptWord) → NamesTable scene.mine word → IsFree state number (need_within (view number state) (word_asks word))
+    → Turned scene (stored (did state number (word_asks word)).after) (face_of (did state number (word_asks word)).after.sessions) number (word_given (is_busy number state) word (did state number (word_asks word)).answer) going past
+unfolding did
+client_did scene state number going past work word named free = at (is_outside (session_of number state.sessions) (word_asks word)) (inside scene state number going past work (word_asks word)) free where
   at : (b : Bool) → b ≡ false → IsFree state number (need_within (view number state) (word_asks word))
       → Turned scene (stored (does (effect_unless b (is_in_transaction (session_of number state.sessions)) (view number state) state (word_asks word)) state number).after)
       (face_of (does (effect_unless b (is_in_transaction (session_of number state.sessions)) (view number state) state (word_asks word)) state number).after.sessions) number
@@ -141,21 +149,104 @@ client_done scene state number going past work word named free = at (is_outside 
   at true off free = absurd (true≢false off)
   at false off free = rw (word_effect state number word, given_so (is_busy number state) word (line_says (view number state) word).answer (line_replies_so (view number state) word)) (word_answered scene state number going past work word (record { apart = word_apart state number word free; named = named }))
 
+-- the line with the number that is drawn for it now
+abbrev pub filled_word : State → ℕ → ScriptWord → ScriptWord
+filled_word state number (words.Do statement) = words.Do (numbered (offered state number statement) statement)
+filled_word state number word = word
+
+pub filled_asks : (state : State) (number : ℕ) (word : ScriptWord) → filled state number (word_asks word) ≡ word_asks (filled_word state number word)
+filled_asks state number words.Begin = refl
+filled_asks state number words.Commit = refl
+filled_asks state number words.Rollback = refl
+filled_asks state number (words.Do statement) = refl
+
+pub filled_named : (mine : List (List ℕ)) (state : State) (number : ℕ) (word : ScriptWord) → NamesTable mine word → NamesTable mine (filled_word state number word)
+filled_named mine state number words.Begin named = named
+filled_named mine state number words.Commit named = named
+filled_named mine state number words.Rollback named = named
+filled_named mine state number (words.Do statement) named = subst (λ (name : List ℕ). list_any (bytes_eq name) mine ≡ true) (sym (numbered_table (offered state number statement) statement)) named
+
+pub asks_numbered : (draw : Option ℕ) (word : ScriptWord) → drawn_request draw (Some (word_asks word)) ≡ Some (word_asks (word_numbered draw word))
+asks_numbered None words.Begin = refl
+asks_numbered None words.Commit = refl
+asks_numbered None words.Rollback = refl
+asks_numbered None (words.Do statement) = refl
+asks_numbered (Some n) words.Begin = refl
+asks_numbered (Some n) words.Commit = refl
+asks_numbered (Some n) words.Rollback = refl
+asks_numbered (Some n) (words.Do statement) = refl
+
+reply_answered : (answer : Answer) → IsReply answer → is_answered answer ≡ true
+reply_answered (answers.Ok count) is = refl
+reply_answered (answers.Rows rows) is = refl
+reply_answered (answers.Refused number column) is = refl
+reply_answered (answers.Keys keys end) is = absurd is
+reply_answered (answers.Ends range) is = absurd is
+reply_answered (answers.End key) is = absurd is
+reply_answered (answers.At count) is = absurd is
+reply_answered (answers.Events events next) is = absurd is
+reply_answered (answers.Tables tables) is = absurd is
+reply_answered (answers.Waiting waiters) is = absurd is
+reply_answered (answers.Waits by) is = absurd is
+reply_answered (answers.TimedOut waited) is = absurd is
+reply_answered answers.Lost is = absurd is
+
+did_answered : (state : State) (number : ℕ) (word : ScriptWord) → is_answered (did state number (word_asks word)).answer ≡ true
+unfolding did
+did_answered state number word = at (is_outside (session_of number state.sessions) (word_asks word)) where
+  at : (b : Bool) → is_answered (does (effect_unless b (is_in_transaction (session_of number state.sessions)) (view number state) state (word_asks word)) state number).answer ≡ true
+  at true = refl
+  at false = rw (word_effect state number word) (reply_answered (line_says (view number state) word).answer (line_replies_so (view number state) word))
+
+-- a client's line that is done has drawn the number that it was offered
+pub drawn_word : (scene : Scene) (state : State) (number : ℕ) (going : ℕ → Going) (past : List PlainItem) (work : AtWork scene state number going past) (word : ScriptWord) → word_numbered (drawn_by state number (Some (word_asks word)) (done state number (word_asks word)).answer) word ≡ filled_word state number word
+drawn_word scene state number going past work words.Begin = refl
+drawn_word scene state number going past work words.Commit = refl
+drawn_word scene state number going past work words.Rollback = refl
+drawn_word scene state number going past work (words.Do statement) =
+    rw (did_answered state number (words.Do (numbered (offered state number statement) statement)), inside scene state number going past work (requests.Do statement)) refl
+
+-- a line that waits, or has waited too long, has drawn nothing
+pub undrawn_waits : (state : State) (number by : ℕ) (word : ScriptWord) → word_numbered (drawn_by state number (Some (word_asks word)) (answers.Waits by)) word ≡ word
+undrawn_waits state number by words.Begin = refl
+undrawn_waits state number by words.Commit = refl
+undrawn_waits state number by words.Rollback = refl
+undrawn_waits state number by (words.Do statement) = refl
+
+pub undrawn_over : (state : State) (number waited : ℕ) (word : ScriptWord) → word_numbered (drawn_by state number (Some (word_asks word)) (answers.TimedOut waited)) word ≡ word
+undrawn_over state number waited words.Begin = refl
+undrawn_over state number waited words.Commit = refl
+undrawn_over state number waited words.Rollback = refl
+undrawn_over state number waited (words.Do statement) = refl
+
+pub client_done : (scene : Scene) (state : State) (number : ℕ) (going : ℕ → Going) (past : List PlainItem) (work : AtWork scene state number going past) (word : ScriptWord) → NamesTable scene.mine word → IsFree state number (need state number (word_asks word))
+    → Turned scene (stored (done state number (word_asks word)).after) (face_of (done state number (word_asks word)).after.sessions) number (word_given (is_busy number state) (filled_word state number word) (done state number (word_asks word)).answer) going past
+client_done scene state number going past work word named =
+    subst (λ (r : Request). IsFree state number (need_within (view number state) r) → Turned scene (stored (did state number r).after) (face_of (did state number r).after.sessions) number (word_given (is_busy number state) (filled_word state number word) (did state number r).answer) going past)
+    (sym (filled_asks state number word)) (client_did scene state number going past work (filled_word state number word) (filled_named scene.mine state number word named))
+
 -- the fate of a line whose session is lost
 abbrev pub lost_line_outcome : ScriptWord → Answer → LineOutcome
 lost_line_outcome word given = fates.Ends word (mark_lost (was_given (Some given))) [] ends.Lost
 
-pub client_lost : (scene : Scene) (state : State) (number : ℕ) (going : ℕ → Going) (past : List PlainItem) (work : AtWork scene state number going past) (word : ScriptWord) → NamesTable scene.mine word → IsFree state number (need state number (word_asks word))
-    → Turned scene (stored (loses number (done state number (word_asks word)).after)) (face_of (loses number (done state number (word_asks word)).after).sessions) number
-    (lost_line_outcome word (done state number (word_asks word)).answer) going past
-unfolding done
-client_lost scene state number going past work word named free = at (is_outside (session_of number state.sessions) (word_asks word)) (inside scene state number going past work (word_asks word)) free where
+client_did_lost : (scene : Scene) (state : State) (number : ℕ) (going : ℕ → Going) (past : List PlainItem) (work : AtWork scene state number going past) (word : ScriptWord) → NamesTable scene.mine word → IsFree state number (need_within (view number state) (word_asks word))
+    → Turned scene (stored (loses number (did state number (word_asks word)).after)) (face_of (loses number (did state number (word_asks word)).after).sessions) number
+    (lost_line_outcome word (did state number (word_asks word)).answer) going past
+unfolding did
+client_did_lost scene state number going past work word named free = at (is_outside (session_of number state.sessions) (word_asks word)) (inside scene state number going past work (word_asks word)) free where
   at : (b : Bool) → b ≡ false → IsFree state number (need_within (view number state) (word_asks word))
       → Turned scene (stored (loses number (does (effect_unless b (is_in_transaction (session_of number state.sessions)) (view number state) state (word_asks word)) state number).after))
       (face_of (loses number (does (effect_unless b (is_in_transaction (session_of number state.sessions)) (view number state) state (word_asks word)) state number).after).sessions) number
       (lost_line_outcome word (does (effect_unless b (is_in_transaction (session_of number state.sessions)) (view number state) state (word_asks word)) state number).answer) going past
   at true off free = absurd (true≢false off)
   at false off free = rw (word_effect state number word, done_so (line_says (view number state) word).answer (line_replies_so (view number state) word)) (word_lost scene state number going past work word (record { apart = word_apart state number word free; named = named }))
+
+pub client_lost : (scene : Scene) (state : State) (number : ℕ) (going : ℕ → Going) (past : List PlainItem) (work : AtWork scene state number going past) (word : ScriptWord) → NamesTable scene.mine word → IsFree state number (need state number (word_asks word))
+    → Turned scene (stored (loses number (done state number (word_asks word)).after)) (face_of (loses number (done state number (word_asks word)).after).sessions) number
+    (lost_line_outcome (filled_word state number word) (done state number (word_asks word)).answer) going past
+client_lost scene state number going past work word named =
+    subst (λ (r : Request). IsFree state number (need_within (view number state) r) → Turned scene (stored (loses number (did state number r).after)) (face_of (loses number (did state number r).after).sessions) number (lost_line_outcome (filled_word state number word) (did state number r).answer) going past)
+    (sym (filled_asks state number word)) (client_did_lost scene state number going past work (filled_word state number word) (filled_named scene.mine state number word named))
 
 -- A REQUEST OF THE TOOL
 
@@ -277,10 +368,19 @@ within_left scene state number going past work lost (CopyRow from into columns k
   at true = tool_goes_on scene state number going past work need' said'.events lost free.apart fine
   at false = tool_commits scene state number going past work need' said'.events lost free.apart fine
 
-pub tool_done : (scene : Scene) (state : State) (number : ℕ) (going : ℕ → Going) (past : List PlainItem) (work : ToolWork scene state number going past) (lost : Bool) (request : Request) → is_mine scene scene.migrated ≡ true → ToolAsks scene request → DefinesSo scene (is_in_transaction (session_of number state.sessions)) state.tables (Some request) (Some (done state number request).answer) → IsFree state number (need state number request)
-    → Left scene state number going past lost (renames_away scene.migrated (Some request)) (done state number request)
-unfolding done
-tool_done scene state number going past work lost request mine asks so free = at (is_outside (session_of number state.sessions) request) so free where
+tool_did : (scene : Scene) (state : State) (number : ℕ) (going : ℕ → Going) (past : List PlainItem) (work : ToolWork scene state number going past) (lost : Bool) (request : Request) → is_mine scene scene.migrated ≡ true → ToolAsks scene request → DefinesSo scene (is_in_transaction (session_of number state.sessions)) state.tables (Some request) (Some (did state number request).answer) → IsFree state number (need_within (view number state) request)
+    → Left scene state number going past lost (renames_away scene.migrated (Some request)) (did state number request)
+unfolding did
+tool_did scene state number going past work lost request mine asks so free = at (is_outside (session_of number state.sessions) request) so free where
   at : (b : Bool) → DefinesSo scene (is_in_transaction (session_of number state.sessions)) state.tables (Some request) (Some (does (effect_unless b (is_in_transaction (session_of number state.sessions)) (view number state) state request) state number).answer) → IsFree state number (need_within (view number state) request) → Left scene state number going past lost (renames_away scene.migrated (Some request)) (does (effect_unless b (is_in_transaction (session_of number state.sessions)) (view number state) state request) state number)
   at true so free = refused_left scene state number going past work lost (renames_away scene.migrated (Some request)) ER_TABLE_NOT_LOCKED
   at false so free = within_left scene state number going past work lost request mine asks so free
+
+pub tool_done : (scene : Scene) (state : State) (number : ℕ) (going : ℕ → Going) (past : List PlainItem) (work : ToolWork scene state number going past) (lost : Bool) (request : Request) → is_mine scene scene.migrated ≡ true → ToolAsks scene request → DefinesSo scene (is_in_transaction (session_of number state.sessions)) state.tables (Some request) (Some (done state number request).answer) → IsFree state number (need state number request)
+    → Left scene state number going past lost (renames_away scene.migrated (Some request)) (done state number request)
+tool_done scene state number going past work lost request mine =
+    filled_case
+    (λ asked full. ToolAsks scene asked → DefinesSo scene (is_in_transaction (session_of number state.sessions)) state.tables (Some asked) (Some (did state number full).answer) → IsFree state number (need_within (view number state) full) → Left scene state number going past lost (renames_away scene.migrated (Some asked)) (did state number full))
+    (λ r asks so free. tool_did scene state number going past work lost r mine asks so free)
+    (λ statement n asks so free. tool_did scene state number going past work lost (requests.Do (numbered n statement)) mine (subst (λ (name : List ℕ). is_mine scene name ≡ false) (sym (numbered_table n statement)) asks) so free)
+    (is_of_tool (session_of number state.sessions)) state.tables state.counters request

@@ -23,7 +23,8 @@ use Rattle.server_model.specs.Blockers.{need, need_within, blocker}
 use Rattle.server_model.specs.declared.need.Need.{Need}
 use Rattle.server_model.specs.declared.work.StatementResult.{StatementResult}
 use Rattle.server_model.specs.Effects.{of_table, result_effect, begins, all_exist, locks_if, created, dropped, renamed_or, defined, effect_within, effect_unless, is_outside}
-use Rattle.server_model.specs.PlainServer.{does, done, called_unless, calls, is_over, polled_over, polled_unless, polled_of, polls, loses, leaves, serves, without_waiting}
+use Rattle.server_model.specs.Drawing.{filled}
+use Rattle.server_model.specs.PlainServer.{does, done, did, called_unless, calls, is_over, polled_over, polled_unless, polled_of, polls, loses, leaves, serves, without_waiting}
 use Rattle.tool_program.specs.JournalWords.Histories.{waits_after}
 use Rattle.proof_journals.specs.Turns.{request_of}
 use Rattle.proof_journals.proofs.Replies.{IsReply, line_replies_so, copied_replies}
@@ -95,11 +96,11 @@ within_done state number requests.ShowTables = tt
 within_done state number requests.ShowWaiting = tt
 
 pub done_answers : (state : State) (number : ℕ) (request : Request) → IsDone (done state number request).answer
-unfolding done
-done_answers state number request = at (is_outside (session_of number state.sessions) request) where
-  at : (b : Bool) → IsDone (does (effect_unless b (is_in_transaction (session_of number state.sessions)) (view number state) state request) state number).answer
+unfolding did
+done_answers state number request = at (is_outside (session_of number state.sessions) (filled state number request)) where
+  at : (b : Bool) → IsDone (does (effect_unless b (is_in_transaction (session_of number state.sessions)) (view number state) state (filled state number request)) state number).answer
   at true = tt
-  at false = within_done state number request
+  at false = within_done state number (filled state number request)
 
 -- behind such an answer nothing waits
 call_after : (request : Request) (answer : Answer) (old : Option Request) → IsDone answer → waits_after (Call request) answer old ≡ None

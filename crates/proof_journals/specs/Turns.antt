@@ -30,7 +30,9 @@ use Rattle.server_model.specs.declared.entry.Asked.{Asked}
 use Rattle.server_model.specs.declared.entry.Asked.TheVariants.{Call, Poll, Command, Cut}
 use Rattle.server_model.specs.declared.entry.Entry.{Entry}
 use Rattle.server_model.specs.Entries.{is_command}
-use Rattle.server_model.specs.PlainServer.{serves}
+use Rattle.server_model.specs.PlainServer.{serves, asks_for, request_waiting}
+use Rattle.server_model.specs.Drawing.{numbered}
+use Rattle.server_model.specs.Counting.{drawn_by}
 use Rattle.server_model.specs.Answers.{ok}
 use Rattle.server_model.specs.Alone.{reply_of}
 use Rattle.server_model.specs.States.{State, is_in_transaction, names_in, opened, session_of, waiting_of}
@@ -57,10 +59,19 @@ missed_at None given = None
 missed_at (Some Before) given = None
 missed_at (Some After) given = Some given
 
+-- the number that was drawn
+abbrev pub drawn_side : Option Side → State → ℕ → Asked → Option ℕ
+drawn_side (Some Before) state number asked = None
+drawn_side side state number asked = drawn_by state number (asks_for state number asked) (serves state number asked).answer
+
+abbrev pub drawn_at : Option Side → State → Entry → Option ℕ
+drawn_at side state entry = drawn_side side (opens entry state) entry.session entry.asked
+
 -- the entry's answers are the server's
 pub record IsReported (limits : Limits) (scene : Scene) (before : List Entry) (entry : Entry) : Type 0 where
   pub answer : entry.answer ≡ answer_at entry.side (inner (scene_state limits scene before) entry)
   pub missed : entry.missed ≡ missed_at entry.side (inner (scene_state limits scene before) entry)
+  pub draw : entry.draw ≡ drawn_at entry.side (scene_state limits scene before) entry
 
 abbrev pub AllReported : Limits → Scene → List Entry → Type 0
 AllReported limits scene journal = Along (IsReported limits scene) [] journal
@@ -76,7 +87,7 @@ abbrev pub unanswered : Turn → Entry
 unanswered turn = record { actor = turn.actor; session = turn.session; asked = turn.asked; side = turn.side; answer = ok; missed = None; draw = None }
 
 abbrev pub answered : State → Turn → Entry
-answered state turn = record { actor = turn.actor; session = turn.session; asked = turn.asked; side = turn.side; answer = answer_at turn.side (inner state (unanswered turn)); missed = missed_at turn.side (inner state (unanswered turn)); draw = None }
+answered state turn = record { actor = turn.actor; session = turn.session; asked = turn.asked; side = turn.side; answer = answer_at turn.side (inner state (unanswered turn)); missed = missed_at turn.side (inner state (unanswered turn)); draw = drawn_at turn.side state (unanswered turn) }
 
 unfoldable pub kept_from : State → List Turn → List Entry
 kept_from state [] = []
@@ -163,8 +174,17 @@ reported_at None given missed = Some given
 reported_at (Some side) given missed = missed
 
 abbrev pub request_of : Option Waiting → Option Request
-request_of None = None
-request_of (Some waiting) = Some waiting.request
+request_of waiting = request_waiting waiting
+
+-- a statement with the number that it drew
+abbrev pub request_numbered : ℕ → Request → Request
+request_numbered number (requests.Do statement) = requests.Do (numbered (Some number) statement)
+request_numbered number request = request
+
+abbrev pub drawn_request : Option ℕ → Option Request → Option Request
+drawn_request None asks = asks
+drawn_request (Some number) None = None
+drawn_request (Some number) (Some request) = Some (request_numbered number request)
 
 -- what the turn is about
 abbrev pub about : State → ℕ → Asked → Option Request
@@ -176,12 +196,12 @@ about state number (Command word) = None
 abbrev pub is_busy : ℕ → State → Bool
 is_busy number state = is_in_transaction (session_of number state.sessions)
 
-abbrev pub line_outcome_if : Bool → Scene → State → ℕ → Asked → Option Side → Answer → Option Answer → LineOutcome
-line_outcome_if true scene state number asked side given missed = client_line_outcome side (is_busy number state) asked (about state number asked) given missed
-line_outcome_if false scene state number asked side given missed = line_outcome_renamed (renames_away scene.migrated (about state number asked)) (reported_at side given missed)
+abbrev pub line_outcome_if : Bool → Scene → State → ℕ → Asked → Option Side → Answer → Option Answer → Option ℕ → LineOutcome
+line_outcome_if true scene state number asked side given missed draw = client_line_outcome side (is_busy number state) asked (drawn_request draw (about state number asked)) given missed
+line_outcome_if false scene state number asked side given missed draw = line_outcome_renamed (renames_away scene.migrated (about state number asked)) (reported_at side given missed)
 
 abbrev pub line_outcome : Scene → State → Entry → LineOutcome
-line_outcome scene state entry = line_outcome_if (scene.client entry.session) scene (opens entry state) entry.session entry.asked entry.side entry.answer entry.missed
+line_outcome scene state entry = line_outcome_if (scene.client entry.session) scene (opens entry state) entry.session entry.asked entry.side entry.answer entry.missed entry.draw
 
 -- the open transaction afterwards
 abbrev pub going_on : LineOutcome → Going → Going

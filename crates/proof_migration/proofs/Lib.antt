@@ -11,4 +11,5 @@ pub mod Migration
 pub mod ToolPhase
 pub mod Attempt
 pub mod Program
+pub mod ToolServes
 pub mod KeptJournals

@@ -1,4 +1,6 @@
 -- No row that doesn't fit comes before the turn in which the cause of a verdict stands.
+use Rattle.server_model.proofs.Filling.{filled_case}
+use Rattle.server_model.specs.Drawing.{numbered}
 use Rattle.std.proofs.Common.{◌≡◌, ◌⊎◌, ℕ, ◌+◌, ◌-◌, Bool, true, false, cond, List, [], ◌∷◌, ◌++◌, Option, Some, None, refl, sym, ap, ◌∙◌, subst, inl, inr}
 use Rattle.std.specs.Prelude.{Result, Ok, Err, take}
 use Rattle.std.proofs.lemmas.Bool.{true≢false, false≢true}
@@ -21,8 +23,8 @@ use Rattle.base_values.specs.GhoSchema.Rows.{key_places}
 use Rattle.base_values.specs.declared.span.Span.{Span}
 use Rattle.server_model.specs.Effects.{is_outside, effect_unless, effect_within, of_table, begins, defined, locks_if, all_exist, created, dropped, renamed_or}
 use Rattle.server_model.specs.Listings.{events_read}
-use Rattle.server_model.specs.PlainServer.{does, done, serves}
-use Rattle.server_model.specs.States.{State, session_of, is_in_transaction, view}
+use Rattle.server_model.specs.PlainServer.{does, done, did, serves}
+use Rattle.server_model.specs.States.{State, session_of, is_in_transaction, is_of_tool, view}
 use Rattle.table_store.specs.Databases.{Database, TableRows, find_table, has_table, rename_tables}
 use Rattle.plan_data.specs.PlanData.{PlanData}
 use Rattle.tool_program.specs.JournalWords.Journals.{opens, state_at}
@@ -117,12 +119,17 @@ module _ (found : State) (number : ℕ) where
   within_fits busy seen requests.ShowTables = tt
   within_fits busy seen requests.ShowWaiting = tt
 
-  done_fits : (request : Request) → PlaceFits request (done found number request).answer
-  unfolding done
-  done_fits request = by (is_outside (session_of number found.sessions) request) where
+  did_fits : (request : Request) → PlaceFits request (did found number request).answer
+  unfolding did
+  did_fits request = by (is_outside (session_of number found.sessions) request) where
     by : (b : Bool) → PlaceFits request (does (effect_unless b (is_in_transaction (session_of number found.sessions)) (view number found) found request) found number).answer
     by true = tt
     by false = within_fits (is_in_transaction (session_of number found.sessions)) (view number found) request
+
+  done_fits : (request : Request) → PlaceFits request (done found number request).answer
+  done_fits request =
+      filled_case (λ asked full. PlaceFits asked (did found number full).answer) did_fits (λ statement n. any_fits (requests.Do statement) refl (did found number (requests.Do (numbered n statement))).answer)
+      (is_of_tool (session_of number found.sessions)) found.tables found.counters request
 
 -- WHAT IT MEANS FOR THE TOOL
 

@@ -16,7 +16,7 @@ use Rattle.server_model.specs.declared.session.Waiting.{Waiting}
 use Rattle.server_model.specs.Blockers.{need, blocker}
 use Rattle.server_model.specs.Effects.{is_outside, effect_unless}
 use Rattle.server_model.specs.Listings.{placed_waiter, waiter_shown, waits_shown}
-use Rattle.server_model.specs.PlainServer.{does, done, called_unless, calls}
+use Rattle.server_model.specs.PlainServer.{does, done, did, called_unless, calls}
 use Rattle.server_model.specs.States.{State, session_of, is_in_transaction, view, is_exclusive, names_in, waiting_of, waiters}
 use Rattle.proof_journals.specs.Turns.{request_of}
 use Rattle.proof_order.specs.CutOverOrder.{has_session}
@@ -82,7 +82,7 @@ ShownBy state (answers.Waiting waiters) = waiters ≡ waits_shown state
 ShownBy state answer = Unit {0}
 
 show_done : (found : State) (number : ℕ) → ShownBy found (done found number requests.ShowWaiting).answer
-unfolding done
+unfolding did
 show_done found number = at (is_outside (session_of number found.sessions) requests.ShowWaiting) where
   at : (b : Bool) → ShownBy found (does (effect_unless b (is_in_transaction (session_of number found.sessions)) (view number found) found requests.ShowWaiting) found number).answer
   at true = tt

@@ -12,3 +12,4 @@ pub mod Steps
 pub mod TableNames
 pub mod Traces
 pub mod ReadAgain
+pub mod Counting

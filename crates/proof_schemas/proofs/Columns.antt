@@ -1,5 +1,5 @@
 -- The columns that are declared.
-use Rattle.std.proofs.Common.{◌≡◌, ℕ, zero, suc, ◌<◌, Bool, true, false, not, ◌&&◌, cond, List, [], ◌∷◌, length, Option, Some, None, Result, Ok, Err, refl, sym, ap, subst, ◌∙◌, map}
+use Rattle.std.proofs.Common.{◌≡◌, ℕ, zero, suc, Bool, true, false, cond, List, [], ◌∷◌, Option, Some, None, Result, Ok, Err, refl, sym, subst, map}
 use Rattle.std.specs.List.{AllByRecursion, slice_get}
 use Rattle.base_values.specs.declared.unfit.Unfit.{Unfit}
 use Rattle.base_values.specs.declared.kind.Kind.{Kind}
@@ -19,25 +19,25 @@ use Rattle.base_values.proofs.SchemaRules.Steps.{bind_ok, done, ok_is, default_i
 use Rattle.sql_grammar.specs.declared.code.SchemaCode.TheVariants.{BadDefault}
 
 -- a column as it is declared
-abbrev pub made : List ℕ → Kind → Bool → Option Value → Column
-made name kind nullable default = record { name = name; kind = kind; nullable = nullable; default = default; auto = false }
+abbrev pub made : List ℕ → Kind → Bool → Option Value → Bool → Column
+made name kind nullable default auto = record { name = name; kind = kind; nullable = nullable; default = default; auto = auto }
 
 stored_is : (r : Result Value Unfit) (default : Option Value) → stored r ≡ Ok default → (value : Value) × (r ≡ Ok value) × (default ≡ Some value)
 stored_is (Ok value) default e = let same : done (Option Value) Unfit (Some value) ≡ done (Option Value) Unfit default = e in (value, refl, sym (ok_is {C = Unfit} (Some value) default same))
 stored_is (Err reason) default e = absurd cc
 
 -- the default NULL of a column that may be null
-null_default : (name : List ℕ) (kind : Kind) (nullable : Bool) → StoresDefault (made name kind nullable (cond nullable (Some Null) None)) (cond nullable (Some Null) None)
+null_default : (name : List ℕ) (kind : Kind) (nullable auto : Bool) → StoresDefault (made name kind nullable (cond nullable (Some Null) None) auto) (cond nullable (Some Null) None)
 unfolding stores
-null_default name kind true = refl
-null_default name kind false = tt
+null_default name kind true auto = refl
+null_default name kind false auto = tt
 
-pub default_stores : StoresAgain → (name : List ℕ) (kind : Kind) (nullable : Bool) (written default : Option Value) → stored_default kind nullable written ≡ Ok default → StoresDefault (made name kind nullable default) default
-default_stores again name kind nullable (Some value) default e =
+pub default_stores : StoresAgain → (name : List ℕ) (kind : Kind) (nullable auto : Bool) (written default : Option Value) → stored_default kind nullable written ≡ Ok default → StoresDefault (made name kind nullable default auto) default
+default_stores again name kind nullable auto (Some value) default e =
     let s = stored_is (stores value kind nullable) default e in
     rw s.2 (again value kind nullable s.0 s.1)
-default_stores again name kind nullable None default e =
-    subst (λ (d : Option Value). StoresDefault (made name kind nullable d) d) (ok_is {C = Unfit} (cond nullable (Some Null) None) default e) (null_default name kind nullable)
+default_stores again name kind nullable auto None default e =
+    subst (λ (d : Option Value). StoresDefault (made name kind nullable d auto) d) (ok_is {C = Unfit} (cond nullable (Some Null) None) default e) (null_default name kind nullable auto)
 
 -- what a written column becomes
 pub record Becomes (primaries : List (List (List ℕ))) (written : WrittenColumn) (column : Column) : Type 0 where
@@ -49,9 +49,9 @@ declared_column-becomes : StoresAgain → (primaries : List (List (List ℕ))) (
 unfolding declared_column
 declared_column-becomes again primaries written column is e =
     let nullable = nullable_of primaries written in
-    let b = bind_ok (default_or BadDefault (stored_default written.kind nullable written.attributes.plain.default)) (λ default. Ok (made written.name written.kind nullable default)) column e in
-    let stores = default_stores again written.name written.kind nullable written.attributes.plain.default b.0 (default_is BadDefault _ b.0 b.1) in
-    subst (Becomes primaries written) (ok_is {C = SchemaCode} (made written.name written.kind nullable b.0) column b.2) (record { name = refl; nullable = refl; is = record { kind = is; default = stores } })
+    let b = bind_ok (default_or BadDefault (stored_default written.kind nullable written.attributes.plain.default)) (λ default. Ok (made written.name written.kind nullable default written.attributes.plain.auto)) column e in
+    let stores = default_stores again written.name written.kind nullable written.attributes.plain.auto written.attributes.plain.default b.0 (default_is BadDefault _ b.0 b.1) in
+    subst (Becomes primaries written) (ok_is {C = SchemaCode} (made written.name written.kind nullable b.0 written.attributes.plain.auto) column b.2) (record { name = refl; nullable = refl; is = record { kind = is; default = stores } })
 
 -- column by column
 abbrev pub AllBecome : List (List (List ℕ)) → List WrittenColumn → List Column → Type 0

@@ -1,6 +1,6 @@
 -- What the grammar gives: kinds of this program, and keys with columns.
-use Rattle.std.proofs.Common.{◌≡◌, ℕ, zero, suc, ◌<◌, Bool, true, false, ◌&&◌, ◌||◌, cond, List, [], ◌∷◌, length, Option, Some, None, Result, Ok, Err, refl, sym, ap, subst, arith, codes}
-use Rattle.std.specs.Prelude.{ℤ, pos, negsuc, int_le, unsigned_abs, nat_le}
+use Rattle.std.proofs.Common.{◌≡◌, ℕ, zero, suc, ◌<◌, Bool, true, false, ◌&&◌, ◌||◌, cond, List, [], ◌∷◌, length, Option, Some, None, Result, Ok, Err, refl, subst, arith, codes}
+use Rattle.std.specs.Prelude.{ℤ, pos, negsuc, nat_le}
 use Rattle.std.specs.List.{AllByRecursion}
 use Rattle.std.proofs.lemmas.Option.{cond_some}
 use Rattle.base_values.specs.declared.kind.Kind.{Kind}
@@ -18,17 +18,18 @@ use Rattle.sql_grammar.specs.Listed.{with_others, listed}
 use Rattle.sql_grammar.specs.Pieces.{after_keyword, after_sign, keyword_at, sign_at, number_at, name_at}
 use Rattle.base_values.specs.SchemaRules.Results.{◌>>=◌}
 use Rattle.sql_grammar.specs.Reads.{Read}
-use Rattle.sql_grammar.specs.Scope.{is_no_item}
+use Rattle.sql_grammar.specs.Scope.{begins_no_item}
 use Rattle.sql_grammar.specs.Tokens.{is_keyword}
 use Rattle.sql_create.specs.declared.written.Item.{Item}
 use Rattle.sql_create.specs.declared.written.Item.TheVariants as items
 use Rattle.sql_create.specs.declared.written.WrittenColumn.{WrittenColumn}
+use Rattle.sql_create.specs.declared.written.TableOptions.{TableOptions}
 use Rattle.sql_create.specs.declared.written.WrittenTable.{WrittenTable}
 use Rattle.sql_create.specs.Columns.{column_attributes_at, column_at}
 use Rattle.base_values.specs.SchemaRules.Valid.{is_kind}
 use Rattle.sql_create.specs.Options.{options_at}
-use Rattle.sql_create.specs.Written.{primary_item_at, key_item_at, after_key_word, column_item_at, item_at, items_at, last_words, alone, table_at, unless_faulty, written}
-use Rattle.base_values.proofs.SchemaRules.Steps.{bind_ok, done, ok_is, there, some_is}
+use Rattle.sql_create.specs.Written.{primary_item_at, key_item_at, after_key_word, column_item_at, item_at, items_at, last_words, alone, table_at, unless_faulty, refused_in, written}
+use Rattle.base_values.proofs.SchemaRules.Steps.{bind_ok, ok_is, some_is}
 
 -- ---- lists
 
@@ -172,13 +173,13 @@ IsItem (items.Column column) = is_kind column.kind ≡ true
 IsItem (items.Primary names) = HasColumns names
 IsItem (items.Key key) = HasColumns key.text.columns
 
-column_item_at-is : (ws : List Token) → AllRead IsItem (column_item_at ws)
+column_item_at-is : (version : ℕ) (ws : List Token) → AllRead IsItem (column_item_at version ws)
 unfolding column_at
-column_item_at-is ws x e =
-    let a = bind_ok (column_at ws) (λ column. Ok (items.Column column.0, column.1)) x e in
-    let b = bind_ok (name_at ws) (λ name. kind_at name.1 >>= λ kind. column_attributes_at kind.1 >>= λ attributes. Ok (record { name = name.0; kind = kind.0; attributes = attributes.0 }, attributes.1)) a.0 a.1 in
-    let c = bind_ok (kind_at b.0.1) (λ kind. column_attributes_at kind.1 >>= λ attributes. Ok (record { name = b.0.0; kind = kind.0; attributes = attributes.0 }, attributes.1)) a.0 b.2 in
-    let d = bind_ok (column_attributes_at c.0.1) (λ attributes. Ok (record { name = b.0.0; kind = c.0.0; attributes = attributes.0 }, attributes.1)) a.0 c.2 in
+column_item_at-is version ws x e =
+    let a = bind_ok (column_at version ws) (λ column. Ok (items.Column column.0, column.1)) x e in
+    let b = bind_ok (name_at ws) (λ name. kind_at name.1 >>= λ kind. column_attributes_at version kind.1 >>= λ attributes. Ok (record { name = name.0; kind = kind.0; attributes = attributes.0 }, attributes.1)) a.0 a.1 in
+    let c = bind_ok (kind_at b.0.1) (λ kind. column_attributes_at version kind.1 >>= λ attributes. Ok (record { name = b.0.0; kind = kind.0; attributes = attributes.0 }, attributes.1)) a.0 b.2 in
+    let d = bind_ok (column_attributes_at version c.0.1) (λ attributes. Ok (record { name = b.0.0; kind = c.0.0; attributes = attributes.0 }, attributes.1)) a.0 c.2 in
     let column : is_kind a.0.0.kind ≡ true = subst (λ (y : WrittenColumn × List Token). is_kind y.0.kind ≡ true) (ok_is {C = SchemaCode} (record { name = b.0.0; kind = c.0.0; attributes = d.0.0 }, d.0.1) a.0 d.2) (kind_at-is b.0.1 c.0 c.1) in
     subst (λ (y : Item × List Token). IsItem y.0) (ok_is {C = SchemaCode} (items.Column a.0.0, a.0.1) x a.2) column
 
@@ -201,18 +202,18 @@ AllRead-cond false x y first second = second
 AllRead-err : (code : SchemaCode) → AllRead {A = Item} IsItem (Err code)
 AllRead-err code x e = absurd cc
 
-item_at-is : (ws : List Token) → AllRead IsItem (item_at ws)
+item_at-is : (version : ℕ) (ws : List Token) → AllRead IsItem (item_at version ws)
 unfolding item_at
-item_at-is [] = λ x e. absurd cc
-item_at-is (word ∷ rest) =
+item_at-is version [] = λ x e. absurd cc
+item_at-is version (word ∷ rest) =
     AllRead-cond (is_keyword word (codes "PRIMARY")) _ _ (primary_item_at-is rest)
     (AllRead-cond (is_keyword word (codes "UNIQUE")) _ _ (key_item_at-is true (after_key_word rest))
     (AllRead-cond (is_keyword word (codes "KEY") || is_keyword word (codes "INDEX")) _ _ (key_item_at-is false rest)
-    (AllRead-cond (is_no_item word) _ _ (AllRead-err Scope) (column_item_at-is (word ∷ rest)))))
+    (AllRead-cond (begins_no_item version word) _ _ (AllRead-err Scope) (column_item_at-is version (word ∷ rest)))))
 
-items_at-are : (ws : List Token) → AllRead (AllByRecursion IsItem) (items_at ws)
+items_at-are : (version : ℕ) (ws : List Token) → AllRead (AllByRecursion IsItem) (items_at version ws)
 unfolding items_at
-items_at-are ws x e = (listed-all IsItem item_at Syntax item_at-is (length ws) ws x e).0
+items_at-are version ws x e = (listed-all IsItem (item_at version) Syntax (item_at-is version) (length ws) ws x e).0
 
 -- ---- tables
 
@@ -224,22 +225,27 @@ pub faultless-is : (b : Bool) (table made : WrittenTable) → unless_faulty b ta
 faultless-is true table made e = absurd cc
 faultless-is false table made e = cc
 
-table_at-are : (ws : List Token) (table : WrittenTable) → table_at ws ≡ Ok table → AllByRecursion IsItem table.items
+table_at-are : (version : ℕ) (ws : List Token) (table : WrittenTable) → table_at version ws ≡ Ok table → AllByRecursion IsItem table.items
 unfolding table_at
-table_at-are ws table e =
-    let end : List ℕ → List Item → List ℕ × List Token → Result WrittenTable SchemaCode = λ name items comment. alone (record { name = name; items = items; comment = comment.0 }) (last_words comment.1 (after_sign (codes ";") comment.1)) in
-    let a = bind_ok (keyword_at (codes "CREATE") ws) (λ rest. keyword_at (codes "TABLE") rest >>= λ rest. name_at rest >>= λ name. sign_at (codes "(") name.1 >>= λ rest. items_at rest >>= λ items. sign_at (codes ")") items.1 >>= λ rest. options_at rest >>= λ comment. end name.0 items.0 comment) table e in
-    let b = bind_ok (keyword_at (codes "TABLE") a.0) (λ rest. name_at rest >>= λ name. sign_at (codes "(") name.1 >>= λ rest. items_at rest >>= λ items. sign_at (codes ")") items.1 >>= λ rest. options_at rest >>= λ comment. end name.0 items.0 comment) table a.2 in
-    let c = bind_ok (name_at b.0) (λ name. sign_at (codes "(") name.1 >>= λ rest. items_at rest >>= λ items. sign_at (codes ")") items.1 >>= λ rest. options_at rest >>= λ comment. end name.0 items.0 comment) table b.2 in
-    let d = bind_ok (sign_at (codes "(") c.0.1) (λ rest. items_at rest >>= λ items. sign_at (codes ")") items.1 >>= λ rest. options_at rest >>= λ comment. end c.0.0 items.0 comment) table c.2 in
-    let f = bind_ok (items_at d.0) (λ items. sign_at (codes ")") items.1 >>= λ rest. options_at rest >>= λ comment. end c.0.0 items.0 comment) table d.2 in
-    let g = bind_ok (sign_at (codes ")") f.0.1) (λ rest. options_at rest >>= λ comment. end c.0.0 f.0.0 comment) table f.2 in
-    let h = bind_ok (options_at g.0) (λ comment. end c.0.0 f.0.0 comment) table g.2 in
-    subst (λ (t : WrittenTable). AllByRecursion IsItem t.items) (alone-is (record { name = c.0.0; items = f.0.0; comment = h.0.0 }) table (last_words h.0.1 (after_sign (codes ";") h.0.1)) h.2) (items_at-are d.0 f.0 f.1)
+table_at-are version ws table e =
+    let end : List ℕ → List Item → TableOptions × List Token → Result WrittenTable SchemaCode = λ name items options. alone (record { name = name; items = items; options = options.0 }) (last_words options.1 (after_sign (codes ";") options.1)) in
+    let a = bind_ok (keyword_at (codes "CREATE") ws) (λ rest. keyword_at (codes "TABLE") rest >>= λ rest. name_at rest >>= λ name. sign_at (codes "(") name.1 >>= λ rest. items_at version rest >>= λ items. sign_at (codes ")") items.1 >>= λ rest. options_at version rest >>= λ options. end name.0 items.0 options) table e in
+    let b = bind_ok (keyword_at (codes "TABLE") a.0) (λ rest. name_at rest >>= λ name. sign_at (codes "(") name.1 >>= λ rest. items_at version rest >>= λ items. sign_at (codes ")") items.1 >>= λ rest. options_at version rest >>= λ options. end name.0 items.0 options) table a.2 in
+    let c = bind_ok (name_at b.0) (λ name. sign_at (codes "(") name.1 >>= λ rest. items_at version rest >>= λ items. sign_at (codes ")") items.1 >>= λ rest. options_at version rest >>= λ options. end name.0 items.0 options) table b.2 in
+    let d = bind_ok (sign_at (codes "(") c.0.1) (λ rest. items_at version rest >>= λ items. sign_at (codes ")") items.1 >>= λ rest. options_at version rest >>= λ options. end c.0.0 items.0 options) table c.2 in
+    let f = bind_ok (items_at version d.0) (λ items. sign_at (codes ")") items.1 >>= λ rest. options_at version rest >>= λ options. end c.0.0 items.0 options) table d.2 in
+    let g = bind_ok (sign_at (codes ")") f.0.1) (λ rest. options_at version rest >>= λ options. end c.0.0 f.0.0 options) table f.2 in
+    let h = bind_ok (options_at version g.0) (λ options. end c.0.0 f.0.0 options) table g.2 in
+    subst (λ (t : WrittenTable). AllByRecursion IsItem t.items) (alone-is (record { name = c.0.0; items = f.0.0; options = h.0.0 }) table (last_words h.0.1 (after_sign (codes ";") h.0.1)) h.2) (items_at-are version d.0 f.0 f.1)
+
+-- a table that was read wasn't refused
+pub refused_in-ok : {A : Type 0} (version : ℕ) (r : Result A SchemaCode) (x : A) → refused_in version r ≡ Ok x → r ≡ Ok x
+refused_in-ok version (Ok y) x e = cc
+refused_in-ok version (Err code) x e = absurd cc
 
 -- each item of a text is one of this program's
-pub written-are : (read : TextWords) (table : WrittenTable) → written read ≡ Ok table → AllByRecursion IsItem table.items
+pub written-are : (version : ℕ) (read : TextWords) (table : WrittenTable) → written version read ≡ Ok table → AllByRecursion IsItem table.items
 unfolding written
-written-are read table e =
-    let a = bind_ok (table_at read.words) (unless_faulty read.is_faulty) table e in
-    subst (λ (t : WrittenTable). AllByRecursion IsItem t.items) (faultless-is read.is_faulty a.0 table a.2) (table_at-are read.words a.0 a.1)
+written-are version read table e =
+    let a = bind_ok (refused_in version (table_at version read.words)) (unless_faulty read.is_faulty) table e in
+    subst (λ (t : WrittenTable). AllByRecursion IsItem t.items) (faultless-is read.is_faulty a.0 table a.2) (table_at-are version read.words a.0 (refused_in-ok version (table_at version read.words) a.0 a.1))

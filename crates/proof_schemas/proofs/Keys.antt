@@ -1,21 +1,17 @@
 -- Keys whose columns are known: their places, and that those of the PRIMARY KEY may not be null.
-use Rattle.std.proofs.Common.{◌≡◌, ℕ, zero, suc, ◌+◌, ◌<◌, Bool, true, false, not, ◌&&◌, ◌||◌, cond, List, [], ◌∷◌, length, Option, Some, None, unwrap_or, refl, sym, ap, subst, ◌∙◌, map, arith}
-use Rattle.std.specs.Prelude.{is_none, position}
-use Rattle.std.specs.List.{cons_option, filter_map, list_all, list_any, slice_get, position_or_len, AllByRecursion}
-use Rattle.std.specs.Char.{to_ascii_lowercase}
+use Rattle.std.proofs.Common.{◌≡◌, ℕ, suc, ◌<◌, true, List, [], ◌∷◌, length, Option, Some, refl, sym, ap, subst, ◌∙◌, map, arith}
+use Rattle.std.specs.List.{filter_map, list_all, list_any, slice_get, position_or_len, AllByRecursion}
 use Rattle.std.proofs.lemmas.List.{length-map}
-use Rattle.std.proofs.lemmas.Slice.Eq.{bytes_eq-Decides}
 use Rattle.base_values.specs.declared.gho_schema.schema.Column.{Column}
-use Rattle.base_values.specs.declared.gho_schema.schema.Index.{Index}
 use Rattle.base_values.specs.GhoSchema.Names.{same_name}
 use Rattle.sql_create.specs.declared.written.WrittenColumn.{WrittenColumn}
 use Rattle.base_values.specs.GhoSchema.ClusteredKey.{is_not_null}
-use Rattle.sql_create.specs.DeclaredSchema.{are_known, nullable_of}
+use Rattle.sql_create.specs.DeclaredSchema.{are_known}
 use Rattle.base_values.specs.SchemaRules.Names.{is_among, place_of, places_of}
 use Rattle.base_values.specs.SchemaRules.Valid.{IsKey}
 use Rattle.proof_schemas.proofs.Columns.{Becomes, AllBecome, column-at}
 use Rattle.proof_schemas.proofs.Grammar.{HasColumns}
-use Rattle.base_values.proofs.SchemaRules.Lists.{All-filter_map, All-weaker, All-list_all, list_all-All, each-any, Found, position-some, position-found, slice_get-map-some, slice_get-within-some}
+use Rattle.base_values.proofs.SchemaRules.Lists.{All-filter_map, All-list_all, list_all-All, each-any, Found, position-some, position-found, slice_get-map-some, slice_get-within-some}
 use Rattle.base_values.proofs.SchemaRules.Steps.{some_is}
 use Rattle.base_values.proofs.SchemaRules.SameNames.{same_name-turned}
 

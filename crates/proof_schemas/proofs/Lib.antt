@@ -1,4 +1,6 @@
+pub mod Autos
 pub mod Columns
+pub mod Counters
 pub mod Grammar
 pub mod Keys
 pub mod Valid

@@ -1,6 +1,6 @@
 -- The parts of a table whose items are this program's, and the names that its keys get.
-use Rattle.std.proofs.Common.{◌≡◌, ℕ, ◌<◌, Bool, true, false, cond, List, [], ◌∷◌, ◌++◌, length, Option, Some, None, refl, arith}
-use Rattle.std.specs.Prelude.{is_none, fold}
+use Rattle.std.proofs.Common.{◌≡◌, ℕ, Bool, true, false, cond, List, [], ◌∷◌, None, refl, arith}
+use Rattle.std.specs.Prelude.{is_none}
 use Rattle.std.specs.List.{AllByRecursion}
 use Rattle.sql_create.specs.declared.keys.NamedKeys.{NamedKeys}
 use Rattle.sql_create.specs.declared.parts.Parts.{Parts}

@@ -8,7 +8,7 @@ use Rattle.server_model.specs.declared.transaction.Mark.{Mark}
 use Rattle.server_model.specs.declared.transaction.Reply.{Reply}
 use Rattle.server_model.specs.declared.transaction.TxnEnd.{TxnEnd}
 use Rattle.plan_data.specs.PlanData.{PlanData}
-use Rattle.tool_program.specs.JournalWords.Clients.{Reached, Became, Nothing, Waits, Marked, Broken, became, client_at, is_inside, ends_with}
+use Rattle.tool_program.specs.JournalWords.Clients.{Reached, Became, Nothing, Waits, Marked, Broken, became, client_at, is_inside, ends_with, with_draw}
 use Rattle.tool_program.specs.JournalWords.Histories.{ends_so, line_ends, breaks, client_ends, adds, is_alter}
 
 ends_none : (number : ℕ) (client : Reached) (line : ScriptLine) (mark : Mark) (reply : Option Reply) (ended : Option TxnEnd) → list_any is_alter (ends_so number client line mark reply ended) ≡ false
@@ -31,4 +31,4 @@ client_none number client Broken = breaks_none number client (is_inside client.l
 
 -- what a client's turn adds
 pub of_client : (plan : PlanData) (before : List Entry) (entry : Entry) (number : ℕ) → list_any is_alter (adds plan before entry (Client number)) ≡ false
-of_client plan before entry number = client_none number (client_at plan before number) (became (client_at plan before number) entry)
+of_client plan before entry number = client_none number (with_draw entry.draw (client_at plan before number)) (became (client_at plan before number) entry)

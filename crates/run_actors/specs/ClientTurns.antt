@@ -1,2 +1,3 @@
 -- How far a client is in its script, and what it asks next.
 pub mod ActorStates
+pub mod DrawnLines

@@ -2,9 +2,11 @@
 
 mod actor_state;
 mod answers;
+mod drawn_words;
 mod outcome;
 mod requests;
 
 pub use actor_state::ClientState;
 pub use answers::ends;
+pub use drawn_words::word_numbered;
 pub use outcome::LineOutcome;

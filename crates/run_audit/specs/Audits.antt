@@ -1,14 +1,18 @@
 -- *Audited trace*: the first rule that a trace breaks, if it breaks one. What clients were answered is judged by *serial*, the
 -- history being that of the lines. (This project's rule.)
-use Rattle.std.specs.Prelude.{ℕ, ◌-◌, ◌==◌, nat_lt, min, Bool, true, false, not, ◌&&◌, ◌||◌, if◌then◌else◌, List, [], ◌∷◌, ◌++◌, drop, take, length, Option, Some, None}
+use Rattle.std.specs.Prelude.{ℕ, ◌-◌, ◌==◌, nat_lt, min, Bool, true, false, not, ◌&&◌, ◌||◌, if◌then◌else◌, List, [], ◌∷◌, ◌++◌, drop, take, length, is_some, Option, Some, None}
 use Rattle.std.specs.List.{list_all, slice_get}
 use Rattle.std.specs.Str.{bytes_eq}
 use Rattle.base_values.specs.declared.value.Value.{Value}
-use Rattle.table_store.specs.Databases.{Database}
+use Rattle.table_store.specs.Databases.{Database, TableRows, find_table}
 use Rattle.base_script.specs.declared.actor.Actor.{Actor}
 use Rattle.base_script.specs.declared.actor.Actor.TheVariants.{Copy, Apply, Client}
 use Rattle.base_script.specs.declared.operator.OperatorWord.{OperatorWord}
 use Rattle.base_script.specs.declared.operator.OperatorWord.TheVariants.{Panic}
+use Rattle.base_script.specs.declared.script.ScriptLine.{ScriptLine}
+use Rattle.base_script.specs.declared.script.ScriptWord.{ScriptWord}
+use Rattle.base_script.specs.declared.script.ScriptWord.TheVariants as words
+use Rattle.base_script.specs.declared.statement.Statement.{Statement}
 use Rattle.server_model.specs.declared.outcome.Cause.{Cause}
 use Rattle.server_model.specs.declared.outcome.Cause.TheVariants as causes
 use Rattle.server_model.specs.declared.outcome.Verdict.{Verdict}
@@ -17,10 +21,12 @@ use Rattle.server_model.specs.declared.transaction.Reply.{Reply}
 use Rattle.server_model.specs.declared.transaction.Reply.TheVariants.{Ok, Error, Rows}
 use Rattle.server_model.specs.Along.{gathered}
 use Rattle.server_model.specs.Alone.{alone}
+use Rattle.server_model.specs.Checks.{draws}
 use Rattle.server_model.specs.Entries.{same_actor}
+use Rattle.server_model.specs.Operations.{table_of}
 use Rattle.server_model.specs.Rows.{same_row}
 use Rattle.plan_data.specs.PlanData.{PlanData}
-use Rattle.tool_program.specs.JournalWords.Clients.{Became, Marked}
+use Rattle.tool_program.specs.JournalWords.Clients.{Became, Marked, with_draw}
 use Rattle.tool_program.specs.JournalWords.Histories.{HistoryItem, Past, Txn, Alter, client_ends}
 use Rattle.tool_program.specs.JournalWords.KeptPlans.{words_of}
 use Rattle.tool_program.specs.JournalWords.Serials.{altered_database, tables_left}
@@ -31,7 +37,7 @@ use Rattle.run_audit.specs.declared.line.TraceLine.{TraceLine}
 use Rattle.run_audit.specs.declared.trace.Audit.{Audit}
 use Rattle.run_audit.specs.declared.trace.Audit.TheVariants as audits
 use Rattle.run_audit.specs.declared.trace.Trace.{Trace}
-use Rattle.run_audit.specs.Rules.{alters_in, became_by, broken_turns, client_reached, commands_in, has_altered, all_are_over, is_astray, is_cut, is_loss, is_word, next_turn}
+use Rattle.run_audit.specs.Rules.{alters_in, became_by, broken_turns, client_reached, commands_in, has_altered, all_are_over, is_astray, is_cut, is_loss, is_word, next_turn, turn_if}
 
 -- ---- the history of the lines
 
@@ -69,7 +75,7 @@ judged_of turns (Alter ∷ items) = judged_of turns items
 abbrev pub judged_in : PlanData → List TraceLine → TraceLine → Actor → List Judged
 judged_in plan before line (Client number) =
     if (client_reached plan before number).is_lost then []
-    else judged_of (reply_turns plan (before ++ line ∷ []) number) (client_ends number (client_reached plan before number) (became_by (client_reached plan before number) line))
+    else judged_of (reply_turns plan (before ++ line ∷ []) number) (client_ends number (with_draw line.drawn (client_reached plan before number)) (became_by (client_reached plan before number) line))
 judged_in plan before line actor = if alters_in before line && not (has_altered before) then Altered (next_turn before) ∷ [] else []
 
 -- the lines before the first that is astray
@@ -124,6 +130,33 @@ tables_reached plan tables (Altered turn ∷ items) = or_these (λ after. tables
 abbrev pub opening_tables : PlanData → Database
 opening_tables plan = tables_left plan plan.tables
 
+-- ---- numbers that are drawn
+
+abbrev pub draws_in : Option TableRows → Statement → Bool
+draws_in None statement = false
+draws_in (Some table) statement = draws table.schema statement
+
+abbrev pub word_draws : Database → ScriptWord → Bool
+word_draws tables (words.Do statement) = draws_in (find_table (table_of statement) tables) statement
+word_draws tables word = false
+
+abbrev pub first_draws : Database → List ScriptLine → Bool
+first_draws tables [] = false
+first_draws tables (line ∷ lines) = word_draws tables line.word
+
+-- *May draw*: the actor's next line draws a number, with the schema that its table has after these lines.
+abbrev pub may_draw : PlanData → List TraceLine → Actor → Bool
+may_draw plan before (Client number) = first_draws (tables_reached plan (opening_tables plan) (judged plan before)) (client_reached plan before number).left
+may_draw plan before actor = false
+
+-- the line has a number that no statement drew there
+abbrev pub misdraws : PlanData → List TraceLine → TraceLine → Bool
+misdraws plan before line = is_some line.drawn && not (may_draw plan before line.actor)
+
+-- *Misdrawn turns*
+unfoldable pub misdrawn_turns : PlanData → List TraceLine → List ℕ
+misdrawn_turns plan lines = gathered (λ before line. turn_if (misdraws plan before line) before) [] lines
+
 -- ---- the rules in their order
 
 abbrev pub is_unfinished : Verdict → Bool
@@ -145,7 +178,7 @@ least [] = None
 least (turn ∷ turns) = least_with turn (least turns)
 
 abbrev pub bad_turns : PlanData → Trace → List ℕ
-bad_turns plan trace = broken_turns plan trace.lines ++ wrong_turns plan (opening_tables plan) (judged plan trace.lines) ++ unended plan trace
+bad_turns plan trace = broken_turns plan trace.lines ++ wrong_turns plan (opening_tables plan) (judged plan trace.lines) ++ misdrawn_turns plan trace.lines ++ unended plan trace
 
 -- the first of these tables that isn't printed so, text by text, in their order; more may be printed after them
 unfoldable pub first_other : List (List ℕ) → Database → Option (List ℕ)

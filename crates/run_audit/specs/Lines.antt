@@ -56,9 +56,22 @@ abbrev pub line_answer : Bool → Option Side → Answer → Option Answer → L
 line_answer client (Some After) answer missed = missed_answer missed
 line_answer client side answer missed = heard_answer client answer
 
--- *Line of a turn*. (No number is drawn by the plans of this version.)
+-- the number that a line shows: none of a call that was refused and then lost
+abbrev pub drawn_shown : Option ℕ → LineAnswer → Option ℕ
+drawn_shown None said = None
+drawn_shown (Some number) line_answers.LostRefused = None
+drawn_shown (Some number) said = Some number
+
+-- *Line of a turn*
 abbrev pub line_of : Entry → TraceLine
-line_of entry = record { actor = entry.actor; asked = asked_of entry.asked; side = entry.side; answer = line_answer (is_client entry.actor) entry.side entry.answer entry.missed; drawn = None }
+line_of entry =
+    record {
+      actor = entry.actor;
+      asked = asked_of entry.asked;
+      side = entry.side;
+      answer = line_answer (is_client entry.actor) entry.side entry.answer entry.missed;
+      drawn = drawn_shown entry.draw (line_answer (is_client entry.actor) entry.side entry.answer entry.missed);
+    }
 
 abbrev pub lines_of : List Entry → List TraceLine
 lines_of journal = map line_of journal

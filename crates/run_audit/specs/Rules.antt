@@ -1,6 +1,6 @@
 -- *Rules of turns*: what a line of a trace has to keep, by the lines before it. How far clients are in their scripts, what ends
 -- with a line and which losses strike is defined by the same steps as for a journal. (This project's rule.)
-use Rattle.std.specs.Prelude.{ℕ, ◌+◌, ◌==◌, nat_lt, Bool, true, false, not, ◌&&◌, ◌||◌, if◌then◌else◌, List, [], ◌∷◌, fold, count_by, length, is_some, unwrap_or, Option, Some, None}
+use Rattle.std.specs.Prelude.{ℕ, ◌+◌, ◌==◌, nat_lt, Bool, true, false, not, ◌&&◌, ◌||◌, if◌then◌else◌, List, [], ◌∷◌, fold, count_by, length, unwrap_or, Option, Some, None}
 use Rattle.base_script.specs.declared.actor.Actor.{Actor}
 use Rattle.base_script.specs.declared.actor.Actor.TheVariants.{Op, Client}
 use Rattle.base_script.specs.declared.actor.Side.{Side}
@@ -15,7 +15,7 @@ use Rattle.server_model.specs.declared.transaction.Reply.TheVariants as replies
 use Rattle.server_model.specs.Along.{gathered}
 use Rattle.server_model.specs.Entries.{same_actor}
 use Rattle.plan_data.specs.PlanData.{PlanData}
-use Rattle.tool_program.specs.JournalWords.Clients.{Became, Waits, Marked, Reached, after_transaction, client_after, client_over, cut_off, is_inside, new_client, script_of}
+use Rattle.tool_program.specs.JournalWords.Clients.{Became, Waits, Marked, Reached, after_transaction, client_after, client_over, cut_off, is_inside, new_client, script_of, with_draw}
 use Rattle.tool_program.specs.JournalWords.KeptPlans.{or_first, struck_among, words_of}
 use Rattle.run_audit.specs.declared.line.LineAsked.{LineAsked}
 use Rattle.run_audit.specs.declared.line.LineAsked.TheVariants as asks
@@ -67,10 +67,10 @@ left_by became inside lines left = left
 abbrev pub client_after_line : Became → Reached → Reached
 client_after_line became client = record (client_after became client) { left = left_by became (is_inside client.lines) client.left (client_after became client).left }
 
--- a client after a line; one that was lost has no more
+-- a client after a line, whose statement has the number that it drew; one that was lost has no more
 abbrev pub client_step : ℕ → Reached → TraceLine → Reached
 client_step number client line =
-    if same_actor line.actor (Client number) then (if client.is_lost then client else client_after_line (became_by client line) client) else client
+    if same_actor line.actor (Client number) then (if client.is_lost then client else client_after_line (became_by client line) (with_draw line.drawn client)) else client
 
 -- *Client reached* by lines: how far it is after them
 unfoldable pub client_reached : PlanData → List TraceLine → ℕ → Reached
@@ -211,14 +211,12 @@ has_altered lines = not (length (alter_turns lines) == 0)
 
 -- ---- the turns that break a rule
 
--- A line breaks a rule: a client's script isn't kept, or a loss or the operator's commands aren't; or it does the ALTER again, or
--- has a number that no statement draws.
+-- A line breaks a rule: a client's script isn't kept, or a loss or the operator's commands aren't; or it does the ALTER again.
 abbrev pub breaks : PlanData → List TraceLine → TraceLine → Bool
 breaks plan before line =
     not (keeps_script plan before line)
     || (is_within plan before && not (keeps_losses plan before line))
     || (alters_in before line && has_altered before)
-    || is_some line.drawn
 
 -- *Broken turns*
 unfoldable pub broken_turns : PlanData → List TraceLine → List ℕ

@@ -1,5 +1,5 @@
 -- A session that is alone stays so.
-use Rattle.std.proofs.Common.{◌≡◌, ℕ, Bool, true, false, List, [], ◌∷◌, ◌++◌, refl, sym, ap, ◌∙◌, subst}
+use Rattle.std.proofs.Common.{◌≡◌, ℕ, Bool, true, false, List, [], ◌++◌, refl, sym, ap, ◌∙◌, subst}
 use Rattle.std.specs.Prelude.{◌==◌}
 use Rattle.base_values.specs.declared.event.RowEvent.{RowEvent}
 use Rattle.base_script.specs.declared.statement.Statement.{Statement}

@@ -1,5 +1,5 @@
 -- The least of some turns.
-use Rattle.std.proofs.Common.{◌≡◌, ℕ, Bool, true, false, List, [], ◌∷◌, ◌++◌, Option, Some, None, refl, sym, ap, ◌∙◌, append-nil, arith}
+use Rattle.std.proofs.Common.{◌≡◌, ℕ, List, [], ◌∷◌, ◌++◌, Option, Some, None, refl, sym, ap, ◌∙◌, append-nil, arith}
 use Rattle.std.specs.Prelude.{min, option_to_list}
 use Rattle.run_audit.specs.Audits.{least, least_with}
 use Rattle.run_judge.specs.Leasts.{lesser}

@@ -1,5 +1,6 @@
 pub mod AloneSessions
 pub mod ComparedReplies
+pub mod DrawnClients
 pub mod FollowedClients
 pub mod LeastTurns
 pub mod LineOutcomes

@@ -4,7 +4,7 @@ use Rattle.run_actors.specs.ClientTurns.ActorStates.{line_outcome_as}
 use Rattle.run_audit.specs.declared.line.LineAnswer.{LineAnswer}
 use Rattle.run_audit.specs.declared.line.LineAnswer.TheVariants as answers
 use Rattle.run_audit.specs.declared.line.LineAsked.{LineAsked}
-use Rattle.run_audit.specs.declared.line.LineAsked.TheVariants.{Call, Rename, Poll, Cut, Word}
+use Rattle.run_audit.specs.declared.line.LineAsked.TheVariants.{Call, Cut}
 use Rattle.run_audit.specs.Rules.{became_of_line, is_cut}
 use Rattle.tool_program.specs.JournalWords.Clients.{cut_off}
 use Rattle.run_judge.specs.Outcomes.{called_outcome}

@@ -1,16 +1,16 @@
 -- What is kept of actors after one turn more.
 use Rattle.std.proofs.Common.{◌≡◌, ℕ, ◌+◌, ◌-◌, ◌^◌, ◌≤◌, Bool, true, false, not, ◌&&◌, List, [], ◌∷◌, ◌++◌, map, length, is_some, cond, Option, Some, None, refl, sym, ap, ◌∙◌, subst, arith}
-use Rattle.std.specs.Prelude.{find, min}
+use Rattle.std.specs.Prelude.{min}
 use Rattle.std.proofs.lemmas.List.Sums.{fold-append, count_by-le-length}
 use Rattle.base_script.specs.declared.actor.Actor.{Actor}
 use Rattle.server_model.specs.Entries.{same_actor}
 use Rattle.proof_journals.proofs.Actors.{same_actor_is, same_actor_itself}
 use Rattle.run_audit.specs.declared.line.LineAsked.{LineAsked}
-use Rattle.run_audit.specs.declared.line.LineAsked.TheVariants.{Call, Rename, Poll, Cut, Word}
+use Rattle.run_audit.specs.declared.line.LineAsked.TheVariants.{Cut}
 use Rattle.run_audit.specs.declared.line.TraceLine.{TraceLine}
 use Rattle.run_audit.specs.Rules.{has_renamed, has_session, is_cut, keeps_session, renames_by, renames_step, session_step, turns_in}
 use Rattle.run_judge.specs.declared.actor_marks.ActorMarks.{ActorMarks}
-use Rattle.run_judge.specs.ActorMarks.{counted, found_marks, marked_by, marks_after, marks_at, marks_of, new_marks, one_more, or_new}
+use Rattle.run_judge.specs.ActorMarks.{counted, found_marks, marked_by, marks_after, marks_at, marks_of, new_marks, or_new}
 
 -- ---- among all
 

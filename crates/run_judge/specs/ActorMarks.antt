@@ -1,5 +1,5 @@
 -- What is kept of the actors of a trace. (This project's rule.)
-use Rattle.std.specs.Prelude.{ℕ, ◌+◌, ◌-◌, ◌^◌, min, Bool, false, if◌then◌else◌, List, find, Option, Some, None}
+use Rattle.std.specs.Prelude.{ℕ, ◌+◌, ◌-◌, ◌^◌, min, false, if◌then◌else◌, List, find, Option, Some, None}
 use Rattle.base_script.specs.declared.actor.Actor.{Actor}
 use Rattle.server_model.specs.Entries.{same_actor}
 use Rattle.run_audit.specs.declared.line.LineAsked.{LineAsked}

@@ -3,18 +3,19 @@
 ghost use Rattle.std.specs.Prelude.{◌≡◌, ◌++◌, ℕ, Bool, true, not, ◌&&◌, List, [], option_to_list, IfOk, OnOk};
 ghost use Rattle.base_script.specs.declared.script.ScriptLine.{ScriptLine};
 ghost use Rattle.run_actors.specs.ClientTurns.ActorStates.{IsReached, line_outcome_as};
+ghost use Rattle.run_actors.specs.ClientTurns.DrawnLines.{left_drawn};
 ghost use Rattle.run_audit.specs.Audits.{judged_of, reply_turn};
 ghost use Rattle.run_audit.specs.Rules.{became_by, became_of_line, client_after_line, client_asks_next};
-ghost use Rattle.tool_program.specs.JournalWords.Clients.{Became, Reached, new_client};
+ghost use Rattle.tool_program.specs.JournalWords.Clients.{Became, Reached, new_client, with_draw};
 ghost use Rattle.tool_program.specs.JournalWords.Histories.{client_ends};
 ghost use Rattle.run_judge.specs.Replies.{replies_of, reply_in, turns_of};
-ghost use Rattle.run_judge.specs.TraceClients.{AreJudged, IsFollowed, begins, ended_txn, is_begin, is_time_out, no_txn, outcome_line, without_ended};
+ghost use Rattle.run_judge.specs.TraceClients.{AreJudged, IsFollowed, IsReachedWith, begins, drawn_after, ended_txn, is_begin, is_time_out, no_txn, outcome_line, without_ended};
 
 use crate::outcomes::outcome_of;
 use crate::replies::{TurnReplies, TurnReply, reply_of};
 use base_script::{Script, ScriptLine, ScriptWord};
-use base_values::{Duplicate, Sequence};
-use run_actors::client_turns::{ClientState, LineOutcome};
+use base_values::Sequence;
+use run_actors::client_turns::{ClientState, LineOutcome, word_numbered};
 use run_audit::{LineAsked, TraceLine};
 use server_model::{Mark, TxnLine, TxnLines};
 use std::alloc::{AllocError, Global};
@@ -34,6 +35,9 @@ pub struct RepliedTxn {
 pub struct TraceClient {
     /// How far it is in its script.
     pub state: ClientState,
+    /// The number that its next line drew in a turn that gave it no mark. (A server draws one only in a turn that gives the line
+    /// its mark; a trace can have others.)
+    pub drawn: Option<u64>,
     /// Its open transaction so far, which has no line where none is open.
     pub txn: RepliedTxn,
 }
@@ -49,9 +53,15 @@ impl RepliedTxn {
         }
     }
 
-    /// Adds the next line of these, where it got a mark.
-    fn push_line(&mut self, left: &[ScriptLine], outcome: LineOutcome) -> Result<(), AllocError>
-        ensures lines { OnOk result (self.new.lines ≡ self.old.lines ++ outcome_line outcome left.now) }
+    /// Adds the next line of these, with the number that it drew, where it got a mark.
+    #[tactic(auto, using(run_actors::proofs::ClientTurns::DrawnLines::first_drawn, run_actors::proofs::ClientTurns::DrawnLines::none_drawn))]
+    fn push_line(
+        &mut self,
+        left: &[ScriptLine],
+        drawn: Option<u64>,
+        outcome: LineOutcome,
+    ) -> Result<(), AllocError>
+        ensures lines { OnOk result (self.new.lines ≡ self.old.lines ++ outcome_line outcome (left_drawn drawn left.now)) }
         ensures replies { self.new.replies ≡ self.old.replies }
     {
         let LineOutcome::Marked(mark) = outcome else {
@@ -60,7 +70,7 @@ impl RepliedTxn {
         let Some((line, _)) = left.split_first() else {
             return Ok(());
         };
-        let word = line.word.copy()?;
+        let word = word_numbered(&line.word, drawn)?;
         self.lines.push(TxnLine { word, mark })
     }
 
@@ -94,6 +104,16 @@ fn begins(left: &[ScriptLine]) -> bool
     }
 }
 
+/// The number that the client's next line has after what became of the one that drew it.
+fn drawn_after(outcome: LineOutcome, drawn: Option<u64>) -> Option<u64>
+    ensures { result ≡ drawn_after outcome drawn }
+{
+    match outcome {
+        LineOutcome::Marked(_) => None,
+        LineOutcome::Nothing | LineOutcome::Waits | LineOutcome::Broken => drawn,
+    }
+}
+
 fn is_time_out(outcome: LineOutcome) -> bool
     ensures { result ≡ is_time_out outcome }
 {
@@ -119,6 +139,7 @@ impl TraceClient {
     {
         TraceClient {
             state: ClientState::new(),
+            drawn: None,
             txn: RepliedTxn::new(alloc),
         }
     }
@@ -140,7 +161,7 @@ impl TraceClient {
 
     /// Whether the client wasn't lost, and asks something else next.
     pub fn is_astray(&self, script: &Script, asked: LineAsked) -> bool
-        ensures { (client : Reached) → IsReached script.now self.now.state client → result ≡ (not client.is_lost && not (client_asks_next client asked)) }
+        ensures { (client : Reached) → IsReachedWith script.now self.now.drawn self.now.state client → result ≡ (not client.is_lost && not (client_asks_next client asked)) }
     {
         !self.state.is_lost && !self.asks_next(script, asked)
     }
@@ -165,13 +186,15 @@ impl TraceClient {
         turn: u64,
         line: &TraceLine,
     ) -> Result<Option<RepliedTxn>, AllocError>
-        ensures followed { (client : Reached) (turns : List ℕ) → IsFollowed script.now self.old client turns → client_asks_next client line.now.asked ≡ true → OnOk result (IsFollowed script.now self.new (client_after_line (became_by client line.now) client) (turns ++ reply_turn turn (became_by client line.now))) }
-        ensures judged { (number : ℕ) (client : Reached) (turns : List ℕ) → IsFollowed script.now self.old client turns → client_asks_next client line.now.asked ≡ true → IfOk result (AreJudged (judged_of (turns ++ reply_turn turn (became_by client line.now)) (client_ends number client (became_by client line.now)))) }
+        ensures followed { (client : Reached) (turns : List ℕ) → IsFollowed script.now self.old client turns → client_asks_next client line.now.asked ≡ true → OnOk result (IsFollowed script.now self.new (client_after_line (became_by client line.now) (with_draw line.now.drawn client)) (turns ++ reply_turn turn (became_by client line.now))) }
+        ensures judged { (number : ℕ) (client : Reached) (turns : List ℕ) → IsFollowed script.now self.old client turns → client_asks_next client line.now.asked ≡ true → IfOk result (AreJudged (judged_of (turns ++ reply_turn turn (became_by client line.now)) (client_ends number (with_draw line.now.drawn client) (became_by client line.now)))) }
     {
+        let drawn = line.drawn.or(self.drawn);
         let outcome = outcome_of(self.state.waits, line);
-        self.txn.push_line(self.state.left(script), outcome)?;
+        self.txn.push_line(self.state.left(script), drawn, outcome)?;
         self.txn.push_reply(turn, line)?;
         step(&mut self.state, script, outcome);
+        self.drawn = drawn_after(outcome, drawn);
         Ok(self.take_ended(alloc))
     }
 }

@@ -11,7 +11,7 @@ use Rattle.base_script.specs.declared.script.ScriptLine.{ScriptLine}
 use Rattle.server_model.specs.declared.entry.Entry.{Entry}
 use Rattle.server_model.specs.Entries.{same_actor}
 use Rattle.plan_data.specs.PlanData.{PlanData}
-use Rattle.tool_program.specs.JournalWords.Clients.{Reached, Became, Nothing, Waits, Marked, Broken, new_client, script_of, client_at, client_asks, client_over, all_over, line_asks, client_after, became, after_turn}
+use Rattle.tool_program.specs.JournalWords.Clients.{Reached, Became, Nothing, Waits, Marked, Broken, new_client, script_of, client_at, client_asks, client_over, all_over, line_asks, lines_drawn, client_after, became, after_turn, with_draw}
 use Rattle.run_actors.specs.declared.client_turns.actor_state.ClientState.{ClientState}
 use Rattle.run_actors.specs.ClientTurns.ActorStates.{IsReached, asks_so}
 use Rattle.run_state.specs.Books.{free_client, AreReached}
@@ -70,7 +70,7 @@ reached_before plan journal entry client number (one ∷ scripts) (first ∷ act
 
 -- the client's own seat behind its turn, and the others'
 pub reached_more : (plan : PlanData) (journal : List Entry) (entry : Entry) (number : ℕ) (scripts : List (List ScriptLine)) (actor_states : List ClientState) (i : ℕ) (script : List ScriptLine) (new : ClientState)
-    → entry.actor ≡ Client (number + i) → slice_get scripts i ≡ Some script → IsReached script new (client_after (became (client_at plan journal (number + i)) entry) (client_at plan journal (number + i)))
+    → entry.actor ≡ Client (number + i) → slice_get scripts i ≡ Some script → IsReached script new (client_after (became (client_at plan journal (number + i)) entry) (with_draw entry.draw (client_at plan journal (number + i))))
     → AreReached plan journal number scripts actor_states → AreReached plan (journal ++ entry ∷ []) number scripts (slice_set actor_states i new)
 unfolding AreReached
 reached_more plan journal entry number [] [] i script new is at reached all = absurd (cc)
@@ -81,7 +81,7 @@ reached_more plan journal entry number (one ∷ scripts) (first ∷ actor_states
     let actor : entry.actor ≡ Client number = is ∙ ap Client same in
     let own : (number == number) ≡ true = grind (arith, nat_tests) in
     let same_script : script ≡ one = cc in (
-      rw (client_more plan journal entry number, actor, own) (subst (λ s. IsReached s new (client_after (became (client_at plan journal number) entry) (client_at plan journal number))) same_script (rw same at reached)),
+      rw (client_more plan journal entry number, actor, own) (subst (λ s. IsReached s new (client_after (became (client_at plan journal number) entry) (with_draw entry.draw (client_at plan journal number)))) same_script (rw same at reached)),
       reached_before plan journal entry number (number + 1) scripts actor_states actor (λ n. later number n) all.1,
     )
   where
@@ -137,12 +137,12 @@ client_reached plan journal client script actor_states actor_state is all at =
 
 -- the seats behind its turn
 pub client_turned : (plan : PlanData) (journal : List Entry) (entry : Entry) (client : ℕ) (script : List ScriptLine) (actor_states : List ClientState) (new : ClientState) → entry.actor ≡ Client client → script_of client plan ≡ Some script
-    → AreReached plan journal 1 plan.clients actor_states → IsReached script new (client_after (became (client_at plan journal client) entry) (client_at plan journal client)) → AreReached plan (journal ++ entry ∷ []) 1 plan.clients (slice_set actor_states (client - 1) new)
+    → AreReached plan journal 1 plan.clients actor_states → IsReached script new (client_after (became (client_at plan journal client) entry) (with_draw entry.draw (client_at plan journal client))) → AreReached plan (journal ++ entry ∷ []) 1 plan.clients (slice_set actor_states (client - 1) new)
 client_turned plan journal entry client script actor_states new is has all reached =
     let the = scripted plan client script has in
     let number : client ≡ 1 + (client - 1) = omega (arith, the.from_one) in
     reached_more plan journal entry 1 plan.clients actor_states (client - 1) script new (is ∙ ap Client number) the.stands
-    (subst (λ (n : ℕ). IsReached script new (client_after (became (client_at plan journal n) entry) (client_at plan journal n))) number reached) all
+    (subst (λ (n : ℕ). IsReached script new (client_after (became (client_at plan journal n) entry) (with_draw entry.draw (client_at plan journal n)))) number reached) all
 
 -- what a client that is so far asks
 pub asks_is : (plan : PlanData) (journal : List Entry) (client : ℕ) → client_asks plan journal client ≡ asks_so (client_at plan journal client)
@@ -156,11 +156,15 @@ left_still Waits client is = is
 left_still (Marked mark reply) client is = rw is refl
 left_still Broken client is = is
 
+left_drawn : (draw : Option ℕ) (client : Reached) → client.left ≡ [] → (with_draw draw client).left ≡ []
+left_drawn None client is = is
+left_drawn (Some number) client is = ap (lines_drawn number) is
+
 left_turn : (number : ℕ) (client : Reached) (entry : Entry) → client.left ≡ [] → (after_turn number client entry).left ≡ []
 left_turn number client entry is = by (same_actor entry.actor (Client number))
   where
-    by : (b : Bool) → (cond b (client_after (became client entry) client) client).left ≡ []
-    by true = left_still (became client entry) client is
+    by : (b : Bool) → (cond b (client_after (became client entry) (with_draw entry.draw client)) client).left ≡ []
+    by true = left_still (became client entry) (with_draw entry.draw client) (left_drawn entry.draw client is)
     by false = is
 
 left_after : (number : ℕ) (journal : List Entry) (client : Reached) → client.left ≡ [] → (fold (after_turn number) client journal).left ≡ []

@@ -1,21 +1,18 @@
 -- What a step reads of the server that stands behind the journal.
-use Rattle.std.proofs.Common.{◌≡◌, ◌<◌, ℕ, ◌+◌, Bool, true, false, ◌||◌, List, [], ◌∷◌, ◌++◌, length, Option, Some, None, refl, sym, ap, ◌∙◌, subst, arith}
-use Rattle.std.specs.Prelude.{is_some, nat_le, Result, Ok, Err, OnOk, OnErr}
+use Rattle.std.proofs.Common.{◌≡◌, ◌<◌, ℕ, ◌+◌, Bool, true, false, ◌||◌, List, length, Option, Some, None, refl, sym, ap, ◌∙◌, subst, arith}
+use Rattle.std.specs.Prelude.{is_some, nat_le}
 use Rattle.std.proofs.lemmas.Bool.{true≢false, leb-false}
-use Rattle.base_script.specs.declared.actor.Actor.{Actor}
 use Rattle.server_model.specs.declared.entry.Entry.{Entry}
 use Rattle.server_model.specs.States.{State}
 use Rattle.plan_data.specs.PlanData.{PlanData}
-use Rattle.tool_program.specs.JournalWords.Journals.{state_at, after_entry}
+use Rattle.tool_program.specs.JournalWords.Journals.{state_at}
 use Rattle.tool_program.specs.Programs.{waits}
 use Rattle.tool_program.specs.Tools.{moment}
 use Rattle.tool_program.specs.Verdicts.{has_ended}
 use Rattle.proof_journals.specs.Run.Counts.{IsAfter}
 use Rattle.proof_journals.proofs.Run.Taking.{server_is}
-use Rattle.run_turns.specs.declared.due_turns.migration_run.turn.Turn.{Turn}
-use Rattle.run_turns.specs.DueTurns.Due.{due, next_entry}
 use Rattle.run_state.proofs.Givens.{waits_same}
-use Rattle.run_turns.specs.Runs.{RunView, is_over, TakesTurn, IsUnmoved}
+use Rattle.run_turns.specs.Runs.{is_over}
 
 -- it stands behind the moment's
 pub after_moment : (plan : PlanData) (journal : List Entry) (server : State) → IsAfter (state_at plan journal) server → IsAfter (moment plan journal).server server

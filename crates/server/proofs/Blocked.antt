@@ -16,16 +16,21 @@ use Rattle.server_model.specs.declared.request.Request.TheVariants as requests
 use Rattle.server_model.specs.declared.session.Session.{Session}
 use Rattle.server_model.specs.declared.session.Waiting.{Waiting}
 use Rattle.server_model.specs.Blockers.{blocker, need, row_locks_of}
+use Rattle.server_model.specs.Counting.{counted}
+use Rattle.server_model.specs.declared.entry.Asked.TheVariants.{Call}
+use Rattle.server_model.specs.Drawing.{filled, filled_for}
+use Rattle.server_model.proofs.Filling.{filled_case}
 use Rattle.server_model.specs.Effects.{effect_within, is_outside}
 use Rattle.server_model.specs.Operations.{after_events}
-use Rattle.server_model.specs.PlainServer.{Served, calls, counting, does, done, polled_over}
-use Rattle.server_model.specs.States.{State, is_exclusive, is_in_transaction, locks_held, name_held, names_held, names_in, polls_of, session_of, view, waiters, waiting_of, with_session, writes_of}
+use Rattle.server_model.specs.PlainServer.{Served, calls, counting, did, does, done, polled_over, recounted, state_left}
+use Rattle.server_model.specs.declared.counter.Counter.{Counter}
+use Rattle.server_model.specs.States.{State, is_exclusive, is_in_transaction, is_of_tool, locks_held, name_held, names_held, names_in, polls_of, session_of, view, waiters, waiting_of, with_session, writes_of}
 use Rattle.server_sessions.proofs.LiveSessions.HeldLocks.{same_locks}
 use Rattle.server.specs.declared.known_blockers.KnownBlocker.{KnownBlocker}
 use Rattle.server.specs.KnownBlockers.{AreBlocked, IsBlockedBy, is_wait}
 use Rattle.server.specs.Parts.{state_of, is_look}
-use Rattle.server.proofs.Having.{kept_writes}
-use Rattle.server.proofs.Requests.{calls_done, calls_wait, done_inside, done_outside}
+use Rattle.server.proofs.Having.{kept_of, kept_writes}
+use Rattle.server.proofs.Requests.{calls_done, calls_wait, did_inside, did_outside}
 
 -- what is found is so
 pub found_so : (state : State) (session by : ℕ) (known : List KnownBlocker) → AreBlocked state known → option_map (λ (one : KnownBlocker). one.by) (find (λ (one : KnownBlocker). one.session == session) known) ≡ Some by → IsBlockedBy state session by
@@ -65,18 +70,20 @@ same_names number change (session ∷ sessions) numbers names = at (session.numb
 abbrev blocker_by : Database → State → ℕ → Request → List grants.HeldName → List HeldLock → List RowEvent → Option ℕ
 blocker_by tables state number request names locks writes = least (blocker_of_names names (waiters state.waiting) number (is_exclusive request) (names_in request)) (blocker_of_set locks number (row_locks_of (after_events tables writes) request))
 
-counted : (tables : Database) (state : State) (number count n : ℕ) (request : Request)
+polls_counted : (tables : Database) (state : State) (number count n : ℕ) (request : Request)
     → blocker (state_of tables (record state { sessions = with_session number (counting count) state.sessions })) n (need (state_of tables (record state { sessions = with_session number (counting count) state.sessions })) n request)
     ≡ blocker (state_of tables state) n (need (state_of tables state) n request)
-counted tables state number count n request =
+polls_counted tables state number count n request =
     let later : List Session = with_session number (counting count) state.sessions in
-    ap (λ (names : List grants.HeldName). blocker_by tables state n request names (locks_held later) (writes_of (session_of n later))) (same_names number (counting count) state.sessions (λ s. refl) (λ s. refl))
-    ∙ (ap (λ (locks : List HeldLock). blocker_by tables state n request (names_held state.sessions) locks (writes_of (session_of n later))) (same_locks number (counting count) state.sessions (λ s. refl) (λ s. refl))
-    ∙ ap (λ (writes : List RowEvent). blocker_by tables state n request (names_held state.sessions) (locks_held state.sessions) writes) (sym (kept_writes number n (counting count) state.sessions (λ s. refl) (λ s. refl))))
+    let full : Request = filled (state_of tables state) n request in
+    ap (λ (tool : Bool). blocker_by tables state n (filled_for tool tables state.counters request) (names_held later) (locks_held later) (writes_of (session_of n later))) (sym (kept_of is_of_tool number n (counting count) state.sessions (λ s. refl) (λ s. refl)))
+    ∙ (ap (λ (names : List grants.HeldName). blocker_by tables state n full names (locks_held later) (writes_of (session_of n later))) (same_names number (counting count) state.sessions (λ s. refl) (λ s. refl))
+    ∙ (ap (λ (locks : List HeldLock). blocker_by tables state n full (names_held state.sessions) locks (writes_of (session_of n later))) (same_locks number (counting count) state.sessions (λ s. refl) (λ s. refl))
+    ∙ ap (λ (writes : List RowEvent). blocker_by tables state n full (names_held state.sessions) (locks_held state.sessions) writes) (sym (kept_writes number n (counting count) state.sessions (λ s. refl) (λ s. refl)))))
 
 counts_blocked : (tables : Database) (state : State) (number count : ℕ) (known : List KnownBlocker) → AreBlocked (state_of tables state) known → AreBlocked (state_of tables (record state { sessions = with_session number (counting count) state.sessions })) known
 counts_blocked tables state number count [] are = tt
-counts_blocked tables state number count (one ∷ known) are = (record { blocks = λ waiting waits. counted tables state number count one.session waiting.request ∙ are.0.blocks waiting waits }, counts_blocked tables state number count known are.1)
+counts_blocked tables state number count (one ∷ known) are = (record { blocks = λ waiting waits. polls_counted tables state number count one.session waiting.request ∙ are.0.blocks waiting waits }, counts_blocked tables state number count known are.1)
 
 pub polled_blocked : (over : Bool) (tables : Database) (all_sessions new : State) (number by : ℕ) (known : List KnownBlocker) → over ≡ false → new ≡ (polled_over over by all_sessions number).after → AreBlocked (state_of tables all_sessions) known → AreBlocked (state_of tables new) known
 polled_blocked true tables all_sessions new number by known goes_on polled are = absurd (true≢false goes_on)
@@ -102,11 +109,23 @@ within_looks busy seen state number (requests.Create schema) look = absurd (fals
 within_looks busy seen state number (requests.Drop name) look = absurd (false≢true look)
 within_looks busy seen state number (requests.Rename pairs) look = absurd (false≢true look)
 
+filled_looks : (tool : Bool) (tables : Database) (counters : List Counter) (request : Request) → is_look request ≡ true → filled_for tool tables counters request ≡ request
+filled_looks = filled_case (λ asked full. is_look asked ≡ true → full ≡ asked) (λ r look. refl) (λ statement n look. absurd (false≢true look))
+
+-- ... and moves no counter.
+counted_looks : (state : State) (number : ℕ) (request : Request) (answer : Answer) → is_look request ≡ true → counted state number (Some request) answer ≡ state.counters
+unfolding counted
+counted_looks state number (requests.Do statement) answer look = absurd (false≢true look)
+counted_looks state number (requests.Create schema) answer look = absurd (false≢true look)
+counted_looks state number (requests.Drop name) answer look = absurd (false≢true look)
+counted_looks state number (requests.Rename pairs) answer look = absurd (false≢true look)
+counted_looks state number request answer look = refl
+
 done_looks : (state : State) (number : ℕ) (request : Request) → is_look request ≡ true → (done state number request).after ≡ state
-done_looks state number request look = at (is_outside (session_of number state.sessions) request) refl where
-  at : (b : Bool) → is_outside (session_of number state.sessions) request ≡ b → (done state number request).after ≡ state
-  at true outside = rw (done_outside state number request outside) refl
-  at false inside = rw (done_inside state number request inside) (within_looks (is_in_transaction (session_of number state.sessions)) (view number state) state number request look)
+done_looks state number request look = rw (filled_looks (is_of_tool (session_of number state.sessions)) state.tables state.counters request look) (at (is_outside (session_of number state.sessions) request) refl) where
+  at : (b : Bool) → is_outside (session_of number state.sessions) request ≡ b → (did state number request).after ≡ state
+  at true outside = rw (did_outside state number request outside) refl
+  at false inside = rw (did_inside state number request inside) (within_looks (is_in_transaction (session_of number state.sessions)) (view number state) state number request look)
 
 looks : (state : State) (number : ℕ) (request : Request) → is_look request ≡ true → is_wait (calls state number request).answer ≡ false → (calls state number request).after ≡ state
 looks state number request look quick = at (blocker state number (need state number request)) refl where
@@ -118,8 +137,10 @@ not_true : (b : Bool) → not b ≡ true → b ≡ false
 not_true true is = absurd (false≢true is)
 not_true false is = refl
 
-pub looked_blocked : (state new : State) (number : ℕ) (request : Request) (answer : Answer) (known : List KnownBlocker) → (is_look request && not (is_wait answer)) ≡ true → answer ≡ (calls state number request).answer → new ≡ (calls state number request).after → AreBlocked state known → AreBlocked new known
+pub looked_blocked : (state new : State) (number : ℕ) (request : Request) (answer : Answer) (known : List KnownBlocker) → (is_look request && not (is_wait answer)) ≡ true → answer ≡ (calls state number request).answer → new ≡ state_left None state number (Call request) → AreBlocked state known → AreBlocked new known
 looked_blocked state new number request answer known looked answered after are =
     let parts = and_parts (is_look request) (not (is_wait answer)) looked in
     let quick : is_wait (calls state number request).answer ≡ false = sym (ap is_wait answered) ∙ not_true (is_wait answer) parts.1 in
-    same_blocked state new known (after ∙ looks state number request parts.0 quick) are
+    let moved : state_left None state number (Call request) ≡ (calls state number request).after =
+    ap (λ (counters : List Counter). recounted counters (calls state number request).after) (counted_looks state number request (calls state number request).answer parts.0 ∙ ap (λ (s : State). s.counters) (sym (looks state number request parts.0 quick))) in
+    same_blocked state new known (after ∙ (moved ∙ looks state number request parts.0 quick)) are

@@ -1,5 +1,5 @@
 -- What the data have of each session, while sessions change.
-use Rattle.std.proofs.Common.{◌≡◌, ℕ, Bool, true, false, not, List, [], ◌∷◌, ◌++◌, filter, cond, Some, None, refl, sym, ap, ◌∙◌, subst}
+use Rattle.std.proofs.Common.{◌≡◌, ℕ, Bool, true, false, not, List, [], ◌∷◌, ◌++◌, filter, cond, Option, Some, None, refl, sym, ap, ◌∙◌, subst}
 use Rattle.std.specs.Prelude.{◌==◌}
 use Rattle.base_values.specs.declared.event.RowEvent.{RowEvent}
 use Rattle.server_model.specs.declared.need.Need.{Need}
@@ -51,23 +51,26 @@ have_grows number need events before after sessions live have more same =
     have_each number before after sessions (with_session number (holding need events) sessions) have same (λ n differ. changed_there number n (holding need events) sessions (λ s. refl) differ)
     (more ∙ ap (λ (w : List RowEvent). w ++ events) (have number ∙ ap writes_of live.is) ∙ sym (ap writes_of (changed_here number (holding need events) sessions live.found (λ s. refl) live.is)))
 
--- a change that leaves what a session wrote
-pub kept_writes : (number n : ℕ) (change : Session → Session) (sessions : List Session) → ((s : Session) → (change s).number ≡ s.number) → ((s : Session) → (change s).writes ≡ s.writes) → writes_of (session_of n sessions) ≡ writes_of (session_of n (with_session number change sessions))
+-- a change that leaves what is asked of a session
+pub kept_of : {A : Type 0} (f : Option Session → A) (number n : ℕ) (change : Session → Session) (sessions : List Session) → ((s : Session) → (change s).number ≡ s.number) → ((s : Session) → f (Some (change s)) ≡ f (Some s)) → f (session_of n sessions) ≡ f (session_of n (with_session number change sessions))
 unfolding with_session
-kept_writes number n change [] numbers writes = refl
-kept_writes number n change (first ∷ sessions) numbers writes = at (first.number == number) (kept_writes number n change sessions numbers writes) where
-  here : (c : Bool) → writes_of (cond c (Some first) (session_of n sessions)) ≡ writes_of (cond c (Some (change first)) (session_of n sessions))
-  here true = sym (writes first)
+kept_of {A} f number n change [] numbers same = refl
+kept_of {A} f number n change (first ∷ sessions) numbers same = at (first.number == number) (kept_of f number n change sessions numbers same) where
+  here : (c : Bool) → f (cond c (Some first) (session_of n sessions)) ≡ f (cond c (Some (change first)) (session_of n sessions))
+  here true = sym (same first)
   here false = refl
 
-  there : (c : Bool) → writes_of (session_of n sessions) ≡ writes_of (session_of n (with_session number change sessions)) → writes_of (cond c (Some first) (session_of n sessions)) ≡ writes_of (cond c (Some first) (session_of n (with_session number change sessions)))
+  there : (c : Bool) → f (session_of n sessions) ≡ f (session_of n (with_session number change sessions)) → f (cond c (Some first) (session_of n sessions)) ≡ f (cond c (Some first) (session_of n (with_session number change sessions)))
   there true rest = refl
   there false rest = rest
 
-  at : (b : Bool) → writes_of (session_of n sessions) ≡ writes_of (session_of n (with_session number change sessions))
-      → writes_of (cond (first.number == n) (Some first) (session_of n sessions)) ≡ writes_of (session_of n (cond b (change first ∷ sessions) (first ∷ with_session number change sessions)))
-  at true rest = subst (λ (m : ℕ). writes_of (cond (first.number == n) (Some first) (session_of n sessions)) ≡ writes_of (cond (m == n) (Some (change first)) (session_of n sessions))) (sym (numbers first)) (here (first.number == n))
+  at : (b : Bool) → f (session_of n sessions) ≡ f (session_of n (with_session number change sessions))
+      → f (cond (first.number == n) (Some first) (session_of n sessions)) ≡ f (session_of n (cond b (change first ∷ sessions) (first ∷ with_session number change sessions)))
+  at true rest = subst (λ (m : ℕ). f (cond (first.number == n) (Some first) (session_of n sessions)) ≡ f (cond (m == n) (Some (change first)) (session_of n sessions))) (sym (numbers first)) (here (first.number == n))
   at false rest = there (first.number == n) rest
+
+pub kept_writes : (number n : ℕ) (change : Session → Session) (sessions : List Session) → ((s : Session) → (change s).number ≡ s.number) → ((s : Session) → (change s).writes ≡ s.writes) → writes_of (session_of n sessions) ≡ writes_of (session_of n (with_session number change sessions))
+kept_writes number n change sessions numbers writes = kept_of writes_of number n change sessions numbers writes
 
 pub have_same : (number : ℕ) (change : Session → Session) (written : ℕ → List RowEvent) (sessions : List Session) → ((s : Session) → (change s).number ≡ s.number) → ((s : Session) → (change s).writes ≡ s.writes) → HaveIn written sessions → HaveIn written (with_session number change sessions)
 have_same number change written sessions numbers writes have n = have n ∙ kept_writes number n change sessions numbers writes

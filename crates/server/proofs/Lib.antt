@@ -4,3 +4,8 @@ pub mod Steps
 pub mod Requests
 pub mod Polling
 pub mod Blocked
+pub mod Counting
+pub mod Offers
+pub mod CounterMoves
+pub mod OpeningCounters
+pub mod Turns

@@ -23,8 +23,11 @@ use Rattle.server_model.specs.Conditions.{is_blocked_exclusive, is_freely_polled
 use Rattle.server_model.specs.Effects.{Effect, Rests, Grows, Writes, Forgets, Moves, Locks, Unlocks, effect, effect_unless, effect_within, is_beyond, is_outside}
 use Rattle.server_model.specs.Operations.{after_events, copy_operation, operation_result, statement_result}
 use Rattle.server_model.specs.Blockers.{blocker, need, need_within, row_locks_of}
-use Rattle.server_model.specs.PlainServer.{calls, commits, counting, does, done, exclusive, forgets, is_over, polled_over, polls, serving, unlocking, without_waiting}
-use Rattle.server_model.specs.States.{State, is_exclusive, is_in_transaction, locked_names, names_held, names_in, pair_names, session_of, tables_named, view, waiting_of, with_session}
+use Rattle.server_model.specs.Drawing.{filled, filled_for}
+use Rattle.server_model.proofs.Filling.{filled_case}
+use Rattle.server_model.specs.PlainServer.{calls, commits, counting, does, done, did, exclusive, forgets, is_over, polled_over, polls, serving, unlocking, without_waiting}
+use Rattle.server_model.specs.declared.counter.Counter.{Counter}
+use Rattle.server_model.specs.States.{State, is_exclusive, is_in_transaction, is_of_tool, locked_names, names_held, names_in, pair_names, session_of, tables_named, view, waiting_of, with_session}
 use Rattle.server_model.specs.LockedRows.Databases.{EventsCovered}
 use Rattle.server_model.proofs.LockedRows.Tests.{are_one}
 use Rattle.proof_journals.specs.Holdings.{face_of}
@@ -90,7 +93,7 @@ rename_needs tables written all_sessions number pairs request locks together may
 -- WHO BLOCKS
 
 pub blocker_so : (tables : Database) (written : ℕ → List RowEvent) (all_sessions : State) (number : ℕ) (request : Request) (locks : List Lock) → HaveWritten written all_sessions → locks ≡ row_locks_of (after_events tables (written number)) request
-    → blocker all_sessions number (needed request locks) ≡ blocker (state_of tables all_sessions) number (need (state_of tables all_sessions) number request)
+    → blocker all_sessions number (needed request locks) ≡ blocker (state_of tables all_sessions) number (need_within (view number (state_of tables all_sessions)) request)
 blocker_so tables written all_sessions number request locks have are =
     ap (λ (l : List Lock). blocker all_sessions number (needed request l)) (are ∙ ap (λ (d : Database). row_locks_of d request) (seen_so tables written all_sessions number have))
 
@@ -104,14 +107,14 @@ unfolding calls
 calls_wait state number by request blocked = rw blocked refl
 
 -- a request that names a table which isn't locked, where the session holds LOCK TABLES
-pub done_outside : (state : State) (number : ℕ) (request : Request) → is_outside (session_of number state.sessions) request ≡ true → done state number request ≡ serving (refuses ER_TABLE_NOT_LOCKED) state
-unfolding done
-done_outside state number request outside = rw outside refl
+pub did_outside : (state : State) (number : ℕ) (request : Request) → is_outside (session_of number state.sessions) request ≡ true → did state number request ≡ serving (refuses ER_TABLE_NOT_LOCKED) state
+unfolding did
+did_outside state number request outside = rw outside refl
 
-pub done_inside : (state : State) (number : ℕ) (request : Request) → is_outside (session_of number state.sessions) request ≡ false
-    → done state number request ≡ does (effect_within (is_in_transaction (session_of number state.sessions)) (view number state) state request) state number
-unfolding done
-done_inside state number request inside = rw inside refl
+pub did_inside : (state : State) (number : ℕ) (request : Request) → is_outside (session_of number state.sessions) request ≡ false
+    → did state number request ≡ does (effect_within (is_in_transaction (session_of number state.sessions)) (view number state) state request) state number
+unfolding did
+did_inside state number request inside = rw inside refl
 
 -- what mentions no table is never outside
 inside_none : (locked : List (List ℕ)) → is_beyond locked [] ≡ false
@@ -122,18 +125,18 @@ none_outside : (found : Option Session) (request : Request) → tables_named req
 none_outside None request none = refl
 none_outside (Some session) request none = ap (is_beyond (locked_names session.names)) none ∙ inside_none (locked_names session.names)
 
-free_done : (state : State) (number : ℕ) (request : Request) → tables_named request ≡ [] → done state number request ≡ does (effect_within (is_in_transaction (session_of number state.sessions)) (view number state) state request) state number
-free_done state number request none = done_inside state number request (none_outside (session_of number state.sessions) request none)
+free_did : (state : State) (number : ℕ) (request : Request) → tables_named request ≡ [] → did state number request ≡ does (effect_within (is_in_transaction (session_of number state.sessions)) (view number state) state request) state number
+free_did state number request none = did_inside state number request (none_outside (session_of number state.sessions) request none)
 
 -- COMMIT, ROLLBACK and UNLOCK TABLES
 pub calls_commit : (state : State) (number : ℕ) → calls state number requests.Commit ≡ serving ok (commits number [] state)
-calls_commit state number = calls_done state number requests.Commit (nothing_blocks state number false) ∙ free_done state number requests.Commit refl
+calls_commit state number = calls_done state number requests.Commit (nothing_blocks state number false) ∙ free_did state number requests.Commit refl
 
 pub calls_rollback : (state : State) (number : ℕ) → calls state number requests.Rollback ≡ serving ok (forgets number state)
-calls_rollback state number = calls_done state number requests.Rollback (nothing_blocks state number false) ∙ free_done state number requests.Rollback refl
+calls_rollback state number = calls_done state number requests.Rollback (nothing_blocks state number false) ∙ free_did state number requests.Rollback refl
 
 pub calls_unlock : (state : State) (number : ℕ) → calls state number requests.Unlock ≡ serving ok (record state { sessions = with_session number unlocking state.sessions })
-calls_unlock state number = calls_done state number requests.Unlock (nothing_blocks state number false) ∙ free_done state number requests.Unlock refl
+calls_unlock state number = calls_done state number requests.Unlock (nothing_blocks state number false) ∙ free_did state number requests.Unlock refl
 
 -- POLLS
 
@@ -174,10 +177,17 @@ effect_ended : (outside busy : Bool) (seen : Database) (state : State) (number :
 effect_ended true busy seen state number request some = refl
 effect_ended false busy seen state number request some = within_ended busy seen state number request some
 
-done_ended : (state : State) (number : ℕ) (request : Request) → names_in request ≢ [] → done (without_waiting number state) number request ≡ serving (done state number request).answer (without_waiting number (done state number request).after)
-unfolding done
-done_ended state number request some =
+did_ended : (state : State) (number : ℕ) (request : Request) → names_in request ≢ [] → did (without_waiting number state) number request ≡ serving (did state number request).answer (without_waiting number (did state number request).after)
+unfolding did
+did_ended state number request some =
     ap (λ (d : Effect). does d (without_waiting number state) number) (effect_ended (is_outside (session_of number state.sessions) request) (is_in_transaction (session_of number state.sessions)) (view number state) state number request some) ∙ does_ended (effect state number request) state number
+
+-- a filled request mentions a table where the one does that was asked
+filled_names : (tool : Bool) (tables : Database) (counters : List Counter) (request : Request) → names_in request ≢ [] → names_in (filled_for tool tables counters request) ≢ []
+filled_names = filled_case (λ asked full. names_in asked ≢ [] → names_in full ≢ []) (λ r some. some) (λ statement n some none. cc)
+
+done_ended : (state : State) (number : ℕ) (request : Request) → names_in request ≢ [] → done (without_waiting number state) number request ≡ serving (done state number request).answer (without_waiting number (done state number request).after)
+done_ended state number request some = did_ended state number (filled state number request) (filled_names (is_of_tool (session_of number state.sessions)) state.tables state.counters request some)
 
 pub polls_done : (state : State) (number : ℕ) (one : Waiting) → waiting_of number state.waiting ≡ Some one → names_in one.request ≢ [] → blocker state number (need state number one.request) ≡ None
     → polls state number ≡ serving (done state number one.request).answer (without_waiting number (done state number one.request).after)
@@ -186,3 +196,6 @@ polls_done state number one waits some free = rw (waits, free) (done_ended state
 
 pub freely_blocked : (state : State) (number : ℕ) (one : Waiting) → waiting_of number state.waiting ≡ Some one → is_freely_polled state number ≡ true → is_some (blocker state number (need state number one.request)) ≡ true
 freely_blocked state number one waits free = (and_parts (is_exclusive one.request) (is_some (blocker state number (need state number one.request))) (sym (ap (is_blocked_exclusive state number) waits) ∙ free)).1
+
+pub freely_exclusive : (state : State) (number : ℕ) (one : Waiting) → waiting_of number state.waiting ≡ Some one → is_freely_polled state number ≡ true → is_exclusive one.request ≡ true
+freely_exclusive state number one waits free = (and_parts (is_exclusive one.request) (is_some (blocker state number (need state number one.request))) (sym (ap (is_blocked_exclusive state number) waits) ∙ free)).0

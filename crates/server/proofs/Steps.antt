@@ -9,11 +9,12 @@ use Rattle.server_model.specs.declared.need.Need.{Need}
 use Rattle.server_model.specs.declared.request.Request.{Request}
 use Rattle.server_model.specs.Effects.{nothing_needed}
 use Rattle.server_model.specs.Operations.{after_events}
-use Rattle.server_model.specs.Blockers.{need, need_within}
-use Rattle.server_model.specs.PlainServer.{commits, counting, forgets, goes_on, locking, loses, polled_over, unlocking}
+use Rattle.server_model.specs.Blockers.{need_within}
+use Rattle.server_model.specs.PlainServer.{commits, counting, forgets, goes_on, locking, loses, polled_over, recounted, unlocking}
 use Rattle.server_model.specs.Listings.{waits_shown}
 use Rattle.server_model.specs.declared.session.Limits.{Limits}
 use Rattle.server_model.specs.declared.session.Waiting.{Waiting}
+use Rattle.server_model.specs.declared.counter.Counter.{Counter}
 use Rattle.server_model.specs.States.{State, connected, is_live, opened, polls_of, session_of, unread, view, with_session, writes_of}
 use Rattle.server_model.specs.LockedRows.Databases.{IsWellFormedDatabase}
 use Rattle.proof_journals.specs.Holdings.{face_of}
@@ -126,7 +127,7 @@ grows_have written after tables all_sessions new number need events together liv
 pub at_work : (tables : Database) (written : ℕ → List RowEvent) (all_sessions : State) (number : ℕ) (request : Request) (locks : List Lock) → GoTogether tables written all_sessions → MayDo (state_of tables all_sessions) number request locks → AtWork (state_of tables all_sessions) number request
 at_work tables written all_sessions number request locks together may = record {
   kept = kept_in (state_of tables all_sessions) together.serves;
-  free = granted (state_of tables all_sessions) number (need (state_of tables all_sessions) number request) together.serves.alone may.free;
+  free = granted (state_of tables all_sessions) number (need_within (view number (state_of tables all_sessions)) request) together.serves.alone may.free;
   comes = may.comes;
   formed = may.formed;
 }
@@ -171,8 +172,18 @@ unfolding unread
 unread_same tables all_sessions position names = refl
 
 -- a server that opens, and one to which a session connects
-pub opened_together : (limits : Limits) (tables : Database) (written : ℕ → List RowEvent) (all_sessions : State) → IsWellFormedDatabase tables → ((n : ℕ) → written n ≡ []) → all_sessions ≡ opened limits [] → GoTogether tables written all_sessions
-opened_together limits tables written all_sessions well_formed none is = rw is (record { have = none; serves = opened_serves limits tables well_formed })
+pub recounted_serves : (counters : List Counter) (state : State) → IsServing state → IsServing (recounted counters state)
+recounted_serves counters state serving = record {
+  well_formed = serving.well_formed;
+  own = serving.own;
+  apart = serving.apart;
+  alone = serving.alone;
+  waits = serving.waits;
+}
+
+pub opened_together : (limits : Limits) (counters : List Counter) (tables : Database) (written : ℕ → List RowEvent) (all_sessions : State) → IsWellFormedDatabase tables → ((n : ℕ) → written n ≡ []) → all_sessions ≡ recounted counters (opened limits []) → GoTogether tables written all_sessions
+opened_together limits counters tables written all_sessions well_formed none is =
+    rw is (record { have = none; serves = recounted_serves counters (opened limits tables) (opened_serves limits tables well_formed) })
 
 pub connected_together : {E : Type 0} (result : Result ℕ E) (tables : Database) (written : ℕ → List RowEvent) (all_sessions new : State) (number : ℕ) (is_tool : Bool) → GoTogether tables written all_sessions → OnOk result (new ≡ connected number is_tool all_sessions) → OnErr result (new ≡ all_sessions) → GoTogether tables written new
 connected_together (Ok made) tables written all_sessions new number is_tool together ok err =

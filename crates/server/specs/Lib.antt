@@ -1,3 +1,5 @@
 pub mod Parts
+pub mod DrawnAnswers
+pub mod FilledRequests
 pub mod KnownBlockers
 pub mod FinalServer

@@ -10,8 +10,8 @@ use Rattle.server_model.specs.declared.need.Need.{Need}
 use Rattle.server_model.specs.declared.request.Request.{Request}
 use Rattle.server_model.specs.declared.request.Request.TheVariants as requests
 use Rattle.server_model.specs.Conditions.{ComesWell, IsWellFormed}
-use Rattle.server_model.specs.Blockers.{blocker, need, row_locks_of}
-use Rattle.server_model.specs.PlainServer.{serves}
+use Rattle.server_model.specs.Blockers.{blocker, need_within, row_locks_of}
+use Rattle.server_model.specs.PlainServer.{state_left}
 use Rattle.server_model.specs.States.{State, holds_tables, is_exclusive, is_in_transaction, is_live, names_in, session_of, view, writes_of}
 use Rattle.proof_journals.specs.ServerFacts.Invariants.{IsServing}
 
@@ -32,14 +32,14 @@ pub record GoTogether (tables : Database) (written : ℕ → List RowEvent) (all
 abbrev pub needed : Request → List Lock → Need
 needed request locks = record { exclusive = is_exclusive request; names = names_in request; locks = locks }
 
--- *The request may be done*: its session is live, it may come now, these are the row locks that it needs, and nobody blocks
+-- *The filled request may be done*: its session is live, it may come now, these are the row locks that it needs, and nobody blocks
 -- what it needs.
 pub record MayDo (state : State) (session : ℕ) (request : Request) (locks : List Lock) : Type 0 where
   pub live : is_live state session ≡ true
   pub comes : ComesWell (is_in_transaction (session_of session state.sessions)) (holds_tables (session_of session state.sessions)) request
   pub formed : IsWellFormed state.tables request
   pub locks_are : locks ≡ row_locks_of (view session state) request
-  pub free : blocker state session (need state session request) ≡ None
+  pub free : blocker state session (need_within (view session state) request) ≡ None
 
 -- requests that change nothing, and ask for no lock of a row
 abbrev pub is_look : Request → Bool
@@ -55,4 +55,9 @@ is_look request = false
 abbrev pub before_loss : Option Side → State → ℕ → Asked → State
 before_loss None state number asked = state
 before_loss (Some Before) state number asked = state
-before_loss (Some After) state number asked = (serves state number asked).after
+before_loss (Some After) state number asked = state_left None state number asked
+
+-- what contracts see of a server: the plain server's state, and the number that was drawn last
+pub record ServedState : Type 0 where
+  pub state : State
+  pub drawn : Option ℕ

@@ -1,15 +1,22 @@
 //! Calls and polls: the locks that a request needs, who blocks one, and what it does where nobody does.
 
-ghost use Rattle.std.specs.Prelude.{◌≡◌, true, Some, IfOk, IsOk, OnOk, OnErr};
+ghost use Rattle.std.specs.Prelude.{◌≡◌, true, Some, None, IfOk, IsOk, OnOk, OnErr};
 ghost use Rattle.server_model.specs.Conditions.{IsWellFormed, MayCall, MayPoll, is_free, is_freely_polled};
 ghost use Rattle.server_model.specs.Operations.{after_events};
 ghost use Rattle.server_model.specs.Blockers.{row_locks_of};
-ghost use Rattle.server_model.specs.PlainServer.{calls, done, is_over, polled_over, polls, without_waiting};
+ghost use Rattle.server_model.specs.Counting.{counted, drawn_by};
+ghost use Rattle.server_model.specs.declared.entry.Asked.TheVariants.{Call, Poll};
+ghost use Rattle.server_model.specs.Drawing.{filled};
+ghost use Rattle.server_model.specs.PlainServer.{calls, done, is_over, number_drawn, polled_over, polls, recounted, state_left, without_waiting};
 ghost use Rattle.server_model.specs.States.{is_exclusive};
+ghost use Rattle.server.specs.FilledRequests.{IsFilled};
 ghost use Rattle.server.specs.KnownBlockers.{AreBlocked};
 ghost use Rattle.server.specs.Parts.{state_of, GoTogether, HaveWritten, MayDo};
 
 use crate::commits::{commit, roll_back};
+use crate::counters::counter_move;
+use crate::drawn_answers::{DrawnAnswer, undrawn};
+use crate::filled_requests::{Filling, fill};
 use crate::known_blockers::{KnownBlockers, is_answered_look};
 use crate::operation::do_request;
 use base_values::{Duplicate, Sequence};
@@ -38,27 +45,55 @@ fn locks_of<D: Data>(
     }
 }
 
+/// The request is done, filled with the number that it draws, and counters move.
+fn do_filled<D: Data>(
+    store: &mut D,
+    all_sessions: &mut Sessions,
+    session: u32,
+    request: &Request,
+    filling: &Filling,
+    locks: LockSet,
+) -> Result<DrawnAnswer, AllocError>
+    requires together { GoTogether (D.committed store.old) (D.written store.old) all_sessions.old }
+    requires filled { IsFilled (state_of (D.committed store.old) all_sessions.old) session request.now filling.now }
+    requires may { MayDo (state_of (D.committed store.old) all_sessions.old) session (filled (state_of (D.committed store.old) all_sessions.old) session request.now) locks }
+    ensures answer { IfOk result (λ one. one.answer ≡ (done (state_of (D.committed store.old) all_sessions.old) session request.now).answer) }
+    ensures drawn { IfOk result (λ one. one.drawn ≡ drawn_by (state_of (D.committed store.old) all_sessions.old) session (Some request.now) one.answer) }
+    ensures ok { IfOk result (λ one. state_of (D.committed store.new) all_sessions.new ≡ recounted (counted (state_of (D.committed store.old) all_sessions.old) session (Some request.now) one.answer) (done (state_of (D.committed store.old) all_sessions.old) session request.now).after) }
+    ensures err { OnErr result (state_of (D.committed store.new) all_sessions.new ≡ state_of (D.committed store.old) all_sessions.old) }
+    ensures have { HaveWritten (D.written store.new) all_sessions.new }
+{
+    let counter_move = counter_move(store, all_sessions, session, request, filling.offer)?;
+    let full = filling.request(request);
+    let answer = do_request(store, all_sessions, session, full, locks)?;
+    let drawn = all_sessions.move_counters(counter_move, &answer);
+    Ok(DrawnAnswer { answer, drawn })
+}
+
 /// The request is done where nobody blocks it, else it waits.
 fn call_or_wait<D: Data>(
     store: &mut D,
     all_sessions: &mut Sessions,
     session: u32,
     request: &Request,
-) -> Result<Answer, AllocError>
+) -> Result<DrawnAnswer, AllocError>
     requires together { GoTogether (D.committed store.old) (D.written store.old) all_sessions.old }
     requires may { MayCall (state_of (D.committed store.old) all_sessions.old) session request.now }
-    ensures answer { IfOk result (λ answer. answer ≡ (calls (state_of (D.committed store.old) all_sessions.old) session request.now).answer) }
-    ensures ok { OnOk result (state_of (D.committed store.new) all_sessions.new ≡ (calls (state_of (D.committed store.old) all_sessions.old) session request.now).after) }
+    ensures answer { IfOk result (λ one. one.answer ≡ (calls (state_of (D.committed store.old) all_sessions.old) session request.now).answer) }
+    ensures drawn { IfOk result (λ one. one.drawn ≡ number_drawn None (state_of (D.committed store.old) all_sessions.old) session (Call request.now)) }
+    ensures ok { OnOk result (state_of (D.committed store.new) all_sessions.new ≡ state_left None (state_of (D.committed store.old) all_sessions.old) session (Call request.now)) }
     ensures err { OnErr result (state_of (D.committed store.new) all_sessions.new ≡ state_of (D.committed store.old) all_sessions.old) }
     ensures have { HaveWritten (D.written store.new) all_sessions.new }
 {
-    let locks = locks_of(all_sessions.allocator(), store, session, request)?;
-    match all_sessions.blocker(session, request, locks.as_slice()) {
+    let filling = fill(store, all_sessions, session, request)?;
+    let full = filling.request(request);
+    let locks = locks_of(all_sessions.allocator(), store, session, full)?;
+    match all_sessions.blocker(session, full, locks.as_slice()) {
         Some(by) => {
             all_sessions.wait(session, request)?;
-            Ok(Answer::Waits { by })
+            Ok(undrawn(Answer::Waits { by }))
         }
-        None => do_request(store, all_sessions, session, request, locks),
+        None => do_filled(store, all_sessions, session, request, &filling, locks),
     }
 }
 
@@ -68,11 +103,12 @@ fn serve_call<D: Data>(
     all_sessions: &mut Sessions,
     session: u32,
     request: &Request,
-) -> Result<Answer, AllocError>
+) -> Result<DrawnAnswer, AllocError>
     requires together { GoTogether (D.committed store.old) (D.written store.old) all_sessions.old }
     requires may { MayCall (state_of (D.committed store.old) all_sessions.old) session request.now }
-    ensures answer { IfOk result (λ answer. answer ≡ (calls (state_of (D.committed store.old) all_sessions.old) session request.now).answer) }
-    ensures ok { OnOk result (state_of (D.committed store.new) all_sessions.new ≡ (calls (state_of (D.committed store.old) all_sessions.old) session request.now).after) }
+    ensures answer { IfOk result (λ one. one.answer ≡ (calls (state_of (D.committed store.old) all_sessions.old) session request.now).answer) }
+    ensures drawn { IfOk result (λ one. one.drawn ≡ number_drawn None (state_of (D.committed store.old) all_sessions.old) session (Call request.now)) }
+    ensures ok { OnOk result (state_of (D.committed store.new) all_sessions.new ≡ state_left None (state_of (D.committed store.old) all_sessions.old) session (Call request.now)) }
     ensures err { OnErr result (state_of (D.committed store.new) all_sessions.new ≡ state_of (D.committed store.old) all_sessions.old) }
     ensures have { HaveWritten (D.written store.new) all_sessions.new }
     ensures free { is_free request.now ≡ true → IsOk result }
@@ -80,15 +116,15 @@ fn serve_call<D: Data>(
     match request {
         Request::Commit => {
             commit(store, all_sessions, session);
-            Ok(Answer::Ok(0))
+            Ok(undrawn(Answer::Ok(0)))
         }
         Request::Rollback => {
             roll_back(store, all_sessions, session);
-            Ok(Answer::Ok(0))
+            Ok(undrawn(Answer::Ok(0)))
         }
         Request::Unlock => {
             all_sessions.unlock(session);
-            Ok(Answer::Ok(0))
+            Ok(undrawn(Answer::Ok(0)))
         }
         _ => call_or_wait(store, all_sessions, session, request),
     }
@@ -101,23 +137,24 @@ pub fn call<D: Data>(
     known: &mut KnownBlockers,
     session: u32,
     request: &Request,
-) -> Result<Answer, AllocError>
+) -> Result<DrawnAnswer, AllocError>
     requires together { GoTogether (D.committed store.old) (D.written store.old) all_sessions.old }
     requires blocked { AreBlocked (state_of (D.committed store.old) all_sessions.old) known.old }
     requires may { MayCall (state_of (D.committed store.old) all_sessions.old) session request.now }
-    ensures answer { IfOk result (λ answer. answer ≡ (calls (state_of (D.committed store.old) all_sessions.old) session request.now).answer) }
-    ensures ok { OnOk result (state_of (D.committed store.new) all_sessions.new ≡ (calls (state_of (D.committed store.old) all_sessions.old) session request.now).after) }
+    ensures answer { IfOk result (λ one. one.answer ≡ (calls (state_of (D.committed store.old) all_sessions.old) session request.now).answer) }
+    ensures drawn { IfOk result (λ one. one.drawn ≡ number_drawn None (state_of (D.committed store.old) all_sessions.old) session (Call request.now)) }
+    ensures ok { OnOk result (state_of (D.committed store.new) all_sessions.new ≡ state_left None (state_of (D.committed store.old) all_sessions.old) session (Call request.now)) }
     ensures err { OnErr result (state_of (D.committed store.new) all_sessions.new ≡ state_of (D.committed store.old) all_sessions.old) }
     ensures have { HaveWritten (D.written store.new) all_sessions.new }
     ensures blocked { AreBlocked (state_of (D.committed store.new) all_sessions.new) known.new }
     ensures free { is_free request.now ≡ true → IsOk result }
 {
-    let answer = serve_call(store, all_sessions, session, request)?;
-    if is_answered_look(request, &answer) {
-        return Ok(answer);
+    let served = serve_call(store, all_sessions, session, request)?;
+    if is_answered_look(request, &served.answer) {
+        return Ok(served);
     }
     known.forget();
-    Ok(answer)
+    Ok(served)
 }
 
 /// The session's request was polled, and stays blocked: it waits on, or its wait times out and its transaction is rolled back.
@@ -151,18 +188,21 @@ fn do_waiting<D: Data>(
     all_sessions: &mut Sessions,
     session: u32,
     request: &Request,
+    filling: &Filling,
     locks: LockSet,
-) -> Result<Answer, AllocError>
+) -> Result<DrawnAnswer, AllocError>
     requires together { GoTogether (D.committed store.old) (D.written store.old) all_sessions.old }
-    requires may { MayDo (state_of (D.committed store.old) all_sessions.old) session request.now locks }
-    ensures answer { IfOk result (λ answer. answer ≡ (done (state_of (D.committed store.old) all_sessions.old) session request.now).answer) }
-    ensures ok { OnOk result (state_of (D.committed store.new) all_sessions.new ≡ without_waiting session (done (state_of (D.committed store.old) all_sessions.old) session request.now).after) }
+    requires filled { IsFilled (state_of (D.committed store.old) all_sessions.old) session request.now filling.now }
+    requires may { MayDo (state_of (D.committed store.old) all_sessions.old) session (filled (state_of (D.committed store.old) all_sessions.old) session request.now) locks }
+    ensures answer { IfOk result (λ one. one.answer ≡ (done (state_of (D.committed store.old) all_sessions.old) session request.now).answer) }
+    ensures drawn { IfOk result (λ one. one.drawn ≡ drawn_by (state_of (D.committed store.old) all_sessions.old) session (Some request.now) one.answer) }
+    ensures ok { IfOk result (λ one. state_of (D.committed store.new) all_sessions.new ≡ without_waiting session (recounted (counted (state_of (D.committed store.old) all_sessions.old) session (Some request.now) one.answer) (done (state_of (D.committed store.old) all_sessions.old) session request.now).after)) }
     ensures err { OnErr result (state_of (D.committed store.new) all_sessions.new ≡ state_of (D.committed store.old) all_sessions.old) }
     ensures have { HaveWritten (D.written store.new) all_sessions.new }
 {
-    let answer = do_request(store, all_sessions, session, request, locks)?;
+    let served = do_filled(store, all_sessions, session, request, filling, locks)?;
     all_sessions.end_wait(session);
-    Ok(answer)
+    Ok(served)
 }
 
 /// A poll of a session, of whose request nothing is known.
@@ -171,31 +211,34 @@ fn poll_unknown<D: Data>(
     all_sessions: &mut Sessions,
     known: &mut KnownBlockers,
     session: u32,
-) -> Result<Answer, AllocError>
+) -> Result<DrawnAnswer, AllocError>
     requires together { GoTogether (D.committed store.old) (D.written store.old) all_sessions.old }
     requires blocked { AreBlocked (state_of (D.committed store.old) all_sessions.old) known.old }
     requires may { MayPoll (state_of (D.committed store.old) all_sessions.old) session }
-    ensures answer { IfOk result (λ answer. answer ≡ (polls (state_of (D.committed store.old) all_sessions.old) session).answer) }
-    ensures ok { OnOk result (state_of (D.committed store.new) all_sessions.new ≡ (polls (state_of (D.committed store.old) all_sessions.old) session).after) }
+    ensures answer { IfOk result (λ one. one.answer ≡ (polls (state_of (D.committed store.old) all_sessions.old) session).answer) }
+    ensures drawn { IfOk result (λ one. one.drawn ≡ number_drawn None (state_of (D.committed store.old) all_sessions.old) session Poll) }
+    ensures ok { OnOk result (state_of (D.committed store.new) all_sessions.new ≡ state_left None (state_of (D.committed store.old) all_sessions.old) session Poll) }
     ensures err { OnErr result (state_of (D.committed store.new) all_sessions.new ≡ state_of (D.committed store.old) all_sessions.old) }
     ensures have { HaveWritten (D.written store.new) all_sessions.new }
     ensures blocked { AreBlocked (state_of (D.committed store.new) all_sessions.new) known.new }
     ensures free { is_freely_polled (state_of (D.committed store.old) all_sessions.old) session ≡ true → IsOk result }
 {
     let Some(waiting) = all_sessions.waiting(session) else {
-        return Ok(Answer::Ok(0));
+        return Ok(undrawn(Answer::Ok(0)));
     };
-    let locks = locks_of(all_sessions.allocator(), store, session, &waiting.request)?;
-    match all_sessions.blocker(session, &waiting.request, locks.as_slice()) {
+    let filling = fill(store, all_sessions, session, &waiting.request)?;
+    let full = filling.request(&waiting.request);
+    let locks = locks_of(all_sessions.allocator(), store, session, full)?;
+    match all_sessions.blocker(session, full, locks.as_slice()) {
         Some(by) => {
             // Where there is no memory to keep it, the next poll looks again.
             let _ = known.note(session, by);
-            Ok(stay_blocked(store, all_sessions, known, session, by))
+            Ok(undrawn(stay_blocked(store, all_sessions, known, session, by)))
         }
         None => {
             let request = waiting.request.copy()?;
             known.forget();
-            do_waiting(store, all_sessions, session, &request, locks)
+            do_waiting(store, all_sessions, session, &request, &filling, locks)
         }
     }
 }
@@ -207,19 +250,20 @@ pub fn poll<D: Data>(
     all_sessions: &mut Sessions,
     known: &mut KnownBlockers,
     session: u32,
-) -> Result<Answer, AllocError>
+) -> Result<DrawnAnswer, AllocError>
     requires together { GoTogether (D.committed store.old) (D.written store.old) all_sessions.old }
     requires blocked { AreBlocked (state_of (D.committed store.old) all_sessions.old) known.old }
     requires may { MayPoll (state_of (D.committed store.old) all_sessions.old) session }
-    ensures answer { IfOk result (λ answer. answer ≡ (polls (state_of (D.committed store.old) all_sessions.old) session).answer) }
-    ensures ok { OnOk result (state_of (D.committed store.new) all_sessions.new ≡ (polls (state_of (D.committed store.old) all_sessions.old) session).after) }
+    ensures answer { IfOk result (λ one. one.answer ≡ (polls (state_of (D.committed store.old) all_sessions.old) session).answer) }
+    ensures drawn { IfOk result (λ one. one.drawn ≡ number_drawn None (state_of (D.committed store.old) all_sessions.old) session Poll) }
+    ensures ok { OnOk result (state_of (D.committed store.new) all_sessions.new ≡ state_left None (state_of (D.committed store.old) all_sessions.old) session Poll) }
     ensures err { OnErr result (state_of (D.committed store.new) all_sessions.new ≡ state_of (D.committed store.old) all_sessions.old) }
     ensures have { HaveWritten (D.written store.new) all_sessions.new }
     ensures blocked { AreBlocked (state_of (D.committed store.new) all_sessions.new) known.new }
     ensures free { is_freely_polled (state_of (D.committed store.old) all_sessions.old) session ≡ true → IsOk result }
 {
     match known.blocker(session) {
-        Some(by) => Ok(stay_blocked(store, all_sessions, known, session, by)),
+        Some(by) => Ok(undrawn(stay_blocked(store, all_sessions, known, session, by))),
         None => poll_unknown(store, all_sessions, known, session),
     }
 }

@@ -4,7 +4,10 @@
 
 mod calls;
 mod commits;
+mod counters;
 mod definitions;
+mod drawn_answers;
+mod filled_requests;
 pub mod final_server;
 mod known_blockers;
 mod losses;

@@ -1,17 +1,19 @@
 //! Losses of sessions.
 
-ghost use Rattle.std.specs.Prelude.{◌≡◌, ◌≢◌, Some, IfOk, IsOk, OnOk, OnErr};
+ghost use Rattle.std.specs.Prelude.{◌≡◌, ◌≢◌, Some, option_map, IfOk, IsOk, OnOk, OnErr};
 ghost use Rattle.base_script.specs.declared.actor.Side.TheVariants.{After};
 ghost use Rattle.server_model.specs.Conditions.{MayLose};
-ghost use Rattle.server_model.specs.PlainServer.{given_at, leaves, serves};
+ghost use Rattle.server_model.specs.PlainServer.{given_at, number_drawn, serves, state_left};
+ghost use Rattle.server.specs.DrawnAnswers.{drawn_of};
 ghost use Rattle.server.specs.KnownBlockers.{AreBlocked};
 ghost use Rattle.server.specs.Parts.{before_loss, state_of, GoTogether, HaveWritten};
 
 use crate::calls::{call, poll};
 use crate::commits::lose;
+use crate::drawn_answers::DrawnAnswer;
 use crate::known_blockers::KnownBlockers;
 use base_script::Side;
-use server_model::{Answer, Asked};
+use server_model::Asked;
 use server_sessions::live_sessions::Sessions;
 use server_transaction::server_data::Data;
 use std::alloc::AllocError;
@@ -24,11 +26,12 @@ fn serve_before<D: Data>(
     session: u32,
     side: Option<Side>,
     asked: &Asked,
-) -> Result<Option<Answer>, AllocError>
+) -> Result<Option<DrawnAnswer>, AllocError>
     requires together { GoTogether (D.committed store.old) (D.written store.old) all_sessions.old }
     requires blocked { AreBlocked (state_of (D.committed store.old) all_sessions.old) known.old }
     requires may { MayLose (state_of (D.committed store.old) all_sessions.old) session side asked.now }
-    ensures answer { IfOk result (λ answer. answer ≡ given_at side asked.now (serves (state_of (D.committed store.old) all_sessions.old) session asked.now).answer) }
+    ensures answer { IfOk result (λ missed. option_map (λ one. one.answer) missed ≡ given_at side asked.now (serves (state_of (D.committed store.old) all_sessions.old) session asked.now).answer) }
+    ensures drawn { IfOk result (λ missed. drawn_of missed ≡ number_drawn side (state_of (D.committed store.old) all_sessions.old) session asked.now) }
     ensures ok { OnOk result (state_of (D.committed store.new) all_sessions.new ≡ before_loss side (state_of (D.committed store.old) all_sessions.old) session asked.now) }
     ensures err { OnErr result (state_of (D.committed store.new) all_sessions.new ≡ state_of (D.committed store.old) all_sessions.old) }
     ensures have { HaveWritten (D.written store.new) all_sessions.new }
@@ -51,12 +54,13 @@ pub fn lose_session<D: Data>(
     session: u32,
     side: Option<Side>,
     asked: &Asked,
-) -> Result<Option<Answer>, AllocError>
+) -> Result<Option<DrawnAnswer>, AllocError>
     requires together { GoTogether (D.committed store.old) (D.written store.old) all_sessions.old }
     requires blocked { AreBlocked (state_of (D.committed store.old) all_sessions.old) known.old }
     requires may { MayLose (state_of (D.committed store.old) all_sessions.old) session side asked.now }
-    ensures answer { IfOk result (λ answer. answer ≡ given_at side asked.now (serves (state_of (D.committed store.old) all_sessions.old) session asked.now).answer) }
-    ensures ok { OnOk result (state_of (D.committed store.new) all_sessions.new ≡ leaves side (state_of (D.committed store.old) all_sessions.old) session asked.now) }
+    ensures answer { IfOk result (λ missed. option_map (λ one. one.answer) missed ≡ given_at side asked.now (serves (state_of (D.committed store.old) all_sessions.old) session asked.now).answer) }
+    ensures drawn { IfOk result (λ missed. drawn_of missed ≡ number_drawn side (state_of (D.committed store.old) all_sessions.old) session asked.now) }
+    ensures ok { OnOk result (state_of (D.committed store.new) all_sessions.new ≡ state_left side (state_of (D.committed store.old) all_sessions.old) session asked.now) }
     ensures err { OnErr result (state_of (D.committed store.new) all_sessions.new ≡ state_of (D.committed store.old) all_sessions.old) }
     ensures have { HaveWritten (D.written store.new) all_sessions.new }
     ensures free { side ≢ Some After → IsOk result }

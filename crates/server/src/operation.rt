@@ -4,7 +4,7 @@ ghost use Rattle.std.specs.Prelude.{◌≡◌, Bool, true, IfOk, OnOk, OnErr};
 ghost use Rattle.table_store.specs.Databases.{Database};
 ghost use Rattle.server_model.specs.Conditions.{IsWellFormed};
 ghost use Rattle.server_model.specs.Effects.{Rests, effect_within};
-ghost use Rattle.server_model.specs.PlainServer.{does, done};
+ghost use Rattle.server_model.specs.PlainServer.{did, does};
 ghost use Rattle.server_model.specs.States.{is_in_transaction, session_of, view};
 ghost use Rattle.server.specs.Parts.{is_look, state_of, GoTogether, HaveWritten, MayDo};
 
@@ -127,8 +127,8 @@ pub fn do_request<D: Data>(
 ) -> Result<Answer, AllocError>
     requires together { GoTogether (D.committed store.old) (D.written store.old) all_sessions.old }
     requires may { MayDo (state_of (D.committed store.old) all_sessions.old) session request.now locks }
-    ensures answer { IfOk result (λ answer. answer ≡ (done (state_of (D.committed store.old) all_sessions.old) session request.now).answer) }
-    ensures ok { OnOk result (state_of (D.committed store.new) all_sessions.new ≡ (done (state_of (D.committed store.old) all_sessions.old) session request.now).after) }
+    ensures answer { IfOk result (λ answer. answer ≡ (did (state_of (D.committed store.old) all_sessions.old) session request.now).answer) }
+    ensures ok { OnOk result (state_of (D.committed store.new) all_sessions.new ≡ (did (state_of (D.committed store.old) all_sessions.old) session request.now).after) }
     ensures err { OnErr result (state_of (D.committed store.new) all_sessions.new ≡ state_of (D.committed store.old) all_sessions.old) }
     ensures have { HaveWritten (D.written store.new) all_sessions.new }
 {

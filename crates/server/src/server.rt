@@ -1,7 +1,8 @@
 //! The server.
 
 ghost use Rattle.std.specs.Prelude.{◌≡◌, ◌≤◌, ℕ, []};
-ghost use Rattle.server_model.specs.States.{opened};
+ghost use Rattle.std.specs.List.{flat_map};
+ghost use Rattle.server_model.specs.States.{counter_of, opened};
 ghost use Rattle.server_model.specs.LockedRows.Databases.{IsWellFormedDatabase};
 
 use crate::calls::{call, poll};
@@ -10,7 +11,7 @@ use crate::losses::lose_session;
 use base_script::Side;
 use base_values::Names;
 use server_api::Serve;
-use server_model::{Answer, Asked, Limits, Request};
+use server_model::{Answer, Asked, Counter, Limits, Request};
 use server_sessions::live_sessions::Sessions;
 use server_transaction::server_data::Data;
 use std::alloc::{AllocError, Global};
@@ -23,40 +24,50 @@ pub struct Server<D: Data> {
     store: D,
     all_sessions: Sessions,
     known: KnownBlockers,
+    drawn: Option<u64>,
 }
 
 impl<D: Data> Model for Server<D> {
-    ghost use Rattle.server_model.specs.States.{State};
     ghost use Rattle.server.specs.KnownBlockers.{IsServer};
-    ghost use Rattle.server.specs.Parts.{state_of};
+    ghost use Rattle.server.specs.Parts.{state_of, ServedState};
 
-    ghost Value = { State };
+    ghost Value = { ServedState };
 
-    ghost view = { λ s. state_of (D.committed s.store) s.all_sessions };
+    ghost view = { λ s. record { state = state_of (D.committed s.store) s.all_sessions; drawn = s.drawn } };
 
     ghost invariant = { λ s. IsServer (D.committed s.store) (D.written s.store) s.all_sessions s.known };
 }
 
 impl<D: Data> Server<D> {
-    /// The server at its start, over data to which no transaction wrote yet. A wait may be polled once at least. How many
-    /// events are unread is known at once of the tables that are watched.
-    pub fn open(alloc: Global, store: D, limits: Limits, watched: Names) -> Server<D>
+    /// The server at its start, over data to which no transaction wrote yet, with the counters of its tables. A wait may be
+    /// polled once at least. How many events are unread is known at once of the tables that are watched.
+    pub fn open(
+        alloc: Global,
+        store: D,
+        limits: Limits,
+        watched: Names,
+        counters: Vec<Counter>,
+    ) -> Server<D>
+        requires counters { counters.items ≡ flat_map counter_of (D.committed store) }
         requires clients { 1 ≤ limits.client_wait }
         requires tools { 1 ≤ limits.tool_wait }
         requires well_formed { IsWellFormedDatabase (D.committed store) }
         requires unwritten { (session : ℕ) → D.written store session ≡ [] }
-        ensures { result ≡ opened limits (D.committed store) }
+        ensures { result.state ≡ opened limits (D.committed store) }
     {
         Server {
             store,
-            all_sessions: Sessions::new(alloc, limits, watched),
+            all_sessions: Sessions::new(alloc, limits, watched, counters),
             known: KnownBlockers::new(alloc),
+            drawn: None,
         }
     }
 }
 
 impl<D: Data> Serve for Server<D> {
-    ghost state = { λ s. s };
+    ghost state = { λ s. s.state };
+
+    ghost drawn = { λ s. s.drawn };
 
     fn connect(&mut self, is_tool: bool) -> Result<u32, AllocError> {
         self.known.forget();
@@ -64,22 +75,26 @@ impl<D: Data> Serve for Server<D> {
     }
 
     fn call(&mut self, session: u32, request: &Request) -> Result<Answer, AllocError> {
-        call(
+        let served = call(
             &mut self.store,
             &mut self.all_sessions,
             &mut self.known,
             session,
             request,
-        )
+        )?;
+        self.drawn = served.drawn;
+        Ok(served.answer)
     }
 
     fn poll(&mut self, session: u32) -> Result<Answer, AllocError> {
-        poll(
+        let served = poll(
             &mut self.store,
             &mut self.all_sessions,
             &mut self.known,
             session,
-        )
+        )?;
+        self.drawn = served.drawn;
+        Ok(served.answer)
     }
 
     fn lose(
@@ -97,7 +112,20 @@ impl<D: Data> Serve for Server<D> {
             asked,
         );
         self.known.forget();
-        missed
+        match missed? {
+            Some(served) => {
+                self.drawn = served.drawn;
+                Ok(Some(served.answer))
+            }
+            None => {
+                self.drawn = None;
+                Ok(None)
+            }
+        }
+    }
+
+    fn last_drawn(&self) -> Option<u64> {
+        self.drawn
     }
 
     fn live(&self, session: u32) -> bool {

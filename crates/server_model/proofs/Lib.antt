@@ -1,2 +1,4 @@
 pub mod DifferentNames
 pub mod LockedRows
+pub mod Filling
+pub mod Raising

@@ -11,3 +11,4 @@ pub mod Sound
 pub mod Finding
 pub mod Stables
 pub mod Sets
+pub mod Counters

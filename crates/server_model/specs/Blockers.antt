@@ -15,6 +15,7 @@ use Rattle.server_model.specs.declared.request.Request.{Request}
 use Rattle.server_model.specs.declared.request.Request.TheVariants as requests
 use Rattle.server_model.specs.Needs.{lock_on}
 use Rattle.server_model.specs.Operations.{row_needs, operation_needs, copy_operation}
+use Rattle.server_model.specs.Drawing.{filled}
 use Rattle.server_model.specs.States.{State, view, names_in, is_exclusive, waiters, names_held, locks_held}
 
 -- a share lock on a span of the clustered key, where the schema has one
@@ -37,9 +38,10 @@ row_locks_of seen request = []
 abbrev pub need_within : Database → Request → Need
 need_within seen request = record { exclusive = is_exclusive request; names = names_in request; locks = row_locks_of seen request }
 
--- *Need* of a session's request. It comes before every refusal, also before that of a table outside the locked ones.
+-- *Need* of a session's request, filled as it would be done now. It comes before every refusal, also before that of a table
+-- outside the locked ones.
 abbrev pub need : State → ℕ → Request → Need
-need state number request = need_within (view number state) request
+need state number request = need_within (view number state) (filled state number request)
 
 -- *Blocker*: the least session that blocks a lock which is needed, over names and rows together
 abbrev pub blocker : State → ℕ → Need → Option ℕ

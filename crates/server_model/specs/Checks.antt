@@ -1,10 +1,11 @@
 -- *Work*: what a statement is to do, as its table's schema alone decides. Columns, values and keys are checked before any
 -- row is looked at. (MySQL's manual, "INSERT Statement", "REPLACE Statement", "DELETE Statement", "UPDATE Statement",
 -- "SELECT Statement"; which conditions there are, and the order of the refusals, is this project's rule.)
-use Rattle.std.specs.Prelude.{ℕ, ◌+◌, ◌==◌, Bool, true, false, not, ◌&&◌, if◌then◌else◌, List, [], ◌∷◌, length, map, position, Option, Some, None, Result, Ok, Err}
-use Rattle.std.specs.Ordering.{is_gt}
+use Rattle.std.specs.Prelude.{ℕ, pos, ◌+◌, ◌==◌, Bool, true, false, not, ◌&&◌, if◌then◌else◌, List, [], ◌∷◌, ◌++◌, length, map, position, Option, Some, None, Result, Ok, Err}
+use Rattle.std.specs.Ordering.{is_gt, int_eq}
 use Rattle.std.specs.List.{list_any, list_all, slice_get}
 use Rattle.base_values.specs.declared.value.Value.{Value}
+use Rattle.base_values.specs.declared.value.Value.TheVariants.{Null, Num}
 use Rattle.base_values.specs.declared.unfit.Unfit.{Unfit}
 use Rattle.base_values.specs.declared.span.Span.{Span}
 use Rattle.base_values.specs.declared.span.Bound.{Bound}
@@ -18,6 +19,7 @@ use Rattle.base_values.specs.declared.gho_schema.schema.Index.{Index}
 use Rattle.base_values.specs.GhoSchema.Names.{same_name}
 use Rattle.base_values.specs.GhoSchema.ClusteredKey.{clustered_place}
 use Rattle.base_values.specs.GhoSchema.Rows.{key_places, places_at}
+use Rattle.base_values.specs.GhoSchema.AutoIncrement.{auto_place}
 use Rattle.base_values.specs.declared.row_conversion.conversion_fault.UnfitAt.{UnfitAt}
 use Rattle.base_values.specs.declared.mysql_errors.TheConstants.{ER_BAD_FIELD_ERROR, ER_NO_DEFAULT_FOR_FIELD, ER_FIELD_SPECIFIED_TWICE, ER_WRONG_VALUE_COUNT_ON_ROW, ER_NOT_SUPPORTED_YET}
 use Rattle.base_script.specs.declared.statement.Statement.{Statement}
@@ -113,6 +115,79 @@ new_row schema names values = do
   places ← places_listed schema names
   _ ← unless (length places == length values) ER_WRONG_VALUE_COUNT_ON_ROW
   row_from 0 schema.columns places values
+
+-- WHERE A NUMBER IS DRAWN
+
+-- the value for the column of this place, in place of what is written for it
+unfoldable pub value_set : ℕ → List ℕ → Value → List Value → List Value
+value_set place [] new values = []
+value_set place (other ∷ places) new [] = []
+value_set place (other ∷ places) new (value ∷ values) = if place == other then new ∷ values else value ∷ value_set place places new values
+
+-- the names, the column's own behind them where it isn't among them
+abbrev pub names_filled : Option Column → Bool → Option (List (List ℕ)) → Option (List (List ℕ))
+names_filled (Some column) false (Some names) = Some (names ++ column.name ∷ [])
+names_filled column named names = names
+
+abbrev pub values_filled : ℕ → List ℕ → Bool → Value → List Value → List Value
+values_filled place places true number values = value_set place places number values
+values_filled place places false number values = values ++ number ∷ []
+
+-- the columns that an INSERT or a REPLACE names, and its values
+pub record Given : Type 0 where
+  pub names : Option (List (List ℕ))
+  pub values : List Value
+
+abbrev pub filled_among : Schema → Option (List (List ℕ)) → List Value → Value → ℕ → Result (List ℕ) Answer → Given
+filled_among schema names values number place (Err refusal) = record { names = names; values = values }
+filled_among schema names values number place (Ok places) =
+    record {
+      names = names_filled (slice_get schema.columns place) (list_any (λ other. place == other) places) names;
+      values = values_filled place places (list_any (λ other. place == other) places) number values;
+    }
+
+abbrev pub filled_at : Schema → Option (List (List ℕ)) → List Value → Value → Option ℕ → Given
+filled_at schema names values number None = record { names = names; values = values }
+filled_at schema names values number (Some place) = filled_among schema names values number place (places_listed schema names)
+
+-- *Filled*: what a statement says with the number that it drew as the literal of the AUTO_INCREMENT column: at the column's
+-- place where the statement has no column list, else at its name; where the list is without it, behind the others.
+abbrev pub filled_with : Schema → Option (List (List ℕ)) → List Value → Option ℕ → Given
+filled_with schema names values None = record { names = names; values = values }
+filled_with schema names values (Some number) = filled_at schema names values (Num (pos number)) (auto_place schema)
+
+-- the new row of an INSERT or a REPLACE, with the number that it drew
+abbrev pub drawn_row : Schema → Option (List (List ℕ)) → List Value → Option ℕ → Result (List Value) Answer
+drawn_row schema names values drawn = new_row schema (filled_with schema names values drawn).names (filled_with schema names values drawn).values
+
+-- the value that a new row is given for the column of a place, where the list of columns and the count of values are right
+unfoldable pub value_given : Schema → Option (List (List ℕ)) → List Value → ℕ → Result (Option Value) Answer
+value_given schema names values place = do
+  places ← places_listed schema names
+  _ ← unless (length places == length values) ER_WRONG_VALUE_COUNT_ON_ROW
+  Ok (beside place places values)
+
+-- what is stored is 0
+abbrev pub is_zero : Result Value Unfit → Bool
+is_zero (Ok (Num n)) = int_eq n (pos 0)
+is_zero stored = false
+
+-- A column draws where it is given no value, NULL or what is stored as 0 (MySQL's manual, "Using AUTO_INCREMENT").
+abbrev pub draws_for : Option Column → Result (Option Value) Answer → Bool
+draws_for (Some column) (Ok None) = true
+draws_for (Some column) (Ok (Some Null)) = true
+draws_for (Some column) (Ok (Some value)) = is_zero (stores value column.kind column.nullable)
+draws_for column value = false
+
+abbrev pub row_draws : Schema → Option (List (List ℕ)) → List Value → Option ℕ → Bool
+row_draws schema names values None = false
+row_draws schema names values (Some place) = draws_for (slice_get schema.columns place) (value_given schema names values place)
+
+-- *Draws*: an INSERT or a REPLACE into a table of this schema draws a number for the AUTO_INCREMENT column.
+unfoldable pub draws : Schema → Statement → Bool
+draws schema (statements.Insert table columns values drawn) = row_draws schema columns values (auto_place schema)
+draws schema (statements.Replace table columns values drawn) = row_draws schema columns values (auto_place schema)
+draws schema statement = false
 
 -- the key's columns are just these
 abbrev pub has_columns : List ℕ → Index → Bool
@@ -256,8 +331,8 @@ select_of schema shown condition = do
 
 -- *Work* of a statement on a table of this schema
 unfoldable pub work_of : Schema → Statement → Work
-work_of schema (statements.Insert table columns values drawn) = or_refused (new_row schema columns values) Insert
-work_of schema (statements.Replace table columns values drawn) = or_refused (new_row schema columns values) Replace
+work_of schema (statements.Insert table columns values drawn) = or_refused (drawn_row schema columns values drawn) Insert
+work_of schema (statements.Replace table columns values drawn) = or_refused (drawn_row schema columns values drawn) Replace
 work_of schema (statements.Delete table condition) = or_refused (reach_of schema condition) Delete
 work_of schema (statements.Update table sets condition) = or_refused (update_of schema sets condition) (λ work. work)
 work_of schema (statements.Select table shown condition) = or_refused (select_of schema shown condition) (λ work. work)

@@ -8,9 +8,11 @@ pub mod HeldNames
 pub mod Operations
 pub mod Chunks
 pub mod States
+pub mod Drawing
 pub mod Blockers
 pub mod Listings
 pub mod Effects
+pub mod Counting
 pub mod PlainServer
 pub mod Conditions
 pub mod Alone

@@ -4,3 +4,4 @@ pub mod Coverage
 pub mod Databases
 pub mod Stability
 pub mod Laws
+pub mod Counters

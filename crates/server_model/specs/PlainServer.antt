@@ -18,8 +18,11 @@ use Rattle.server_model.specs.declared.entry.Asked.TheVariants.{Call, Poll, Comm
 use Rattle.server_model.specs.declared.need.Need.{Need}
 use Rattle.server_model.specs.Answers.{ok}
 use Rattle.server_model.specs.Operations.{after_events}
+use Rattle.server_model.specs.declared.counter.Counter.{Counter}
 use Rattle.server_model.specs.States.{State, session_of, with_session, is_of_tool, polls_of, writes_of, waiting_of, kept_names, shared_names}
 use Rattle.server_model.specs.Blockers.{need, blocker}
+use Rattle.server_model.specs.Drawing.{filled}
+use Rattle.server_model.specs.Counting.{counted, drawn_by}
 use Rattle.server_model.specs.Effects.{Effect, Rests, Grows, Writes, Forgets, Moves, Locks, Unlocks, effect}
 
 -- an answer, and the state afterwards
@@ -73,8 +76,13 @@ does (Moves answer tables) state number = serving answer (record state { tables 
 does (Locks answer names) state number = serving answer (record state { sessions = with_session number (locking names) state.sessions })
 does (Unlocks answer) state number = serving answer (record state { sessions = with_session number unlocking state.sessions })
 
-unfoldable pub done : State → ℕ → Request → Served
-done state number request = does (effect state number request) state number
+-- what a filled request does
+unfoldable pub did : State → ℕ → Request → Served
+did state number request = does (effect state number request) state number
+
+-- what a request does that was asked: it is filled now
+abbrev pub done : State → ℕ → Request → Served
+done state number request = did state number (filled state number request)
 
 -- CALLS, POLLS AND LOSSES
 
@@ -136,9 +144,41 @@ leaves None state number asked = (serves state number asked).after
 leaves (Some Before) state number asked = loses number state
 leaves (Some After) state number asked = loses number (serves state number asked).after
 
+-- what is asked for: a call's request, and the one that waits where it is polled
+abbrev pub request_waiting : Option Waiting → Option Request
+request_waiting None = None
+request_waiting (Some waiting) = Some waiting.request
+
+abbrev pub asks_for : State → ℕ → Asked → Option Request
+asks_for state number (Call request) = Some request
+asks_for state number Poll = request_waiting (waiting_of number state.waiting)
+asks_for state number asked = None
+
+-- *Counters left*: a loss gives no number back, and before the call was done none was drawn.
+abbrev pub counters_left : Option Side → State → ℕ → Asked → List Counter
+counters_left (Some Before) state number asked = state.counters
+counters_left side state number asked = counted state number (asks_for state number asked) (serves state number asked).answer
+
+-- the state with these counters
+abbrev pub recounted : List Counter → State → State
+recounted counters state = record state { counters = counters }
+
+-- *State left* by a turn: what it leaves, with the counters moved
+abbrev pub state_left : Option Side → State → ℕ → Asked → State
+state_left side state number asked = recounted (counters_left side state number asked) (leaves side state number asked)
+
 -- *Inner answer*: what the server answers, also where nobody hears it: none where the session was lost before the call was
 -- done, or between calls.
 abbrev pub given_at : Option Side → Asked → Answer → Option Answer
 given_at side Cut answer = None
 given_at (Some Before) asked answer = None
 given_at side asked answer = Some answer
+
+-- the number that the statement drew in a turn that had this inner answer, also where nobody hears it
+abbrev pub drawn_in : State → ℕ → Asked → Option Answer → Option ℕ
+drawn_in state number asked None = None
+drawn_in state number asked (Some answer) = drawn_by state number (asks_for state number asked) answer
+
+-- *Number drawn* in a turn
+abbrev pub number_drawn : Option Side → State → ℕ → Asked → Option ℕ
+number_drawn side state number asked = drawn_in state number asked (given_at side asked (serves state number asked).answer)

@@ -1,15 +1,20 @@
 -- *Plain server*: its state, of lists and numbers alone. (This project's rule; what sessions hold is as in MySQL's manual,
 -- "InnoDB Transaction Model and Locking" and "Metadata Locking".)
-use Rattle.std.specs.Prelude.{ℕ, ◌==◌, max, Bool, true, false, not, ◌&&◌, ◌||◌, if◌then◌else◌, List, [], ◌∷◌, ◌++◌, map, filter, find, drop, count_by, is_some, Option, Some, None}
-use Rattle.std.specs.List.{list_any, flat_map}
+use Rattle.std.specs.Prelude.{ℕ, pos, ◌+◌, ◌==◌, min, max, Bool, true, false, not, ◌&&◌, ◌||◌, if◌then◌else◌, List, [], ◌∷◌, ◌++◌, map, filter, find, fold, drop, count_by, is_some, unwrap_or, Option, Some, None}
+use Rattle.std.specs.List.{list_any, flat_map, slice_get}
+use Rattle.std.specs.Option.{option_map}
 use Rattle.std.specs.Str.{bytes_eq}
 use Rattle.base_values.specs.declared.event.RowEvent.{RowEvent}
 use Rattle.server_locks.specs.declared.row_locks.lock.HeldLock.{HeldLock}
 use Rattle.server_locks.specs.RowLocks.LockTable.{held_by}
 use Rattle.server_locks.specs.MetadataLocks.Grants as grants
 use Rattle.server_locks.specs.declared.metadata_locks.request.Waiter.{Waiter}
-use Rattle.table_store.specs.Databases.{Database}
+use Rattle.base_values.specs.declared.value.Value.{Value}
+use Rattle.base_values.specs.declared.value.Value.TheVariants.{Num}
+use Rattle.base_values.specs.GhoSchema.AutoIncrement.{auto_place}
+use Rattle.table_store.specs.Databases.{TableRows, Database}
 use Rattle.table_store.specs.declared.renames.Pair.{Pair}
+use Rattle.server_model.specs.declared.counter.Counter as counters
 use Rattle.server_model.specs.declared.session.Session.{Session}
 use Rattle.server_model.specs.declared.session.HeldName.{HeldName}
 use Rattle.server_model.specs.declared.session.Limits.{Limits}
@@ -17,6 +22,10 @@ use Rattle.server_model.specs.declared.session.Waiting.{Waiting}
 use Rattle.server_model.specs.declared.request.Request.{Request}
 use Rattle.server_model.specs.declared.request.Request.TheVariants as requests
 use Rattle.server_model.specs.Operations.{table_of, after_events}
+
+-- the counter of a table with an AUTO_INCREMENT column: the number that is drawn next
+abbrev pub Counter : Type 0
+Counter = counters.Counter
 
 -- the server at one moment
 pub record State : Type 0 where
@@ -32,10 +41,58 @@ pub record State : Type 0 where
   pub waiting : List Waiting
   -- the live sessions, in the order of connecting
   pub sessions : List Session
+  -- for each table with an AUTO_INCREMENT column its counter, in the tables' order
+  pub counters : List Counter
+
+-- COUNTERS (MySQL's manual, "Using AUTO_INCREMENT", "AUTO_INCREMENT Handling in InnoDB"; a count that would be no number of
+-- 64 bits stands still)
+
+-- one more than a number
+abbrev pub after_number : ℕ → ℕ
+after_number n = min (n + 1) 18446744073709551615
+
+abbrev pub after_value : Option Value → ℕ
+after_value (Some (Num (pos n))) = after_number n
+after_value value = 0
+
+-- where a table's counter starts: at the greatest of 1, the number that its schema names, and one more than the column's
+-- greatest value
+abbrev pub start_at : TableRows → ℕ → ℕ
+start_at table place = fold (λ most row. max most (after_value (slice_get row place))) (max 1 (unwrap_or table.schema.start 1)) table.rows
+
+abbrev pub started : TableRows → Option ℕ → List Counter
+started table None = []
+started table (Some place) = record { table = table.schema.name; next = start_at table place } ∷ []
+
+-- the counter that a table begins with, where it has an AUTO_INCREMENT column
+abbrev pub counter_of : TableRows → List Counter
+counter_of table = started table (auto_place table.schema)
+
+abbrev pub is_counter_of : List ℕ → Counter → Bool
+is_counter_of name counter = bytes_eq counter.table name
+
+-- the number that is drawn next from a table; none where it has no counter
+abbrev pub next_of : List ℕ → List Counter → Option ℕ
+next_of name counters = option_map (λ counter. counter.next) (find (is_counter_of name) counters)
+
+-- the table's counter is no less than this number
+abbrev pub counters_from : List ℕ → ℕ → List Counter → List Counter
+counters_from name number counters = map (λ counter. if is_counter_of name counter then record counter { next = max counter.next number } else counter) counters
+
+abbrev pub counters_without : List ℕ → List Counter → List Counter
+counters_without name counters = filter (λ counter. not (is_counter_of name counter)) counters
+
+-- a counter goes with its table
+abbrev pub counters_named : List ℕ → List ℕ → List Counter → List Counter
+counters_named old new counters = map (λ counter. if is_counter_of old counter then record counter { table = new } else counter) counters
+
+unfoldable pub counters_renamed : List Pair → List Counter → List Counter
+counters_renamed [] counters = counters
+counters_renamed (pair ∷ pairs) counters = counters_renamed pairs (counters_named pair.old pair.new counters)
 
 -- the server at its start: these tables, and no session
 abbrev pub opened : Limits → Database → State
-opened limits tables = record { limits = limits; made = 0; tables = tables; log = []; waiting = []; sessions = [] }
+opened limits tables = record { limits = limits; made = 0; tables = tables; log = []; waiting = []; sessions = []; counters = flat_map counter_of tables }
 
 -- SESSIONS
 

@@ -4,6 +4,7 @@
 #![tactic(auto)]
 
 mod answer;
+mod counter;
 mod entry;
 mod held_names;
 mod listing;
@@ -17,6 +18,7 @@ pub mod turn_answers;
 mod work;
 
 pub use answer::{Answer, KeyRange};
+pub use counter::{Counter, after_number, after_value, auto_place, first_number};
 pub use entry::{Asked, Entry, Journal};
 pub use held_names::HeldNames;
 pub use listing::{ShownWaiter, ShownWaiters, TableName, TableNames};

@@ -1,6 +1,7 @@
 //! What holds of every statement: what it says depends on what its locks cover, and what it writes is covered by them. Each
 //! function's contract is a law.
 
+ghost use Rattle.server_model.specs.LockedRows.Counters.{NewRowsAreBelow, CountersNeverFall, NumbersAreCounters};
 ghost use Rattle.server_model.specs.LockedRows.Laws.{LockedRowsDecide, WritesAreCovered, WorkIsSound, SoundWorkKeepsTables, StatementsKeepDatabases, OthersSeeTheSame};
 
 /// What a statement says and needs is decided by the rows under the locks that it needs.
@@ -24,4 +25,11 @@ pub fn statements_keep_tables()
 /// What one session writes under its locks changes nothing under another's.
 pub fn others_see_the_same()
     ensures { OthersSeeTheSame }
+{}
+
+/// A statement's new rows are below its table's counter, no turn lowers a counter, and a number that is drawn is the counter, which is behind it afterwards.
+pub fn counters_stay_ahead()
+    ensures below { NewRowsAreBelow }
+    ensures rise { CountersNeverFall }
+    ensures drawn { NumbersAreCounters }
 {}

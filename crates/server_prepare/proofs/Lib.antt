@@ -1,3 +1,4 @@
 pub mod Beside
 pub mod Fronts
 pub mod Placed
+pub mod DrawnRows

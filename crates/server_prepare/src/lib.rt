@@ -3,6 +3,8 @@
 #![tactic(auto)]
 
 mod columns;
+mod drawn_rows;
+mod given_values;
 mod keys;
 mod parts;
 mod ranges;
@@ -11,6 +13,8 @@ mod refusals;
 mod rows;
 mod work;
 
+pub use drawn_rows::{drawn_row, draws};
+pub use given_values::after_given;
 pub use refusals::{Checked, refuses, refuses_value};
 pub use rows::new_row;
 pub use work::work_of;

@@ -5,10 +5,10 @@ ghost use Rattle.server_prepare.specs.Sets.{set_at};
 ghost use Rattle.server_model.specs.Checks.{stored_set, sets_from, selection_of, update_of, select_of, or_refused, work_of};
 
 use crate::columns::{are_distinct, beside, places_named};
+use crate::drawn_rows::drawn_row;
 use crate::parts::{set_columns, set_values};
 use crate::reach::reach_of;
 use crate::refusals::{Checked, refuses};
-use crate::rows::new_row;
 use base_script::{Condition, Set, Shown, Statement};
 use base_values::gho_schema::{Column, Schema};
 use base_values::mysql_errors::ER_FIELD_SPECIFIED_TWICE;
@@ -131,7 +131,7 @@ fn select_of(
 }
 
 /// The work of a row that is written, or that the statement is refused.
-fn insert_work(row: Checked<Row>) -> Work
+pub fn insert_work(row: Checked<Row>) -> Work
     ensures { result ≡ or_refused row Work.Insert }
 {
     match row {
@@ -140,7 +140,8 @@ fn insert_work(row: Checked<Row>) -> Work
     }
 }
 
-fn replace_work(row: Checked<Row>) -> Work
+/// The work of a row that REPLACE writes in place of those with a key of its, or that the statement is refused.
+pub fn replace_work(row: Checked<Row>) -> Work
     ensures { result ≡ or_refused row Work.Replace }
 {
     match row {
@@ -176,17 +177,19 @@ pub fn work_of(alloc: Global, schema: &Schema, statement: &Statement) -> Result<
         Statement::Insert {
             columns,
             values,
+            drawn,
             ..
         } => {
-            let row = new_row(alloc, schema, columns, values.as_slice())?;
+            let row = drawn_row(alloc, schema, columns, values.as_slice(), *drawn)?;
             Ok(insert_work(row))
         }
         Statement::Replace {
             columns,
             values,
+            drawn,
             ..
         } => {
-            let row = new_row(alloc, schema, columns, values.as_slice())?;
+            let row = drawn_row(alloc, schema, columns, values.as_slice(), *drawn)?;
             Ok(replace_work(row))
         }
         Statement::Delete { condition, .. } => {

@@ -1,2 +1,3 @@
+pub mod CounterMoves
 pub mod Rooms
 pub mod SessionLists

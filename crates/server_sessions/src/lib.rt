@@ -3,6 +3,7 @@
 //! and how each call changes it.
 #![tactic(auto)]
 
+mod counters;
 mod growth;
 pub mod live_sessions;
 mod lookup;
@@ -10,6 +11,7 @@ pub mod session_locks;
 mod sessions;
 mod waits;
 
+pub use counters::{counters_renamed, counters_with, counters_without, next_of, raise};
 pub use lookup::{
     holds_tables, is_in_transaction, is_live, is_of_tool, polls_of, session_of, writes_of,
 };

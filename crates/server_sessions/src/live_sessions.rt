@@ -2,7 +2,9 @@
 //! each call changes them.
 
 mod all_sessions;
+mod counter_moves;
 mod room;
 mod session_list;
 
 pub use all_sessions::Sessions;
+pub use counter_moves::CounterMove;

@@ -30,7 +30,7 @@ use table_store::paged_tables::Tables;
 use table_store::paged_tables::row_pages::Table;
 
 /// The statement's table.
-fn table_of(statement: &Statement) -> &Name
+pub fn table_of(statement: &Statement) -> &Name
     ensures { result.now ≡ table_of statement.now }
 {
     match statement {

@@ -15,7 +15,7 @@ mod txn;
 mod writes;
 
 pub use commits::commit;
-pub use execution::{execute, missing, statement_needs, tell};
+pub use execution::{execute, missing, statement_needs, table_of, tell};
 pub use keyed::KeyedEvent;
 pub use txn::Txn;
 pub use writes::Writes;

@@ -1,5 +1,5 @@
 -- Clauses that write a column or an index: ADD, CHANGE and MODIFY ("ALTER TABLE Statement").
-use Rattle.std.specs.Prelude.{codes, if◌then◌else◌, List, [], ◌∷◌, Ok, Err}
+use Rattle.std.specs.Prelude.{codes, ℕ, if◌then◌else◌, List, [], ◌∷◌, Ok, Err}
 use Rattle.base_values.specs.declared.row_conversion.clause.Clause.{Clause}
 use Rattle.base_values.specs.declared.row_conversion.clause.Clause.TheVariants.{Add, Change, AddIndex}
 use Rattle.sql_grammar.specs.declared.token.Token.{Token}
@@ -11,9 +11,9 @@ use Rattle.sql_change.specs.declared.code.AlterCode.TheVariants as refusals
 use Rattle.sql_alter.specs.Column.{primary_at, new_column_at, column_position_at}
 use Rattle.sql_alter.specs.Pieces.{Read, in_alter, after_column, is_index_word, is_out_of_scope}
 
-unfoldable pub add_column_at : List Token → Read Clause
-add_column_at words = do
-  column ← new_column_at words
+unfoldable pub add_column_at : ℕ → List Token → Read Clause
+add_column_at version words = do
+  column ← new_column_at version words
   column_position ← column_position_at column.1
   Ok (Add column.0 column_position.0, column_position.1)
 
@@ -23,26 +23,26 @@ add_index_at words = do
   Ok (AddIndex key.0.name key.0.columns, key.1)
 
 -- After ADD: what isn't taken, a unique key, the PRIMARY KEY, an index, or a column with or without COLUMN in front.
-unfoldable pub add_at : List Token → Read Clause
-add_at [] = Err refusals.Syntax
-add_at (word ∷ rest) =
+unfoldable pub add_at : ℕ → List Token → Read Clause
+add_at version [] = Err refusals.Syntax
+add_at version (word ∷ rest) =
     if is_out_of_scope word then Err refusals.Scope
     else (if is_keyword word (codes "UNIQUE") then Err refusals.AddUnique
     else (if is_keyword word (codes "PRIMARY") then primary_at rest
     else (if is_index_word word then add_index_at rest
-    else add_column_at (after_column (word ∷ rest)))))
+    else add_column_at version (after_column (word ∷ rest)))))
 
 -- After CHANGE: a column, what it is afterwards, and where it is.
-unfoldable pub change_at : List Token → Read Clause
-change_at words = do
+unfoldable pub change_at : ℕ → List Token → Read Clause
+change_at version words = do
   old ← in_alter (name_at (after_column words))
-  column ← new_column_at old.1
+  column ← new_column_at version old.1
   column_position ← column_position_at column.1
   Ok (Change old.0 column.0 column_position.0, column_position.1)
 
 -- After MODIFY: the same with one name.
-unfoldable pub modify_at : List Token → Read Clause
-modify_at words = do
-  column ← new_column_at (after_column words)
+unfoldable pub modify_at : ℕ → List Token → Read Clause
+modify_at version words = do
+  column ← new_column_at version (after_column words)
   column_position ← column_position_at column.1
   Ok (Change column.0.name column.0 column_position.0, column_position.1)

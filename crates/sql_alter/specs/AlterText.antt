@@ -5,6 +5,6 @@ use Rattle.sql_grammar.specs.Tokens.{text_words}
 use Rattle.sql_change.specs.declared.code.AlterCode.{AlterCode}
 use Rattle.sql_alter.specs.Clauses.{read}
 
--- the clauses of an ALTER of the table of this name, or the refusal that comes first in the text
-abbrev pub alter_at : List ℕ → List ℕ → Result (List Clause) AlterCode
-alter_at table text = read table (text_words text)
+-- the clauses of an ALTER of the table of this name in a plan of this version, or the refusal that comes first in the text
+abbrev pub alter_at : ℕ → List ℕ → List ℕ → Result (List Clause) AlterCode
+alter_at version table text = read version table (text_words text)

@@ -15,14 +15,14 @@ use Rattle.sql_alter.specs.Pieces.{Read, in_alter}
 use Rattle.sql_alter.specs.Removals.{drop_at, rename_at}
 
 -- A clause begins with one of five words. One that begins with another isn't taken, and one without any word is a mistake.
-unfoldable pub clause_at : List Token → Read Clause
-clause_at [] = Err refusals.Syntax
-clause_at (word ∷ rest) =
-    if is_keyword word (codes "ADD") then add_at rest
+unfoldable pub clause_at : ℕ → List Token → Read Clause
+clause_at version [] = Err refusals.Syntax
+clause_at version (word ∷ rest) =
+    if is_keyword word (codes "ADD") then add_at version rest
     else (if is_keyword word (codes "DROP") then drop_at rest
     else (if is_keyword word (codes "RENAME") then rename_at rest
-    else (if is_keyword word (codes "CHANGE") then change_at rest
-    else (if is_keyword word (codes "MODIFY") then modify_at rest
+    else (if is_keyword word (codes "CHANGE") then change_at version rest
+    else (if is_keyword word (codes "MODIFY") then modify_at version rest
     else (if same_sign word (codes ",") then Err refusals.Syntax
     else Err refusals.Scope)))))
 
@@ -31,12 +31,12 @@ abbrev pub alone : List Clause → List Token → Result (List Clause) AlterCode
 alone clauses [] = Ok clauses
 alone clauses (word ∷ rest) = Err refusals.Syntax
 
-unfoldable pub list_at : List Token → Read (List Clause)
-list_at words = listed clause_at refusals.Syntax (length words) words
+unfoldable pub list_at : ℕ → List Token → Read (List Clause)
+list_at version words = listed (clause_at version) refusals.Syntax (length words) words
 
-unfoldable pub clauses_at : List Token → Result (List Clause) AlterCode
-clauses_at words = do
-  clauses ← list_at words
+unfoldable pub clauses_at : ℕ → List Token → Result (List Clause) AlterCode
+clauses_at version words = do
+  clauses ← list_at version words
   alone clauses.0 clauses.1
 
 -- the name after ALTER TABLE has to be the migrated table's
@@ -59,10 +59,10 @@ abbrev pub unless_faulty : Bool → List Clause → Result (List Clause) AlterCo
 unless_faulty true clauses = Err refusals.Syntax
 unless_faulty false clauses = Ok clauses
 
--- What the words of a text say, or the refusal of the first that doesn't fit. Where all that come before a fault of the text
+-- What the words of a text say in a plan of this version, or the refusal of the first that doesn't fit. Where all that come before a fault of the text
 -- fit, the fault is refused.
-unfoldable pub read : List ℕ → TextWords → Result (List Clause) AlterCode
-read table text = do
+unfoldable pub read : ℕ → List ℕ → TextWords → Result (List Clause) AlterCode
+read version table text = do
   rest ← front_at table text.words
-  clauses ← clauses_at rest
+  clauses ← clauses_at version rest
   unless_faulty text.is_faulty clauses

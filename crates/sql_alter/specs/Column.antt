@@ -1,5 +1,5 @@
 -- A column as a clause writes it, and where it is put ("ALTER TABLE Statement").
-use Rattle.std.specs.Prelude.{codes, if◌then◌else◌, List, [], ◌∷◌, length, Option, Some, None, Result, Ok, Err}
+use Rattle.std.specs.Prelude.{codes, ℕ, if◌then◌else◌, List, [], ◌∷◌, length, Option, Some, None, Result, Ok, Err}
 use Rattle.base_values.specs.declared.row_conversion.clause.NewColumn.{NewColumn}
 use Rattle.base_values.specs.declared.row_conversion.clause.ColumnPosition.{ColumnPosition}
 use Rattle.base_values.specs.declared.row_conversion.clause.ColumnPosition.TheVariants.{Unsaid, First, After}
@@ -25,23 +25,23 @@ abbrev pub primary_at : {A : Type 0} → List Token → Result A AlterCode
 primary_at words = in_alter (keyword_at (codes "KEY") words) >>= λ rest. Err codes.ClusteredKeyChange
 
 -- An attribute at the front; none where the first word begins none. UNIQUE and PRIMARY KEY are refused where they stand.
-unfoldable pub new_attribute_at : List Token → Perhaps
-new_attribute_at [] = Ok None
-new_attribute_at (word ∷ rest) =
+unfoldable pub new_attribute_at : ℕ → List Token → Perhaps
+new_attribute_at version [] = Ok None
+new_attribute_at version (word ∷ rest) =
     if is_keyword word (codes "UNIQUE") then Err codes.AddUnique
     else (if is_keyword word (codes "PRIMARY") then primary_at rest
-    else in_alter (attribute_at (word ∷ rest)))
+    else in_alter (attribute_at version (word ∷ rest)))
 
-unfoldable pub new_attributes_at : List Token → Read Attributes
-new_attributes_at words = gathered new_attribute_at with_attribute (length words) unwritten words
+unfoldable pub new_attributes_at : ℕ → List Token → Read Attributes
+new_attributes_at version words = gathered (new_attribute_at version) with_attribute (length words) unwritten words
 
 -- a column: its name, its kind and its attributes
-unfoldable pub new_column_at : List Token → Read NewColumn
-new_column_at words = do
+unfoldable pub new_column_at : ℕ → List Token → Read NewColumn
+new_column_at version words = do
   name ← in_alter (name_at words)
   kind ← in_alter (kind_at name.1)
-  attributes ← new_attributes_at kind.1
-  Ok (record { name = name.0; kind = kind.0; nullable = attributes.0.nullable; default = attributes.0.default }, attributes.1)
+  attributes ← new_attributes_at version kind.1
+  Ok (record { name = name.0; kind = kind.0; nullable = attributes.0.nullable; default = attributes.0.default; auto = attributes.0.auto }, attributes.1)
 
 abbrev pub after_at : List Token → Read ColumnPosition
 after_at words = do

@@ -12,10 +12,14 @@ use sql_grammar::{KeyText, Token};
 use std::alloc::Global;
 
 #[tactic(auto, unfolding(crate::specs::Additions::add_column_at))]
-fn add_column_at(alloc: Global, words: &[Token]) -> Result<(Clause, &[Token]), AlterFault>
-    ensures { Answers (λ clause. (clause.0, clause.1.now)) result (add_column_at words.now) }
+fn add_column_at(
+    alloc: Global,
+    version: u32,
+    words: &[Token],
+) -> Result<(Clause, &[Token]), AlterFault>
+    ensures { Answers (λ clause. (clause.0, clause.1.now)) result (add_column_at version words.now) }
 {
-    let (column, rest) = new_column_at(alloc, words)?;
+    let (column, rest) = new_column_at(alloc, version, words)?;
     let (column_position, rest) = column_position_at(alloc, rest)?;
     Ok((
         Clause::Add {
@@ -37,8 +41,12 @@ fn add_index_at(alloc: Global, words: &[Token]) -> Result<(Clause, &[Token]), Al
 
 /// The clause whose ADD comes before these words, and what follows it.
 #[tactic(auto, unfolding(crate::specs::Additions::add_at))]
-pub fn add_at(alloc: Global, words: &[Token]) -> Result<(Clause, &[Token]), AlterFault>
-    ensures { Answers (λ clause. (clause.0, clause.1.now)) result (add_at words.now) }
+pub fn add_at(
+    alloc: Global,
+    version: u32,
+    words: &[Token],
+) -> Result<(Clause, &[Token]), AlterFault>
+    ensures { Answers (λ clause. (clause.0, clause.1.now)) result (add_at version words.now) }
 {
     match words {
         [] => Err(AlterFault::Refused(AlterCode::Syntax)),
@@ -53,7 +61,7 @@ pub fn add_at(alloc: Global, words: &[Token]) -> Result<(Clause, &[Token]), Alte
             } else if is_index_word(word) {
                 add_index_at(alloc, rest)
             } else {
-                add_column_at(alloc, after_column(words))
+                add_column_at(alloc, version, after_column(words))
             }
         }
     }
@@ -61,11 +69,15 @@ pub fn add_at(alloc: Global, words: &[Token]) -> Result<(Clause, &[Token]), Alte
 
 /// The clause whose CHANGE comes before these words, and what follows it.
 #[tactic(auto, unfolding(crate::specs::Additions::change_at))]
-pub fn change_at(alloc: Global, words: &[Token]) -> Result<(Clause, &[Token]), AlterFault>
-    ensures { Answers (λ clause. (clause.0, clause.1.now)) result (change_at words.now) }
+pub fn change_at(
+    alloc: Global,
+    version: u32,
+    words: &[Token],
+) -> Result<(Clause, &[Token]), AlterFault>
+    ensures { Answers (λ clause. (clause.0, clause.1.now)) result (change_at version words.now) }
 {
     let (old, rest) = name_at(alloc, after_column(words))?;
-    let (column, rest) = new_column_at(alloc, rest)?;
+    let (column, rest) = new_column_at(alloc, version, rest)?;
     let (column_position, rest) = column_position_at(alloc, rest)?;
     Ok((
         Clause::Change {
@@ -79,10 +91,14 @@ pub fn change_at(alloc: Global, words: &[Token]) -> Result<(Clause, &[Token]), A
 
 /// The clause whose MODIFY comes before these words, and what follows it.
 #[tactic(auto, unfolding(crate::specs::Additions::modify_at))]
-pub fn modify_at(alloc: Global, words: &[Token]) -> Result<(Clause, &[Token]), AlterFault>
-    ensures { Answers (λ clause. (clause.0, clause.1.now)) result (modify_at words.now) }
+pub fn modify_at(
+    alloc: Global,
+    version: u32,
+    words: &[Token],
+) -> Result<(Clause, &[Token]), AlterFault>
+    ensures { Answers (λ clause. (clause.0, clause.1.now)) result (modify_at version words.now) }
 {
-    let (column, rest) = new_column_at(alloc, after_column(words))?;
+    let (column, rest) = new_column_at(alloc, version, after_column(words))?;
     let (column_position, rest) = column_position_at(alloc, rest)?;
     let old = column.name.copy()?;
     Ok((

@@ -15,22 +15,22 @@ use sql_grammar::{Token, after_keyword, after_sign};
 use std::alloc::Global;
 
 #[tactic(auto, unfolding(crate::specs::Clauses::clause_at))]
-fn clause_at(alloc: Global, words: &[Token]) -> Result<(Clause, &[Token]), AlterFault>
-    ensures { Answers (λ clause. (clause.0, clause.1.now)) result (clause_at words.now) }
+fn clause_at(alloc: Global, version: u32, words: &[Token]) -> Result<(Clause, &[Token]), AlterFault>
+    ensures { Answers (λ clause. (clause.0, clause.1.now)) result (clause_at version words.now) }
 {
     match words {
         [] => Err(AlterFault::Refused(AlterCode::Syntax)),
         [word, rest @ ..] => {
             if word.is_keyword("ADD") {
-                add_at(alloc, rest)
+                add_at(alloc, version, rest)
             } else if word.is_keyword("DROP") {
                 drop_at(alloc, rest)
             } else if word.is_keyword("RENAME") {
                 rename_at(alloc, rest)
             } else if word.is_keyword("CHANGE") {
-                change_at(alloc, rest)
+                change_at(alloc, version, rest)
             } else if word.is_keyword("MODIFY") {
-                modify_at(alloc, rest)
+                modify_at(alloc, version, rest)
             } else if word.is_sign(",") {
                 Err(AlterFault::Refused(AlterCode::Syntax))
             } else {
@@ -41,13 +41,13 @@ fn clause_at(alloc: Global, words: &[Token]) -> Result<(Clause, &[Token]), Alter
 }
 
 #[tactic(auto, unfolding(crate::specs::Clauses::list_at))]
-fn list_at(alloc: Global, words: &[Token]) -> Result<(Clauses, &[Token]), AlterFault>
-    ensures { Answers (λ clauses. (clauses.0, clauses.1.now)) result (list_at words.now) }
+fn list_at(alloc: Global, version: u32, words: &[Token]) -> Result<(Clauses, &[Token]), AlterFault>
+    ensures { Answers (λ clauses. (clauses.0, clauses.1.now)) result (list_at version words.now) }
 {
     let mut clauses = Sequence::new(alloc);
     let mut rest = words;
     for _ in 0..words.len() {
-        let (clause, following) = clause_at(alloc, rest)?;
+        let (clause, following) = clause_at(alloc, version, rest)?;
         clauses.push(clause)?;
         match after_sign(",", following) {
             None => return Ok((clauses, following)),
@@ -59,10 +59,10 @@ fn list_at(alloc: Global, words: &[Token]) -> Result<(Clauses, &[Token]), AlterF
 
 /// The clauses that all of the words are.
 #[tactic(auto, unfolding(crate::specs::Clauses::clauses_at))]
-pub fn clauses_at(alloc: Global, words: &[Token]) -> Result<Clauses, AlterFault>
-    ensures { Answers (λ clauses. clauses) result (clauses_at words.now) }
+pub fn clauses_at(alloc: Global, version: u32, words: &[Token]) -> Result<Clauses, AlterFault>
+    ensures { Answers (λ clauses. clauses) result (clauses_at version words.now) }
 {
-    let (clauses, rest) = list_at(alloc, words)?;
+    let (clauses, rest) = list_at(alloc, version, words)?;
     match rest {
         [] => Ok(clauses),
         [_, ..] => Err(AlterFault::Refused(AlterCode::Syntax)),

@@ -13,9 +13,10 @@ use std::alloc::Global;
 #[tactic(auto, unfolding(crate::specs::Column::new_attribute_at))]
 fn new_attribute_at(
     alloc: Global,
+    version: u32,
     words: &[Token],
 ) -> Result<Option<(Attribute, &[Token])>, AlterFault>
-    ensures { Answers (option_map (λ read. (read.0, read.1.now))) result (new_attribute_at words.now) }
+    ensures { Answers (option_map (λ read. (read.0, read.1.now))) result (new_attribute_at version words.now) }
 {
     match words {
         [] => Ok(None),
@@ -26,20 +27,24 @@ fn new_attribute_at(
                 keyword_at("KEY", rest)?;
                 Err(AlterFault::Refused(AlterCode::ClusteredKeyChange))
             } else {
-                attribute_at(alloc, words)
+                attribute_at(alloc, version, words)
             }
         }
     }
 }
 
 #[tactic(auto, unfolding(crate::specs::Column::new_attributes_at))]
-fn new_attributes_at(alloc: Global, words: &[Token]) -> Result<(Attributes, &[Token]), AlterFault>
-    ensures { Answers (λ read. (read.0, read.1.now)) result (new_attributes_at words.now) }
+fn new_attributes_at(
+    alloc: Global,
+    version: u32,
+    words: &[Token],
+) -> Result<(Attributes, &[Token]), AlterFault>
+    ensures { Answers (λ read. (read.0, read.1.now)) result (new_attributes_at version words.now) }
 {
     let mut attributes = Attributes::new();
     let mut rest = words;
     for _ in 0..words.len() {
-        match new_attribute_at(alloc, rest)? {
+        match new_attribute_at(alloc, version, rest)? {
             None => return Ok((attributes, rest)),
             Some((attribute, following)) => {
                 attributes = attributes.with(attribute);
@@ -52,19 +57,28 @@ fn new_attributes_at(alloc: Global, words: &[Token]) -> Result<(Attributes, &[To
 
 /// The column at the front, and what follows it.
 #[tactic(auto, unfolding(crate::specs::Column::new_column_at))]
-pub fn new_column_at(alloc: Global, words: &[Token]) -> Result<(NewColumn, &[Token]), AlterFault>
-    ensures { Answers (λ column. (column.0, column.1.now)) result (new_column_at words.now) }
+pub fn new_column_at(
+    alloc: Global,
+    version: u32,
+    words: &[Token],
+) -> Result<(NewColumn, &[Token]), AlterFault>
+    ensures { Answers (λ column. (column.0, column.1.now)) result (new_column_at version words.now) }
 {
     let (name, rest) = name_at(alloc, words)?;
     let (kind, rest) = kind_at(rest)?;
-    let (attributes, rest) = new_attributes_at(alloc, rest)?;
-    let Attributes { nullable, default } = attributes;
+    let (attributes, rest) = new_attributes_at(alloc, version, rest)?;
+    let Attributes {
+        nullable,
+        default,
+        auto,
+    } = attributes;
     Ok((
         NewColumn {
             name,
             kind,
             nullable,
             default,
+            auto,
         },
         rest,
     ))

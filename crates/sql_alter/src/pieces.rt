@@ -40,12 +40,13 @@ pub fn kind_at(words: &[Token]) -> Result<(Kind, &[Token]), AlterFault>
 /// The attribute at the front and what follows it; none where the first word begins none.
 pub fn attribute_at(
     alloc: Global,
+    version: u32,
     words: &[Token],
 ) -> Result<Option<(Attribute, &[Token])>, AlterFault>
-    ensures { Answers (option_map (λ read. (read.0, read.1.now))) result (in_alter (attribute_at words.now)) }
+    ensures { Answers (option_map (λ read. (read.0, read.1.now))) result (in_alter (attribute_at version words.now)) }
 {
     because(
-        sql_grammar::attribute_at(alloc, words),
+        sql_grammar::attribute_at(alloc, version, words),
         |_| AlterCode::Syntax,
     )
 }

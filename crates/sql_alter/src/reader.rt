@@ -10,14 +10,19 @@ use sql_change::{AlterCode, AlterFault};
 use sql_grammar::text_words;
 use std::alloc::Global;
 
-/// Reads the text of an ALTER of the table of this name, with or without ALTER TABLE and the name in front.
+/// Reads the text of an ALTER of the table of this name in a plan of this version, with or without ALTER TABLE and the name in front.
 #[tactic(auto, unfolding(crate::specs::Clauses::read))]
-pub fn read_alter(alloc: Global, text: &str, table: &Name) -> Result<Clauses, AlterFault>
-    ensures { Answers (λ clauses. clauses) result (alter_at table.now text.now) }
+pub fn read_alter(
+    alloc: Global,
+    text: &str,
+    table: &Name,
+    version: u32,
+) -> Result<Clauses, AlterFault>
+    ensures { Answers (λ clauses. clauses) result (alter_at version table.now text.now) }
 {
     let read = text_words(alloc, text)?;
     let rest = front_at(alloc, table, read.words.as_slice())?;
-    let clauses = clauses_at(alloc, rest)?;
+    let clauses = clauses_at(alloc, version, rest)?;
     if read.is_faulty {
         return Err(AlterFault::Refused(AlterCode::Syntax));
     }

@@ -125,11 +125,11 @@ fitting-is standing next e = (let_through (defaults_fit standing.schema.columns)
 
 pub few_enough : (columns : List Column) (written : NewColumn) (column_position : ColumnPosition) → first_reason (add_reasons columns written column_position) ≡ None → length columns < 64
 few_enough columns written column_position none =
-    let limit = leb 64 (length columns) || not (is_column_name written.name) in
+    let limit = leb 64 (length columns) || not (is_column_name written.name) || written.auto in
     let second = none_first (not (is_column_position columns column_position)) codes.UnknownName ((has_column columns written.name, codes.RepeatedName) ∷ (limit, codes.Scope) ∷ []) none in
     let third = none_first (has_column columns written.name) codes.RepeatedName ((limit, codes.Scope) ∷ []) second.1 in
     let here = none_first limit codes.Scope [] third.1 in
-    leb-false 64 (length columns) ((or_parts (leb 64 (length columns)) (not (is_column_name written.name)) here.0).0)
+    leb-false 64 (length columns) ((or_parts (leb 64 (length columns)) (not (is_column_name written.name)) (or_parts (leb 64 (length columns) || not (is_column_name written.name)) written.auto here.0).0).0)
 
 added-stands : (standing next : AlteredSoFar) (written : NewColumn) (column_position : ColumnPosition) → Stands standing → added standing written column_position ≡ Ok next → Stands next
 unfolding added

@@ -1,8 +1,9 @@
 -- What each clause but those on indexes makes of the table, or the first reason to refuse it ("ALTER TABLE Statement").
-use Rattle.std.specs.Prelude.{ℕ, nat_le, Bool, true, false, not, ◌&&◌, ◌||◌, if◌then◌else◌, List, [], ◌∷◌, length, unwrap_or, Option, Some, None, Result, Ok, Err, slice_set}
+use Rattle.std.specs.Prelude.{ℕ, nat_le, Bool, true, false, not, is_some, ◌&&◌, ◌||◌, if◌then◌else◌, List, [], ◌∷◌, length, unwrap_or, Option, Some, None, Result, Ok, Err, slice_set}
 use Rattle.std.specs.List.{remove}
 use Rattle.base_values.specs.declared.gho_schema.schema.Column.{Column}
 use Rattle.base_values.specs.declared.gho_schema.schema.Schema.{Schema}
+use Rattle.base_values.specs.GhoSchema.AutoIncrement.{is_widest}
 use Rattle.base_values.specs.GhoSchema.Names.{same_name}
 use Rattle.base_values.specs.declared.row_conversion.clause.NewColumn.{NewColumn}
 use Rattle.base_values.specs.declared.row_conversion.clause.ColumnPosition.{ColumnPosition}
@@ -21,7 +22,7 @@ abbrev pub add_reasons : List Column → NewColumn → ColumnPosition → Reason
 add_reasons columns written column_position =
     (not (is_column_position columns column_position), codes.UnknownName)
     ∷ (has_column columns written.name, codes.RepeatedName)
-    ∷ (nat_le 64 (length columns) || not (is_column_name written.name), codes.Scope)
+    ∷ (nat_le 64 (length columns) || not (is_column_name written.name) || written.auto, codes.Scope)
     ∷ []
 
 -- A column without NULL or NOT NULL may be null ("CREATE TABLE Statement").
@@ -68,13 +69,18 @@ renamed approve standing old new = renamed_at approve standing new (column_named
 
 -- ---- CHANGE and MODIFY
 
+-- A column neither gets nor loses AUTO_INCREMENT, and the one that has it becomes no BIGINT UNSIGNED and gets no DEFAULT (this
+-- project's rule).
+abbrev pub breaks_counter : Column → NewColumn → Bool
+breaks_counter column written = if column.auto then not written.auto || is_widest written.kind || is_some written.default else written.auto
+
 -- The column after which the changed one is to be put is one of the others, by their names; and none of these has its new name.
 abbrev pub change_reasons : Schema → ℕ → Column → NewColumn → ColumnPosition → Reasons AlterCode
 change_reasons schema place column written column_position =
     (not (is_column_position (remove schema.columns place) column_position), codes.UnknownName)
     ∷ (has_column (remove schema.columns place) written.name, codes.RepeatedName)
     ∷ (is_in_keys schema.uniques place && not (is_key_conversion column.kind written.kind), codes.KeyColumnConverted)
-    ∷ (not (is_conversion column.kind written.kind) || not (is_column_name written.name), codes.Scope)
+    ∷ (not (is_conversion column.kind written.kind) || not (is_column_name written.name) || breaks_counter column written, codes.Scope)
     ∷ []
 
 -- a column of the PRIMARY KEY stays NOT NULL unless NULL is written

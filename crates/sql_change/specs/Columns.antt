@@ -87,7 +87,7 @@ unless_lacking false column = Ok column
 unfoldable pub column_of : Option ℕ → NewColumn → Bool → Result Column AlterCode
 column_of origin written nullable = do
   default ← default_or codes.Default (stored_default written.kind nullable written.default)
-  unless_lacking (lacks_default origin nullable default) (record { name = written.name; kind = written.kind; nullable = nullable; default = default; auto = false })
+  unless_lacking (lacks_default origin nullable default) (record { name = written.name; kind = written.kind; nullable = nullable; default = default; auto = written.auto })
 
 -- the defaults of a table fit together
 abbrev pub fitting : AlteredSoFar → Result AlteredSoFar AlterCode

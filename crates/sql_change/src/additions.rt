@@ -27,7 +27,10 @@ fn add_reason(
         Some(AlterCode::UnknownName)
     } else if has_column(columns, &written.name) {
         Some(AlterCode::RepeatedName)
-    } else if columns.len() >= COLUMN_LIMIT || !is_column_name(written.name.as_str()) {
+    } else if columns.len() >= COLUMN_LIMIT
+        || !is_column_name(written.name.as_str())
+        || written.auto
+    {
         Some(AlterCode::Scope)
     } else {
         None

@@ -2,7 +2,7 @@
 
 ghost use Rattle.std.specs.Prelude.{◌≡◌, ◌<◌, length, IfOk};
 ghost use Rattle.base_values.specs.SchemaRules.Reasons.{first_reason};
-ghost use Rattle.sql_change.specs.ClauseResults.{change_reasons, changed_nullable, changed_in, unless_unapproved, changed_column, changed};
+ghost use Rattle.sql_change.specs.ClauseResults.{breaks_counter, change_reasons, changed_nullable, changed_in, unless_unapproved, changed_column, changed};
 ghost use Rattle.base_values.specs.Faults.{Answers};
 ghost use Rattle.sql_change.specs.AlteredSoFar.{Stands};
 
@@ -14,11 +14,21 @@ use crate::columns::{
 use crate::conversions::{is_conversion, is_key_conversion};
 use crate::renames::is_unapproved;
 use crate::so_far::{AlteredSoFar, origin_at, removed};
-use base_values::gho_schema::{Column, Schema};
+use base_values::gho_schema::{Column, Schema, is_widest};
 use base_values::row_conversion::{ColumnPosition, NewColumn};
 use base_values::schema_rules::is_column_name;
 use base_values::{Duplicate, Name};
 use std::alloc::{AllocError, Global};
+
+fn breaks_counter(column: &Column, written: &NewColumn) -> bool
+    ensures { result ≡ breaks_counter column.now written.now }
+{
+    if column.auto {
+        !written.auto || is_widest(written.kind) || written.default.is_some()
+    } else {
+        written.auto
+    }
+}
 
 fn change_reason(
     schema: &Schema,
@@ -39,7 +49,10 @@ fn change_reason(
         Some(AlterCode::RepeatedName)
     } else if is_in_keys && !is_key_conversion(column.kind, written.kind) {
         Some(AlterCode::KeyColumnConverted)
-    } else if !is_conversion(column.kind, written.kind) || !is_column_name(written.name.as_str()) {
+    } else if !is_conversion(column.kind, written.kind)
+        || !is_column_name(written.name.as_str())
+        || breaks_counter(column, written)
+    {
         Some(AlterCode::Scope)
     } else {
         None

@@ -127,7 +127,7 @@ pub fn column_of(
         kind: written.kind,
         nullable,
         default,
-        auto: false,
+        auto: written.auto,
     })
 }
 

@@ -1,5 +1,5 @@
 -- Columns as CREATE TABLE writes them ("CREATE TABLE Statement").
-use Rattle.std.specs.Prelude.{codes, true, false, if◌then◌else◌, List, [], ◌∷◌, length, Option, Some, None, Result, Ok}
+use Rattle.std.specs.Prelude.{codes, ℕ, true, false, if◌then◌else◌, List, [], ◌∷◌, length, Option, Some, None, Result, Ok}
 use Rattle.sql_grammar.specs.declared.attributes.Attribute.{Attribute}
 use Rattle.sql_grammar.specs.declared.code.SchemaCode.{SchemaCode}
 use Rattle.sql_grammar.specs.declared.token.Token.{Token}
@@ -44,27 +44,27 @@ abbrev pub plain_of : Option (Attribute × List Token) → Option (ColumnAttribu
 plain_of (Some read) = Some (Plain read.0, read.1)
 plain_of None = None
 
-abbrev pub plain_at : List Token → Perhaps
-plain_at words = do
-  read ← attribute_at words
+abbrev pub plain_at : ℕ → List Token → Perhaps
+plain_at version words = do
+  read ← attribute_at version words
   Ok (plain_of read)
 
 -- An attribute at the front; none where the first word begins none.
-unfoldable pub column_attribute_at : List Token → Perhaps
-column_attribute_at [] = Ok None
-column_attribute_at (word ∷ rest) =
+unfoldable pub column_attribute_at : ℕ → List Token → Perhaps
+column_attribute_at version [] = Ok None
+column_attribute_at version (word ∷ rest) =
     if is_keyword word (codes "PRIMARY") then primary_at rest
     else (if is_keyword word (codes "UNIQUE") then Ok (unique_after rest (after_keyword (codes "KEY") rest))
-    else plain_at (word ∷ rest))
+    else plain_at version (word ∷ rest))
 
 -- the attributes at the front, in any order
-unfoldable pub column_attributes_at : List Token → Read ColumnAttributes
-column_attributes_at words = gathered column_attribute_at with_column_attribute (length words) unwritten_column words
+unfoldable pub column_attributes_at : ℕ → List Token → Read ColumnAttributes
+column_attributes_at version words = gathered (column_attribute_at version) with_column_attribute (length words) unwritten_column words
 
 -- A column: its name, its kind and its attributes.
-unfoldable pub column_at : List Token → Read WrittenColumn
-column_at words = do
+unfoldable pub column_at : ℕ → List Token → Read WrittenColumn
+column_at version words = do
   name ← name_at words
   kind ← kind_at name.1
-  attributes ← column_attributes_at kind.1
+  attributes ← column_attributes_at version kind.1
   Ok (record { name = name.0; kind = kind.0; attributes = attributes.0 }, attributes.1)

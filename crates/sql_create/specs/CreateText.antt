@@ -7,8 +7,8 @@ use Rattle.sql_grammar.specs.Tokens.{text_words}
 use Rattle.sql_create.specs.DeclaredSchema.{declared}
 use Rattle.sql_create.specs.Written.{written}
 
--- The text's first word that doesn't fit is refused before all else; then the table that it writes is.
-unfoldable pub schema_at : List ℕ → List ℕ → Result Schema SchemaCode
-schema_at migrated text = do
-  table ← written (text_words text)
+-- The text's first word that doesn't fit a plan of this version is refused before all else; then the table that it writes is.
+unfoldable pub schema_at : ℕ → List ℕ → List ℕ → Result Schema SchemaCode
+schema_at version migrated text = do
+  table ← written version (text_words text)
   declared migrated table

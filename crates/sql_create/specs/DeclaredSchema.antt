@@ -1,5 +1,5 @@
 -- The schema that a table as it is written declares, or the first reason to refuse it.
-use Rattle.std.specs.Prelude.{ℕ, ◌+◌, Bool, true, false, not, ◌&&◌, ◌||◌, nat_lt, List, [], ◌∷◌, ◌++◌, length, map, filter, count_by, is_none, unwrap_or, None, Result, Ok}
+use Rattle.std.specs.Prelude.{ℕ, ◌+◌, Bool, true, not, ◌&&◌, ◌||◌, nat_lt, List, [], ◌∷◌, ◌++◌, length, map, filter, count_by, is_none, unwrap_or, None, Result, Ok}
 use Rattle.std.specs.List.{list_all, list_any}
 use Rattle.base_values.specs.declared.gho_schema.schema.Schema.{Schema}
 use Rattle.base_values.specs.declared.gho_schema.schema.Column.{Column}
@@ -9,12 +9,14 @@ use Rattle.sql_grammar.specs.declared.code.SchemaCode.TheVariants.{RepeatedName,
 use Rattle.base_values.specs.SchemaRules.Results.{◌>>=◌}
 use Rattle.sql_create.specs.declared.keys.NamedKeys.{NamedKeys}
 use Rattle.sql_create.specs.declared.parts.Parts.{Parts}
+use Rattle.sql_create.specs.declared.written.TableOptions.{TableOptions}
 use Rattle.sql_create.specs.declared.written.WrittenColumn.{WrittenColumn}
 use Rattle.sql_create.specs.declared.written.WrittenKey.{WrittenKey}
 use Rattle.sql_create.specs.declared.written.WrittenTable.{WrittenTable}
 use Rattle.base_values.specs.GhoSchema.ClusteredKey.{clustered_place}
 use Rattle.base_values.specs.SchemaRules.Defaults.{stored_default, defaults_fit, default_or}
 use Rattle.base_values.specs.SchemaRules.Names.{is_among, names_differ, places_of}
+use Rattle.sql_create.specs.AutoColumn.{counting}
 use Rattle.sql_create.specs.Keys.{named_keys}
 use Rattle.base_values.specs.SchemaRules.Reasons.{Reasons, first_reason, unless}
 use Rattle.base_values.specs.SchemaRules.Limits.{is_column_name, is_table_name, is_reserved}
@@ -56,7 +58,7 @@ nullable_of primaries column = not (list_any (λ names. is_among names column.na
 unfoldable pub declared_column : List (List (List ℕ)) → WrittenColumn → Result Column SchemaCode
 declared_column primaries column = do
   default ← default_or BadDefault (stored_default column.kind (nullable_of primaries column) column.attributes.plain.default)
-  Ok (record { name = column.name; kind = column.kind; nullable = nullable_of primaries column; default = default; auto = false })
+  Ok (record { name = column.name; kind = column.kind; nullable = nullable_of primaries column; default = default; auto = column.attributes.plain.auto })
 
 unfoldable pub declared_columns : List (List (List ℕ)) → List WrittenColumn → Result (List Column) SchemaCode
 declared_columns primaries [] = Ok []
@@ -84,16 +86,20 @@ schema_of name comment names primaries keys columns = record {
   start = None;
 }
 
--- At last a default that isn't stored, or defaults that are too long together, then a table without a clustered key.
+-- Then a default that isn't stored, or defaults that are too long together, then a table without a clustered key.
 abbrev pub clustered : Schema → Result Schema SchemaCode
 clustered schema = unless (first_reason ((not (defaults_fit schema.columns), BadDefault) ∷ (is_none (clustered_place schema), NoClusteredKey) ∷ [])) (Ok schema)
 
-abbrev pub built : List ℕ → List ℕ → List (List ℕ) → List (List (List ℕ)) → List WrittenColumn → NamedKeys → Result Schema SchemaCode
-built name comment names primaries columns named = unless (first_reason (name_reasons names primaries named)) (declared_columns primaries columns >>= λ columns. clustered (schema_of name comment names primaries named.keys columns))
+-- At last a column that may not have AUTO_INCREMENT, or a number at which it can't start.
+abbrev pub keyed : List ℕ → TableOptions → List (List ℕ) → List (List (List ℕ)) → NamedKeys → List Column → Result Schema SchemaCode
+keyed name options names primaries named columns = clustered (schema_of name options.comment names primaries named.keys columns) >>= counting options.start
 
-abbrev pub declared_parts : List ℕ → List ℕ → List ℕ → Parts → Result Schema SchemaCode
-declared_parts migrated name comment parts = unless (first_reason (size_reasons migrated name parts)) (built name comment (column_names parts.columns) parts.primaries parts.columns (named_keys (column_names parts.columns) parts.keys))
+abbrev pub built : List ℕ → TableOptions → List (List ℕ) → List (List (List ℕ)) → List WrittenColumn → NamedKeys → Result Schema SchemaCode
+built name options names primaries columns named = unless (first_reason (name_reasons names primaries named)) (declared_columns primaries columns >>= keyed name options names primaries named)
+
+abbrev pub declared_parts : List ℕ → List ℕ → TableOptions → Parts → Result Schema SchemaCode
+declared_parts migrated name options parts = unless (first_reason (size_reasons migrated name parts)) (built name options (column_names parts.columns) parts.primaries parts.columns (named_keys (column_names parts.columns) parts.keys))
 
 -- The schema that the table declares, as one of a plan that migrates the table of this name.
 unfoldable pub declared : List ℕ → WrittenTable → Result Schema SchemaCode
-declared migrated table = declared_parts migrated table.name table.comment (parts_of table.items)
+declared migrated table = declared_parts migrated table.name table.options (parts_of table.items)

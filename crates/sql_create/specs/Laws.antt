@@ -6,4 +6,4 @@ use Rattle.sql_create.specs.CreateText.{schema_at}
 
 -- Every schema that is read is valid.
 abbrev pub ReadSchemasAreValid : Type 0
-ReadSchemasAreValid = (migrated text : List ℕ) (schema : Schema) → schema_at migrated text ≡ Ok schema → IsValid schema
+ReadSchemasAreValid = (version : ℕ) (migrated text : List ℕ) (schema : Schema) → schema_at version migrated text ≡ Ok schema → IsValid schema

@@ -1,3 +1,4 @@
+pub mod AutoColumn
 pub mod Columns
 pub mod DeclaredSchema
 pub mod Keys

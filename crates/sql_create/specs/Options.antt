@@ -3,18 +3,25 @@ use Rattle.std.specs.Prelude.{codes, ℕ, if◌then◌else◌, List, [], ◌∷�
 use Rattle.sql_grammar.specs.declared.code.SchemaCode.{SchemaCode}
 use Rattle.sql_grammar.specs.declared.token.Token.{Token}
 use Rattle.sql_grammar.specs.Listed.{gathered}
-use Rattle.sql_grammar.specs.Pieces.{after_sign, keyword_at, any_word_at, text_at}
+use Rattle.sql_grammar.specs.Pieces.{after_sign, keyword_at, any_word_at, number_at, text_at}
 use Rattle.base_values.specs.SchemaRules.Results.{◌>>=◌}
 use Rattle.sql_grammar.specs.Reads.{Read}
 use Rattle.sql_grammar.specs.Scope.{mismatch}
 use Rattle.sql_grammar.specs.Tokens.{is_keyword}
+use Rattle.sql_grammar.specs.Versions.{is_auto_increment}
 use Rattle.sql_create.specs.declared.options.TableOption.{TableOption}
-use Rattle.sql_create.specs.declared.options.TableOption.TheVariants.{Comment, Passed}
+use Rattle.sql_create.specs.declared.options.TableOption.TheVariants.{Comment, Start, Passed}
+use Rattle.sql_create.specs.declared.written.TableOptions.{TableOptions}
 
--- a later comment counts in place of an earlier one
-abbrev pub with_option : List ℕ → TableOption → List ℕ
-with_option comment (Comment text) = text
-with_option comment Passed = comment
+-- nothing is written
+abbrev pub no_options : TableOptions
+no_options = record { comment = []; start = None }
+
+-- a later option counts in place of an earlier one of its sort
+abbrev pub with_option : TableOptions → TableOption → TableOptions
+with_option options (Comment text) = record options { comment = text }
+with_option options (Start number) = record options { start = Some number }
+with_option options Passed = options
 
 -- an option that was read and the words after it, or none
 abbrev pub Perhaps : Type 0
@@ -45,6 +52,12 @@ comment_at words = do
   text ← text_at (value_words words)
   Ok (Some (Comment text.0, text.1))
 
+-- the number at which the AUTO_INCREMENT column starts
+unfoldable pub start_at : List Token → Perhaps
+start_at words = do
+  number ← number_at (value_words words)
+  Ok (Some (Start number.0, number.1))
+
 -- CHARSET, CHARACTER SET or COLLATE, with or without DEFAULT in front
 unfoldable pub charset_at : List Token → Perhaps
 charset_at [] = Ok None
@@ -64,15 +77,17 @@ default_charset_at words = do
   read ← charset_at words
   needed words read
 
--- The option that the words begin with; none where the first word begins none. All but COMMENT are passed over.
-unfoldable pub option_at : List Token → Perhaps
-option_at [] = Ok None
-option_at (word ∷ rest) =
+-- The option that the words begin with; none where the first word begins none. All but COMMENT and, from version 2 on,
+-- AUTO_INCREMENT are passed over.
+unfoldable pub option_at : ℕ → List Token → Perhaps
+option_at version [] = Ok None
+option_at version (word ∷ rest) =
     if is_keyword word (codes "ENGINE") then passed_at rest
     else (if is_keyword word (codes "COMMENT") then comment_at rest
     else (if is_keyword word (codes "DEFAULT") then default_charset_at rest
-    else charset_at (word ∷ rest)))
+    else (if is_auto_increment version word then start_at rest
+    else charset_at (word ∷ rest))))
 
--- the comment that the options at the front give, which is empty where none does
-unfoldable pub options_at : List Token → Read (List ℕ)
-options_at words = gathered option_at with_option (length words) [] words
+-- what the options at the front say
+unfoldable pub options_at : ℕ → List Token → Read TableOptions
+options_at version words = gathered (option_at version) with_option (length words) no_options words

@@ -27,11 +27,12 @@ fn unique_at(words: &[Token]) -> Option<(ColumnAttribute, &[Token])>
 
 fn plain_at(
     alloc: Global,
+    version: u32,
     words: &[Token],
 ) -> Result<Option<(ColumnAttribute, &[Token])>, SchemaFault>
-    ensures { Answers (option_map (λ read. (read.0, read.1.now))) result (plain_at words.now) }
+    ensures { Answers (option_map (λ read. (read.0, read.1.now))) result (plain_at version words.now) }
 {
-    match attribute_at(alloc, words)? {
+    match attribute_at(alloc, version, words)? {
         Some((attribute, rest)) => Ok(Some((ColumnAttribute::Plain(attribute), rest))),
         None => Ok(None),
     }
@@ -40,9 +41,10 @@ fn plain_at(
 #[tactic(auto, unfolding(crate::specs::Columns::column_attribute_at))]
 fn column_attribute_at(
     alloc: Global,
+    version: u32,
     words: &[Token],
 ) -> Result<Option<(ColumnAttribute, &[Token])>, SchemaFault>
-    ensures { Answers (option_map (λ read. (read.0, read.1.now))) result (column_attribute_at words.now) }
+    ensures { Answers (option_map (λ read. (read.0, read.1.now))) result (column_attribute_at version words.now) }
 {
     match words {
         [] => Ok(None),
@@ -52,7 +54,7 @@ fn column_attribute_at(
             } else if word.is_keyword("UNIQUE") {
                 Ok(unique_at(rest))
             } else {
-                plain_at(alloc, words)
+                plain_at(alloc, version, words)
             }
         }
     }
@@ -61,14 +63,15 @@ fn column_attribute_at(
 #[tactic(auto, unfolding(crate::specs::Columns::column_attributes_at))]
 fn column_attributes_at(
     alloc: Global,
+    version: u32,
     words: &[Token],
 ) -> Result<(ColumnAttributes, &[Token]), SchemaFault>
-    ensures { Answers (λ read. (read.0, read.1.now)) result (column_attributes_at words.now) }
+    ensures { Answers (λ read. (read.0, read.1.now)) result (column_attributes_at version words.now) }
 {
     let mut attributes = ColumnAttributes::new();
     let mut rest = words;
     for _ in 0..words.len() {
-        match column_attribute_at(alloc, rest)? {
+        match column_attribute_at(alloc, version, rest)? {
             None => return Ok((attributes, rest)),
             Some((attribute, following)) => {
                 attributes = attributes.with(attribute);
@@ -81,12 +84,16 @@ fn column_attributes_at(
 
 /// The first column, and what follows it.
 #[tactic(auto, unfolding(crate::specs::Columns::column_at))]
-pub fn column_at(alloc: Global, words: &[Token]) -> Result<(WrittenColumn, &[Token]), SchemaFault>
-    ensures { Answers (λ column. (column.0, column.1.now)) result (column_at words.now) }
+pub fn column_at(
+    alloc: Global,
+    version: u32,
+    words: &[Token],
+) -> Result<(WrittenColumn, &[Token]), SchemaFault>
+    ensures { Answers (λ column. (column.0, column.1.now)) result (column_at version words.now) }
 {
     let (name, rest) = name_at(alloc, words)?;
     let (kind, rest) = kind_at(rest)?;
-    let (attributes, rest) = column_attributes_at(alloc, rest)?;
+    let (attributes, rest) = column_attributes_at(alloc, version, rest)?;
     Ok((
         WrittenColumn {
             name,

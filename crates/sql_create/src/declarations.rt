@@ -8,9 +8,10 @@ ghost use Rattle.sql_create.specs.DeclaredSchema.{column_names, size_reasons, ar
 ghost use Rattle.base_values.specs.SchemaRules.Names.{is_among};
 ghost use Rattle.base_values.specs.SchemaRules.Limits.{is_column_name};
 
+use crate::auto_column::counting;
 use crate::keys::{NamedKeys, named_keys};
 use crate::parts::{Parts, parts_of};
-use crate::written::{WrittenColumn, WrittenKey, WrittenTable};
+use crate::written::{TableOptions, WrittenColumn, WrittenKey, WrittenTable};
 use base_values::gho_schema::{Column, Columns, Index, Indexes, Schema, clustered_place};
 use base_values::schema_rules::{
     defaults_fit, is_among, is_column_name, is_reserved, is_table_name, names_differ, places_of,
@@ -162,7 +163,7 @@ fn declared_column(
         kind: column.kind,
         nullable,
         default,
-        auto: false,
+        auto: column.attributes.plain.auto,
     })
 }
 
@@ -274,30 +275,32 @@ fn clustered(schema: Schema) -> Result<Schema, SchemaFault>
 fn built(
     alloc: Global,
     name: Name,
-    comment: Chars,
+    options: TableOptions,
     names: &[Name],
     primaries: &[Names],
     columns: &[WrittenColumn],
     named: &NamedKeys,
 ) -> Result<Schema, SchemaFault>
-    ensures { Answers (λ schema. schema) result (built name comment names.now primaries.now columns.now named.now) }
+    ensures { Answers (λ schema. schema) result (built name options names.now primaries.now columns.now named.now) }
 {
     if let Some(code) = name_reason(names, primaries, named) {
         return Err(SchemaFault::Refused(code));
     }
     let columns = declared_columns(alloc, primaries, columns)?;
     let keys = named.keys.as_slice();
-    clustered(schema_of(alloc, name, comment, names, primaries, keys, columns)?)
+    let TableOptions { comment, start } = options;
+    let schema = schema_of(alloc, name, comment, names, primaries, keys, columns)?;
+    counting(start, clustered(schema)?)
 }
 
 fn declared_parts(
     alloc: Global,
     migrated: &str,
     name: Name,
-    comment: Chars,
+    options: TableOptions,
     parts: Parts,
 ) -> Result<Schema, SchemaFault>
-    ensures { Answers (λ schema. schema) result (declared_parts migrated.now name comment parts) }
+    ensures { Answers (λ schema. schema) result (declared_parts migrated.now name options parts) }
 {
     match size_reason(alloc, migrated, name.as_str(), &parts)? {
         Some(code) => Err(SchemaFault::Refused(code)),
@@ -314,7 +317,7 @@ fn declared_parts(
             built(
                 alloc,
                 name,
-                comment,
+                options,
                 names,
                 primaries.as_slice(),
                 columns,
@@ -332,8 +335,8 @@ pub fn declared(alloc: Global, migrated: &str, table: WrittenTable) -> Result<Sc
     let WrittenTable {
         name,
         items,
-        comment,
+        options,
     } = table;
     let parts = parts_of(alloc, items)?;
-    declared_parts(alloc, migrated, name, comment, parts)
+    declared_parts(alloc, migrated, name, options, parts)
 }

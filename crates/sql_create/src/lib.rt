@@ -1,6 +1,7 @@
 //! The text of CREATE TABLE: the schema that it declares, or why it is refused.
 #![tactic(auto)]
 
+mod auto_column;
 mod columns;
 mod declarations;
 mod keys;

@@ -2,10 +2,14 @@
 
 ghost use Rattle.std.specs.Prelude.{◌≡◌, option_map};
 ghost use Rattle.base_values.specs.Faults.{Answers};
-ghost use Rattle.sql_create.specs.Options.{value_words, passed_at, set_at, comment_at, charset_at, default_charset_at, with_option, option_at, options_at};
+ghost use Rattle.sql_create.specs.Options.{value_words, passed_at, set_at, comment_at, start_at, charset_at, default_charset_at, with_option, option_at, options_at};
 
+use crate::written::TableOptions;
 use base_values::Chars;
-use sql_grammar::{SchemaFault, Token, after_sign, any_word_at, keyword_at, mismatch, text_at};
+use sql_grammar::{
+    SchemaFault, Token, after_sign, any_word_at, is_auto_increment, keyword_at, mismatch,
+    number_at, text_at,
+};
 use std::alloc::Global;
 
 /// An option of a table.
@@ -13,6 +17,8 @@ use std::alloc::Global;
 pub enum TableOption {
     /// COMMENT.
     Comment(Chars),
+    /// AUTO_INCREMENT: the number at which that column starts.
+    Start(i128),
     /// One that is passed over.
     Passed,
 }
@@ -54,6 +60,14 @@ fn comment_at(
     Ok(Some((TableOption::Comment(text), rest)))
 }
 
+#[tactic(auto, unfolding(crate::specs::Options::start_at))]
+fn start_at(words: &[Token]) -> Result<Option<(TableOption, &[Token])>, SchemaFault>
+    ensures { Answers (option_map (λ read. (read.0, read.1.now))) result (start_at words.now) }
+{
+    let (number, rest) = number_at(value_words(words))?;
+    Ok(Some((TableOption::Start(number), rest)))
+}
+
 #[tactic(auto, unfolding(crate::specs::Options::charset_at))]
 fn charset_at(words: &[Token]) -> Result<Option<(TableOption, &[Token])>, SchemaFault>
     ensures { Answers (option_map (λ read. (read.0, read.1.now))) result (charset_at words.now) }
@@ -85,8 +99,12 @@ fn default_charset_at(words: &[Token]) -> Result<Option<(TableOption, &[Token])>
 }
 
 #[tactic(auto, unfolding(crate::specs::Options::option_at))]
-fn option_at(alloc: Global, words: &[Token]) -> Result<Option<(TableOption, &[Token])>, SchemaFault>
-    ensures { Answers (option_map (λ read. (read.0, read.1.now))) result (option_at words.now) }
+fn option_at(
+    alloc: Global,
+    version: u32,
+    words: &[Token],
+) -> Result<Option<(TableOption, &[Token])>, SchemaFault>
+    ensures { Answers (option_map (λ read. (read.0, read.1.now))) result (option_at version words.now) }
 {
     match words {
         [] => Ok(None),
@@ -97,6 +115,8 @@ fn option_at(alloc: Global, words: &[Token]) -> Result<Option<(TableOption, &[To
                 comment_at(alloc, rest)
             } else if word.is_keyword("DEFAULT") {
                 default_charset_at(rest)
+            } else if is_auto_increment(version, word) {
+                start_at(rest)
             } else {
                 charset_at(words)
             }
@@ -104,30 +124,45 @@ fn option_at(alloc: Global, words: &[Token]) -> Result<Option<(TableOption, &[To
     }
 }
 
-fn with_option(comment: Chars, option: TableOption) -> Chars
-    ensures { result ≡ with_option comment option }
+fn with_option(options: TableOptions, option: TableOption) -> TableOptions
+    ensures { result ≡ with_option options option }
 {
+    let TableOptions { comment, start } = options;
     match option {
-        TableOption::Comment(text) => text,
-        TableOption::Passed => comment,
+        TableOption::Comment(text) => TableOptions {
+            comment: text,
+            start,
+        },
+        TableOption::Start(number) => TableOptions {
+            comment,
+            start: Some(number),
+        },
+        TableOption::Passed => TableOptions { comment, start },
     }
 }
 
-/// The comment that the options here give, and what follows them.
+/// What the options here say, and what follows them.
 #[tactic(auto, unfolding(crate::specs::Options::options_at))]
-pub fn options_at(alloc: Global, words: &[Token]) -> Result<(Chars, &[Token]), SchemaFault>
-    ensures { Answers (λ comment. (comment.0, comment.1.now)) result (options_at words.now) }
+pub fn options_at(
+    alloc: Global,
+    version: u32,
+    words: &[Token],
+) -> Result<(TableOptions, &[Token]), SchemaFault>
+    ensures { Answers (λ read. (read.0, read.1.now)) result (options_at version words.now) }
 {
-    let mut comment = Chars::new(alloc, "")?;
+    let mut options = TableOptions {
+        comment: Chars::new(alloc, "")?,
+        start: None,
+    };
     let mut rest = words;
     for _ in 0..words.len() {
-        match option_at(alloc, rest)? {
-            None => return Ok((comment, rest)),
+        match option_at(alloc, version, rest)? {
+            None => return Ok((options, rest)),
             Some((option, following)) => {
-                comment = with_option(comment, option);
+                options = with_option(options, option);
                 rest = following;
             }
         }
     }
-    Ok((comment, rest))
+    Ok((options, rest))
 }

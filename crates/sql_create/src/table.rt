@@ -2,7 +2,7 @@
 
 ghost use Rattle.std.specs.Prelude.{◌≡◌, codes};
 ghost use Rattle.base_values.specs.Faults.{Answers};
-ghost use Rattle.sql_create.specs.Written.{primary_item_at, key_item_at, after_key_word, column_item_at, item_at, items_at, last_words, alone, table_at, written};
+ghost use Rattle.sql_create.specs.Written.{primary_item_at, key_item_at, after_key_word, column_item_at, item_at, items_at, last_words, alone, table_at, refused_in, written};
 ghost use Rattle.sql_grammar.specs.Pieces.{after_sign};
 ghost use Rattle.sql_grammar.specs.Tokens.{text_words};
 
@@ -11,8 +11,8 @@ use crate::options::options_at;
 use crate::written::{Item, Items, WrittenKey, WrittenTable};
 use base_values::Sequence;
 use sql_grammar::{
-    SchemaCode, SchemaFault, Token, after_keyword, after_sign, is_no_item, key_at, key_columns_at,
-    keyword_at, mismatch, name_at, sign_at, text_words,
+    SchemaCode, SchemaFault, Token, after_keyword, after_sign, begins_no_item, in_version, key_at,
+    key_columns_at, keyword_at, mismatch, name_at, sign_at, text_words,
 };
 use std::alloc::Global;
 
@@ -49,16 +49,20 @@ fn after_key_word(words: &[Token]) -> &[Token]
     }
 }
 
-fn column_item_at(alloc: Global, words: &[Token]) -> Result<(Item, &[Token]), SchemaFault>
-    ensures { Answers (λ item. (item.0, item.1.now)) result (column_item_at words.now) }
+fn column_item_at(
+    alloc: Global,
+    version: u32,
+    words: &[Token],
+) -> Result<(Item, &[Token]), SchemaFault>
+    ensures { Answers (λ item. (item.0, item.1.now)) result (column_item_at version words.now) }
 {
-    let (column, rest) = column_at(alloc, words)?;
+    let (column, rest) = column_at(alloc, version, words)?;
     Ok((Item::Column(column), rest))
 }
 
 #[tactic(auto, unfolding(crate::specs::Written::item_at))]
-fn item_at(alloc: Global, words: &[Token]) -> Result<(Item, &[Token]), SchemaFault>
-    ensures { Answers (λ item. (item.0, item.1.now)) result (item_at words.now) }
+fn item_at(alloc: Global, version: u32, words: &[Token]) -> Result<(Item, &[Token]), SchemaFault>
+    ensures { Answers (λ item. (item.0, item.1.now)) result (item_at version words.now) }
 {
     match words {
         [] => Err(SchemaFault::Refused(mismatch(words))),
@@ -69,23 +73,23 @@ fn item_at(alloc: Global, words: &[Token]) -> Result<(Item, &[Token]), SchemaFau
                 key_item_at(alloc, true, after_key_word(rest))
             } else if word.is_keyword("KEY") || word.is_keyword("INDEX") {
                 key_item_at(alloc, false, rest)
-            } else if is_no_item(word) {
+            } else if begins_no_item(version, word) {
                 Err(SchemaFault::Refused(SchemaCode::Scope))
             } else {
-                column_item_at(alloc, words)
+                column_item_at(alloc, version, words)
             }
         }
     }
 }
 
 #[tactic(auto, unfolding(crate::specs::Written::items_at))]
-fn items_at(alloc: Global, words: &[Token]) -> Result<(Items, &[Token]), SchemaFault>
-    ensures { Answers (λ items. (items.0, items.1.now)) result (items_at words.now) }
+fn items_at(alloc: Global, version: u32, words: &[Token]) -> Result<(Items, &[Token]), SchemaFault>
+    ensures { Answers (λ items. (items.0, items.1.now)) result (items_at version words.now) }
 {
     let mut items = Sequence::new(alloc);
     let mut rest = words;
     for _ in 0..words.len() {
-        let (item, following) = item_at(alloc, rest)?;
+        let (item, following) = item_at(alloc, version, rest)?;
         items.push(item)?;
         match after_sign(",", following) {
             None => return Ok((items, following)),
@@ -114,33 +118,44 @@ fn alone(table: WrittenTable, words: &[Token]) -> Result<WrittenTable, SchemaFau
 }
 
 #[tactic(auto, unfolding(crate::specs::Written::table_at))]
-fn table_at(alloc: Global, words: &[Token]) -> Result<WrittenTable, SchemaFault>
-    ensures { Answers (λ table. table) result (table_at words.now) }
+fn table_at(alloc: Global, version: u32, words: &[Token]) -> Result<WrittenTable, SchemaFault>
+    ensures { Answers (λ table. table) result (table_at version words.now) }
 {
     let rest = keyword_at("CREATE", words)?;
     let rest = keyword_at("TABLE", rest)?;
     let (name, rest) = name_at(alloc, rest)?;
     let rest = sign_at("(", rest)?;
-    let (items, rest) = items_at(alloc, rest)?;
+    let (items, rest) = items_at(alloc, version, rest)?;
     let rest = sign_at(")", rest)?;
-    let (comment, rest) = options_at(alloc, rest)?;
+    let (options, rest) = options_at(alloc, version, rest)?;
     alone(
         WrittenTable {
             name,
             items,
-            comment,
+            options,
         },
         last_words(rest),
     )
 }
 
-/// What the text writes.
+/// The table that the words write, or its refusal as this version has it.
+fn table_in(alloc: Global, version: u32, words: &[Token]) -> Result<WrittenTable, SchemaFault>
+    ensures { Answers (λ table. table) result (refused_in version (table_at version words.now)) }
+{
+    match table_at(alloc, version, words) {
+        Ok(table) => Ok(table),
+        Err(SchemaFault::Refused(code)) => Err(SchemaFault::Refused(in_version(version, code))),
+        Err(SchemaFault::Memory) => Err(SchemaFault::Memory),
+    }
+}
+
+/// What the text writes in a plan of this version.
 #[tactic(auto, unfolding(crate::specs::Written::written))]
-pub fn written(alloc: Global, text: &str) -> Result<WrittenTable, SchemaFault>
-    ensures { Answers (λ table. table) result (written (text_words text.now)) }
+pub fn written(alloc: Global, version: u32, text: &str) -> Result<WrittenTable, SchemaFault>
+    ensures { Answers (λ table. table) result (written version (text_words text.now)) }
 {
     let read = text_words(alloc, text)?;
-    let table = table_at(alloc, read.words.as_slice())?;
+    let table = table_in(alloc, version, read.words.as_slice())?;
     if read.is_faulty {
         return Err(SchemaFault::Refused(SchemaCode::Syntax));
     }

@@ -66,8 +66,17 @@ pub struct WrittenTable {
     pub name: Name,
     /// Its columns and keys, in order.
     pub items: Items,
+    /// What follows its closing parenthesis.
+    pub options: TableOptions,
+}
+
+/// The options of a table that count.
+#[derive(Drop)]
+pub struct TableOptions {
     /// Its comment; empty where none is written.
     pub comment: Chars,
+    /// The number that AUTO_INCREMENT writes, where it is written.
+    pub start: Option<i128>,
 }
 
 impl ColumnAttributes {

@@ -8,4 +8,5 @@ pub mod Pieces
 pub mod Reads
 pub mod Scope
 pub mod Tokens
+pub mod Versions
 pub mod WordValues

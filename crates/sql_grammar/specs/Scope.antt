@@ -1,10 +1,11 @@
 -- Words of MySQL's CREATE TABLE that this program knows and doesn't take, and what a word that doesn't fit is refused with.
-use Rattle.std.specs.Prelude.{codes, ℕ, Bool, ◌&&◌, ◌||◌, if◌then◌else◌, List, [], ◌∷◌}
+use Rattle.std.specs.Prelude.{codes, ℕ, Bool, not, ◌&&◌, ◌||◌, if◌then◌else◌, List, [], ◌∷◌}
 use Rattle.base_values.specs.GhoSchema.Names.{is_one_of}
 use Rattle.sql_grammar.specs.declared.code.SchemaCode.{SchemaCode}
-use Rattle.sql_grammar.specs.declared.code.SchemaCode.TheVariants.{Syntax, Scope}
+use Rattle.sql_grammar.specs.declared.code.SchemaCode.TheVariants.{Syntax, Scope, AutoIncrement}
 use Rattle.sql_grammar.specs.declared.token.Token.{Token}
-use Rattle.sql_grammar.specs.Tokens.{is_unquoted}
+use Rattle.sql_grammar.specs.Tokens.{is_unquoted, is_keyword}
+use Rattle.sql_grammar.specs.Versions.{has_counters}
 
 -- what begins a constraint or a part of a column that isn't taken ("CREATE TABLE Statement")
 abbrev pub is_constraint : List ℕ → Bool
@@ -12,7 +13,7 @@ is_constraint = is_one_of (codes "FOREIGN" ∷ codes "REFERENCES" ∷ codes "CHE
 
 -- other parts of a table that aren't taken
 abbrev pub is_extension : List ℕ → Bool
-is_extension = is_one_of (codes "PARTITION" ∷ codes "FULLTEXT" ∷ codes "SPATIAL" ∷ codes "AUTO_INCREMENT" ∷ [])
+is_extension = is_one_of (codes "PARTITION" ∷ codes "FULLTEXT" ∷ codes "SPATIAL" ∷ [])
 
 -- the kinds of the manual's "Data Types" that this program doesn't have, and their synonyms
 abbrev pub is_fraction_kind : List ℕ → Bool
@@ -50,7 +51,16 @@ is_other_kind name = is_fraction_kind name || is_time_kind name || is_character_
 unfoldable pub is_no_item : Token → Bool
 is_no_item word = is_unquoted word.class && (is_constraint word.text || is_extension word.text)
 
--- What a text is refused with where these words stand in a place where the first of them doesn't fit: it is a word of MySQL's CREATE TABLE that this program doesn't take, or it is a mistake.
+-- a word that begins no item in this version: in version 1 AUTO_INCREMENT too, which in version 2 is a name like others there
+abbrev pub begins_no_item : ℕ → Token → Bool
+begins_no_item version word = is_no_item word || (is_keyword word (codes "AUTO_INCREMENT") && not (has_counters version))
+
+-- What a text is refused with where these words stand in a place where the first of them doesn't fit: it is a word of MySQL's CREATE TABLE that this program doesn't take, or AUTO_INCREMENT, or it is a mistake.
 unfoldable pub mismatch : List Token → SchemaCode
 mismatch [] = Syntax
-mismatch (word ∷ rest) = if is_no_item word || (is_unquoted word.class && is_other_kind word.text) then Scope else Syntax
+mismatch (word ∷ rest) = if is_no_item word || (is_unquoted word.class && is_other_kind word.text) then Scope else (if is_keyword word (codes "AUTO_INCREMENT") then AutoIncrement else Syntax)
+
+-- AUTO_INCREMENT where it doesn't fit: out of version 1's scope, and a mistake in version 2.
+abbrev pub in_version : ℕ → SchemaCode → SchemaCode
+in_version version AutoIncrement = if has_counters version then Syntax else Scope
+in_version version code = code

@@ -1,12 +1,13 @@
 //! What follows a column's kind.
 
 ghost use Rattle.std.specs.Prelude.{◌≡◌, option_map};
-ghost use Rattle.sql_grammar.specs.Attributes.{not_null_at, default_at, comment_at, character_set_at, collation_at, attribute_at};
+ghost use Rattle.sql_grammar.specs.Attributes.{not_null_at, default_at, comment_at, character_set_at, collation_at, passed_at, attribute_at};
 ghost use Rattle.base_values.specs.Faults.{Answers};
 
 use crate::code::SchemaFault;
 use crate::pieces::{any_word_at, keyword_at, literal_at, text_at};
 use crate::token::Token;
+use crate::versions::is_auto_increment;
 use base_values::Value;
 use std::alloc::Global;
 
@@ -17,6 +18,8 @@ pub enum Attribute {
     Nullable(bool),
     /// DEFAULT.
     Default(Value),
+    /// AUTO_INCREMENT.
+    AutoIncrement,
     /// One that is passed over.
     Passed,
 }
@@ -28,6 +31,8 @@ pub struct Attributes {
     pub nullable: Option<bool>,
     /// The DEFAULT, where one is written.
     pub default: Option<Value>,
+    /// Whether AUTO_INCREMENT is written.
+    pub auto: bool,
 }
 
 impl Attributes {
@@ -41,6 +46,7 @@ impl Attributes {
         Attributes {
             nullable: None,
             default: None,
+            auto: false,
         }
     }
 
@@ -52,10 +58,17 @@ impl Attributes {
             Attribute::Nullable(nullable) => Attributes {
                 nullable: Some(nullable),
                 default: self.default,
+                auto: self.auto,
             },
             Attribute::Default(value) => Attributes {
                 nullable: self.nullable,
                 default: Some(value),
+                auto: self.auto,
+            },
+            Attribute::AutoIncrement => Attributes {
+                nullable: self.nullable,
+                default: self.default,
+                auto: true,
             },
             Attribute::Passed => self,
         }
@@ -98,13 +111,34 @@ fn collation_at(words: &[Token]) -> Result<Option<(Attribute, &[Token])>, Schema
     Ok(Some((Attribute::Passed, rest)))
 }
 
+#[tactic(auto, unfolding(crate::specs::Attributes::passed_at))]
+fn passed_at(alloc: Global, words: &[Token]) -> Result<Option<(Attribute, &[Token])>, SchemaFault>
+    ensures { Answers (option_map (λ read. (read.0, read.1.now))) result (passed_at words.now) }
+{
+    match words {
+        [] => Ok(None),
+        [word, rest @ ..] => {
+            if word.is_keyword("COMMENT") {
+                comment_at(alloc, rest)
+            } else if word.is_keyword("CHARACTER") {
+                character_set_at(rest)
+            } else if word.is_keyword("COLLATE") {
+                collation_at(rest)
+            } else {
+                Ok(None)
+            }
+        }
+    }
+}
+
 /// The attribute at the front and what follows it; none where the first word begins none.
 #[tactic(auto, unfolding(crate::specs::Attributes::attribute_at))]
 pub fn attribute_at(
     alloc: Global,
+    version: u32,
     words: &[Token],
 ) -> Result<Option<(Attribute, &[Token])>, SchemaFault>
-    ensures { Answers (option_map (λ read. (read.0, read.1.now))) result (attribute_at words.now) }
+    ensures { Answers (option_map (λ read. (read.0, read.1.now))) result (attribute_at version words.now) }
 {
     match words {
         [] => Ok(None),
@@ -115,14 +149,10 @@ pub fn attribute_at(
                 Ok(Some((Attribute::Nullable(true), rest)))
             } else if word.is_keyword("DEFAULT") {
                 default_at(alloc, rest)
-            } else if word.is_keyword("COMMENT") {
-                comment_at(alloc, rest)
-            } else if word.is_keyword("CHARACTER") {
-                character_set_at(rest)
-            } else if word.is_keyword("COLLATE") {
-                collation_at(rest)
+            } else if is_auto_increment(version, word) {
+                Ok(Some((Attribute::AutoIncrement, rest)))
             } else {
-                Ok(None)
+                passed_at(alloc, words)
             }
         }
     }

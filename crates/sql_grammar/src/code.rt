@@ -11,6 +11,8 @@ pub enum SchemaCode {
     Syntax,
     /// 11: the text has what MySQL has and this program doesn't.
     Scope,
+    /// 11 in version 1 of the plan: AUTO_INCREMENT is where it doesn't fit. In version 2 that is a mistake like others, 10.
+    AutoIncrement,
     /// 12: two columns or two keys have one name.
     RepeatedName,
     /// 13: a key names no column.
@@ -27,6 +29,8 @@ pub enum SchemaCode {
     ReservedName,
     /// 19: a column doesn't store its default, or the defaults are too long together.
     BadDefault,
+    /// 32: a column may not have AUTO_INCREMENT, or the number at which it starts is out of its range.
+    AutoColumn,
 }
 
 impl SchemaCode {
@@ -38,7 +42,7 @@ impl SchemaCode {
     {
         match self {
             SchemaCode::Syntax => (10, "schema_syntax"),
-            SchemaCode::Scope => (11, "schema_scope"),
+            SchemaCode::Scope | SchemaCode::AutoIncrement => (11, "schema_scope"),
             SchemaCode::RepeatedName => (12, "repeated_name"),
             SchemaCode::UnknownKeyColumn => (13, "unknown_key_column"),
             SchemaCode::NoClusteredKey => (14, "no_clustered_key"),
@@ -47,6 +51,7 @@ impl SchemaCode {
             SchemaCode::NameTooLong => (17, "name_too_long"),
             SchemaCode::ReservedName => (18, "reserved_name"),
             SchemaCode::BadDefault => (19, "bad_default"),
+            SchemaCode::AutoColumn => (32, "auto_column"),
         }
     }
 

@@ -11,6 +11,7 @@ mod pieces;
 mod scope;
 mod token;
 mod tokens;
+mod versions;
 pub mod word_values;
 
 pub use attributes::{Attribute, Attributes, attribute_at};
@@ -19,8 +20,10 @@ pub use keys::{KeyText, key_at, key_columns_at, names_at};
 pub use kinds::kind_at;
 pub use literals::{LiteralRef, read_literal};
 pub use pieces::{
-    after_keyword, after_sign, any_word_at, keyword_at, literal_at, name_at, sign_at, text_at,
+    after_keyword, after_sign, any_word_at, keyword_at, literal_at, name_at, number_at, sign_at,
+    text_at,
 };
-pub use scope::{is_no_item, mismatch};
+pub use scope::{begins_no_item, in_version, mismatch};
 pub use token::Token;
 pub use tokens::{TextWords, text_words};
+pub use versions::{has_counters, is_auto_increment};

@@ -99,7 +99,7 @@ fn number_of(word: &Token) -> Option<i128>
 
 /// The number at the front, and what follows it.
 #[tactic(auto, unfolding(crate::specs::Pieces::number_at))]
-pub(crate) fn number_at(words: &[Token]) -> Result<(i128, &[Token]), SchemaFault>
+pub fn number_at(words: &[Token]) -> Result<(i128, &[Token]), SchemaFault>
     ensures { Answers (λ number. (number.0, number.1.now)) result (number_at words.now) }
 {
     match words {

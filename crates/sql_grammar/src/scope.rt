@@ -1,10 +1,11 @@
 //! Words that the texts may not have, and what they are refused with.
 
 ghost use Rattle.std.specs.Prelude.{◌≡◌};
-ghost use Rattle.sql_grammar.specs.Scope.{is_constraint, is_extension, is_fraction_kind, is_time_kind, is_character_kind, is_long_kind, is_text_kind, is_choice_kind, is_shape_kind, is_many_shapes_kind, is_integer_synonym, is_other_kind, is_no_item, mismatch};
+ghost use Rattle.sql_grammar.specs.Scope.{is_constraint, is_extension, is_fraction_kind, is_time_kind, is_character_kind, is_long_kind, is_text_kind, is_choice_kind, is_shape_kind, is_many_shapes_kind, is_integer_synonym, is_other_kind, is_no_item, begins_no_item, mismatch, in_version};
 
 use crate::code::SchemaCode;
 use crate::token::Token;
+use crate::versions::has_counters;
 use base_values::gho_schema::same_name;
 
 fn is_constraint(word: &[u8]) -> bool
@@ -20,10 +21,7 @@ fn is_constraint(word: &[u8]) -> bool
 fn is_extension(word: &[u8]) -> bool
     ensures { result ≡ is_extension word.now }
 {
-    same_name(word, b"PARTITION")
-        || same_name(word, b"FULLTEXT")
-        || same_name(word, b"SPATIAL")
-        || same_name(word, b"AUTO_INCREMENT")
+    same_name(word, b"PARTITION") || same_name(word, b"FULLTEXT") || same_name(word, b"SPATIAL")
 }
 
 fn is_fraction_kind(word: &[u8]) -> bool
@@ -137,13 +135,20 @@ fn is_other_kind(word: &[u8]) -> bool
         || is_integer_synonym(word)
 }
 
-/// Whether the word begins no item of a table, whatever comes after it.
+/// Whether the word begins no item of a table in any version.
 #[tactic(auto, unfolding(crate::specs::Scope::is_no_item))]
-pub fn is_no_item(word: &Token) -> bool
+fn is_no_item(word: &Token) -> bool
     ensures { result ≡ is_no_item word.now }
 {
     let text = word.text.as_str().as_bytes();
     word.is_unquoted() && (is_constraint(text) || is_extension(text))
+}
+
+/// Whether the word begins no item of a table in this version, whatever comes after it.
+pub fn begins_no_item(version: u32, word: &Token) -> bool
+    ensures { result ≡ begins_no_item version word.now }
+{
+    is_no_item(word) || (word.is_keyword("AUTO_INCREMENT") && !has_counters(version))
 }
 
 /// What a text is refused with where these words stand and the first of them doesn't fit.
@@ -158,9 +163,28 @@ pub fn mismatch(words: &[Token]) -> SchemaCode
                 || (word.is_unquoted() && is_other_kind(word.text.as_str().as_bytes()))
             {
                 SchemaCode::Scope
+            } else if word.is_keyword("AUTO_INCREMENT") {
+                SchemaCode::AutoIncrement
             } else {
                 SchemaCode::Syntax
             }
         }
+    }
+}
+
+/// What a text of a plan of this version is refused with: AUTO_INCREMENT where it doesn't fit is out of version 1's scope,
+/// and a mistake in version 2.
+pub fn in_version(version: u32, code: SchemaCode) -> SchemaCode
+    ensures { result ≡ in_version version code }
+{
+    match code {
+        SchemaCode::AutoIncrement => {
+            if has_counters(version) {
+                SchemaCode::Syntax
+            } else {
+                SchemaCode::Scope
+            }
+        }
+        other => other,
     }
 }

@@ -1,5 +1,5 @@
 -- *The text of a schema*, as SHOW CREATE TABLE has it, but for options and kinds that this program doesn't have (MySQL's manual, "SHOW CREATE TABLE Statement").
-use Rattle.std.specs.Prelude.{codes, ℕ, ◌==◌, if◌then◌else◌, List, [], ◌∷◌, ◌++◌, map, Option, Some, None}
+use Rattle.std.specs.Prelude.{codes, ℕ, ◌==◌, Bool, if◌then◌else◌, List, [], ◌∷◌, ◌++◌, map, Option, Some, None}
 use Rattle.std.specs.Fmt.{decimal}
 use Rattle.std.specs.List.{flat_map, slice_get}
 use Rattle.base_values.specs.declared.kind.Kind.{Kind}
@@ -40,9 +40,13 @@ abbrev pub printed_default : Option Value → List ℕ
 printed_default None = []
 printed_default (Some value) = written_default value
 
+-- the attribute that makes the column's values be drawn
+abbrev pub printed_auto : Bool → List ℕ
+printed_auto auto = if auto then codes " AUTO_INCREMENT" else []
+
 -- a column's line
 unfoldable pub column_line : Column → List ℕ
-column_line column = quoted column.name ++ codes " " ++ printed_kind column.kind ++ (if column.nullable then [] else codes " NOT NULL") ++ printed_default column.default
+column_line column = quoted column.name ++ codes " " ++ printed_kind column.kind ++ (if column.nullable then [] else codes " NOT NULL") ++ printed_default column.default ++ printed_auto column.auto
 
 -- the name of the column at this place
 abbrev pub name_of : Option Column → List ℕ
@@ -86,10 +90,15 @@ unfoldable pub joined : List (List ℕ) → List ℕ
 joined [] = []
 joined (line ∷ lines) = codes "  " ++ line ++ flat_map (λ next. codes ",\n  " ++ next) lines
 
+-- the number at which the AUTO_INCREMENT column starts, where it is written
+abbrev pub printed_start : Option ℕ → List ℕ
+printed_start None = []
+printed_start (Some number) = codes " AUTO_INCREMENT=" ++ decimal number
+
 -- the comment, where there is one
 abbrev pub printed_comment : List ℕ → List ℕ
 printed_comment [] = []
 printed_comment (byte ∷ bytes) = codes " COMMENT=" ++ printed (Text (byte ∷ bytes))
 
 unfoldable pub printed_schema : Schema → List ℕ
-printed_schema schema = codes "CREATE TABLE " ++ quoted schema.name ++ codes " (\n" ++ joined (lines_of schema) ++ codes "\n)" ++ printed_comment schema.comment ++ codes "\n"
+printed_schema schema = codes "CREATE TABLE " ++ quoted schema.name ++ codes " (\n" ++ joined (lines_of schema) ++ codes "\n)" ++ printed_start schema.start ++ printed_comment schema.comment ++ codes "\n"

@@ -1,7 +1,7 @@
 //! The text of a schema.
 
 ghost use Rattle.std.specs.Prelude.{◌≡◌, ◌++◌, map, IfOk, OnOk, OnErr};
-ghost use Rattle.sql_show.specs.SchemaText.{quoted, integer_name, printed_kind, printed_default, column_line, column_name, key_names, key_columns, unique_line, index_line, lines_of, joined, printed_comment, printed_schema};
+ghost use Rattle.sql_show.specs.SchemaText.{quoted, integer_name, printed_kind, printed_default, printed_auto, column_line, column_name, key_names, key_columns, unique_line, index_line, lines_of, joined, printed_start, printed_comment, printed_schema};
 
 use base_values::gho_schema::{Column, Index, Schema};
 use base_values::{Chars, Duplicate, Kind, Sequence, Text, Value, print_value};
@@ -71,6 +71,7 @@ fn column_line(alloc: Global, column: &Column) -> Result<Text, AllocError>
     push_kind(&mut line, column.kind)?;
     line.push_str(if column.nullable { "" } else { " NOT NULL" })?;
     push_default(&mut line, &column.default)?;
+    line.push_str(if column.auto { " AUTO_INCREMENT" } else { "" })?;
     Ok(line)
 }
 
@@ -202,6 +203,19 @@ fn push_joined(into: &mut Text, lines: &[Text]) -> Result<(), AllocError>
     Ok(())
 }
 
+fn push_start(into: &mut Text, start: Option<u64>) -> Result<(), AllocError>
+    ensures { OnOk result (into.new ≡ into.old ++ printed_start start) }
+{
+    match start {
+        None => Ok(()),
+        Some(number) => {
+            into.push_str(" AUTO_INCREMENT=")?;
+            into.push_number(i128::from(number))?;
+            Ok(())
+        }
+    }
+}
+
 fn push_comment(into: &mut Text, comment: &Chars) -> Result<(), AllocError>
     ensures { OnOk result (into.new ≡ into.old ++ printed_comment comment.now) }
 {
@@ -223,6 +237,7 @@ fn text_of(alloc: Global, schema: &Schema) -> Result<Text, AllocError>
     text.push_str(" (\n")?;
     push_joined(&mut text, lines.as_slice())?;
     text.push_str("\n)")?;
+    push_start(&mut text, schema.start)?;
     push_comment(&mut text, &schema.comment)?;
     text.push_str("\n")?;
     Ok(text)

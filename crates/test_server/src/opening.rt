@@ -1,6 +1,6 @@
 //! A server without tables, and its sessions.
 
-ghost use Rattle.std.specs.Prelude.{◌≡◌, ◌≤◌, ◌+◌, OnOk};
+ghost use Rattle.std.specs.Prelude.{◌≡◌, ◌≤◌, ◌+◌, IfOk, OnOk};
 
 use base_values::Names;
 use server::final_server::{FinalServer, open_server};
@@ -10,8 +10,8 @@ use std::alloc::{AllocError, Global};
 use table_store::paged_tables::Tables;
 
 /// A server without tables and sessions, whose log counts the events of these. A wait isn't polled more than once.
-fn empty_server(alloc: Global, watched: Names) -> FinalServer
-    ensures { result.made ≡ 0 }
+fn empty_server(alloc: Global, watched: Names) -> Result<FinalServer, AllocError>
+    ensures { IfOk result (λ server. server.state.made ≡ 0) }
 {
     let limits = Limits {
         client_wait: 1,
@@ -22,8 +22,8 @@ fn empty_server(alloc: Global, watched: Names) -> FinalServer
 
 /// One session more, a client's.
 fn connect(server: &mut FinalServer) -> Result<(), AllocError>
-    requires { server.old.made ≤ 8 }
-    ensures { OnOk result (server.new.made ≡ server.old.made + 1) }
+    requires { server.old.state.made ≤ 8 }
+    ensures { OnOk result (server.new.state.made ≡ server.old.state.made + 1) }
 {
     let _number = server.connect(false)?;
     Ok(())
@@ -31,7 +31,7 @@ fn connect(server: &mut FinalServer) -> Result<(), AllocError>
 
 /// A server without tables, with three sessions of clients, whose log counts the events of these tables.
 pub fn open(alloc: Global, watched: Names) -> Result<FinalServer, AllocError> {
-    let mut server = empty_server(alloc, watched);
+    let mut server = empty_server(alloc, watched)?;
     connect(&mut server)?;
     connect(&mut server)?;
     connect(&mut server)?;

@@ -33,7 +33,7 @@ use Rattle.test_worked.proofs.SmallPlans2.{plan_panic, journal_panic}
 
 -- what a proof by computing opens of an audit
 unfoldable auditing : Bool
-unfolding z0.reply_turns z0.straight_lines z0.judged z0.same_rows z0.mismatches z0.wrong_turns z0.tables_reached z0.least z0.first_other z0.audited z1.trace_of z2.client_reached z2.all_are_over z2.has_session z2.due_cut_among z2.has_renamed z2.alter_turns z2.broken_turns
+unfolding z0.reply_turns z0.straight_lines z0.judged z0.same_rows z0.mismatches z0.wrong_turns z0.tables_reached z0.least z0.first_other z0.audited z1.trace_of z2.client_reached z2.all_are_over z2.has_session z2.due_cut_among z2.has_renamed z2.alter_turns z2.broken_turns z0.misdrawn_turns
 auditing = true
 
 -- the trace of a run

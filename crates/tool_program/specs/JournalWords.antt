@@ -7,3 +7,4 @@ pub mod KeptPlans
 pub mod Histories
 pub mod Serials
 pub mod Bounds
+pub mod Draws

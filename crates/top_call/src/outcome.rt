@@ -97,7 +97,7 @@ fn traced<V: Serve>(
 fn replayed(alloc: Global, plan: &Plan) -> Result<(Left<FinalServer>, Turns), AllocError>
     requires { WasRead plan.now }
     ensures takes { IfOk result (λ replayed. Takes plans.Replay plan.now replayed.1 replayed.0.journal) }
-    ensures end { IfOk result (λ replayed. IfSome replayed.0.end (λ end. IsEnd plan.now replayed.0.journal end.verdict end.server)) }
+    ensures end { IfOk result (λ replayed. IfSome replayed.0.end (λ end. IsEnd plan.now replayed.0.journal end.verdict end.server.state)) }
 {
     // The room for the turns is made before the first, so that none that was taken is thrown away.
     let room = Vec::with_capacity(alloc, plan.options().turn_limit as usize)?;

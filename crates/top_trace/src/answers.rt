@@ -2,9 +2,9 @@
 
 ghost use Rattle.std.specs.Prelude.{◌≡◌, ◌++◌, OnOk};
 ghost use Rattle.std.specs.Fmt.{decimal};
-ghost use Rattle.run_audit.specs.Lines.{heard_answer, line_answer, missed_answer};
+ghost use Rattle.run_audit.specs.Lines.{drawn_shown, heard_answer, line_answer, line_of, missed_answer};
 ghost use Rattle.server_model.specs.Entries.{is_client};
-ghost use Rattle.top_trace.specs.Texts.{answer_text, read_rows_text};
+ghost use Rattle.top_trace.specs.Texts.{answer_text, drawn_text, read_rows_text};
 
 use base_script::{Actor, Side};
 use base_values::Text;
@@ -63,6 +63,39 @@ pub(crate) fn push_answer(into: &mut Text, entry: &Entry) -> Result<(), AllocErr
     match entry.side {
         Some(Side::After) => push_missed(into, &entry.missed),
         _ => push_heard(into, is_client(entry.actor), &entry.answer),
+    }
+}
+
+/// The number that is shown of a call after which the session was lost: none where it was refused.
+#[tactic(auto, using(crate::proofs::Lines::refused_shows, crate::proofs::Lines::done_shows, crate::proofs::Lines::waited_shows))]
+fn missed_draw(missed: &Option<Answer>, draw: Option<u64>) -> Option<u64>
+    ensures { result ≡ drawn_shown draw (missed_answer missed.now) }
+{
+    match missed {
+        Some(Answer::Refused { .. } | Answer::TimedOut { .. }) => None,
+        _ => draw,
+    }
+}
+
+/// The number that a turn's line shows, where its statement drew one.
+#[tactic(auto, using(crate::proofs::Lines::heard_shows))]
+fn drawn_shown(entry: &Entry) -> Option<u64>
+    ensures { result ≡ drawn_shown entry.now.draw (line_answer (is_client entry.now.actor) entry.now.side entry.now.answer entry.now.missed) }
+{
+    match entry.side {
+        Some(Side::After) => missed_draw(&entry.missed, entry.draw),
+        _ => entry.draw,
+    }
+}
+
+/// Adds the number that a turn's statement drew, where it drew one.
+#[tactic(auto, unfolding(crate::specs::Texts::drawn_text))]
+pub(crate) fn push_drawn(into: &mut Text, entry: &Entry) -> Result<(), AllocError>
+    ensures { OnOk result (into.new ≡ into.old ++ drawn_text (line_of entry.now).drawn) }
+{
+    match drawn_shown(entry) {
+        None => Ok(()),
+        Some(number) => push_numbered(into, " id ", number),
     }
 }
 

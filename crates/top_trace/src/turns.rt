@@ -6,7 +6,7 @@ ghost use Rattle.run_audit.specs.Lines.{asked_of, line_of, lines_of};
 ghost use Rattle.top_report.specs.Turns.{actor_word};
 ghost use Rattle.top_trace.specs.Texts.{asked_text, read_rows_text, side_text, turn_line, turns_text};
 
-use crate::answers::{push_answer, push_read_rows};
+use crate::answers::{push_answer, push_drawn, push_read_rows};
 use base_script::{Actor, Side};
 use base_values::Text;
 use server_model::{Asked, Entry, Request};
@@ -66,6 +66,7 @@ fn push_turn_line(into: &mut Text, turn: u64, entry: &Entry) -> Result<(), Alloc
     push_request(into, entry)?;
     into.push_str(" ")?;
     push_answer(into, entry)?;
+    push_drawn(into, entry)?;
     into.push_str("\n")
 }
 

@@ -83,6 +83,8 @@ pub struct NewColumn {
     pub nullable: Option<bool>,
     /// The DEFAULT, where one is written.
     pub default: Option<Value>,
+    /// Whether AUTO_INCREMENT is written.
+    pub auto: bool,
 }
 
 // By hand, so that crates above prove it as one call.
@@ -93,6 +95,7 @@ impl Drop for NewColumn {
             kind: _,
             nullable: _,
             default,
+            auto: _,
         } = self;
         drop(name);
         drop(default);

@@ -1,15 +1,12 @@
 -- The printed order.
-use Rattle.std.proofs.Common.{◌≡◌, ◌∙◌, ℕ, zero, suc, ◌+◌, ◌<◌, ◌≤◌, ◌^◌, ◌==◌, Bool, true, false, not, cond, List, [], ◌∷◌, ◌++◌, length, map, filter, Option, Some, None, Result, Ok, Err, refl, sym, ap, ap₂, arith, append-nil, append_assoc, codes}
-use Rattle.std.proofs.lemmas.Bool.Decides.{nat_tests}
-use Rattle.std.specs.List.{AllByRecursion, flat_map, list_all, repeat, slice_split}
-use Rattle.base_values.specs.SchemaRules.Results.{◌>>=◌}
+use Rattle.std.proofs.Common.{◌≡◌, ◌∙◌, ℕ, suc, ◌+◌, ◌<◌, ◌≤◌, ◌^◌, Bool, true, false, not, List, [], ◌∷◌, ◌++◌, length, map, filter, Ok, refl, ap, arith, append-nil, codes}
+use Rattle.std.specs.List.{AllByRecursion, flat_map, repeat, slice_split}
 use Rattle.base_script.specs.declared.actor.Actor.{Actor}
 use Rattle.server_model.specs.Entries.{same_actor}
 use Rattle.plan_data.specs.PlanData.{turns_in}
 use Rattle.plan_data.specs.declared.runs.ActorRun.{ActorRun}
 use Rattle.plan_orders.specs.Words.{is_empty, is_space, spaced_words}
-use Rattle.plan_orders.specs.TurnOrder.Refusals.{or_refused}
-use Rattle.plan_orders.specs.TurnOrder.Turns.{next_word, run_among, runs_from, turns_of}
+use Rattle.plan_orders.specs.TurnOrder.Turns.{next_word, runs_from, turns_of}
 use Rattle.top_report.specs.Turns.{joined, order_text, run_text, runs_of}
 use Rattle.top_report.proofs.ClientLines.Actors.{same_is}
 use Rattle.law_texts.specs.TurnOrders.{IsOf}

@@ -1,9 +1,9 @@
 -- The words of a printed order.
-use Rattle.std.proofs.Common.{◌≡◌, ◌∙◌, ℕ, zero, suc, ◌+◌, ◌-◌, ◌<◌, ◌≤◌, ◌^◌, ◌==◌, min, Bool, true, false, not, ◌&&◌, ◌||◌, cond, nat_lt, nat_le, List, [], ◌∷◌, ◌++◌, length, take, drop, get_or, map, filter, position, Option, Some, None, option_map, refl, sym, ap, ap₂, arith, rules, codes, append-nil}
+use Rattle.std.proofs.Common.{◌≡◌, ◌∙◌, ℕ, suc, ◌+◌, ◌-◌, ◌<◌, ◌≤◌, ◌^◌, ◌==◌, min, Bool, true, false, not, ◌&&◌, cond, nat_lt, List, [], ◌∷◌, ◌++◌, length, take, drop, get_or, Option, Some, None, refl, sym, ap, ap₂, arith, codes, append-nil}
 use Rattle.std.proofs.lemmas.Bool.{not-true, and_from, and_parts}
 use Rattle.std.proofs.lemmas.Bool.Decides.{nat_tests}
 use Rattle.std.proofs.lemmas.Fmt.{decimal_nonempty, digits_decimal, digits_value-decimal, first_decimal}
-use Rattle.std.proofs.lemmas.Str.Parse.{IsNumeralModel, numerals_by_value}
+use Rattle.law_texts.proofs.Numerals.{numerals}
 use Rattle.std.specs.Char.{is_ascii_digit}
 use Rattle.std.specs.Fmt.{decimal}
 use Rattle.std.specs.List.{list_all, onto_first, position_or_len, slice_split}
@@ -12,17 +12,14 @@ use Rattle.std.specs.Str.Parse.{digits_value}
 use Rattle.base_script.specs.declared.actor.Actor.{Actor}
 use Rattle.base_script.specs.declared.actor.Actor.TheVariants.{Op, Insp, Copy, Apply, Lock, Ren, Client}
 use Rattle.plan_data.specs.declared.runs.ActorRun.{ActorRun}
-use Rattle.plan_orders.specs.Actors.{actor_of, client_of, is_among}
-use Rattle.plan_orders.specs.Numbers.{is_number, number_of}
+use Rattle.plan_orders.specs.Actors.{actor_of, is_among}
+use Rattle.plan_orders.specs.Numbers.{number_of}
 use Rattle.plan_orders.specs.Words.{is_space, parts_around, parts_at}
 use Rattle.plan_orders.specs.TurnOrder.Turns.{run_among, run_in, run_of, run_with}
 use Rattle.top_report.specs.Turns.{actor_word, run_text, times_text}
 use Rattle.law_texts.specs.TurnOrders.{IsOf}
 
 -- ---- digits
-
-numerals : IsNumeralModel (λ ds. list_all is_ascii_digit ds ≡ true) (digits_value 10)
-numerals = numerals_by_value _ (search rules)
 
 number_is : (digits : List ℕ) (n : ℕ) → list_all is_ascii_digit digits ≡ true → digits_value 10 digits ≡ n → 0 < length digits → 48 < get_or digits 0 0 → n < 2 ^ 32 → number_of digits ≡ Some n
 number_is [] n are value some first small = absurd (omega arith)
@@ -89,7 +86,7 @@ actor_read clients (Client number) few is =
     let wide : number < 2 ^ 64 = omega arith in
     client_word (decimal number) number (digits_decimal numerals number wide) (decimal_nonempty number wide) (number_read number is.0 small)
 
-among : (clients : ℕ) (actor : Actor) → IsOf clients actor → is_among clients actor ≡ true
+pub among : (clients : ℕ) (actor : Actor) → IsOf clients actor → is_among clients actor ≡ true
 among clients Op is = refl
 among clients Insp is = refl
 among clients Copy is = refl

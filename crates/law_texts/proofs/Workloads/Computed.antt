@@ -39,12 +39,12 @@ use Rattle.law_texts.specs.Workloads.Alters.{clauses, altered_schema, altered_ma
 use Rattle.law_texts.specs.Workloads.Rows.{table_schema}
 use Rattle.law_texts.specs.Workloads.Document.Texts.{alter_text, table_name, create_text}
 
-pub schema_read : c6.schema_at table_name create_text ≡ Ok table_schema
-unfolding s1.half s1.text_number s1.character_count s1.in_range s1.text_within s1.stores s2.clustered_among s3.same_name w1.front_at w2.text_inside w2.name_inside w3.words_after t1.attribute_at t2.key_mismatch t2.names_at t2.key_columns_at t2.key_name_at t2.key_at t3.kind_word t3.width_at t3.length_at t3.kind_after t3.kind_at t4.listed t4.gathered t5.after_keyword t5.after_sign t5.keyword_at t5.sign_at t5.after_name t5.name_at t5.number_at t5.text_at t5.literal_at t5.any_word_at t6.is_other_kind t6.is_no_item t6.mismatch t7.is_keyword t7.same_sign t7.text_words r1.defaults_fit r2.is_name_length r4.ghost_name r4.log_name r4.old_name r3.is_among r3.differ_from r3.place_of r3.places_of r3.spelled r3.numbered r3.first_free r3.first_column c1.column_attribute_at c1.column_attributes_at c1.column_at c2.declared_column c2.declared_columns c2.schema_of c2.declared c3.named_keys c4.value_words c4.passed_at c4.set_at c4.comment_at c4.charset_at c4.default_charset_at c4.option_at c4.options_at c5.parts_of c6.schema_at c7.primary_item_at c7.after_key_word c7.item_at c7.items_at c7.table_at c7.written
+pub schema_read : c6.schema_at 1 table_name create_text ≡ Ok table_schema
+unfolding s1.half s1.text_number s1.character_count s1.in_range s1.text_within s1.stores s2.clustered_among s3.same_name w1.front_at w2.text_inside w2.name_inside w3.words_after t1.attribute_at t1.passed_at t2.key_mismatch t2.names_at t2.key_columns_at t2.key_name_at t2.key_at t3.kind_word t3.width_at t3.length_at t3.kind_after t3.kind_at t4.listed t4.gathered t5.after_keyword t5.after_sign t5.keyword_at t5.sign_at t5.after_name t5.name_at t5.number_at t5.text_at t5.literal_at t5.any_word_at t6.is_other_kind t6.is_no_item t6.mismatch t7.is_keyword t7.same_sign t7.text_words r1.defaults_fit r2.is_name_length r4.ghost_name r4.log_name r4.old_name r3.is_among r3.differ_from r3.place_of r3.places_of r3.spelled r3.numbered r3.first_free r3.first_column c1.column_attribute_at c1.column_attributes_at c1.column_at c2.declared_column c2.declared_columns c2.schema_of c2.declared c3.named_keys c4.value_words c4.passed_at c4.set_at c4.comment_at c4.charset_at c4.default_charset_at c4.option_at c4.options_at c5.parts_of c6.schema_at c7.primary_item_at c7.after_key_word c7.item_at c7.items_at c7.table_at c7.written
 schema_read = refl
 
-pub alter_read : alter_at table_name alter_text ≡ Ok clauses
-unfolding s3.same_name w1.front_at w2.text_inside w2.name_inside w3.words_after t1.attribute_at t3.kind_word t3.width_at t3.length_at t3.kind_after t3.kind_at t4.listed t4.gathered t5.after_keyword t5.after_sign t5.keyword_at t5.sign_at t5.after_name t5.name_at t5.number_at t5.text_at t5.literal_at t5.any_word_at t6.is_other_kind t6.is_no_item t6.mismatch t7.is_keyword t7.same_sign t7.text_words a1.add_column_at a1.add_at a1.modify_at a2.clause_at a2.list_at a2.clauses_at a2.front_at a2.read a3.new_attribute_at a3.new_attributes_at a3.new_column_at a3.column_position_at a4.after_column a4.is_out_of_scope
+pub alter_read : alter_at 1 table_name alter_text ≡ Ok clauses
+unfolding s3.same_name w1.front_at w2.text_inside w2.name_inside w3.words_after t1.attribute_at t1.passed_at t3.kind_word t3.width_at t3.length_at t3.kind_after t3.kind_at t4.listed t4.gathered t5.after_keyword t5.after_sign t5.keyword_at t5.sign_at t5.after_name t5.name_at t5.number_at t5.text_at t5.literal_at t5.any_word_at t6.is_other_kind t6.is_no_item t6.mismatch t7.is_keyword t7.same_sign t7.text_words a1.add_column_at a1.add_at a1.modify_at a2.clause_at a2.list_at a2.clauses_at a2.front_at a2.read a3.new_attribute_at a3.new_attributes_at a3.new_column_at a3.column_position_at a4.after_column a4.is_out_of_scope
 alter_read = refl
 
 pub alter_taken : b1.altered false table_schema clauses ≡ Ok (altered_schema, altered_map)

@@ -9,4 +9,4 @@ use Rattle.law_texts.proofs.Workloads.TablesRead.{tables_read}
 use Rattle.law_texts.specs.Workloads.Document.Texts.{table_name}
 
 pub tables_sound : Laws → ReadSchemasAreValid → (number : ℕ) → IsTable table_schema (opening_rows number)
-tables_sound laws valid number = (tables_are laws valid table_name 1 [] (table_texts number ∷ []) (opening_table number ∷ []) tt (tables_read number)).0.is_table
+tables_sound laws valid number = (tables_are laws valid 1 table_name 1 [] (table_texts number ∷ []) (opening_table number ∷ []) tt (tables_read number)).0.is_table

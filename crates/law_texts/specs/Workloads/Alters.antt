@@ -13,8 +13,8 @@ use Rattle.law_texts.specs.Workloads.Document.Texts.{table_name}
 -- ADD COLUMN and MODIFY
 abbrev pub clauses : List Clause
 clauses =
-    Add (record { name = codes "s"; kind = VarChar 8; nullable = Some false; default = Some (Text (codes "new")) }) Unsaid
-    ∷ Change (codes "v") (record { name = codes "v"; kind = Int 8 false; nullable = None; default = None }) Unsaid
+    Add (record { name = codes "s"; kind = VarChar 8; nullable = Some false; default = Some (Text (codes "new")); auto = false }) Unsaid
+    ∷ Change (codes "v") (record { name = codes "v"; kind = Int 8 false; nullable = None; default = None; auto = false }) Unsaid
     ∷ []
 
 -- the altered table's schema

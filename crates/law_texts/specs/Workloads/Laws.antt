@@ -18,15 +18,15 @@ use Rattle.law_texts.specs.Workloads.Scripts.{script}
 
 -- Its CREATE TABLE is read as this valid schema, and its ALTER as these clauses, which make this valid schema of it.
 pub record AltersAreTaken : Type 0 where
-  pub created : schema_at table_name create_text ≡ Ok table_schema
+  pub created : schema_at 1 table_name create_text ≡ Ok table_schema
   pub valid : IsValid table_schema
-  pub said : alter_at table_name alter_text ≡ Ok clauses
+  pub said : alter_at 1 table_name alter_text ≡ Ok clauses
   pub taken : altered false table_schema clauses ≡ Ok (altered_schema, altered_map)
   pub altered_valid : IsValid altered_schema
 
 -- Its rows are read as these, one table's.
 abbrev pub TablesAreRead : Type 0
-TablesAreRead = (number : ℕ) → tables_of table_name (table_texts number ∷ []) ≡ Ok (opening_table number ∷ [])
+TablesAreRead = (number : ℕ) → tables_of 1 table_name (table_texts number ∷ []) ≡ Ok (opening_table number ∷ [])
 
 -- They are rows of its columns in order of their keys, and no two clash.
 abbrev pub TablesAreTables : Type 0

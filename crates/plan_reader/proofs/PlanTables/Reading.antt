@@ -54,28 +54,28 @@ rows_ended number row table rows i total le so_far =
 
 -- ---- tables
 
-module _ (migrated : List ℕ) (number : ℕ) (tables : Database) (keys : List code_table.TableKeys) (i : ℕ) (first : code_table.TableKeys) (total : Result Database TableRefusal) (lt : i < length keys) (is : first ≡ get_or keys i first) where
+module _ (version : ℕ) (migrated : List ℕ) (number : ℕ) (tables : Database) (keys : List code_table.TableKeys) (i : ℕ) (first : code_table.TableKeys) (total : Result Database TableRefusal) (lt : i < length keys) (is : first ≡ get_or keys i first) where
   abbrev HereTables : Type 0
-  HereTables = tables_from migrated number tables (map table_data (drop i keys)) ≡ total
+  HereTables = tables_from version migrated number tables (map table_data (drop i keys)) ≡ total
 
-  pub table_goes_on : (table : TableRows) → table_at migrated number tables (table_data first) ≡ Ok table → HereTables → tables_from migrated (next_number number) (tables ++ (table ∷ [])) (map table_data (drop (i + 1) keys)) ≡ total
+  pub table_goes_on : (table : TableRows) → table_at version migrated number tables (table_data first) ≡ Ok table → HereTables → tables_from version migrated (next_number number) (tables ++ (table ∷ [])) (map table_data (drop (i + 1) keys)) ≡ total
   unfolding tables_from
   table_goes_on table e so_far =
-      let one : tables_from migrated number tables (map table_data (drop i keys)) ≡ tables_from migrated (next_number number) (tables ++ (table ∷ [])) (map table_data (drop (i + 1) keys)) = rw (from_here keys i first lt is, e) refl in
+      let one : tables_from version migrated number tables (map table_data (drop i keys)) ≡ tables_from version migrated (next_number number) (tables ++ (table ∷ [])) (map table_data (drop (i + 1) keys)) = rw (from_here keys i first lt is, e) refl in
       sym one ∙ so_far
 
-  table_refuses : (refusal : TableRefusal) → table_at migrated number tables (table_data first) ≡ Err refusal → HereTables → total ≡ Err refusal
+  table_refuses : (refusal : TableRefusal) → table_at version migrated number tables (table_data first) ≡ Err refusal → HereTables → total ≡ Err refusal
   unfolding tables_from
   table_refuses refusal e so_far =
-      let one : tables_from migrated number tables (map table_data (drop i keys)) ≡ Err refusal = rw (from_here keys i first lt is, e) refl in
+      let one : tables_from version migrated number tables (map table_data (drop i keys)) ≡ Err refusal = rw (from_here keys i first lt is, e) refl in
       sym so_far ∙ one
 
-  pub table_fails : (fault : Fault TableRefusal) → Refuses fault (table_at migrated number tables (table_data first)) → HereTables → Refuses fault total
+  pub table_fails : (fault : Fault TableRefusal) → Refuses fault (table_at version migrated number tables (table_data first)) → HereTables → Refuses fault total
   table_fails faults.Memory e so_far = tt
   table_fails (faults.Refused refusal) e so_far = table_refuses refusal e so_far
 
-pub tables_ended : (migrated : List ℕ) (number : ℕ) (tables : Database) (keys : List code_table.TableKeys) (i : ℕ) (total : Result Database TableRefusal) → length keys ≤ i → tables_from migrated number tables (map table_data (drop i keys)) ≡ total → total ≡ Ok tables
+pub tables_ended : (version : ℕ) (migrated : List ℕ) (number : ℕ) (tables : Database) (keys : List code_table.TableKeys) (i : ℕ) (total : Result Database TableRefusal) → length keys ≤ i → tables_from version migrated number tables (map table_data (drop i keys)) ≡ total → total ≡ Ok tables
 unfolding tables_from
-tables_ended migrated number tables keys i total le so_far =
-    let one : tables_from migrated number tables (map table_data (drop i keys)) ≡ Ok tables = rw (drop_all i keys le) refl in
+tables_ended version migrated number tables keys i total le so_far =
+    let one : tables_from version migrated number tables (map table_data (drop i keys)) ≡ Ok tables = rw (drop_all i keys le) refl in
     sym so_far ∙ one

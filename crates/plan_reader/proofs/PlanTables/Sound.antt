@@ -97,12 +97,12 @@ pub record IsReadTable (tables : Database) (table : TableRows) : Type 0 where
   pub sound : IsSound table
   pub new : has_table table.schema.name tables ≡ false
 
-pub table_is : Laws → ReadSchemasAreValid → (migrated : List ℕ) (number : ℕ) (tables : Database) (texts : TableData) (table : TableRows) → table_at migrated number tables texts ≡ Ok table → IsReadTable tables table
+pub table_is : Laws → ReadSchemasAreValid → (version : ℕ) (migrated : List ℕ) (number : ℕ) (tables : Database) (texts : TableData) (table : TableRows) → table_at version migrated number tables texts ≡ Ok table → IsReadTable tables table
 unfolding table_at
-table_is laws valid migrated number tables texts table is =
-    let schema = bind_ok (of_schema number (schema_at migrated texts.create)) _ table is in
+table_is laws valid version migrated number tables texts table is =
+    let schema = bind_ok (of_schema number (schema_at version migrated texts.create)) _ table is in
     let empty = bind_ok (newly_named number tables schema.0) _ table schema.2 in
-    let is_valid = valid migrated texts.create schema.0 (schema_was number (schema_at migrated texts.create) schema.0 schema.1) in
+    let is_valid = valid version migrated texts.create schema.0 (schema_was number (schema_at version migrated texts.create) schema.0 schema.1) in
     let bare : TableRows = record { schema = schema.0; rows = [] } in
     let parts = kept_out (has_table schema.0.name tables) bare empty.0 _ empty.1 in
     let put : put_texts 1 bare texts.rows ≡ Ok table = subst (λ (t : TableRows). put_texts 1 t texts.rows ≡ Ok table) (sym parts.1) (rows_were number (put_texts 1 empty.0 texts.rows) table empty.2) in
@@ -112,15 +112,15 @@ table_is laws valid migrated number tables texts table is =
       new = subst (λ (s : Schema). has_table s.name tables ≡ false) (sym kept.schema_is) parts.0;
     }
 
-pub tables_are : Laws → ReadSchemasAreValid → (migrated : List ℕ) (number : ℕ) (tables : Database) (texts : List TableData) (made : Database) → AllByRecursion IsSound tables → tables_from migrated number tables texts ≡ Ok made → AllByRecursion IsSound made
+pub tables_are : Laws → ReadSchemasAreValid → (version : ℕ) (migrated : List ℕ) (number : ℕ) (tables : Database) (texts : List TableData) (made : Database) → AllByRecursion IsSound tables → tables_from version migrated number tables texts ≡ Ok made → AllByRecursion IsSound made
 unfolding tables_from
-tables_are laws valid migrated number tables [] made all is =
+tables_are laws valid version migrated number tables [] made all is =
     let same : tables ≡ made = cc in
     subst (AllByRecursion IsSound) same all
-tables_are laws valid migrated number tables (first ∷ texts) made all is =
-    let table = bind_ok (table_at migrated number tables first) (λ table. tables_from migrated (next_number number) (tables ++ (table ∷ [])) texts) made is in
-    let read = table_is laws valid migrated number tables first table.0 table.1 in
-    tables_are laws valid migrated (next_number number) (tables ++ (table.0 ∷ [])) texts made (All-append IsSound tables (table.0 ∷ []) all (read.sound, tt)) table.2
+tables_are laws valid version migrated number tables (first ∷ texts) made all is =
+    let table = bind_ok (table_at version migrated number tables first) (λ table. tables_from version migrated (next_number number) (tables ++ (table ∷ [])) texts) made is in
+    let read = table_is laws valid version migrated number tables first table.0 table.1 in
+    tables_are laws valid version migrated (next_number number) (tables ++ (table.0 ∷ [])) texts made (All-append IsSound tables (table.0 ∷ []) all (read.sound, tt)) table.2
 
 -- a table without rows, of a lawful schema
 pub new_keyed : (number : ℕ) (tables : Database) (schema : Schema) (table : TableRows) → IsValid schema → newly_named number tables schema ≡ Ok table → HasClusteredKey table.schema

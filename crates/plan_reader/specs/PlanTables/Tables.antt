@@ -29,18 +29,18 @@ newly_named number tables schema =
 
 -- The table of this number after these tables: its CREATE TABLE is refused first, then its name where it came before, then its
 -- first bad row.
-unfoldable pub table_at : List ℕ → ℕ → Database → TableData → Result TableRows TableRefusal
-table_at migrated number tables texts = do
-  schema ← of_schema number (schema_at migrated texts.create)
+unfoldable pub table_at : ℕ → List ℕ → ℕ → Database → TableData → Result TableRows TableRefusal
+table_at version migrated number tables texts = do
+  schema ← of_schema number (schema_at version migrated texts.create)
   table ← newly_named number tables schema
   of_rows number (put_texts 1 table texts.rows)
 
 -- the tables with those from here on
-unfoldable pub tables_from : List ℕ → ℕ → Database → List TableData → Result Database TableRefusal
-tables_from migrated number tables [] = Ok tables
-tables_from migrated number tables (texts ∷ others) = do
-  table ← table_at migrated number tables texts
-  tables_from migrated (next_number number) (tables ++ (table ∷ [])) others
+unfoldable pub tables_from : ℕ → List ℕ → ℕ → Database → List TableData → Result Database TableRefusal
+tables_from version migrated number tables [] = Ok tables
+tables_from version migrated number tables (texts ∷ others) = do
+  table ← table_at version migrated number tables texts
+  tables_from version migrated (next_number number) (tables ++ (table ∷ [])) others
 
 -- *Sound*: what each table is that is read. Its rows are rows of a valid schema, in order of the clustered key, no two of which
 -- clash.
@@ -48,6 +48,6 @@ pub record IsSound (table : TableRows) : Type 0 where
   pub valid : IsValid table.schema
   pub is_table : IsTable table.schema table.rows
 
--- *Tables*, of which one has the name of the migrated table
-abbrev pub tables_of : List ℕ → List TableData → Result Database TableRefusal
-tables_of migrated texts = tables_from migrated 1 [] texts
+-- *Tables* of a plan of this version, of which one has the name of the migrated table
+abbrev pub tables_of : ℕ → List ℕ → List TableData → Result Database TableRefusal
+tables_of version migrated texts = tables_from version migrated 1 [] texts

@@ -10,7 +10,7 @@ use thiserror::Error;
 /// Why the tables of a plan are refused.
 #[derive(Clone, Copy, Debug)]
 pub enum TableRefusal {
-    /// 10 to 19: the text of a CREATE TABLE is refused; 12 also where a table before has the name.
+    /// 10 to 19 and 32: the text of a CREATE TABLE is refused; 12 also where a table before has the name.
     Schema {
         /// Why it is refused.
         code: SchemaCode,

@@ -25,13 +25,19 @@ use table_store::paged_tables::Tables;
 use table_store::paged_tables::row_pages::Table;
 
 /// The schema that the text of the table of this number declares.
-fn schema_of(alloc: Global, migrated: &str, number: u32, create: &str) -> Result<Schema, TableFault>
+fn schema_of(
+    alloc: Global,
+    version: u32,
+    migrated: &str,
+    number: u32,
+    create: &str,
+) -> Result<Schema, TableFault>
     requires { ReadSchemasAreValid }
-    ensures schema { Answers (λ schema. schema) result (of_schema number (schema_at migrated.now create.now)) }
+    ensures schema { Answers (λ schema. schema) result (of_schema number (schema_at version migrated.now create.now)) }
     ensures valid { IfOk result IsValid }
 {
     because(
-        read_schema(alloc, create, migrated),
+        read_schema(alloc, create, migrated, version),
         |code| TableRefusal::Schema {
             code,
             table: number,
@@ -63,16 +69,17 @@ fn newly_named(
 #[tactic(auto, unfolding(crate::specs::PlanTables::Tables::table_at))]
 fn table_at(
     alloc: Global,
+    version: u32,
     migrated: &str,
     number: u32,
     tables: &Tables,
     keys: &TableKeys<'_>,
 ) -> Result<Table, TableFault>
     requires { ReadSchemasAreValid }
-    ensures table { Answers (λ table. table.table) result (table_at migrated.now number (database tables.now) (table_data keys.now)) }
+    ensures table { Answers (λ table. table.table) result (table_at version migrated.now number (database tables.now) (table_data keys.now)) }
     ensures new { IfOk result (λ table. has_table table.table.schema.name (database tables.now) ≡ false) }
 {
-    let schema = schema_of(alloc, migrated, number, keys.create)?;
+    let schema = schema_of(alloc, version, migrated, number, keys.create)?;
     let table = newly_named(alloc, number, tables, schema)?;
     read_rows(alloc, number, table, keys.rows.as_slice())
 }
@@ -89,15 +96,16 @@ fn add(tables: &mut Tables, table: Table) -> Result<(), AllocError>
     }
 }
 
-/// Reads the tables of a plan that migrates the table of this name. That schemas which are read are valid is a law:
+/// Reads the tables of a plan of this version that migrates the table of this name. That schemas which are read are valid is a law:
 /// `law_texts::schemas` proves it.
 pub fn read_tables(
     alloc: Global,
+    version: u32,
     migrated: &str,
     keys: &[TableKeys<'_>],
 ) -> Result<Tables, TableFault>
     requires { ReadSchemasAreValid }
-    ensures tables { Answers database result (tables_of migrated.now (map table_data keys.now)) }
+    ensures tables { Answers database result (tables_of version migrated.now (map table_data keys.now)) }
     ensures sound { IfOk result (λ tables. AllByRecursion IsSound (database tables)) }
 {
     put_keeps_tables();
@@ -105,7 +113,7 @@ pub fn read_tables(
     let mut tables = Tables::new(alloc);
     let mut number: u32 = 1;
     for table_keys in keys {
-        let table = table_at(alloc, migrated, number, &tables, table_keys)?;
+        let table = table_at(alloc, version, migrated, number, &tables, table_keys)?;
         add(&mut tables, table)?;
         number = number.saturating_add(1);
     }

@@ -23,7 +23,7 @@ use Rattle.server_model.specs.Blockers.{need, blocker}
 use Rattle.server_model.specs.Effects.{effect_unless, is_outside}
 use Rattle.server_model.specs.Entries.{same_actor, is_client, is_command}
 use Rattle.server_model.specs.Listings.{waits_shown}
-use Rattle.server_model.specs.PlainServer.{does, done, called_unless, calls, serves}
+use Rattle.server_model.specs.PlainServer.{does, did, called_unless, calls, serves}
 use Rattle.server_model.specs.States.{State, session_of, is_in_transaction, locked_names, locks_held, names_held, view, waiters, waiting_of}
 use Rattle.plan_data.specs.PlanData.{PlanData}
 use Rattle.tool_program.specs.JournalWords.Journals.{opens, state_at}
@@ -181,7 +181,7 @@ module _ (plan : PlanData) (journal : List Entry) (entry : Entry) (kept : IsKept
 
     -- where the inspector asks for it and its session isn't lost
     pub listing_shows : (about : IsAbout requests.ShowWaiting (standing_of plan journal entry.actor) entry.asked) → entry.asked ≡ Call requests.ShowWaiting → entry.side ≡ None → ShowsWait entry.answer
-    unfolding calls done
+    unfolding calls did
     listing_shows about asks none = by (blocker open_now entry.session (need open_now entry.session requests.ShowWaiting)) refl where
       given : (blocked : Option ℕ) → blocker open_now entry.session (need open_now entry.session requests.ShowWaiting) ≡ blocked → (called_unless blocked open_now entry.session requests.ShowWaiting).answer ≡ entry.answer
       given blocked is = sym (ap (λ (b : Option ℕ). (called_unless b open_now entry.session requests.ShowWaiting).answer) is) ∙ ap (λ (a : Asked). (serves open_now entry.session a).answer) (sym asks) ∙ own_given plan journal entry known served none

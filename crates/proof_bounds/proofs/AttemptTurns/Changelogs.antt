@@ -1,5 +1,7 @@
 -- The number of an attempt's hint row is new: after every kept journal, until the RENAME is done, the changelog's rows have the
 -- numbers of hint rows that are logged.
+use Rattle.proof_migration.proofs.Unfit.Known.{known_turn}
+use Rattle.proof_migration.proofs.ToolServes.{tool_serves}
 use Rattle.std.proofs.Common.{◌≡◌, ◌⊎◌, ◌≤◌, ◌<◌, ℕ, ◌+◌, Bool, true, false, cond, not, List, [], ◌∷◌, ◌++◌, length, take, Option, Some, None, refl, sym, ap, ◌∙◌, subst, inl, inr, arith}
 use Rattle.std.specs.Prelude.{is_some}
 use Rattle.std.specs.List.{list_any}
@@ -28,7 +30,7 @@ use Rattle.server_model.specs.declared.session.Session.{Session}
 use Rattle.server_model.specs.Effects.{is_outside}
 use Rattle.server_model.specs.Entries.{same_actor, is_client, is_command}
 use Rattle.server_model.specs.PlainServer.{done, called_unless, calls, leaves, loses, serves}
-use Rattle.server_model.specs.States.{State, is_in_transaction, session_of, writes_of}
+use Rattle.server_model.specs.States.{State, is_in_transaction, is_of_tool, session_of, writes_of}
 use Rattle.plan_data.specs.PlanData.{PlanData}
 use Rattle.tool_changelog.specs.Hints.{hint_in, last_hint}
 use Rattle.tool_changelog.specs.ToolTables.{log_schema}
@@ -58,7 +60,7 @@ use Rattle.proof_journals.specs.Machine.Standings.{Standing, free, standing_in, 
 use Rattle.proof_journals.proofs.Actors.{Placed, Commands, GoesOn, Begins, placed, same_actor_is}
 use Rattle.proof_journals.proofs.Journals.{stored_opened}
 use Rattle.proof_journals.proofs.Machine.Asking.{some_request, unless_called}
-use Rattle.proof_journals.proofs.Machine.Journals.{IsRun, Asking, calls_so, polls_so, asking}
+use Rattle.proof_journals.proofs.Machine.Journals.{IsRun, IsTogether, Asking, calls_so, polls_so, asking}
 use Rattle.proof_journals.proofs.Machine.Seated.{IsKnown, IsServed, IsOpen, is_open, opened_new, opened_old, own_given, own_stands, state_more}
 use Rattle.proof_migration.specs.Attempt.Renamed.{IsRenamedAt, ToolPhaseRenamed}
 use Rattle.proof_migration.specs.Program.Hints.{IsBegun, is_unhinted}
@@ -181,6 +183,9 @@ module _ (plan : PlanData) (runs : IsRunnable plan) (serial : IsSerialPlan plan)
 
   run : IsRun plan journal entry
   run = kept_run plan journal entry kept_more
+
+  together : IsTogether plan journal
+  together = (known_turn plan runs journal entry kept_more).together
 
   going : IsGoing plan journal
   going = all_going plan journal runs serial kept
@@ -369,6 +374,9 @@ module _ (plan : PlanData) (runs : IsRunnable plan) (serial : IsSerialPlan plan)
     inside : is_outside (session_of entry.session open_now.sessions) (writes_hint t n) ≡ false
     inside = not_outside (session_of entry.session open_now.sessions) (writes_hint t n) (ap (λ (o : Option Session). (face_in o).locked) opened.is ∙ ap (λ (s : Standing). s.locked) (sym opened.stands ∙ own_free))
 
+    tool_now : is_of_tool (session_of entry.session open_now.sessions) ≡ true
+    tool_now = tool_serves plan journal entry kept together run (ap is_command asks) (ap is_client same)
+
     resting : is_in_transaction (session_of entry.session open_now.sessions) ≡ false
     resting = ap is_in_transaction opened.is ∙ ap (λ (s : Standing). s.busy) (sym opened.stands ∙ own_free)
 
@@ -388,7 +396,7 @@ module _ (plan : PlanData) (runs : IsRunnable plan) (serial : IsSerialPlan plan)
           ∙ ap writes_of (opened_new (not (is_client entry.actor)) entry.session before (known_now.fresh entry.session above))
 
     done_so : HintDone t n open_now (done open_now entry.session (writes_hint t n))
-    done_so = hint_done t n open_now entry.session found.0 inside resting wrote_none open_found found.2 most below
+    done_so = hint_done t n open_now entry.session found.0 tool_now inside resting wrote_none open_found found.2 most below
 
     abbrev Numbered : State → Type 0
     Numbered state = AllNumbered t state.tables state.log

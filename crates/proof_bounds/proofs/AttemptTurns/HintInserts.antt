@@ -1,4 +1,5 @@
 -- The INSERT of an attempt's hint row is done, where its number is new; and the next attempt's is new then.
+use Rattle.proof_migration.proofs.ToolServes.{filled_so}
 use Rattle.std.proofs.Common.{◌≡◌, ◌≤◌, ℕ, ◌+◌, pos, Bool, true, false, cond, List, [], ◌∷◌, ◌++◌, Some, None, Result, refl, sym, ap, ◌∙◌, subst, arith}
 use Rattle.std.specs.Prelude.{nat_lt}
 use Rattle.std.specs.Fmt.{signed_decimal}
@@ -15,6 +16,7 @@ use Rattle.base_values.specs.GhoSchema.ClusteredKey.{clustered_among}
 use Rattle.base_values.specs.GhoSchema.Rows.{key_places, with_row}
 use Rattle.base_values.specs.ToolNames.{log_name}
 use Rattle.table_store.specs.Databases.{Database, TableRows, find_table}
+use Rattle.server_model.specs.declared.request.Request.{Request}
 use Rattle.server_model.specs.Answers.{refuses}
 use Rattle.server_model.specs.Checks.{new_row, or_refused, work_of}
 use Rattle.server_model.specs.declared.answer.Answer.{Answer}
@@ -23,9 +25,9 @@ use Rattle.server_model.specs.declared.work.StatementResult.{StatementResult}
 use Rattle.server_model.specs.declared.work.Work.TheVariants as works
 use Rattle.server_model.specs.Effects.{effect_unless, is_outside}
 use Rattle.server_model.specs.Operations.{after_events, operation_of, operation_result, result_in, result_of, statement_result}
-use Rattle.server_model.specs.PlainServer.{Served, does, done}
+use Rattle.server_model.specs.PlainServer.{Served, does, done, did}
 use Rattle.server_model.specs.Rows.{change_rows}
-use Rattle.server_model.specs.States.{State, is_in_transaction, session_of, view, writes_of}
+use Rattle.server_model.specs.States.{State, is_in_transaction, is_of_tool, session_of, view, writes_of}
 use Rattle.server_model.specs.StatementResults.{only, tells}
 use Rattle.server_model.proofs.LockedRows.Finding.{change_if, found_after}
 use Rattle.server_model.proofs.LockedRows.Tests.{same_bytes}
@@ -61,11 +63,11 @@ pub record HintDone (t : List ℕ) (n : ℕ) (state : State) (served : Served) :
   pub tables : served.after.tables ≡ after_events state.tables (hint_event t n ∷ [])
   pub log : served.after.log ≡ state.log ++ hint_event t n ∷ []
 
--- by a session that holds no table lock and is in no transaction
-pub hint_done : (t : List ℕ) (n : ℕ) (state : State) (number : ℕ) (table : TableRows) → is_outside (session_of number state.sessions) (writes_hint t n) ≡ false → is_in_transaction (session_of number state.sessions) ≡ false → writes_of (session_of number state.sessions) ≡ [] → find_table (log_name t) state.tables ≡ Some table
-    → table.schema ≡ log_schema t → n ≤ most_tries → AllBelow n table.rows → HintDone t n state (done state number (writes_hint t n))
-unfolding done after_events
-hint_done t n state number table inside idle none found schema few below = record {
+-- by a session of the tool's that holds no table lock and is in no transaction
+hint_did : (t : List ℕ) (n : ℕ) (state : State) (number : ℕ) (table : TableRows) → is_outside (session_of number state.sessions) (writes_hint t n) ≡ false → is_in_transaction (session_of number state.sessions) ≡ false → writes_of (session_of number state.sessions) ≡ [] → find_table (log_name t) state.tables ≡ Some table
+    → table.schema ≡ log_schema t → n ≤ most_tries → AllBelow n table.rows → HintDone t n state (did state number (writes_hint t n))
+unfolding did after_events
+hint_did t n state number table inside idle none found schema few below = record {
   answer = by (λ (s : Served). s.answer) ∙ ap (λ (r : StatementResult). r.answer) result;
   tables = by_tables ∙ ap (λ (r : StatementResult). after_events state.tables (writes_of (session_of number state.sessions) ++ r.events)) result ∙ ap (λ (w : List RowEvent). after_events state.tables (w ++ hint_event t n ∷ [])) none;
   log = by_log ∙ ap (λ (r : StatementResult). state.log ++ (writes_of (session_of number state.sessions) ++ r.events)) result ∙ ap (λ (w : List RowEvent). state.log ++ (w ++ hint_event t n ∷ [])) none;
@@ -90,6 +92,11 @@ hint_done t n state number table inside idle none found schema few below = recor
 
   result : statement_result seen (hint_insert t n) ≡ record { answer = answers.Ok 1; events = hint_event t n ∷ [] }
   result = hint_result t n seen table (ap (λ (w : List RowEvent). find_table (log_name t) (after_events state.tables w)) none ∙ found) schema few below
+
+pub hint_done : (t : List ℕ) (n : ℕ) (state : State) (number : ℕ) (table : TableRows) → is_of_tool (session_of number state.sessions) ≡ true → is_outside (session_of number state.sessions) (writes_hint t n) ≡ false → is_in_transaction (session_of number state.sessions) ≡ false
+    → writes_of (session_of number state.sessions) ≡ [] → find_table (log_name t) state.tables ≡ Some table → table.schema ≡ log_schema t → n ≤ most_tries → AllBelow n table.rows → HintDone t n state (done state number (writes_hint t n))
+hint_done t n state number table tool inside idle none found schema few below =
+    subst (λ (r : Request). HintDone t n state (did state number r)) (sym (filled_so state number (writes_hint t n) tool)) (hint_did t n state number table inside idle none found schema few below)
 
 -- WHAT IS KNOWN AFTERWARDS
 

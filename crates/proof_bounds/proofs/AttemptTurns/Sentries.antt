@@ -22,7 +22,7 @@ use Rattle.server_model.specs.Answers.{ok}
 use Rattle.server_model.specs.Effects.{all_exist, locks_if, dropped, defined, effect_unless, is_beyond, is_outside}
 use Rattle.server_model.specs.Entries.{same_actor, is_command}
 use Rattle.server_model.specs.Listings.{tables_shown}
-use Rattle.server_model.specs.PlainServer.{does, done}
+use Rattle.server_model.specs.PlainServer.{does, done, did}
 use Rattle.server_model.specs.States.{State, session_of, is_in_transaction, tables_named, view}
 use Rattle.plan_data.specs.PlanData.{PlanData, old_schema}
 use Rattle.tool_changelog.specs.ToolTables.{sentry_comment, sentry_schema}
@@ -166,7 +166,7 @@ sentry_named table (first ∷ rest) some = by (bytes_eq first.name (old_name tab
 -- WHAT IS DONE
 
 locks_done : (t : List ℕ) (found : State) (number : ℕ) → is_outside (session_of number found.sessions) (requests.LockTables (both_names t)) ≡ false → has_table t found.tables ≡ true → has_table (old_name t) found.tables ≡ true → IsNotRefused (done found number (requests.LockTables (both_names t))).answer
-unfolding done
+unfolding did
 locks_done t found number inside old sentry =
     subst (λ (b : Bool). IsNotRefused (does (effect_unless b (is_in_transaction (session_of number found.sessions)) (view number found) found (requests.LockTables (both_names t))) found number).answer) (sym inside)
     (subst (λ (b : Bool). IsNotRefused (does (locks_if b (both_names t)) found number).answer) (sym both) tt) where
@@ -174,7 +174,7 @@ locks_done t found number inside old sentry =
       both = rw (old, sentry) refl
 
 drops_done : (name : List ℕ) (found : State) (number : ℕ) → is_outside (session_of number found.sessions) (requests.Drop name) ≡ false → has_table name found.tables ≡ true → IsNotRefused (done found number (requests.Drop name)).answer
-unfolding done
+unfolding did
 drops_done name found number inside there =
     subst (λ (b : Bool). IsNotRefused (does (effect_unless b (is_in_transaction (session_of number found.sessions)) (view number found) found (requests.Drop name)) found number).answer) (sym inside)
     (subst (λ (b : Bool). IsNotRefused (does (defined (dropped b name found.tables)) found number).answer) (sym there) tt)

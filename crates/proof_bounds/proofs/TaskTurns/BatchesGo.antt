@@ -1,5 +1,6 @@
 -- The applying goes on: each call of the applier's is done, but what waits, a row that doesn't fit, and an UPDATE that another row's key
 -- refuses.
+use Rattle.proof_migration.proofs.ToolServes.{tool_serves}
 use Rattle.std.proofs.Common.{◌≡◌, ◌≤◌, ◌<◌, ℕ, ◌+◌, ◌*◌, Bool, true, false, cond, not, List, [], ◌∷◌, ◌++◌, drop, Option, Some, None, refl, sym, ap, ◌∙◌, subst, arith}
 use Rattle.std.specs.List.{list_any, slice_get}
 use Rattle.std.proofs.lemmas.Bool.{true≢false, false≢true}
@@ -22,8 +23,8 @@ use Rattle.server_model.specs.Entries.{answer_at, is_client, is_command, is_cut,
 use Rattle.server_model.specs.Listings.{events_read}
 use Rattle.server_model.specs.LockedRows.Databases.{IsWellFormedDatabase}
 use Rattle.server_model.specs.Operations.{after_events}
-use Rattle.server_model.specs.PlainServer.{called_unless, calls, does, done, serves}
-use Rattle.server_model.specs.States.{State, is_in_transaction, session_of, view, writes_of}
+use Rattle.server_model.specs.PlainServer.{called_unless, calls, does, done, did, serves}
+use Rattle.server_model.specs.States.{State, is_in_transaction, is_of_tool, session_of, view, writes_of}
 use Rattle.server_model.specs.declared.answer.Answer.{Answer}
 use Rattle.server_model.specs.declared.answer.Answer.TheVariants as answers
 use Rattle.server_model.specs.declared.entry.Asked.{Asked}
@@ -173,6 +174,9 @@ module _ (defined : DefinitionsAreDone) (plan : PlanData) (m : Migration) (at : 
   served : IsServed plan journal entry
   served = turn.served
 
+  tool_now : is_of_tool (session_of entry.session (opens entry now).sessions) ≡ true
+  tool_now = tool_serves plan journal entry kept together turn.run called (ap is_client who)
+
   off_more : IsUnaltered plan more
   off_more = unaltered_so defined plan journal entry runs of.serial kept_more off (λ ren. true≢false (sym (ap (λ (a : Actor). same_actor a Apply) who) ∙ ap (λ (a : Actor). same_actor a Apply) ren))
 
@@ -254,7 +258,7 @@ module _ (defined : DefinitionsAreDone) (plan : PlanData) (m : Migration) (at : 
 
     -- it is done at once, and isn't refused
     at_once : entry.side ≡ None → entry.answer ≡ events_read work.applier.position work.applier.batch (plan.table ∷ log_name plan.table ∷ []) now.log
-    unfolding calls done
+    unfolding calls did
     at_once no_side = by (blocker (opens entry now) entry.session (need (opens entry now) entry.session request)) refl where
       answer_is : entry.answer ≡ (called_unless (blocker (opens entry now) entry.session (need (opens entry now) entry.session request)) (opens entry now) entry.session request).answer
       answer_is = sym (own_given plan journal entry together.known served no_side) ∙ ap (λ (a : Asked). (serves (opens entry now) entry.session a).answer) read_so.asked
@@ -388,7 +392,7 @@ module _ (defined : DefinitionsAreDone) (plan : PlanData) (m : Migration) (at : 
     said_so : StatementAnswer part next_one.doing entry.answer
     said_so =
         own_answer (StatementAnswer part next_one.doing) (record { waits = λ by. tt; timed = λ waited. tt; lost = tt }) plan journal entry together.known served (requests.Do (said m.new m.columns (in_part part next_one.doing))) (about_own (requests.Do (said m.new m.columns (in_part part next_one.doing))) about_statement)
-        (λ found is. done_so m rows of.planned of.finds found entry.session (subst (TableSeen m) (sym (same_view found is)) seen_table) part next_one.doing does_rows parted
+        (λ found is. done_so m rows of.planned of.finds found entry.session (ap (λ sessions. is_of_tool (session_of entry.session sessions)) is.sessions ∙ tool_now) (subst (TableSeen m) (sym (same_view found is)) seen_table) part next_one.doing does_rows parted
         (ap (λ sessions. is_outside (session_of entry.session sessions) (requests.Do (said m.new m.columns (in_part part next_one.doing)))) is.sessions ∙ unlocked (requests.Do (said m.new m.columns (in_part part next_one.doing)))))
 
     applied : BatchAnswer (statements_most plan) plan.table log_now work.applier.position (plans_of work.applier) (planned work.applier (events_in (answer_at journal batch.read))) (Applying batch count part) entry.answer

@@ -19,7 +19,7 @@ use Rattle.server_model.specs.Chunks.{keys_in, span_keys}
 use Rattle.server_model.specs.Blockers.{need_within}
 use Rattle.server_model.specs.Effects.{begins, effect_unless, effect_within, is_outside}
 use Rattle.server_model.specs.Entries.{is_command, is_cut}
-use Rattle.server_model.specs.PlainServer.{does, done}
+use Rattle.server_model.specs.PlainServer.{does, done, did}
 use Rattle.server_model.specs.States.{State, is_in_transaction, session_of, view}
 use Rattle.server_model.specs.declared.answer.Answer.{Answer}
 use Rattle.server_model.specs.declared.answer.Answer.TheVariants as answers
@@ -84,7 +84,7 @@ module _ (most : ℕ) where
   -- where a chunk ends
   end_answered : (found : State) (number : ℕ) (table : List ℕ) (low : Bound) (top : List Value) (size : ℕ) (one : TableRows) → find_table table found.tables ≡ Some one → is_outside (session_of number found.sessions) (requests.ChunkEnd table low top size) ≡ false
       → ChunkAnswer most Choosing (done found number (requests.ChunkEnd table low top size)).answer
-  unfolding done
+  unfolding did
   end_answered found number table low top size one there inside =
       subst (λ (b : Bool). ChunkAnswer most Choosing (does (effect_unless b (is_in_transaction (session_of number found.sessions)) (view number found) found (requests.ChunkEnd table low top size)) found number).answer) (sym inside)
       (subst (λ (o : Option TableRows). ChunkAnswer most Choosing (Rattle.server_model.specs.Effects.of_table o (λ t. answers.End (Rattle.server_model.specs.Chunks.chunk_end low top size t)))) (sym there) tt)
@@ -92,7 +92,7 @@ module _ (most : ℕ) where
   -- a chunk's keys
   span_answered : (found : State) (number : ℕ) (table : List ℕ) (span : Span) (size reported limit : ℕ) (one : TableRows) → find_table table found.tables ≡ Some one → length one.rows ≤ most → is_outside (session_of number found.sessions) (requests.BeginSpan table span size) ≡ false
       → ChunkAnswer most (Spanning reported limit) (done found number (requests.BeginSpan table span size)).answer
-  unfolding done span_keys
+  unfolding did span_keys
   span_answered found number table span size reported limit one there few inside =
       subst (λ (b : Bool). ChunkAnswer most (Spanning reported limit) (does (effect_unless b (is_in_transaction (session_of number found.sessions)) (view number found) found (requests.BeginSpan table span size)) found number).answer) (sym inside)
       (subst (λ (o : Option TableRows). ChunkAnswer most (Spanning reported limit) (does (begins o span size (need_within (view number found) (requests.BeginSpan table span size))) found number).answer) (sym there) keys_less) where

@@ -1,4 +1,5 @@
 -- The log grows at its end alone, and no turn but the renamer's does the RENAME.
+use Rattle.server_model.specs.Drawing.{filled}
 use Rattle.std.proofs.Common.{◌≡◌, ℕ, Bool, true, false, not, List, [], ◌∷◌, ◌++◌, Option, Some, None, refl, sym, ap, subst}
 use Rattle.std.specs.List.{list_any}
 use Rattle.std.proofs.lemmas.List.{append-nil}
@@ -9,7 +10,7 @@ use Rattle.base_values.specs.declared.event.RowEvent.{RowEvent}
 use Rattle.server_model.specs.Blockers.{blocker, need}
 use Rattle.server_model.specs.Effects.{Effect, Rests, Grows, Writes, Forgets, Moves, Locks, Unlocks, effect}
 use Rattle.server_model.specs.Entries.{is_client, is_command}
-use Rattle.server_model.specs.PlainServer.{called_unless, calls, does, done, is_over, leaves, loses, polled_of, polled_over, polled_unless, polls, serves, without_waiting}
+use Rattle.server_model.specs.PlainServer.{called_unless, calls, does, done, did, is_over, leaves, loses, polled_of, polled_over, polled_unless, polls, serves, without_waiting}
 use Rattle.server_model.specs.States.{State, session_of, waiting_of, writes_of}
 use Rattle.server_model.specs.declared.entry.Asked.{Asked}
 use Rattle.server_model.specs.declared.entry.Asked.TheVariants.{Call, Poll, Command, Cut}
@@ -47,8 +48,8 @@ does_grown (Locks answer names) state number = stays state.log
 does_grown (Unlocks answer) state number = stays state.log
 
 done_grown : (state : State) (number : ℕ) (request : Request) → IsGrown state.log (done state number request).after.log
-unfolding done
-done_grown state number request = does_grown (effect state number request) state number
+unfolding did
+done_grown state number request = does_grown (effect state number (filled state number request)) state number
 
 called_grown : (state : State) (number : ℕ) (request : Request) → IsGrown state.log (calls state number request).after.log
 unfolding calls

@@ -1,5 +1,6 @@
 -- What the applier's statements are answered on the new table: they are done, but a value that doesn't fit is refused, and a whole
 -- UPDATE that gives its row another row's key.
+use Rattle.proof_migration.proofs.ToolServes.{filled_so}
 use Rattle.std.proofs.Common.{◌≡◌, ℕ, Bool, true, false, List, Option, Some, None, Result, Ok, Err, refl, sym, ap, ◌∙◌, subst}
 use Rattle.std.specs.Option.{option_map}
 use Rattle.base_values.specs.GhoSchema.Rows.{key_of, key_places}
@@ -12,10 +13,11 @@ use Rattle.server_model.specs.Answers.{refuses_value}
 use Rattle.server_model.specs.Effects.{effect_unless, is_outside}
 use Rattle.server_model.specs.LockedRows.Databases.{IsWellFormedDatabase}
 use Rattle.server_model.specs.Operations.{Operation, operation_of, operation_result}
-use Rattle.server_model.specs.PlainServer.{does, done}
-use Rattle.server_model.specs.States.{State, is_in_transaction, session_of, view}
+use Rattle.server_model.specs.PlainServer.{does, done, did}
+use Rattle.server_model.specs.States.{State, is_in_transaction, is_of_tool, session_of, view}
 use Rattle.server_model.specs.declared.answer.Answer.{Answer}
 use Rattle.server_model.specs.declared.answer.Answer.TheVariants as answers
+use Rattle.server_model.specs.declared.request.Request.{Request}
 use Rattle.server_model.specs.declared.request.Request.TheVariants as requests
 use Rattle.tool_program.specs.EventApplier.Appliers.{Doing, Putting, Removing, Changing, in_part}
 use Rattle.tool_program.specs.declared.event_applier.applier.Part.{Part}
@@ -110,13 +112,14 @@ module _ (m : Migration) (rows : List Row) (plan : IsPlanned m rows) (finds : Fi
   says_so Return (Putting row) fits parted = absurd parted
   says_so Return (Removing row) fits parted = absurd parted
 
--- *What is done of it*, where its session locked no table
-pub done_so : (m : Migration) (rows : List Row) → IsPlanned m rows → FindsRows m → (found : State) (number : ℕ) → TableSeen m (view number found) → (part : Part) (doing : Doing) → DoesRows m.schema.columns doing → PartFits part (Some doing)
+-- *What is done of it*, where its session is the tool's and locked no table
+pub done_so : (m : Migration) (rows : List Row) → IsPlanned m rows → FindsRows m → (found : State) (number : ℕ) → is_of_tool (session_of number found.sessions) ≡ true → TableSeen m (view number found) → (part : Part) (doing : Doing) → DoesRows m.schema.columns doing → PartFits part (Some doing)
     → is_outside (session_of number found.sessions) (requests.Do (said m.new m.columns (in_part part doing))) ≡ false → StatementAnswer part doing (done found number (requests.Do (said m.new m.columns (in_part part doing)))).answer
-unfolding done
-done_so m rows plan finds found number there part doing fits parted inside =
-    subst (λ (b : Bool). StatementAnswer part doing (does (effect_unless b (is_in_transaction (session_of number found.sessions)) (view number found) found (requests.Do (said m.new m.columns (in_part part doing)))) found number).answer) (sym inside)
-    (by (is_in_transaction (session_of number found.sessions))) where
+unfolding did
+done_so m rows plan finds found number tool there part doing fits parted inside =
+    subst (λ (r : Request). StatementAnswer part doing (did found number r).answer) (sym (filled_so found number (requests.Do (said m.new m.columns (in_part part doing))) tool))
+    (subst (λ (b : Bool). StatementAnswer part doing (does (effect_unless b (is_in_transaction (session_of number found.sessions)) (view number found) found (requests.Do (said m.new m.columns (in_part part doing)))) found number).answer) (sym inside)
+    (by (is_in_transaction (session_of number found.sessions)))) where
       by : (busy : Bool) → StatementAnswer part doing (does (effect_unless false busy (view number found) found (requests.Do (said m.new m.columns (in_part part doing)))) found number).answer
       by true = says_so m rows plan finds (view number found) there part doing fits parted
       by false = says_so m rows plan finds (view number found) there part doing fits parted

@@ -23,7 +23,7 @@ use Rattle.server_model.specs.Chunks.{chunk_end, ends_of, keys_of, last_of, span
 use Rattle.server_model.specs.Effects.{begins, effect_unless, is_outside, of_table}
 use Rattle.server_model.specs.LockedRows.Databases.{IsWellFormedDatabase, WhereFound}
 use Rattle.server_model.specs.LockedRows.Coverage.{IsWellFormedTable}
-use Rattle.server_model.specs.PlainServer.{does, done}
+use Rattle.server_model.specs.PlainServer.{does, done, did}
 use Rattle.server_model.specs.States.{State, is_in_transaction, session_of, view}
 use Rattle.plan_data.specs.PlanData.{PlanData}
 use Rattle.tool_program.specs.JournalWords.Journals.{opens, state_at}
@@ -81,7 +81,7 @@ module _ (plan : PlanData) (journal : List Entry) (entry : Entry) (known : IsKno
 
   -- *Where a chunk ends*
   pub end_said : (low : Bound) (top : Row) (size : ℕ) → IsAbout (requests.ChunkEnd plan.table low top size) (standing_of plan journal entry.actor) entry.asked → EndSays keys low top entry.answer
-  unfolding done
+  unfolding did
   end_said low top size is_about = own_answer (EndSays keys low top) (record { waits = λ by. tt; timed = λ waited. tt; lost = tt }) plan journal entry known served request is_about each where
     request : Request
     request = requests.ChunkEnd plan.table low top size
@@ -98,7 +98,7 @@ module _ (plan : PlanData) (journal : List Entry) (entry : Entry) (known : IsKno
 
   -- *The keys of a chunk, and where it ends*
   pub span_said : (low : Bound) (high : Row) (size : ℕ) → 1 ≤ size → IsAbout (requests.BeginSpan plan.table (record { low = low; high = Closed high }) size) (standing_of plan journal entry.actor) entry.asked → SpanSays keys low high entry.answer
-  unfolding done
+  unfolding did
   span_said low high size sized is_about = own_answer (SpanSays keys low high) (record { waits = λ by. tt; timed = λ waited. tt; lost = tt }) plan journal entry known served request is_about each where
     span : Span
     span = record { low = low; high = Closed high }
@@ -118,7 +118,7 @@ module _ (plan : PlanData) (journal : List Entry) (entry : Entry) (known : IsKno
 
   -- *The range*
   pub range_said : IsWellFormedDatabase (state_at plan journal).tables → IsAbout (requests.Ends plan.table) (standing_of plan journal entry.actor) entry.asked → RangeSays keys entry.answer
-  unfolding done
+  unfolding did
   range_said well is_about = own_answer (RangeSays keys) (record { waits = λ by. tt; timed = λ waited. tt; lost = tt }) plan journal entry known served request is_about each where
     request : Request
     request = requests.Ends plan.table

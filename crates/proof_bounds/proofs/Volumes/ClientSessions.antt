@@ -15,7 +15,7 @@ use Rattle.proof_journals.specs.Plans.{KeepsAway, IsPlanRun, IsSerialPlan, is_cl
 use Rattle.proof_journals.specs.Scenes.{Going, PlainItem, not_going}
 use Rattle.proof_journals.specs.Turns.{entry_adds, goings_at, goings_from, history}
 use Rattle.proof_journals.proofs.Actors.{KindSo, Kinds, all_kinds, placed, sessions_begin}
-use Rattle.proof_journals.proofs.Joined.{reported_answer, reported_missed}
+use Rattle.proof_journals.proofs.Joined.{reported_answer, reported_draw, reported_missed}
 use Rattle.proof_journals.proofs.Journals.{begins, goings_more, step}
 use Rattle.proof_journals.proofs.Linking.{Known, allowed_here, linked_more}
 use Rattle.proof_journals.proofs.Naming.{migrated_named, script_lines}
@@ -29,6 +29,7 @@ known plan whole journal entry zero good is = record {
   sides = good.answered.sides;
   answer = reported_answer (state_at plan journal) entry good.answered;
   missed = reported_missed (state_at plan journal) entry good.answered;
+  draw = reported_draw (state_at plan journal) entry good.answered;
   kind = λ call. (good.kind call).0;
   zero = zero;
   next = good.planned.next;
@@ -43,7 +44,7 @@ holds_more plan whole journal entry zero good is =
     let past : List PlainItem = history (limits_of plan) (scene_of plan whole) journal in
     let now : Known plan whole journal entry going = known plan whole journal entry zero good is in
     record {
-      holds = step (limits_of plan) (scene_of plan whole) (migrated_named plan) journal entry (record { answer = now.answer; missed = now.missed }, allowed_here plan whole journal entry going past is.linked now) is.holds;
+      holds = step (limits_of plan) (scene_of plan whole) (migrated_named plan) journal entry (record { answer = now.answer; missed = now.missed; draw = now.draw }, allowed_here plan whole journal entry going past is.linked now) is.holds;
       linked = rw (goings_more (scene_of plan whole) (opened (limits_of plan) plan.tables) (λ n. not_going) journal entry, gathered-more (entry_adds (limits_of plan) (scene_of plan whole)) [] journal entry) (linked_more plan whole journal entry going past is.linked now);
     }
 

@@ -1,4 +1,5 @@
 -- The INSERT of an attempt's hint row logs one event of the changelog at most.
+use Rattle.proof_migration.proofs.ToolServes.{filled_so}
 use Rattle.std.proofs.Common.{◌≡◌, ◌≤◌, ℕ, ◌+◌, Bool, true, false, cond, ◌||◌, List, [], ◌∷◌, ◌++◌, Option, Some, None, Result, Ok, Err, refl, ap, ◌∙◌, subst, arith}
 use Rattle.std.specs.List.{list_any}
 use Rattle.std.specs.Str.{bytes_eq}
@@ -27,7 +28,7 @@ use Rattle.server_model.specs.Effects.Effect.{Rests, Writes}
 use Rattle.server_model.specs.Entries.{is_cut}
 use Rattle.server_model.specs.Operations.{events_of, operation_of, operation_result, result_in}
 use Rattle.server_model.specs.StatementResults.{only, tells}
-use Rattle.server_model.specs.States.{State, is_of}
+use Rattle.server_model.specs.States.{State, is_of, is_of_tool, session_of}
 use Rattle.tool_changelog.specs.Hints.{hint_row}
 use Rattle.tool_program.specs.JournalWords.Journals.{opens}
 use Rattle.proof_journals.specs.Ghost.EffectStates.{EffectLeaves, is_lost, reported_done, was_done, where_done}
@@ -84,7 +85,8 @@ insert_few t attempt seen = by (find_table (log_name t) seen) where
 -- ONE TURN
 
 module _ (t : List ℕ) (limits : Limits) (scene : Scene) (journal : List Entry) (entry : Entry) (more : IsSceneRun limits scene (journal ++ entry ∷ [])) (none_wrote : NoneWrote t (scene_state limits scene journal)) (attempt : ℕ) (uncut : is_cut entry.asked ≡ false)
-    (asked : about (opens entry (scene_state limits scene journal)) entry.session entry.asked ≡ Some (requests.Do (hint_insert t attempt))) (idle : (face_of (scene_state limits scene journal).sessions entry.session).busy ≡ false) where
+    (asked : about (opens entry (scene_state limits scene journal)) entry.session entry.asked ≡ Some (requests.Do (hint_insert t attempt))) (idle : (face_of (scene_state limits scene journal).sessions entry.session).busy ≡ false)
+    (tool : is_of_tool (session_of entry.session (opens entry (scene_state limits scene journal)).sessions) ≡ true) where
   abbrev before : State
   before = scene_state limits scene journal
 
@@ -120,7 +122,8 @@ module _ (t : List ℕ) (limits : Limits) (scene : Scene) (journal : List Entry)
 
   module _ (given : Answer) (reported : reported_at entry.side entry.answer entry.missed ≡ Some given) (done : was_done given ≡ true) where
     left_as : (one : Effect) → effect_now ≡ one → EffectLeaves one (is_lost entry.side) entry.session (stored before) (stored after) (holds_of before) (holds_of after)
-    left_as one is = subst (λ (d : Effect). EffectLeaves d (is_lost entry.side) entry.session (stored before) (stored after) (holds_of before) (holds_of after)) is (effects_are_done limits scene journal entry request given run entry_reported asked reported done)
+    left_as one is = subst (λ (d : Effect). EffectLeaves d (is_lost entry.side) entry.session (stored before) (stored after) (holds_of before) (holds_of after))
+        (ap (effect (where_done entry.asked entry.session (opens entry before)) entry.session) (filled_so (opens entry before) entry.session request tool) ∙ is) (effects_are_done limits scene journal entry request given run entry_reported asked reported done)
 
     refused : (answer : Answer) → effect_now ≡ Rests answer → Goal
     refused answer is = same_stored (left_as (Rests answer) is).0

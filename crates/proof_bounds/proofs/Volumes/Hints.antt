@@ -1,5 +1,6 @@
 -- Each attempt to exchange the tables logs one event of the changelog at most: its hint row, which the inspector inserts while the
 -- attempt has none. Nobody else's turn logs any, and the inspector never waits, so no INSERT outlives its attempt.
+use Rattle.proof_migration.proofs.ToolServes.{about_called_so, tool_serves}
 use Rattle.std.proofs.Common.{◌≡◌, ◌≤◌, ◌<◌, ◌⊎◌, inl, inr, ℕ, ◌+◌, Bool, true, false, cond, List, [], ◌∷◌, ◌++◌, Option, Some, None, refl, sym, ap, ◌∙◌, subst, arith, append_assoc, append-nil}
 use Rattle.std.specs.Prelude.{count_by, ◌||◌}
 use Rattle.std.specs.Str.{bytes_eq}
@@ -18,7 +19,7 @@ use Rattle.server_model.specs.declared.entry.Asked.TheVariants.{Call, Poll, Comm
 use Rattle.server_model.specs.declared.entry.Entry.{Entry}
 use Rattle.server_model.specs.declared.request.Request.{Request}
 use Rattle.server_model.specs.declared.request.Request.TheVariants as requests
-use Rattle.server_model.specs.Entries.{is_cut, same_actor}
+use Rattle.server_model.specs.Entries.{is_client, is_cut, same_actor}
 use Rattle.server_model.specs.States.{State, is_of}
 use Rattle.plan_data.specs.PlanData.{PlanData}
 use Rattle.tool_program.specs.declared.cutover_core.cutover.Clearing.{Clearing}
@@ -301,7 +302,9 @@ module _ (plan : PlanData) (runs : IsRunnable plan) (serial : IsSerialPlan plan)
     hinted_so : work.cutover.phase ≡ Attempting Hinting → About (requests.Do (hint_insert t work.cutover.attempts)) → LogsHint t work.cutover.attempts entry.answer now then → may_hint work.cutover.phase ≡ true → CutKeeps New entry.answer tool Inspector work
     unfolding cutovers.took
     hinted_so hinting asks hint may tries =
-        let grown = hint_grows t (limits_of plan) (scene_of plan more) journal entry (scene_run plan runs serial journal entry kept off) hints.none work.cutover.attempts uncut asks (idle_face work eq same (requests.Do (hint_insert t work.cutover.attempts)) asks) in
+        let grown = hint_grows t (limits_of plan) (scene_of plan more) journal entry (scene_run plan runs serial journal entry kept off) hints.none work.cutover.attempts uncut asks (idle_face work eq same (requests.Do (hint_insert t work.cutover.attempts)) asks)
+        (tool_serves plan journal entry (before plan runs serial journal entry kept off) (together plan runs serial journal entry kept off) (run plan runs serial journal entry kept off)
+        (about_called_so (opens entry now) entry.session entry.asked (requests.Do (hint_insert t work.cutover.attempts)) asks) (ap is_client same)) in
         let none = hinted_none work.cutover work.cutover.phase entry.answer may hint.said in
         let one : unhinted work.cutover.phase ≡ 1 = ap unhinted hinting in
         let few = count_was in

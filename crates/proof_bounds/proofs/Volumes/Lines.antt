@@ -1,5 +1,6 @@
 -- The transactions that ended have no more lines than all scripts: each line of a client's script is of one of them at most, or of
 -- its open one.
+use Rattle.proof_bounds.proofs.Drawn.{drawn_length}
 use Rattle.std.proofs.Common.{◌≡◌, ◌⊎◌, inl, inr, ◌≤◌, ◌<◌, ℕ, zero, suc, ◌+◌, ◌-◌, ◌==◌, Bool, true, false, cond, List, [], ◌∷◌, ◌++◌, length, Option, Some, None, refl, sym, ap, ◌∙◌, subst, arith}
 use Rattle.std.specs.Prelude.{sum, map, unwrap_or}
 use Rattle.std.specs.List.{slice_get}
@@ -25,7 +26,7 @@ use Rattle.server_model.specs.Entries.{same_actor}
 use Rattle.server_model.proofs.LockedRows.Tests.{same_number, are_one}
 use Rattle.plan_data.specs.PlanData.{PlanData}
 use Rattle.tool_program.specs.JournalWords.Bounds.{measures}
-use Rattle.tool_program.specs.JournalWords.Clients.{Reached, Became, Nothing, Waits, Marked, Broken, is_inside, closes, after_transaction, left_after, ends_with, kept_unless, with_line, marked, client_after, became, script_of, client_at}
+use Rattle.tool_program.specs.JournalWords.Clients.{Reached, Became, Nothing, Waits, Marked, Broken, is_inside, closes, after_transaction, left_after, ends_with, kept_unless, with_line, marked, client_after, became, script_of, client_at, with_draw}
 use Rattle.tool_program.specs.JournalWords.Histories.{HistoryItem, Txn, Alter, about, answer_in, alters, adds, breaks, client_ends, ends_so, entry_adds, history, line_ends, renames_away}
 use Rattle.proof_journals.proofs.Linking.{client_more}
 
@@ -84,6 +85,10 @@ left_short false mark line lines = omega arith
 -- what it had, and what it has with what ended
 abbrev Had : Reached → ℕ
 Had client = length client.lines + length client.left
+
+drawn_had : (draw : Option ℕ) (client : Reached) → Had (with_draw draw client) ≡ Had client
+drawn_had None client = refl
+drawn_had (Some number) client = ap (λ (left : ℕ). length client.lines + left) (drawn_length (Some number) client)
 
 one_ended : (c : ℕ) (client : Reached) (line : ScriptLine) (mark : Mark) (reply : Option Reply) (ended : Option TxnEnd) → ends_with (is_inside client.lines) line.word mark ≡ ended → (lines : List ScriptLine)
     → all_own c (ends_so c client line mark reply ended) + Had (marked client mark reply (line ∷ lines)) ≤ length client.lines + suc (length lines)
@@ -156,7 +161,7 @@ none_altered plan c asks (Some other) = refl
 
 module _ (plan : PlanData) (journal : List Entry) (entry : Entry) (c : ℕ) where
   others_add : (actor : Actor) → same_actor actor (Client c) ≡ false → all_own c (adds plan journal entry actor) ≡ 0
-  others_add (Client number) other = other_ended c number (client_at plan journal number) (became (client_at plan journal number) entry) other
+  others_add (Client number) other = other_ended c number (with_draw entry.draw (client_at plan journal number)) (became (client_at plan journal number) entry) other
   others_add Op other = none_altered plan c (about journal entry) (answer_in entry.asked entry.side entry.answer entry.missed)
   others_add Insp other = none_altered plan c (about journal entry) (answer_in entry.asked entry.side entry.answer entry.missed)
   others_add Copy other = none_altered plan c (about journal entry) (answer_in entry.asked entry.side entry.answer entry.missed)
@@ -164,10 +169,11 @@ module _ (plan : PlanData) (journal : List Entry) (entry : Entry) (c : ℕ) wher
   others_add Lock other = none_altered plan c (about journal entry) (answer_in entry.asked entry.side entry.answer entry.missed)
   others_add Ren other = none_altered plan c (about journal entry) (answer_in entry.asked entry.side entry.answer entry.missed)
 
-  own_adds : (actor : Actor) → same_actor actor (Client c) ≡ true → all_own c (adds plan journal entry actor) + Had (client_after (became (client_at plan journal c) entry) (client_at plan journal c)) ≤ Had (client_at plan journal c)
+  own_adds : (actor : Actor) → same_actor actor (Client c) ≡ true → all_own c (adds plan journal entry actor) + Had (client_after (became (client_at plan journal c) entry) (with_draw entry.draw (client_at plan journal c))) ≤ Had (client_at plan journal c)
   own_adds (Client number) own =
-      subst (λ (n : ℕ). all_own c (adds plan journal entry (Client n)) + Had (client_after (became (client_at plan journal c) entry) (client_at plan journal c)) ≤ Had (client_at plan journal c)) (sym (are_one number c own))
-      (client_ended c (client_at plan journal c) (became (client_at plan journal c) entry))
+      subst (λ (n : ℕ). all_own c (adds plan journal entry (Client n)) + Had (client_after (became (client_at plan journal c) entry) (with_draw entry.draw (client_at plan journal c))) ≤ Had (client_at plan journal c)) (sym (are_one number c own))
+      (subst (λ (had : ℕ). all_own c (adds plan journal entry (Client c)) + Had (client_after (became (client_at plan journal c) entry) (with_draw entry.draw (client_at plan journal c))) ≤ had) (drawn_had entry.draw (client_at plan journal c))
+      (client_ended c (with_draw entry.draw (client_at plan journal c)) (became (client_at plan journal c) entry)))
   own_adds Op own = absurd cc
   own_adds Insp own = absurd cc
   own_adds Copy own = absurd cc
@@ -187,8 +193,8 @@ module _ (plan : PlanData) (journal : List Entry) (entry : Entry) (c : ℕ) wher
     items : all_own c (history plan more) ≡ all_own c (history plan journal) + all_own c (adds plan journal entry entry.actor)
     items = ap (all_own c) (gathered-more (entry_adds plan) [] journal entry) ∙ own_both c (history plan journal) (entry_adds plan journal entry)
 
-    client_is : (b : Bool) → same_actor entry.actor (Client c) ≡ b → Had (client_at plan more c) ≡ Had (cond b (client_after (became client entry) client) client)
-    client_is b is = ap Had (client_more plan journal entry c) ∙ ap (λ (s : Bool). Had (cond s (client_after (became client entry) client) client)) is
+    client_is : (b : Bool) → same_actor entry.actor (Client c) ≡ b → Had (client_at plan more c) ≡ Had (cond b (client_after (became client entry) (with_draw entry.draw client)) client)
+    client_is b is = ap Had (client_more plan journal entry c) ∙ ap (λ (s : Bool). Had (cond s (client_after (became client entry) (with_draw entry.draw client)) client)) is
 
     by : (b : Bool) → same_actor entry.actor (Client c) ≡ b → IsListed plan c more
     by true own = let a = items in let b = client_is true own in let d = own_adds entry.actor own in omega (arith, listed, a, b, d)

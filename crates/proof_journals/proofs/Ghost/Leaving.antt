@@ -1,4 +1,5 @@
 -- What a deed leaves, in every entry whose request was done.
+use Rattle.server_model.specs.Drawing.{filled}
 use Rattle.std.proofs.Common.{◌≡◌, ℕ, Bool, true, false, not, List, [], ◌++◌, Option, Some, None, Result, Ok, Err, refl, sym, ap, ◌∙◌, subst}
 use Rattle.std.specs.Prelude.{◌==◌}
 use Rattle.base_values.specs.declared.event.RowEvent.{RowEvent}
@@ -17,7 +18,7 @@ use Rattle.server_model.specs.Effects.Effect.{Rests, Grows, Writes, Forgets, Mov
 use Rattle.server_model.specs.Entries.{is_command, is_client}
 use Rattle.server_model.specs.Operations.{statement_result, operation_result, copy_operation}
 use Rattle.server_model.specs.Blockers.{need, need_within, blocker}
-use Rattle.server_model.specs.PlainServer.{at_rest, called_unless, calls, does, done, forgets, goes_on, holding, is_over, leaves, locking, loses, polled_of, polled_over, polled_unless, polls, serves, unlocking, without_waiting}
+use Rattle.server_model.specs.PlainServer.{at_rest, called_unless, calls, does, done, did, forgets, goes_on, holding, is_over, leaves, locking, loses, polled_of, polled_over, polled_unless, polls, serves, unlocking, without_waiting}
 use Rattle.server_model.specs.States.{State, is_in_transaction, opened, session_of, view, waiting_of, with_session, writes_of}
 use Rattle.tool_program.specs.JournalWords.Journals.{after_entry, opens}
 use Rattle.proof_journals.specs.Scenes.{Besides, SessionHold, Stored, no_hold}
@@ -162,50 +163,50 @@ effect_apart now w number false busy seen requests.ShowWaiting free = tt
 
 -- the state, with its waits
 with_waits : (now : State) (w : List Waiting) (number : ℕ) (there : There now number) (lost : Bool) (request : Request) → AreApart now number (need now number request).locks
-    → EffectLeaves (effect (at_wait now w) number request) lost number (stored now) (stored (final lost number (done (at_wait now w) number request).after)) (holds_of now) (holds_of (final lost number (done (at_wait now w) number request).after))
-unfolding done
+    → EffectLeaves (effect (at_wait now w) number (filled now number request)) lost number (stored now) (stored (final lost number (done (at_wait now w) number request).after)) (holds_of now) (holds_of (final lost number (done (at_wait now w) number request).after))
+unfolding did
 with_waits now w number there lost request free =
-    effect_left now w number there lost (effect (at_wait now w) number request)
-    (effect_apart now w number (is_outside (session_of number now.sessions) request) (is_in_transaction (session_of number now.sessions)) (view number now) request free)
+    effect_left now w number there lost (effect (at_wait now w) number (filled now number request))
+    (effect_apart now w number (is_outside (session_of number now.sessions) (filled now number request)) (is_in_transaction (session_of number now.sessions)) (view number now) (filled now number request) free)
 
 -- EACH TURN
 
 -- a turn whose request was done
 served_left : (now : State) (number : ℕ) (asked : Asked) (request : Request) (lost : Bool) → There now number → OneIn now.sessions → about now number asked ≡ Some request → was_done (serves now number asked).answer ≡ true
-    → EffectLeaves (effect (where_done asked number now) number request) lost number (stored now) (stored (final lost number (serves now number asked).after)) (holds_of now) (holds_of (final lost number (serves now number asked).after))
+    → EffectLeaves (effect (where_done asked number now) number (filled now number request)) lost number (stored now) (stored (final lost number (serves now number asked).after)) (holds_of now) (holds_of (final lost number (serves now number asked).after))
 unfolding calls polls
 served_left now number (Call asks) request lost there one is answered =
-    subst (λ (r : Request). EffectLeaves (effect now number r) lost number (stored now) (stored (final lost number (calls now number asks).after)) (holds_of now) (holds_of (final lost number (calls now number asks).after))) (let same : asks ≡ request = cc in same)
+    subst (λ (r : Request). EffectLeaves (effect now number (filled now number r)) lost number (stored now) (stored (final lost number (calls now number asks).after)) (holds_of now) (holds_of (final lost number (calls now number asks).after))) (let same : asks ≡ request = cc in same)
     (at (blocker now number (need now number asks)) refl answered)
   where
     at : (by : Option ℕ) → blocker now number (need now number asks) ≡ by → was_done (called_unless by now number asks).answer ≡ true
-        → EffectLeaves (effect now number asks) lost number (stored now) (stored (final lost number (called_unless by now number asks).after)) (holds_of now) (holds_of (final lost number (called_unless by now number asks).after))
+        → EffectLeaves (effect now number (filled now number asks)) lost number (stored now) (stored (final lost number (called_unless by now number asks).after)) (holds_of now) (holds_of (final lost number (called_unless by now number asks).after))
     at None free answer = with_waits now now.waiting number there lost asks (granted now number (need now number asks) one free).apart
     at (Some by) free answer = absurd (let no : false ≡ true = answer in cc)
 served_left now number Poll request lost there one is answered = at (waiting_of number now.waiting) is answered
   where
     over : (b : Bool) (by : ℕ) (asks : Request) → was_done (polled_over b by now number).answer ≡ true
-        → EffectLeaves (effect (without_waiting number now) number asks) lost number (stored now) (stored (final lost number (polled_over b by now number).after)) (holds_of now) (holds_of (final lost number (polled_over b by now number).after))
+        → EffectLeaves (effect (without_waiting number now) number (filled now number asks)) lost number (stored now) (stored (final lost number (polled_over b by now number).after)) (holds_of now) (holds_of (final lost number (polled_over b by now number).after))
     over true by asks answer = absurd (let no : false ≡ true = answer in cc)
     over false by asks answer = absurd (let no : false ≡ true = answer in cc)
 
     each : (asks : Request) (by : Option ℕ) → blocker now number (need now number asks) ≡ by → was_done (polled_unless by now number asks).answer ≡ true
-        → EffectLeaves (effect (without_waiting number now) number asks) lost number (stored now) (stored (final lost number (polled_unless by now number asks).after)) (holds_of now) (holds_of (final lost number (polled_unless by now number asks).after))
+        → EffectLeaves (effect (without_waiting number now) number (filled now number asks)) lost number (stored now) (stored (final lost number (polled_unless by now number asks).after)) (holds_of now) (holds_of (final lost number (polled_unless by now number asks).after))
     each asks None free answer = with_waits now (without_waiting number now).waiting number there lost asks (granted now number (need now number asks) one free).apart
     each asks (Some by) free answer = over (is_over now number) by asks answer
 
     at : (waiting : Option Waiting) → Rattle.proof_journals.specs.Turns.request_of waiting ≡ Some request → was_done (polled_of waiting now number).answer ≡ true
-        → EffectLeaves (effect (without_waiting number now) number request) lost number (stored now) (stored (final lost number (polled_of waiting now number).after)) (holds_of now) (holds_of (final lost number (polled_of waiting now number).after))
+        → EffectLeaves (effect (without_waiting number now) number (filled now number request)) lost number (stored now) (stored (final lost number (polled_of waiting now number).after)) (holds_of now) (holds_of (final lost number (polled_of waiting now number).after))
     at None asks answer = absurd cc
     at (Some waiting) asks answer =
-        subst (λ (r : Request). EffectLeaves (effect (without_waiting number now) number r) lost number (stored now) (stored (final lost number (polled_of (Some waiting) now number).after)) (holds_of now) (holds_of (final lost number (polled_of (Some waiting) now number).after))) (let same : waiting.request ≡ request = cc in same)
+        subst (λ (r : Request). EffectLeaves (effect (without_waiting number now) number (filled now number r)) lost number (stored now) (stored (final lost number (polled_of (Some waiting) now number).after)) (holds_of now) (holds_of (final lost number (polled_of (Some waiting) now number).after))) (let same : waiting.request ≡ request = cc in same)
         (each waiting.request (blocker now number (need now number waiting.request)) refl answer)
 served_left now number (Command word) request lost there one is answered = absurd cc
 served_left now number Cut request lost there one is answered = absurd (let no : false ≡ true = answered in cc)
 
 -- ... and heard, or missed in its turn
 turn_left : (now : State) (number : ℕ) (asked : Asked) (side : Option Side) (request : Request) (given : Answer) → There now number → OneIn now.sessions → about now number asked ≡ Some request → reported_at side (answer_at side (serves now number asked).answer) (missed_at side (serves now number asked).answer) ≡ Some given
-    → was_done given ≡ true → EffectLeaves (effect (where_done asked number now) number request) (is_lost side) number (stored now) (stored (leaves side now number asked)) (holds_of now) (holds_of (leaves side now number asked))
+    → was_done given ≡ true → EffectLeaves (effect (where_done asked number now) number (filled now number request)) (is_lost side) number (stored now) (stored (leaves side now number asked)) (holds_of now) (holds_of (leaves side now number asked))
 turn_left now number asked None request given there one is reported answered =
     served_left now number asked request false there one is (let same : (serves now number asked).answer ≡ given = cc in ap was_done same ∙ answered)
 turn_left now number asked (Some Before) request given there one is reported answered = absurd cc
@@ -226,10 +227,10 @@ effects_are_done limits scene journal entry request given run reported is heard 
     let live : nothing ≡ false = no_command now number entry.asked request is in
     let was : reported_at entry.side (answer_at entry.side (inner before entry)) (missed_at entry.side (inner before entry)) ≡ Some given =
     sym (ap (λ (g : Answer). reported_at entry.side g entry.missed) reported.answer ∙ ap (λ (m : Option Answer). reported_at entry.side (answer_at entry.side (inner before entry)) m) reported.missed) ∙ heard in
-    let left : EffectLeaves (effect (where_done entry.asked number now) number request) (is_lost entry.side) number (stored now) (stored (after_entry before entry)) (holds_of now) (holds_of (after_entry before entry)) =
-    found_live (session_of number now.sessions) (EffectLeaves (effect (where_done entry.asked number now) number request) (is_lost entry.side) number (stored now) (stored (after_entry before entry)) (holds_of now) (holds_of (after_entry before entry)))
+    let left : EffectLeaves (effect (where_done entry.asked number now) number (filled now number request)) (is_lost entry.side) number (stored now) (stored (after_entry before entry)) (holds_of now) (holds_of (after_entry before entry)) =
+    found_live (session_of number now.sessions) (EffectLeaves (effect (where_done entry.asked number now) number (filled now number request)) (is_lost entry.side) number (stored now) (stored (after_entry before entry)) (holds_of now) (holds_of (after_entry before entry)))
     (opened_live nothing tool number before live) (λ found there. turn_left now number entry.asked entry.side request given (record { found = found; is = there }) (opened_one nothing tool number before held.one) is was answered) in
     let holds : holds_of now ≡ holds_of before = λ i n. (faces n i).hold in
     rw (state_more (opened limits scene.opening) journal entry)
-    (subst (λ (h : ℕ → SessionHold). EffectLeaves (effect (where_done entry.asked number now) number request) (is_lost entry.side) number (stored before) (stored (after_entry before entry)) h (holds_of (after_entry before entry))) holds
-    (subst (λ (s : Stored). EffectLeaves (effect (where_done entry.asked number now) number request) (is_lost entry.side) number s (stored (after_entry before entry)) (holds_of now) (holds_of (after_entry before entry))) same left))
+    (subst (λ (h : ℕ → SessionHold). EffectLeaves (effect (where_done entry.asked number now) number (filled now number request)) (is_lost entry.side) number (stored before) (stored (after_entry before entry)) h (holds_of (after_entry before entry))) holds
+    (subst (λ (s : Stored). EffectLeaves (effect (where_done entry.asked number now) number (filled now number request)) (is_lost entry.side) number s (stored (after_entry before entry)) (holds_of now) (holds_of (after_entry before entry))) same left))

@@ -1,4 +1,7 @@
 -- What each session wrote fits the committed tables, behind every turn.
+use Rattle.server_model.specs.States.{is_of_tool}
+use Rattle.server_model.proofs.Filling.{filled_case}
+use Rattle.server_model.specs.Drawing.{numbered}
 use Rattle.std.proofs.Common.{◌≡◌, ℕ, Bool, true, false, not, List, [], ◌∷◌, ◌++◌, Option, Some, None, Result, Ok, Err, refl, sym, ap, ◌∙◌, subst}
 use Rattle.std.specs.Prelude.{◌==◌}
 use Rattle.std.specs.List.{list_any}
@@ -23,7 +26,7 @@ use Rattle.server_model.specs.Effects.{all_exist, begins, created, effect_unless
 use Rattle.server_model.specs.Entries.{is_command, is_client}
 use Rattle.server_model.specs.Operations.{Operation, table_of, operation_of, statement_result, operation_result, operation_needs, after_events, copy_operation}
 use Rattle.server_model.specs.Blockers.{need, need_within, blocker}
-use Rattle.server_model.specs.PlainServer.{at_rest, called_unless, calls, counting, does, done, goes_on, holding, is_over, leaves, locking, loses, polled_of, polled_over, polled_unless, polls, serves, unlocking, without_waiting}
+use Rattle.server_model.specs.PlainServer.{at_rest, called_unless, calls, counting, does, done, did, goes_on, holding, is_over, leaves, locking, loses, polled_of, polled_over, polled_unless, polls, serves, unlocking, without_waiting}
 use Rattle.server_model.specs.States.{State, is_in_transaction, opened, session_of, view, waiting_of, with_session, writes_of}
 use Rattle.tool_program.specs.JournalWords.Journals.{after_entry, opens, state_after}
 use Rattle.server_model.specs.LockedRows.Databases.{IsWellFormedDatabase, TaskSound}
@@ -152,11 +155,16 @@ own_effect now w number own false busy seen (requests.ReadLog position limit tab
 own_effect now w number own false busy seen requests.ShowTables same quiet rests = own_still now number own
 own_effect now w number own false busy seen requests.ShowWaiting same quiet rests = own_still now number own
 
-own_done : (now : State) (w : List Waiting) (number : ℕ) (own : Own now number) (request : Request) → AtRest (is_in_transaction (session_of number now.sessions)) (Some request) → OwnFits (done (at_wait now w) number request).after number
-unfolding done
-own_done now w number own request rests =
+own_did : (now : State) (w : List Waiting) (number : ℕ) (own : Own now number) (request : Request) → AtRest (is_in_transaction (session_of number now.sessions)) (Some request) → OwnFits (did (at_wait now w) number request).after number
+unfolding did
+own_did now w number own request rests =
     own_effect now w number own (is_outside (session_of number now.sessions) request) (is_in_transaction (session_of number now.sessions)) (view number now) request (ap (λ (o : Option Session). after_events now.tables (writes_of o)) own.is)
     (λ quiet. own.rests (sym (ap is_in_transaction own.is) ∙ quiet)) rests
+
+own_done : (now : State) (w : List Waiting) (number : ℕ) (own : Own now number) (request : Request) → AtRest (is_in_transaction (session_of number now.sessions)) (Some request) → OwnFits (done (at_wait now w) number request).after number
+own_done now w number own request =
+    filled_case (λ asked full. AtRest (is_in_transaction (session_of number now.sessions)) (Some asked) → OwnFits (did (at_wait now w) number full).after number) (own_did now w number own) (λ statement n rests. own_did now w number own (requests.Do (numbered n statement)) tt)
+    (is_of_tool (session_of number now.sessions)) now.tables now.counters request
 
 -- EACH TURN
 

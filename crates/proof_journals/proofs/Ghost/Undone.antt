@@ -1,4 +1,7 @@
 -- What an entry leaves whose request was not done, and what is answered where it was.
+use Rattle.server_model.specs.declared.counter.Counter.{Counter}
+use Rattle.server_model.specs.PlainServer.{recounted}
+use Rattle.server_model.specs.Drawing.{filled}
 use Rattle.std.proofs.Common.{◌≡◌, ℕ, ◌+◌, Bool, true, false, not, List, [], ◌∷◌, ◌++◌, Option, Some, None, refl, sym, ap, ◌∙◌, subst}
 use Rattle.base_script.specs.declared.actor.Side.{Side}
 use Rattle.base_script.specs.declared.actor.Side.TheVariants.{Before, After}
@@ -14,7 +17,8 @@ use Rattle.server_model.specs.Effects.{Effect, effect}
 use Rattle.server_model.specs.Effects.Effect.{Rests, Grows, Writes, Forgets, Moves, Locks, Unlocks}
 use Rattle.server_model.specs.Entries.{is_command, is_client, is_cut}
 use Rattle.server_model.specs.Blockers.{need, blocker}
-use Rattle.server_model.specs.PlainServer.{called_unless, calls, counting, does, done, forgets, is_over, leaves, polled_of, polled_over, polled_unless, polls, serves, without_waiting}
+use Rattle.server_model.specs.Drawing.{filled}
+use Rattle.server_model.specs.PlainServer.{called_unless, calls, counting, does, done, did, forgets, is_over, leaves, polled_of, polled_over, polled_unless, polls, serves, without_waiting}
 use Rattle.server_model.specs.States.{State, opened, polls_of, session_of, waiting_of, with_session}
 use Rattle.tool_program.specs.JournalWords.Journals.{after_entry, opens, opens_if}
 use Rattle.proof_journals.specs.Scenes.{Scene, Besides, SessionHold, no_hold}
@@ -39,38 +43,38 @@ does_answer (Moves answer tables) state number = refl
 does_answer (Locks answer names) state number = refl
 does_answer (Unlocks answer) state number = refl
 
-done_answer : (state : State) (number : ℕ) (request : Request) → (done state number request).answer ≡ effect_answer (effect state number request)
-unfolding done
-done_answer state number request = does_answer (effect state number request) state number
+done_answer : (state : State) (number : ℕ) (request : Request) → (done state number request).answer ≡ effect_answer (effect state number (filled state number request))
+unfolding did
+done_answer state number request = does_answer (effect state number (filled state number request)) state number
 
-served_answer : (now : State) (number : ℕ) (asked : Asked) (request : Request) → about now number asked ≡ Some request → was_done (serves now number asked).answer ≡ true → (serves now number asked).answer ≡ effect_answer (effect (where_done asked number now) number request)
+served_answer : (now : State) (number : ℕ) (asked : Asked) (request : Request) → about now number asked ≡ Some request → was_done (serves now number asked).answer ≡ true → (serves now number asked).answer ≡ effect_answer (effect (where_done asked number now) number (filled now number request))
 unfolding calls polls
 served_answer now number (Call asks) request is answered =
-    subst (λ (r : Request). (calls now number asks).answer ≡ effect_answer (effect now number r)) (let same : asks ≡ request = cc in same) (at (blocker now number (need now number asks)) answered)
+    subst (λ (r : Request). (calls now number asks).answer ≡ effect_answer (effect now number (filled now number r))) (let same : asks ≡ request = cc in same) (at (blocker now number (need now number asks)) answered)
   where
-    at : (by : Option ℕ) → was_done (called_unless by now number asks).answer ≡ true → (called_unless by now number asks).answer ≡ effect_answer (effect now number asks)
+    at : (by : Option ℕ) → was_done (called_unless by now number asks).answer ≡ true → (called_unless by now number asks).answer ≡ effect_answer (effect now number (filled now number asks))
     at None answer = done_answer now number asks
     at (Some by) answer = absurd (let no : false ≡ true = answer in cc)
 served_answer now number Poll request is answered = at (waiting_of number now.waiting) is answered
   where
-    over : (b : Bool) (by : ℕ) (asks : Request) → was_done (polled_over b by now number).answer ≡ true → (polled_over b by now number).answer ≡ effect_answer (effect (without_waiting number now) number asks)
+    over : (b : Bool) (by : ℕ) (asks : Request) → was_done (polled_over b by now number).answer ≡ true → (polled_over b by now number).answer ≡ effect_answer (effect (without_waiting number now) number (filled now number asks))
     over true by asks answer = absurd (let no : false ≡ true = answer in cc)
     over false by asks answer = absurd (let no : false ≡ true = answer in cc)
 
-    each : (asks : Request) (by : Option ℕ) → was_done (polled_unless by now number asks).answer ≡ true → (polled_unless by now number asks).answer ≡ effect_answer (effect (without_waiting number now) number asks)
+    each : (asks : Request) (by : Option ℕ) → was_done (polled_unless by now number asks).answer ≡ true → (polled_unless by now number asks).answer ≡ effect_answer (effect (without_waiting number now) number (filled now number asks))
     each asks None answer = done_answer (without_waiting number now) number asks
     each asks (Some by) answer = over (is_over now number) by asks answer
 
-    at : (waiting : Option Waiting) → request_of waiting ≡ Some request → was_done (polled_of waiting now number).answer ≡ true → (polled_of waiting now number).answer ≡ effect_answer (effect (without_waiting number now) number request)
+    at : (waiting : Option Waiting) → request_of waiting ≡ Some request → was_done (polled_of waiting now number).answer ≡ true → (polled_of waiting now number).answer ≡ effect_answer (effect (without_waiting number now) number (filled now number request))
     at None asks answer = absurd cc
     at (Some waiting) asks answer =
-        subst (λ (r : Request). (polled_of (Some waiting) now number).answer ≡ effect_answer (effect (without_waiting number now) number r)) (let same : waiting.request ≡ request = cc in same)
+        subst (λ (r : Request). (polled_of (Some waiting) now number).answer ≡ effect_answer (effect (without_waiting number now) number (filled now number r))) (let same : waiting.request ≡ request = cc in same)
         (each waiting.request (blocker now number (need now number waiting.request)) answer)
 served_answer now number (Command word) request is answered = absurd cc
 served_answer now number Cut request is answered = absurd (let no : false ≡ true = answered in cc)
 
 turn_answer : (now : State) (number : ℕ) (asked : Asked) (side : Option Side) (request : Request) (given : Answer) → about now number asked ≡ Some request → reported_at side (answer_at side (serves now number asked).answer) (missed_at side (serves now number asked).answer) ≡ Some given
-    → was_done given ≡ true → given ≡ effect_answer (effect (where_done asked number now) number request)
+    → was_done given ≡ true → given ≡ effect_answer (effect (where_done asked number now) number (filled now number request))
 turn_answer now number asked None request given is reported answered =
     let same : (serves now number asked).answer ≡ given = cc in sym same ∙ served_answer now number asked request is (ap was_done same ∙ answered)
 turn_answer now number asked (Some Before) request given is reported answered = absurd cc
@@ -90,6 +94,9 @@ effects_answer limits scene journal entry request given run reported is heard an
 pub record Left (now : State) (number : ℕ) (own : SessionHold) (after : State) : Type 0 where
   pub stays : stored after ≡ stored now
   pub besides : Besides number (holds_of now) (holds_of after) own
+
+left_recounted : (now : State) (number : ℕ) (own : SessionHold) (after : State) (counters : List Counter) → Left now number own after → Left now number own (recounted counters after)
+left_recounted now number own after counters left = record { stays = left.stays; besides = left.besides }
 
 counts_left : (now : State) (number : ℕ) (lost : Bool) (count : ℕ) (waiting : List Waiting) → There now number
     → Left now number (unless_lost lost (holds_of now number)) (final lost number (record now { waiting = waiting; sessions = with_session number (counting count) now.sessions }))
@@ -168,7 +175,7 @@ undone_is_left limits scene journal entry request run reported cut is none =
     ap (λ (g : Answer). reported_at entry.side g entry.missed) reported.answer ∙ ap (λ (m : Option Answer). reported_at entry.side (answer_at entry.side (inner before entry)) m) reported.missed in
     let left : Left now number (undone_hold entry.side (answer_at entry.side (inner before entry)) (holds_of now number)) (after_entry before entry) =
     found_live (session_of number now.sessions) (Left now number (undone_hold entry.side (answer_at entry.side (inner before entry)) (holds_of now number)) (after_entry before entry)) (opened_live nothing tool number before live)
-    (λ found there. undone_turn now number entry.asked entry.side request (record { found = found; is = there }) cut is (sym (ap reported_done was) ∙ none)) in
+    (λ found there. left_recounted now number _ (leaves entry.side now number entry.asked) _ (undone_turn now number entry.asked entry.side request (record { found = found; is = there }) cut is (sym (ap reported_done was) ∙ none))) in
     let own : holds_of now number ≡ holds_of before number = λ i. (faces_opened nothing tool number number before i).hold in
     following limits scene journal entry (undone_hold entry.side entry.answer (holds_of before number))
     (subst (λ (a : Answer). Left before number (undone_hold entry.side a (holds_of before number)) (after_entry before entry)) (sym reported.answer)
@@ -186,4 +193,4 @@ pub cuts_are_left : CutsAreLeft
 cuts_are_left limits scene journal entry is none =
     let before : State = scene_state limits scene journal in
     following limits scene journal entry no_hold
-    (opened_left (is_command entry.asked) (not (is_client entry.actor)) entry.session before no_hold (after_entry before entry) (cut_turn (opens entry before) entry.session entry.asked entry.side is none))
+    (opened_left (is_command entry.asked) (not (is_client entry.actor)) entry.session before no_hold (after_entry before entry) (left_recounted (opens entry before) entry.session no_hold (leaves entry.side (opens entry before) entry.session entry.asked) _ (cut_turn (opens entry before) entry.session entry.asked entry.side is none)))

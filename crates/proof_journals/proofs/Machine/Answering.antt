@@ -1,4 +1,6 @@
 -- The keys that the server answers are of the migrated table's kinds.
+use Rattle.server_model.proofs.Filling.{filled_case}
+use Rattle.server_model.specs.States.{is_of_tool}
 use Rattle.std.proofs.Common.{◌≡◌, ◌≤◌, ℕ, Bool, true, false, not, List, [], ◌∷◌, take, Option, Some, None, refl, sym, ap, ◌∙◌, subst}
 use Rattle.std.specs.List.{AllByRecursion}
 use Rattle.std.specs.Option.{option_map}
@@ -24,7 +26,7 @@ use Rattle.server_model.specs.Entries.{is_client, is_command}
 use Rattle.server_model.specs.States.{State, session_of, is_in_transaction, view, waiting_of}
 use Rattle.server_model.specs.Blockers.{need, need_within, blocker}
 use Rattle.server_model.specs.Effects.{of_table, begins, effect_within, effect_unless, is_outside}
-use Rattle.server_model.specs.PlainServer.{does, done, called_unless, calls, is_over, polled_over, polled_unless, polled_of, polls, serves, without_waiting}
+use Rattle.server_model.specs.PlainServer.{does, done, did, called_unless, calls, is_over, polled_over, polled_unless, polled_of, polls, serves, without_waiting}
 use Rattle.server_model.specs.LockedRows.Coverage.{IsWellFormedTable}
 use Rattle.server_model.specs.LockedRows.Databases.{WhereFound, IsWellFormedDatabase}
 use Rattle.plan_data.specs.PlanData.{PlanData, old_schema}
@@ -121,12 +123,17 @@ module _ (plan : PlanData) (state : State) (number : ℕ) (old : schema_of plan.
       subst (λ (t : List ℕ). AnswersKeys plan (requests.BeginSpan t span size) (does (effect_within (is_in_transaction (session_of number state.sessions)) (view number state) state (requests.BeginSpan t span size)) state number).answer) (sym keyed.0) (keys_at span size keyed.1 keyed.3)
   within_typed request keyed = tt
 
-  done_typed : (request : Request) → IsKeyed plan request → AnswersKeys plan request (done state number request).answer
-  unfolding done
-  done_typed request keyed = at (is_outside (session_of number state.sessions) request) where
+  did_typed : (request : Request) → IsKeyed plan request → AnswersKeys plan request (did state number request).answer
+  unfolding did
+  did_typed request keyed = at (is_outside (session_of number state.sessions) request) where
     at : (b : Bool) → AnswersKeys plan request (does (effect_unless b (is_in_transaction (session_of number state.sessions)) (view number state) state request) state number).answer
     at true = quiet_typed plan request _ tt
     at false = within_typed request keyed
+
+  done_typed : (request : Request) → IsKeyed plan request → AnswersKeys plan request (done state number request).answer
+  done_typed request =
+      filled_case (λ asked full. IsKeyed plan asked → AnswersKeys plan asked (did state number full).answer) did_typed (λ statement n keyed. tt)
+      (is_of_tool (session_of number state.sessions)) state.tables state.counters request
 
 -- behind a call and a poll
 called_typed : (plan : PlanData) (state : State) (number : ℕ) (request : Request) → schema_of plan.table state.tables ≡ Some (old_schema plan) → IsWellFormedDatabase state.tables → IsKeyed plan request → AnswersKeys plan request (calls state number request).answer

@@ -9,12 +9,14 @@ use Rattle.server_model.specs.declared.entry.Asked.TheVariants.{Call, Poll, Comm
 use Rattle.server_model.specs.declared.entry.Entry.{Entry}
 use Rattle.server_model.specs.Entries.{same_actor}
 use Rattle.plan_data.specs.PlanData.{PlanData}
-use Rattle.tool_program.specs.JournalWords.Journals.{may_lose, IsFaithful}
+use Rattle.tool_program.specs.JournalWords.Journals.{may_lose, IsFaithful, opens, state_at}
 use Rattle.tool_program.specs.JournalWords.Sessions.{live_session}
-use Rattle.tool_program.specs.JournalWords.Clients.{Reached, client_at, client_after, became, became_in, client_asks}
+use Rattle.tool_program.specs.JournalWords.Clients.{with_draw, Reached, client_at, client_after, became, became_in, client_asks}
 use Rattle.tool_program.specs.Programs.{given, IsGiven, Follows}
 use Rattle.proof_journals.proofs.Actors.{same_actor_is}
 use Rattle.proof_journals.proofs.Linking.{client_more}
+use Rattle.proof_journals.proofs.Joined.{reported_answer, reported_draw}
+use Rattle.proof_journals.proofs.Machine.Drawn.{drawn_stands}
 use Rattle.proof_journals.specs.Machine.Standings.{Standing, free, standing_of, answered, IsAbout}
 use Rattle.proof_journals.specs.Machine.Scripts.{ScriptsFit}
 use Rattle.proof_journals.proofs.Machine.Seated.{IsKnown, IsServed, known_begins, known_more, others_stand, own_stands, own_heard, own_missed, own_lost}
@@ -55,12 +57,13 @@ module _ (plan : PlanData) (journal : List Entry) (entry : Entry) (is : ClientsT
     by : (b : Bool) → same_actor entry.actor (Client c) ≡ b → ClientStands (client_at plan more c) (standing_of plan more (Client c))
     by false differ =
         subst (λ (r : Reached). ClientStands r (standing_of plan more (Client c)))
-        (sym (client_more plan journal entry c ∙ ap (λ (b : Bool). cond b (client_after (became (client_at plan journal c) entry) (client_at plan journal c)) (client_at plan journal c)) differ))
+        (sym (client_more plan journal entry c ∙ ap (λ (b : Bool). cond b (client_after (became (client_at plan journal c) entry) (with_draw entry.draw (client_at plan journal c))) (client_at plan journal c)) differ))
         (subst (ClientStands (client_at plan journal c)) (sym (others_stand plan journal entry is.known served (Client c) differ)) (is.each c))
     by true same =
         subst (λ (r : Reached). ClientStands r (standing_of plan more (Client c)))
-        (sym (client_more plan journal entry c ∙ ap (λ (b : Bool). cond b (client_after (became (client_at plan journal c) entry) (client_at plan journal c)) (client_at plan journal c)) same))
-        (own_turn c (same_actor_is entry.actor (Client c) same) entry.asked refl run.followed.given)
+        (sym (client_more plan journal entry c ∙ ap (λ (b : Bool). cond b (client_after (became (client_at plan journal c) entry) (with_draw entry.draw (client_at plan journal c))) (client_at plan journal c)) same))
+        (drawn_stands (client_at plan journal c) entry.draw entry.side (opens entry (state_at plan journal)) entry.session entry.asked entry.answer entry.missed (standing_of plan more (Client c))
+        (reported_answer (state_at plan journal) entry run.answered) (reported_draw (state_at plan journal) entry run.answered) (own_turn c (same_actor_is entry.actor (Client c) same) entry.asked refl run.followed.given))
 
   pub clients_more : ClientsTogether plan more
   clients_more = record { known = known_more plan journal entry is.known served; each = each_more }

@@ -1,4 +1,7 @@
 -- Each request has an answer that it may have; and what a session has locked it needn't wait for.
+use Rattle.server_model.proofs.Filling.{filled_case}
+use Rattle.server_model.specs.States.{is_of_tool}
+use Rattle.server_model.specs.Drawing.{numbered}
 use Rattle.std.proofs.Common.{◌≡◌, ℕ, Bool, true, false, ◌&&◌, ◌||◌, List, [], ◌∷◌, cond, Option, Some, None, Result, Ok, Err, refl, sym, ap, ◌∙◌, subst}
 use Rattle.std.specs.Prelude.{◌==◌}
 use Rattle.std.specs.List.{list_any}
@@ -26,7 +29,7 @@ use Rattle.server_model.specs.Operations.{statement_result, operation_result, co
 use Rattle.server_model.specs.States.{State, session_of, is_in_transaction, locked_names, names_held, view, waiting_of, waiters}
 use Rattle.server_model.specs.Blockers.{need, need_within, blocker}
 use Rattle.server_model.specs.Effects.{of_table, result_effect, begins, all_exist, locks_if, created, dropped, renamed_or, defined, effect_within, effect_unless, is_outside}
-use Rattle.server_model.specs.PlainServer.{does, done, called_unless, calls, is_over, polled_over, polled_unless, polled_of, polls, without_waiting}
+use Rattle.server_model.specs.PlainServer.{does, done, did, called_unless, calls, is_over, polled_over, polled_unless, polled_of, polls, without_waiting}
 use Rattle.proof_journals.specs.Turns.{request_of}
 use Rattle.proof_journals.proofs.Names.{as_held}
 use Rattle.proof_journals.proofs.Replies.{IsReply, line_replies_so, copied_replies}
@@ -127,12 +130,17 @@ nothing_outside (Some session) request = by (locked_names session.names) request
   by (first ∷ locked) (requests.Drop name) = λ is. refl
   by (first ∷ locked) (requests.Rename pairs) = λ is. refl
 
-done_fits : (state : State) (number : ℕ) (request : Request) → serves_to request (done state number request).answer ≡ true
-unfolding done
-done_fits state number request = at (is_outside (session_of number state.sessions) request) (nothing_outside (session_of number state.sessions) request) where
+did_fits : (state : State) (number : ℕ) (request : Request) → serves_to request (did state number request).answer ≡ true
+unfolding did
+did_fits state number request = at (is_outside (session_of number state.sessions) request) (nothing_outside (session_of number state.sessions) request) where
   at : (b : Bool) → RefusedFits request b → serves_to request (does (effect_unless b (is_in_transaction (session_of number state.sessions)) (view number state) state request) state number).answer ≡ true
   at true is = is refl
   at false is = within_fits state number request
+
+done_fits : (state : State) (number : ℕ) (request : Request) → serves_to request (done state number request).answer ≡ true
+done_fits state number request =
+    filled_case (λ asked full. serves_to asked (did state number full).answer ≡ true) (did_fits state number) (λ statement n. did_fits state number (requests.Do (numbered n statement)))
+    (is_of_tool (session_of number state.sessions)) state.tables state.counters request
 
 -- WHAT WAITS
 

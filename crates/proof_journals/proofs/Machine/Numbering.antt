@@ -14,7 +14,8 @@ use Rattle.server_model.specs.Entries.{is_command}
 use Rattle.server_model.specs.States.{State, session_of, waiting_of}
 use Rattle.server_model.specs.Blockers.{need, blocker}
 use Rattle.server_model.specs.Effects.{Effect, Rests, Grows, Writes, Forgets, Moves, Locks, Unlocks, effect}
-use Rattle.server_model.specs.PlainServer.{does, done, called_unless, calls, is_over, polled_over, polled_unless, polled_of, polls, loses, leaves, serves, without_waiting}
+use Rattle.server_model.specs.Drawing.{filled}
+use Rattle.server_model.specs.PlainServer.{does, done, did, called_unless, calls, is_over, polled_over, polled_unless, polled_of, polls, loses, leaves, serves, without_waiting}
 use Rattle.plan_data.specs.PlanData.{PlanData}
 use Rattle.tool_program.specs.JournalWords.Journals.{opens, opens_if, state_after, state_at}
 use Rattle.tool_program.specs.JournalWords.Sessions.{sessions_named, KeepsSessions}
@@ -36,8 +37,8 @@ does_made (Locks answer names) state number = refl
 does_made (Unlocks answer) state number = refl
 
 done_made : (state : State) (number : ℕ) (request : Request) → (done state number request).after.made ≡ state.made
-unfolding done
-done_made state number request = does_made (effect state number request) state number
+unfolding did
+done_made state number request = does_made (effect state number (filled state number request)) state number
 
 served_made : (state : State) (number : ℕ) (asked : Asked) → (serves state number asked).after.made ≡ state.made
 unfolding calls polls loses

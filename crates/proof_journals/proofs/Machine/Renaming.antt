@@ -25,7 +25,7 @@ use Rattle.server_model.specs.declared.session.Waiting.{Waiting}
 use Rattle.server_model.specs.Effects.{defined, effect_unless, is_outside, renamed_or}
 use Rattle.server_model.specs.Entries.{is_client, is_command}
 use Rattle.server_model.specs.Blockers.{blocker, need}
-use Rattle.server_model.specs.PlainServer.{Served, called_unless, calls, does, done, is_over, leaves, loses, polled_of, polled_over, polled_unless, polls, serves, without_waiting}
+use Rattle.server_model.specs.PlainServer.{Served, called_unless, calls, does, done, did, is_over, leaves, loses, polled_of, polled_over, polled_unless, polls, serves, without_waiting}
 use Rattle.server_model.specs.Listings.{placed_name, tables_shown}
 use Rattle.server_model.specs.States.{State, is_in_transaction, session_of, view, waiting_of}
 use Rattle.plan_data.specs.PlanData.{PlanData}
@@ -51,7 +51,7 @@ renamed_so name state number (Ok tables) = inl (_, refl)
 renamed_so name state number (Err reason) = inr refl
 
 done_renames : (name : List ℕ) (state : State) (number : ℕ) (pairs : List Pair) → Renames name state (done state number (requests.Rename pairs))
-unfolding done
+unfolding did
 done_renames name state number pairs = at (is_outside (session_of number state.sessions) (requests.Rename pairs)) where
   at : (b : Bool) → Renames name state (does (effect_unless b (is_in_transaction (session_of number state.sessions)) (view number state) state (requests.Rename pairs)) state number)
   at true = inr refl
@@ -129,7 +129,7 @@ abbrev Lists : State → Served → Type 0
 Lists state served = (tables : List TableName) → served.answer ≡ answers.Tables tables → tables ≡ tables_shown state.tables
 
 called_lists : (state : State) (number : ℕ) → Lists state (calls state number requests.ShowTables)
-unfolding calls done
+unfolding calls did
 called_lists state number = at (blocker state number (need state number requests.ShowTables)) where
   within : (b : Bool) → Lists state (does (effect_unless b (is_in_transaction (session_of number state.sessions)) (view number state) state requests.ShowTables) state number)
   within true tables same = absurd cc
@@ -183,7 +183,7 @@ module _ (plan : PlanData) (journal : List Entry) (entry : Entry) (served : IsSe
     same_now = ap (schema_of name) opened_tables
 
     left_more : (side : Option Side) → entry.side ≡ side → schema_of name (leaves side open_now entry.session entry.asked).tables ≡ schema_of name open_now.tables → schema_of name (state_at plan more).tables ≡ schema_of name now.tables
-    left_more side at same = ap (λ (s : State). schema_of name s.tables) (state_more plan journal entry ∙ ap (λ (s : Option Side). leaves s open_now entry.session entry.asked) at) ∙ same ∙ same_now
+    left_more side at same = ap (λ (s : State). schema_of name s.tables) (state_more plan journal entry) ∙ ap (λ (s : Option Side). schema_of name (leaves s open_now entry.session entry.asked).tables) at ∙ same ∙ same_now
 
     by : (side : Option Side) → entry.side ≡ side → Renames name open_now (serves open_now entry.session entry.asked)
         → ((count : ℕ) × (answer_in entry.asked entry.side entry.answer entry.missed ≡ Some (answers.Ok count))) ⊎ (schema_of name (state_at plan more).tables ≡ schema_of name now.tables)

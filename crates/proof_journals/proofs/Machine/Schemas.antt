@@ -1,4 +1,7 @@
 -- Which schema stands under a name: only CREATE, DROP and RENAME of that name change it.
+use Rattle.server_model.proofs.Filling.{filled_case}
+use Rattle.server_model.specs.States.{is_of_tool}
+use Rattle.server_model.specs.Drawing.{numbered}
 use Rattle.std.proofs.Common.{◌≡◌, ℕ, Bool, true, false, not, List, [], ◌∷◌, ◌++◌, cond, Option, Some, None, refl, sym, ap, ◌∙◌, subst}
 use Rattle.std.specs.Option.{option_map}
 use Rattle.std.specs.Str.{bytes_eq}
@@ -24,7 +27,7 @@ use Rattle.server_model.specs.Operations.{statement_result, operation_result, co
 use Rattle.server_model.specs.States.{State, session_of, is_in_transaction, view, waiting_of, writes_of}
 use Rattle.server_model.specs.Blockers.{need, need_within, blocker}
 use Rattle.server_model.specs.Effects.{result_effect, begins, all_exist, locks_if, created, dropped, defined, effect_within, effect_unless, is_outside}
-use Rattle.server_model.specs.PlainServer.{Served, does, done, called_unless, calls, is_over, polled_over, polled_unless, polled_of, polls, loses, leaves, serves, without_waiting}
+use Rattle.server_model.specs.PlainServer.{Served, does, done, did, called_unless, calls, is_over, polled_over, polled_unless, polled_of, polls, loses, leaves, serves, without_waiting}
 use Rattle.plan_data.specs.PlanData.{PlanData}
 use Rattle.tool_program.specs.JournalWords.Journals.{opens, state_at, may_lose}
 use Rattle.proof_journals.specs.Scenes.{Stored}
@@ -128,21 +131,26 @@ within_same name state number (requests.ReadLog position limit tables) keeps = r
 within_same name state number requests.ShowTables keeps = refl
 within_same name state number requests.ShowWaiting keeps = refl
 
-done_same : (name : List ℕ) (state : State) (number : ℕ) (request : Request) → keeps_table name request ≡ true → Same name state (done state number request)
-unfolding done
-done_same name state number request keeps = at (is_outside (session_of number state.sessions) request) where
+did_same : (name : List ℕ) (state : State) (number : ℕ) (request : Request) → keeps_table name request ≡ true → Same name state (did state number request)
+unfolding did
+did_same name state number request keeps = at (is_outside (session_of number state.sessions) request) where
   at : (b : Bool) → Same name state (does (effect_unless b (is_in_transaction (session_of number state.sessions)) (view number state) state request) state number)
   at true = refl
   at false = within_same name state number request keeps
 
-called_same : (name : List ℕ) (state : State) (number : ℕ) (request : Request) → keeps_table name request ≡ true → Same name state (calls state number request)
+done_same : (name : List ℕ) (state : State) (number : ℕ) (request : Request) → keeps_table name request ≡ true → Same name state (done state number request)
+done_same name state number request =
+    filled_case (λ asked full. keeps_table name asked ≡ true → Same name state (did state number full)) (did_same name state number) (λ statement n keeps. did_same name state number (requests.Do (numbered n statement)) keeps)
+    (is_of_tool (session_of number state.sessions)) state.tables state.counters request
+
+pub called_same : (name : List ℕ) (state : State) (number : ℕ) (request : Request) → keeps_table name request ≡ true → Same name state (calls state number request)
 unfolding calls
 called_same name state number request keeps = at (blocker state number (need state number request)) where
   at : (by : Option ℕ) → Same name state (called_unless by state number request)
   at None = done_same name state number request keeps
   at (Some by) = refl
 
-polled_same : (name : List ℕ) (state : State) (number : ℕ) (request : Request) → request_of (waiting_of number state.waiting) ≡ Some request → keeps_table name request ≡ true → Same name state (polls state number)
+pub polled_same : (name : List ℕ) (state : State) (number : ℕ) (request : Request) → request_of (waiting_of number state.waiting) ≡ Some request → keeps_table name request ≡ true → Same name state (polls state number)
 unfolding polls
 polled_same name state number request waits keeps = at (waiting_of number state.waiting) waits where
   over : (b : Bool) (by : ℕ) → Same name state (polled_over b by state number)
@@ -176,7 +184,7 @@ created_stands schema state number true is count given = absurd (refusal given) 
 created_stands schema state number false is count given = ap (option_map (λ table. table.schema)) (new_found schema.name state.tables (record { schema = schema; rows = [] }) is (same_bytes schema.name))
 
 done_made : (schema : Schema) (state : State) (number : ℕ) → Made schema (done state number (requests.Create schema))
-unfolding done
+unfolding did
 done_made schema state number = at (is_outside (session_of number state.sessions) (requests.Create schema)) where
   at : (b : Bool) → Made schema (does (effect_unless b (is_in_transaction (session_of number state.sessions)) (view number state) state (requests.Create schema)) state number)
   at true count given = absurd (refusal given) where
@@ -261,4 +269,4 @@ module _ (plan : PlanData) (journal : List Entry) (entry : Entry) (served : IsSe
   -- *A table that was made stands*
   pub schema_made : (schema : Schema) (count : ℕ) → IsAbout (requests.Create schema) (standing_of plan journal entry.actor) entry.asked → entry.side ≡ None → (serves open_now entry.session entry.asked).answer ≡ answers.Ok count → schema_of schema.name (state_at plan more).tables ≡ Some schema
   schema_made schema count about no_side given =
-      ap (λ (s : State). schema_of schema.name s.tables) (state_more plan journal entry ∙ ap (λ (side : Option Side). leaves side open_now entry.session entry.asked) no_side) ∙ served_made schema about count given
+      ap (λ (s : State). schema_of schema.name s.tables) (state_more plan journal entry) ∙ ap (λ (side : Option Side). schema_of schema.name (leaves side open_now entry.session entry.asked).tables) no_side ∙ served_made schema about count given

@@ -192,7 +192,7 @@ module _ (plan : PlanData) (journal : List Entry) (entry : Entry) (known : IsKno
       → standing_of plan more entry.actor ≡ answered request entry.answer (standing_of plan journal entry.actor)
   heard_stands no_side called request left own waits =
       ap (standing_in (state_at plan more)) (live_more journal entry entry.actor ∙ ap (λ (b : Bool). cond b (session_left entry.asked entry.answer entry.session) (live_session journal entry.actor)) (same_actor_itself entry.actor) ∙ left)
-      ∙ ap (λ (s : State). standing_in s (Some entry.session)) (state_more plan journal entry ∙ ap (λ (side : Option Side). leaves side open_now entry.session entry.asked) no_side)
+      ∙ ap (λ (s : State). standing_in s (Some entry.session)) (state_more plan journal entry) ∙ ap (λ (side : Option Side). standing_in (leaves side open_now entry.session entry.asked) (Some entry.session)) no_side
       ∙ ap (λ (o : Option Session). standing (face_in o) (request_of (waiting_of entry.session (serves open_now entry.session entry.asked).after.waiting))) own.is
       ∙ standing_same _ _ own.busy own.locked waits
 
@@ -374,7 +374,7 @@ module _ (plan : PlanData) (journal : List Entry) (entry : Entry) (known : IsKno
           by : (side : Option Side) → entry.side ≡ side → (entry.answer ≡ answers.Lost → ⊥) → IsOpen → is_live (state_at plan more) entry.session ≡ true
           by (Some side) at_side heard opened_one = absurd (heard (answer_is ∙ ap (λ (s : Option Side). answer_at s (inner now entry)) at_side))
           by None no_side heard opened_one =
-              ap (λ (s : State). is_live s entry.session) (state_more plan journal entry ∙ ap (λ (s : Option Side). leaves s open_now entry.session entry.asked) no_side)
+              ap (λ (s : State). is_live s entry.session) (state_more plan journal entry) ∙ ap (λ (s : Option Side). is_live (leaves s open_now entry.session entry.asked) entry.session) no_side
               ∙ served_live open_now entry.session entry.asked opened_one.found opened_one.is
               (λ cut. heard (answer_is ∙ ap (λ (s : Option Side). answer_at s (inner now entry)) no_side ∙ ap (λ (a : Asked). (serves open_now entry.session a).answer) cut))
 

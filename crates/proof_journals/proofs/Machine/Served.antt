@@ -1,4 +1,7 @@
 -- What a request leaves of its session, as its answer tells, and of the other sessions.
+use Rattle.server_model.proofs.Filling.{filled_case}
+use Rattle.server_model.specs.States.{is_of_tool}
+use Rattle.server_model.specs.Drawing.{numbered}
 use Rattle.std.proofs.Common.{◌≡◌, ℕ, Bool, true, false, List, [], ◌++◌, Option, Some, None, Result, Ok, Err, refl, sym, ap, ◌∙◌, subst}
 use Rattle.std.specs.Prelude.{◌==◌, is_some}
 use Rattle.base_values.specs.declared.event.RowEvent.{RowEvent}
@@ -21,7 +24,8 @@ use Rattle.server_model.specs.Operations.{statement_result, operation_result, co
 use Rattle.server_model.specs.States.{State, session_of, with_session, is_in_transaction, locked_names, view, waiting_of}
 use Rattle.server_model.specs.Blockers.{need, need_within, blocker}
 use Rattle.server_model.specs.Effects.{Effect, Rests, Grows, Writes, Forgets, Moves, Locks, Unlocks, result_effect, begins, all_exist, locks_if, created, dropped, renamed_or, defined, nothing_needed, effect_within, effect_unless, is_outside, effect}
-use Rattle.server_model.specs.PlainServer.{Served, does, done, called_unless, calls, is_over, polled_over, polled_unless, polled_of, polls, loses, leaves, serves, without_waiting, holding, at_rest, locking, unlocking, counting}
+use Rattle.server_model.specs.Drawing.{filled}
+use Rattle.server_model.specs.PlainServer.{Served, does, done, did, called_unless, calls, is_over, polled_over, polled_unless, polled_of, polls, loses, leaves, serves, without_waiting, holding, at_rest, locking, unlocking, counting}
 use Rattle.proof_journals.specs.Holdings.{Face}
 use Rattle.proof_journals.specs.Turns.{request_of}
 use Rattle.proof_journals.proofs.Faces.{changed_here, changed_there, gone_there}
@@ -122,12 +126,17 @@ module _ (state : State) (number : ℕ) (found : Session) (is : session_of numbe
   within requests.ShowTables = stays
   within requests.ShowWaiting = stays
 
-  done_left : (request : Request) → Left state number found request (done state number request)
-  unfolding done
-  done_left request = at (is_outside (session_of number state.sessions) request) where
+  did_left : (request : Request) → Left state number found request (did state number request)
+  unfolding did
+  did_left request = at (is_outside (session_of number state.sessions) request) where
     at : (b : Bool) → Left state number found request (does (effect_unless b (is_in_transaction (session_of number state.sessions)) (view number state) state request) state number)
     at true = refused state number found request ER_TABLE_NOT_LOCKED None is
     at false = within request
+
+  done_left : (request : Request) → Left state number found request (done state number request)
+  done_left request =
+      filled_case (λ asked full. Left state number found asked (did state number full)) did_left (λ statement n. did_left (requests.Do (numbered n statement)))
+      (is_of_tool (session_of number state.sessions)) state.tables state.counters request
 
 -- as an answer tells it
 abbrev pub old_standing : Session → Option Request → Standing
@@ -180,8 +189,8 @@ does_there (Locks answer names) state number other differ = changed_there number
 does_there (Unlocks answer) state number other differ = changed_there number other unlocking state.sessions (λ s. refl) differ
 
 done_there : (state : State) (number other : ℕ) (request : Request) → (other == number) ≡ false → session_of other (done state number request).after.sessions ≡ session_of other state.sessions
-unfolding done
-done_there state number other request differ = does_there (effect state number request) state number other differ
+unfolding did
+done_there state number other request differ = does_there (effect state number (filled state number request)) state number other differ
 
 served_there : (state : State) (number other : ℕ) (asked : Asked) → (other == number) ≡ false → session_of other (serves state number asked).after.sessions ≡ session_of other state.sessions
 unfolding calls polls loses
@@ -223,8 +232,8 @@ does_live (Locks answer names) state number found is = ap is_some (changed_here 
 does_live (Unlocks answer) state number found is = ap is_some (changed_here number unlocking state.sessions found (λ s. refl) is)
 
 done_live : (state : State) (number : ℕ) (request : Request) (found : Session) → session_of number state.sessions ≡ Some found → is_some (session_of number (done state number request).after.sessions) ≡ true
-unfolding done
-done_live state number request found is = does_live (effect state number request) state number found is
+unfolding did
+done_live state number request found is = does_live (effect state number (filled state number request)) state number found is
 
 -- the session is live behind a call and a poll
 pub served_live : (state : State) (number : ℕ) (asked : Asked) (found : Session) → session_of number state.sessions ≡ Some found → (asked ≡ Cut → ⊥) → is_some (session_of number (serves state number asked).after.sessions) ≡ true

@@ -22,7 +22,7 @@ use Rattle.server_model.specs.declared.session.Waiting.{Waiting}
 use Rattle.server_model.specs.Entries.{is_client, is_command, same_actor}
 use Rattle.server_model.specs.States.{State, is_in_transaction, tables_named, waiting_of}
 use Rattle.plan_data.specs.PlanData.{PlanData}
-use Rattle.tool_program.specs.JournalWords.Clients.{Reached, client_asks, client_at, after_turn, client_after, became, new_client, script_of, word_asks}
+use Rattle.tool_program.specs.JournalWords.Clients.{with_draw, Reached, client_asks, client_at, after_turn, client_after, became, new_client, script_of, word_asks}
 use Rattle.tool_program.specs.JournalWords.Journals.{state_at, opens, may_lose}
 use Rattle.tool_program.specs.Programs.{given, IsGiven, Follows}
 use Rattle.tool_program.specs.Tools.{ToolPhase, SettingUp, Migrating, moment, is_reverting}
@@ -30,11 +30,11 @@ use Rattle.tool_program.proofs.OnlineCalls.Given as online
 use Rattle.proof_journals.specs.Plans.{client_names, limits_of}
 use Rattle.proof_journals.specs.Scenes.{NamesTable}
 use Rattle.proof_journals.specs.Turns.{IsAllowed, IsReported, MayAsk, ToolAsks, AllOther, AtRest, RenamesSo, about, request_of, is_busy}
-use Rattle.proof_journals.proofs.Joined.{reported_answer, reported_missed}
+use Rattle.proof_journals.proofs.Joined.{reported_answer, reported_missed, reported_draw}
 use Rattle.proof_journals.proofs.Journals.{JournalHolds, step, begins, opened_waits}
 use Rattle.proof_journals.proofs.Naming.{script_lines}
 use Rattle.proof_journals.proofs.Openings.{opening_well_formed}
-use Rattle.proof_journals.proofs.Progress.{lines_stay}
+use Rattle.proof_journals.proofs.Progress.{lines_stay, drawn_named}
 use Rattle.proof_journals.proofs.ValidTables.{valid_table}
 use Rattle.proof_journals.proofs.Faces.{busy_face}
 use Rattle.tool_program.specs.declared.cutover_core.cutover.Hold.{Hold}
@@ -74,8 +74,8 @@ word_may plan (words.Do statement) is = far_other plan _ (client_far plan _ is)
 pub lines_named : (plan : PlanData) (journal : List Entry) (c : ℕ) → AllByRecursion (λ line. NamesTable (client_names plan) line.word) (client_at plan journal c).left
 unfolding client_at
 lines_named plan journal c = along (new_client (unwrap_or (script_of c plan) [])) journal (script_lines plan c) where
-  turn : (client : Reached) (entry : Entry) (b : Bool) → AllByRecursion (λ line. NamesTable (client_names plan) line.word) client.left → AllByRecursion (λ line. NamesTable (client_names plan) line.word) (cond b (client_after (became client entry) client) client).left
-  turn client entry true all = lines_stay (λ line. NamesTable (client_names plan) line.word) (became client entry) client all
+  turn : (client : Reached) (entry : Entry) (b : Bool) → AllByRecursion (λ line. NamesTable (client_names plan) line.word) client.left → AllByRecursion (λ line. NamesTable (client_names plan) line.word) (cond b (client_after (became client entry) (with_draw entry.draw client)) client).left
+  turn client entry true all = lines_stay (λ line. NamesTable (client_names plan) line.word) (became client entry) (with_draw entry.draw client) (drawn_named (client_names plan) entry.draw client all)
   turn client entry false all = all
 
   along : (client : Reached) (entries : List Entry) → AllByRecursion (λ line. NamesTable (client_names plan) line.word) client.left → AllByRecursion (λ line. NamesTable (client_names plan) line.word) (Rattle.std.specs.Prelude.fold (after_turn c) client entries).left
@@ -209,7 +209,7 @@ module _ (plan : PlanData) (journal : List Entry) (entry : Entry) (fit : IsFitti
   }
 
   reported : IsReported (limits_of plan) (scene_for plan) journal entry
-  reported = record { answer = reported_answer now entry run.answered; missed = reported_missed now entry run.answered }
+  reported = record { answer = reported_answer now entry run.answered; missed = reported_missed now entry run.answered; draw = reported_draw now entry run.answered }
 
   quiet_more : QuietKnown plan (journal ++ entry ∷ [])
   quiet_more = record {

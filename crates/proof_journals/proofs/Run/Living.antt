@@ -1,4 +1,5 @@
 -- Whose each live session is on the server, behind every journal that is faithful and keeps to sessions.
+use Rattle.server_model.specs.PlainServer.{leaves}
 use Rattle.std.proofs.Common.{◌≡◌, ℕ, ◌+◌, ◌<◌, ◌≤◌, ◌==◌, Bool, true, false, not, ◌||◌, max, List, [], ◌∷◌, ◌++◌, length, cond, Option, Some, None, refl, sym, ap, ◌∙◌, subst, arith}
 use Rattle.std.specs.Prelude.{if◌then◌else◌, is_some}
 use Rattle.std.specs.Option.{option_map}
@@ -21,7 +22,7 @@ use Rattle.tool_program.specs.JournalWords.Journals.{opening, opens, after_entry
 use Rattle.tool_program.specs.JournalWords.Sessions.{live_session, session_left, sessions_named, IsSeated, KeepsSessions}
 use Rattle.proof_journals.specs.Run.Counts.{AreApart, kind_of}
 use Rattle.proof_journals.specs.Run.Laws.{Living, SessionsAreKnown}
-use Rattle.proof_journals.proofs.Run.Turns.{is_lost, kind_left, Leaves, turn_leaves, opened_kind, Opens, opened, entry_turned}
+use Rattle.proof_journals.proofs.Run.Turns.{leaves_recounted, is_lost, kind_left, Leaves, turn_leaves, opened_kind, Opens, opened, entry_turned}
 use Rattle.proof_journals.proofs.Actors.{same_actor_is, live_more, Placed, Commands, GoesOn, Begins, placed, SessionsKnown, sessions_begin, left_own, sessions_more, others_differ}
 use Rattle.proof_journals.proofs.Journals.{state_more}
 
@@ -66,7 +67,7 @@ module _ (journal : List Entry) (state : State) (entry : Entry) (living : Living
   open_rec = opened (is_command entry.asked) (not (is_client entry.actor)) entry.session state
 
   left_rec : Leaves (is_lost entry.side entry.asked) entry.session (opens entry state) (after_entry state entry)
-  left_rec = turn_leaves entry.side (opens entry state) entry.session entry.asked
+  left_rec = leaves_recounted (is_lost entry.side entry.asked) entry.session (opens entry state) (leaves entry.side (opens entry state) entry.session entry.asked) _ (turn_leaves entry.side (opens entry state) entry.session entry.asked)
 
   pub kinds_there : (k : ℕ) → (k == entry.session) ≡ false → kind_of k (after_entry state entry).sessions ≡ kind_of k state.sessions
   kinds_there k differ = left_rec.kinds k differ ∙ open_rec.kinds k differ

@@ -12,7 +12,8 @@ use Rattle.server_model.specs.Listings.{waits_shown}
 use Rattle.server_model.specs.States.{State, session_of, is_in_transaction, waiting_of, view}
 use Rattle.server_model.specs.Blockers.{need, blocker}
 use Rattle.server_model.specs.Effects.{Effect, Rests, Grows, Writes, Forgets, Moves, Locks, Unlocks, effect_unless, effect, is_outside}
-use Rattle.server_model.specs.PlainServer.{Served, does, done, called_unless, calls, is_over, polled_over, polled_unless, polled_of, polls, loses, serves, leaves}
+use Rattle.server_model.specs.Drawing.{filled}
+use Rattle.server_model.specs.PlainServer.{Served, does, done, did, called_unless, calls, is_over, polled_over, polled_unless, polled_of, polls, loses, serves, leaves}
 use Rattle.proof_journals.specs.Run.Counts.{numbered}
 
 -- what is served, with another number
@@ -50,10 +51,10 @@ effect_numbered false busy seen made state requests.ShowTables = refl
 effect_numbered false busy seen made state requests.ShowWaiting = refl
 
 done_numbered : (made : ℕ) (state : State) (number : ℕ) (request : Request) → done (numbered made state) number request ≡ renumbered made (done state number request)
-unfolding done
+unfolding did
 done_numbered made state number request =
-    ap (λ (what : Effect). does what (numbered made state) number) (effect_numbered (is_outside (session_of number state.sessions) request) (is_in_transaction (session_of number state.sessions)) (view number state) made state request)
-    ∙ does_numbered (effect state number request) made state number
+    ap (λ (what : Effect). does what (numbered made state) number) (effect_numbered (is_outside (session_of number state.sessions) (filled state number request)) (is_in_transaction (session_of number state.sessions)) (view number state) made state (filled state number request))
+    ∙ does_numbered (effect state number (filled state number request)) made state number
 
 called_numbered : (by : Option ℕ) (made : ℕ) (state : State) (number : ℕ) (request : Request) → called_unless by (numbered made state) number request ≡ renumbered made (called_unless by state number request)
 called_numbered None made state number request = done_numbered made state number request

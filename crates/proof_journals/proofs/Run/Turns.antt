@@ -1,4 +1,6 @@
 -- What one turn of a session leaves: the others, and whose each session is.
+use Rattle.server_model.specs.declared.counter.Counter.{Counter}
+use Rattle.server_model.specs.PlainServer.{recounted}
 use Rattle.std.proofs.Common.{◌≡◌, ◌≤◌, ℕ, suc, ◌+◌, ◌==◌, Bool, true, false, not, ◌||◌, List, [], ◌∷◌, ◌++◌, length, cond, Option, Some, None, refl, sym, ap, ◌∙◌, subst, arith}
 use Rattle.std.specs.Option.{option_map, option_or}
 use Rattle.std.specs.Prelude.{if◌then◌else◌, is_some, max}
@@ -16,7 +18,8 @@ use Rattle.server_model.specs.declared.entry.Asked.TheVariants.{Call, Poll, Comm
 use Rattle.server_model.specs.States.{State, session_of, is_live, is_in_transaction, view, with_session, new_session, connected, waiting_of}
 use Rattle.server_model.specs.Blockers.{need, blocker}
 use Rattle.server_model.specs.Effects.{Effect, Rests, Grows, Writes, Forgets, Moves, Locks, Unlocks, effect}
-use Rattle.server_model.specs.PlainServer.{holding, at_rest, locking, unlocking, counting, does, done, without_waiting, called_unless, calls, is_over, polled_over, polled_unless, polled_of, polls, loses, serves, leaves}
+use Rattle.server_model.specs.Drawing.{filled}
+use Rattle.server_model.specs.PlainServer.{holding, at_rest, locking, unlocking, counting, does, done, did, without_waiting, called_unless, calls, is_over, polled_over, polled_unless, polled_of, polls, loses, serves, leaves}
 use Rattle.server_model.specs.declared.entry.Entry.{Entry}
 use Rattle.server_model.specs.Entries.{is_client, is_command}
 use Rattle.tool_program.specs.JournalWords.Journals.{opens_if, opens, after_entry}
@@ -246,8 +249,8 @@ does_stays (Locks answer names) state number = stays_with number (locking names)
 does_stays (Unlocks answer) state number = stays_with number unlocking state (does (Unlocks answer) state number).after keeps_unlocking refl refl refl
 
 done_stays : (state : State) (number : ℕ) (request : Request) → Stays number state (done state number request).after
-unfolding done
-done_stays state number request = does_stays (effect state number request) state number
+unfolding did
+done_stays state number request = does_stays (effect state number (filled state number request)) state number
 
 unwaited : (number : ℕ) (state : State) → Stays number state (without_waiting number state)
 unwaited number state = record { turned = record { sessions = refl; waiting = waiting_again number state.waiting; apart = λ apart. apart }; kinds = λ k. refl; made = refl; count = refl }
@@ -415,7 +418,15 @@ opened nothing tool number state = opened_with nothing tool number state (sessio
 
 -- THE WHOLE TURN
 
+-- counters are no part of it
+pub turned_recounted : (number : ℕ) (before after : State) (counters : List Counter) → Turned number before after → Turned number before (recounted counters after)
+turned_recounted number before after counters turned = record { sessions = turned.sessions; waiting = turned.waiting; apart = turned.apart }
+
+pub leaves_recounted : (lost : Bool) (number : ℕ) (before after : State) (counters : List Counter) → Leaves lost number before after → Leaves lost number before (recounted counters after)
+leaves_recounted lost number before after counters left =
+    record { turned = turned_recounted number before after counters left.turned; own = left.own; kinds = left.kinds; made = left.made; count = left.count }
+
 pub entry_turned : (state : State) (entry : Entry) → Turned entry.session state (after_entry state entry)
 entry_turned state entry =
     turned_then entry.session state (opens entry state) (after_entry state entry) (opened (is_command entry.asked) (not (is_client entry.actor)) entry.session state).turned
-    (turn_leaves entry.side (opens entry state) entry.session entry.asked).turned
+    (turned_recounted entry.session (opens entry state) (leaves entry.side (opens entry state) entry.session entry.asked) _ (turn_leaves entry.side (opens entry state) entry.session entry.asked).turned)

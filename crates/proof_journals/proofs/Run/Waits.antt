@@ -1,4 +1,7 @@
 -- Nobody waits but live sessions; so a session that connects, and is lost without a call, leaves nothing but its number.
+use Rattle.server_model.specs.declared.counter.Counter.{Counter}
+use Rattle.server_model.specs.PlainServer.{recounted, counters_left}
+use Rattle.server_model.specs.Counting.{counted}
 use Rattle.std.proofs.Common.{◌≡◌, ℕ, ◌==◌, Bool, true, false, not, ◌||◌, max, List, [], ◌∷◌, ◌++◌, cond, Option, Some, None, refl, sym, ap, ◌∙◌, subst}
 use Rattle.std.specs.List.{list_any}
 use Rattle.std.specs.Option.{option_map}
@@ -23,7 +26,7 @@ use Rattle.proof_journals.proofs.Journals.{state_more}
 use Rattle.proof_journals.specs.Run.Counts.{numbered, others, others_waiting, kind_of}
 use Rattle.proof_journals.specs.Run.Laws.{Living, NoneWaits, WaitsAreLive}
 use Rattle.proof_journals.proofs.Run.Tallies.{waits_same}
-use Rattle.proof_journals.proofs.Run.Turns.{is_lost, kind_left, Leaves, turn_leaves, entry_turned, others_joined}
+use Rattle.proof_journals.proofs.Run.Turns.{leaves_recounted, is_lost, kind_left, Leaves, turn_leaves, entry_turned, others_joined}
 use Rattle.proof_journals.proofs.Run.Living.{kinds_there, own_kind, Both, both_more, living_begin}
 use Rattle.server_model.proofs.LockedRows.Tests.{same_number, are_one}
 
@@ -61,12 +64,26 @@ opens_command : (state : State) (entry : Entry) → is_command entry.asked ≡ t
 unfolding opens_if
 opens_command state entry is = rw is refl
 
+pub command_counts : (side : Option Side) (asked : Asked) (state : State) (number : ℕ) → is_command asked ≡ true → counters_left side state number asked ≡ state.counters
+unfolding counted
+command_counts (Some Before) asked state number is = refl
+command_counts None (Command word) state number is = refl
+command_counts (Some After) (Command word) state number is = refl
+command_counts None (Call request) state number is = absurd cc
+command_counts None Poll state number is = absurd cc
+command_counts None Cut state number is = absurd cc
+command_counts (Some After) (Call request) state number is = absurd cc
+command_counts (Some After) Poll state number is = absurd cc
+command_counts (Some After) Cut state number is = absurd cc
+
 command_still : (state : State) (entry : Entry) → is_command entry.asked ≡ true → is_lost entry.side entry.asked ≡ false → after_entry state entry ≡ state
-command_still state entry is unlost = after_command entry.side entry.asked (opens entry state) entry.session is unlost ∙ opens_command state entry is
+command_still state entry is unlost =
+    ap (recounted (counters_left entry.side (opens entry state) entry.session entry.asked)) (after_command entry.side entry.asked (opens entry state) entry.session is unlost)
+    ∙ ap (λ (c : List Counter). recounted c (opens entry state)) (command_counts entry.side entry.asked (opens entry state) entry.session is) ∙ opens_command state entry is
 
 module _ (journal : List Entry) (state : State) (entry : Entry) (living : Living journal state) (known : SessionsKnown journal) (at : Placed journal entry) (answered : IsAnswered state entry) (waits : NoneWaits state) where
   left_rec : Leaves (is_lost entry.side entry.asked) entry.session (opens entry state) (after_entry state entry)
-  left_rec = turn_leaves entry.side (opens entry state) entry.session entry.asked
+  left_rec = leaves_recounted (is_lost entry.side entry.asked) entry.session (opens entry state) (leaves entry.side (opens entry state) entry.session entry.asked) _ (turn_leaves entry.side (opens entry state) entry.session entry.asked)
 
   kept_waits : (command : Bool) → is_command entry.asked ≡ command → is_lost entry.side entry.asked ≡ false → kind_of entry.session (after_entry state entry).sessions ≡ None → is_waiting (after_entry state entry) entry.session ≡ false
   kept_waits true is unlost none =
@@ -144,5 +161,5 @@ unfolding loses
 lost_at_once state number tool none idle =
     let sessions : others number (state.sessions ++ new_session number tool ∷ []) ≡ state.sessions = others_joined number (new_session number tool) state.sessions (same_number number) ∙ others_all number state.sessions none in
     let waiting : others_waiting number state.waiting ≡ state.waiting = waiting_all number state.waiting idle in
-    ap (λ (all : List Session). record { limits = state.limits; made = max state.made number; tables = state.tables; log = state.log; waiting = others_waiting number state.waiting; sessions = all }) sessions
-    ∙ ap (λ (left : List Waiting). record { limits = state.limits; made = max state.made number; tables = state.tables; log = state.log; waiting = left; sessions = state.sessions }) waiting
+    ap (λ (all : List Session). record { limits = state.limits; made = max state.made number; tables = state.tables; log = state.log; waiting = others_waiting number state.waiting; sessions = all; counters = state.counters }) sessions
+    ∙ ap (λ (left : List Waiting). record { limits = state.limits; made = max state.made number; tables = state.tables; log = state.log; waiting = left; sessions = state.sessions; counters = state.counters }) waiting

@@ -1,4 +1,9 @@
 -- Calls, polls and losses leave a server that serves.
+use Rattle.server_model.specs.Blockers.{need_within}
+use Rattle.server_model.specs.States.{view, is_of_tool}
+use Rattle.server_model.specs.declared.request.Request.TheVariants as requests
+use Rattle.server_model.proofs.Filling.{filled_case}
+use Rattle.server_model.specs.Drawing.{numbered}
 use Rattle.std.proofs.Common.{◌≡◌, ℕ, ◌+◌, Bool, true, false, not, List, [], ◌∷◌, ◌++◌, filter, cond, Option, Some, None, refl, sym, ap, subst}
 use Rattle.std.specs.Prelude.{◌==◌, ◌≢◌, is_some}
 use Rattle.std.proofs.lemmas.Bool.{false≢true}
@@ -14,12 +19,12 @@ use Rattle.server_model.specs.Conditions.{ComesWell, IsWellFormed, MayCall}
 use Rattle.server_model.specs.Answers.{ok}
 use Rattle.server_model.specs.Effects.{Forgets, effect}
 use Rattle.server_model.specs.Blockers.{need, blocker}
-use Rattle.server_model.specs.PlainServer.{called_unless, calls, counting, done, forgets, is_over, loses, polled_over, polled_unless, polls, without_waiting}
+use Rattle.server_model.specs.PlainServer.{called_unless, calls, counting, done, did, forgets, is_over, loses, polled_over, polled_unless, polls, without_waiting}
 use Rattle.server_model.specs.States.{State, holds_tables, is_in_transaction, names_in, new_session, polls_of, session_of, waiting_of, with_session}
 use Rattle.proof_journals.specs.Holdings.{Face, OneHolder, face_in, face_of, no_face}
 use Rattle.proof_journals.proofs.Faces.{faces_with, faces_without, joined}
 use Rattle.proof_journals.proofs.Names.{held_joined, one_counts, one_less, one_rests}
-use Rattle.proof_journals.proofs.Serves.{IsFree, done_one, granted}
+use Rattle.proof_journals.proofs.Serves.{IsFree, did_one, granted}
 use Rattle.server_model.specs.LockedRows.Agreement.{Among}
 use Rattle.server_model.proofs.LockedRows.Tests.{are_one}
 use Rattle.proof_journals.specs.ServerFacts.Invariants.{IsServing, WaitsWell}
@@ -43,19 +48,27 @@ live_found number sessions live = at (session_of number sessions) refl live wher
   at (Some session) is live = record { found = session; is = is }
 
 -- *A request that is done leaves a server that serves.*
-pub done_serves : (state : State) (number : ℕ) (request : Request) → IsServing state → Live number state.sessions → list_any (waits_at number) state.waiting ≡ false → IsFree state number (need state number request)
-    → ComesWell (is_in_transaction (session_of number state.sessions)) (holds_tables (session_of number state.sessions)) request → IsWellFormed state.tables request → IsServing (done state number request).after
-unfolding done
-done_serves state number request serving live idle free comes formed =
+did_serves : (state : State) (number : ℕ) (request : Request) → IsServing state → Live number state.sessions → list_any (waits_at number) state.waiting ≡ false → IsFree state number (need_within (view number state) request)
+    → ComesWell (is_in_transaction (session_of number state.sessions)) (holds_tables (session_of number state.sessions)) request → IsWellFormed state.tables request → IsServing (did state number request).after
+unfolding did
+did_serves state number request serving live idle free comes formed =
     let work : AtWork state number request = record { kept = kept_in state serving; free = free; comes = comes; formed = formed } in
     let kept = does_keeps state number live.found (effect state number request) live.is work.kept (effect_fits state number request work) in
     record {
       well_formed = kept.well_formed;
       own = kept.own;
       apart = kept.apart;
-      alone = done_one state number request serving.alone free;
+      alone = did_one state number request serving.alone free;
       waits = effect_waits state number (effect state number request) idle serving.waits;
     }
+
+pub done_serves : (state : State) (number : ℕ) (request : Request) → IsServing state → Live number state.sessions → list_any (waits_at number) state.waiting ≡ false → IsFree state number (need state number request)
+    → ComesWell (is_in_transaction (session_of number state.sessions)) (holds_tables (session_of number state.sessions)) request → IsWellFormed state.tables request → IsServing (done state number request).after
+done_serves state number request serving live idle =
+    filled_case
+    (λ asked full. IsFree state number (need_within (view number state) full) → ComesWell (is_in_transaction (session_of number state.sessions)) (holds_tables (session_of number state.sessions)) asked → IsWellFormed state.tables asked → IsServing (did state number full).after)
+    (λ r free comes formed. did_serves state number r serving live idle free comes formed) (λ statement n free comes formed. did_serves state number (requests.Do (numbered n statement)) serving live idle free tt tt)
+    (is_of_tool (session_of number state.sessions)) state.tables state.counters request
 
 -- polls of a session are counted
 counted_keeps : (state : State) (number count : ℕ) (found : Session) → session_of number state.sessions ≡ Some found → KeepsIn state → Keeps state.tables (face_of (with_session number (counting count) state.sessions))

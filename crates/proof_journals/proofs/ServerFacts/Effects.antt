@@ -103,7 +103,7 @@ does_keeps state number found (Unlocks answer) is kept fits =
 -- a session at work: what is kept, and what was granted to it
 pub record AtWork (state : State) (number : ℕ) (request : Request) : Type 0 where
   pub kept : KeepsIn state
-  pub free : IsFree state number (need state number request)
+  pub free : IsFree state number (need_within (view number state) request)
   pub comes : ComesWell (is_in_transaction (session_of number state.sessions)) (holds_tables (session_of number state.sessions)) request
   pub formed : IsWellFormed state.tables request
 

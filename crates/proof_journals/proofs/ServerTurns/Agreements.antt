@@ -47,7 +47,8 @@ use Rattle.server_model.specs.Blockers.{need, need_within, blocker}
 use Rattle.server_model.specs.States.{State, is_in_transaction, names_held, opened, pair_names, session_of, view, waiting_of, writes_of}
 use Rattle.server_model.specs.declared.session.Waiting.{Waiting}
 use Rattle.server_model.specs.Effects.{all_exist, begins, created, effect_unless, defined, dropped, is_outside, locks_if, renamed_or, result_effect}
-use Rattle.server_model.specs.PlainServer.{called_unless, calls, does, done, exclusive, is_over, leaves, loses, polled_of, polled_over, polled_unless, polls, serves, without_waiting}
+use Rattle.server_model.specs.Drawing.{filled}
+use Rattle.server_model.specs.PlainServer.{called_unless, calls, does, done, did, exclusive, is_over, leaves, loses, polled_of, polled_over, polled_unless, polls, serves, without_waiting}
 use Rattle.tool_program.specs.JournalWords.Journals.{after_entry, opens}
 use Rattle.server_model.proofs.LockedRows.Tests.{turned, same_bytes}
 
@@ -132,8 +133,8 @@ agrees_effect now w number own false busy (CopyRow from into columns key) free =
   at false = agrees_task now number own (from ∷ into ∷ []) (view number now) (λ d. copy_operation d from into columns key) (ap (λ (e : List RowEvent). after_events now.tables e) own.writes) (names_two own.hold.names from into) free.apart
 
 agrees_done : (now : State) (w : List Waiting) (number : ℕ) (own : OwnHold now number) (request : Request) → IsFree now number (need now number request) → AgreesFor now number (done (at_wait now w) number request).after.tables
-unfolding done
-agrees_done now w number own request free = agrees_effect now w number own (is_outside (session_of number now.sessions) request) (is_in_transaction (session_of number now.sessions)) request free
+unfolding did
+agrees_done now w number own request free = agrees_effect now w number own (is_outside (session_of number now.sessions) (filled now number request)) (is_in_transaction (session_of number now.sessions)) (filled now number request) free
 
 agrees_served : (now : State) (number : ℕ) (asked : Asked) → OwnHold now number → OneIn now.sessions → AgreesFor now number (serves now number asked).after.tables
 unfolding calls polls loses

@@ -1,4 +1,7 @@
 -- What needs its names exclusively, and is done, is alone.
+use Rattle.server_model.specs.Drawing.{filled}
+use Rattle.server_model.proofs.Filling.{filled_taking}
+use Rattle.server_model.specs.States.{is_of_tool}
 use Rattle.std.proofs.Common.{◌≡◌, ℕ, Bool, true, false, not, ◌||◌, List, [], ◌∷◌, ◌++◌, map, cond, Option, Some, None, refl, sym, ap, ◌∙◌, subst, inl, inr}
 use Rattle.std.specs.Prelude.{◌==◌}
 use Rattle.std.proofs.lemmas.Bool.{false≢true, true≢false}
@@ -26,7 +29,7 @@ use Rattle.base_values.specs.declared.mysql_errors.TheConstants.{ER_TABLE_NOT_LO
 use Rattle.server_model.specs.States.{connected, State, is_exclusive, is_in_transaction, name_held, names_in, session_of, view, waiting_of}
 use Rattle.server_model.specs.Answers.{refuses, ok}
 use Rattle.server_model.specs.declared.session.Waiting.{Waiting}
-use Rattle.server_model.specs.PlainServer.{called_unless, calls, does, done, exclusive, is_over, polled_of, polled_over, polled_unless, polls, serves, without_waiting}
+use Rattle.server_model.specs.PlainServer.{called_unless, calls, does, did, exclusive, is_over, polled_of, polled_over, polled_unless, polls, serves, without_waiting}
 use Rattle.server_model.specs.Effects.{effect_unless, is_outside}
 use Rattle.server_model.specs.Blockers.{need, need_within, blocker}
 use Rattle.tool_program.specs.JournalWords.Journals.{opens, opens_if}
@@ -65,15 +68,23 @@ done_alone base state number request takes false free is n name differ named =
     free_alone (held_at state) number n (names_in request) name (subst (λ (b : Bool). Free (held_at state) number (as_needed b (names_in request))) takes free.names) differ named
 
 call_alone : (state : State) (number : ℕ) (request : Request) → OneIn state.sessions → is_exclusive request ≡ true → (by : Option ℕ) → blocker state number (need state number request) ≡ by → (called_unless by state number request).answer ≡ ok → AloneAt state number request
-unfolding done
-call_alone state number request one takes None is given = done_alone state state number request takes (is_outside (session_of number state.sessions) request) (granted state number (need state number request) one is) given
+unfolding did
+call_alone state number request one takes None is given =
+    subst (λ (r : Request). AloneAt state number r) full
+    (done_alone state state number (filled state number request) (ap is_exclusive full ∙ takes) (is_outside (session_of number state.sessions) (filled state number request)) (granted state number (need state number request) one is) given) where
+      full : filled state number request ≡ request
+      full = filled_taking (is_of_tool (session_of number state.sessions)) state.tables state.counters request takes
 call_alone state number request one takes (Some by) is given = absurd (waits given) where
   waits : answers.Waits by ≡ ok → ⊥
   waits same = cc
 
 poll_alone : (state : State) (number : ℕ) (request : Request) → OneIn state.sessions → is_exclusive request ≡ true → (by : Option ℕ) → blocker state number (need state number request) ≡ by → (polled_unless by state number request).answer ≡ ok → AloneAt state number request
-unfolding done
-poll_alone state number request one takes None is given = done_alone (without_waiting number state) state number request takes (is_outside (session_of number state.sessions) request) (granted state number (need state number request) one is) given
+unfolding did
+poll_alone state number request one takes None is given =
+    subst (λ (r : Request). AloneAt state number r) full
+    (done_alone (without_waiting number state) state number (filled state number request) (ap is_exclusive full ∙ takes) (is_outside (session_of number state.sessions) (filled state number request)) (granted state number (need state number request) one is) given) where
+      full : filled state number request ≡ request
+      full = filled_taking (is_of_tool (session_of number state.sessions)) state.tables state.counters request takes
 poll_alone state number request one takes (Some by) is given = at (is_over state number) given where
   over : {polls : ℕ} → answers.TimedOut polls ≡ ok → ⊥
   over same = cc

@@ -1,4 +1,6 @@
 -- BeginSpan that is answered keys holds the span.
+use Rattle.server_model.specs.declared.counter.Counter.{Counter}
+use Rattle.server_model.specs.PlainServer.{recounted}
 use Rattle.std.proofs.Common.{◌≡◌, ℕ, Bool, true, false, not, List, [], ◌∷◌, ◌++◌, Option, Some, None, refl, sym, ap, ◌∙◌, subst, inl}
 use Rattle.std.specs.List.{list_any}
 use Rattle.std.specs.Str.{bytes_eq}
@@ -39,8 +41,8 @@ use Rattle.server_model.specs.Blockers.{need, need_within, blocker, span_lock, s
 use Rattle.server_model.specs.States.{State, is_in_transaction, locked_names, opened, session_of, view, waiting_of, with_session, writes_of}
 use Rattle.server_model.specs.declared.session.Waiting.{Waiting}
 use Rattle.server_model.specs.Effects.{begins, effect_unless, is_outside}
-use Rattle.server_model.specs.PlainServer.{called_unless, calls, does, done, holding, is_over, leaves, polled_of, polled_over, polled_unless, polls, serves, without_waiting}
-use Rattle.tool_program.specs.JournalWords.Journals.{after_entry, opens}
+use Rattle.server_model.specs.PlainServer.{called_unless, calls, does, done, did, holding, is_over, leaves, polled_of, polled_over, polled_unless, polls, serves, without_waiting}
+use Rattle.tool_program.specs.JournalWords.Journals.{opens}
 use Rattle.server_model.proofs.LockedRows.Points.{among-right}
 
 -- events leave a table's schema
@@ -103,7 +105,7 @@ done_held base number table span size keys end session is false busy given = at 
 
 called_held : (state : State) (number : ℕ) (table : List ℕ) (span : Span) (size : ℕ) (keys : List (List Value)) (end : List Value) (session : Session) → session_of number state.sessions ≡ Some session → (by : Option ℕ) → (called_unless by state number (BeginSpan table span size)).answer ≡ (answers.Keys keys end)
     → SpanHeld table span size number (called_unless by state number (BeginSpan table span size)).answer state (called_unless by state number (BeginSpan table span size)).after
-unfolding done
+unfolding did
 called_held state number table span size keys end session is None given = done_held state number table span size keys end session is (is_outside (session_of number state.sessions) (BeginSpan table span size)) (is_in_transaction (session_of number state.sessions)) given
 called_held state number table span size keys end session is (Some by) given = absurd (waits given) where
   waits : answers.Waits by ≡ (answers.Keys keys end) → ⊥
@@ -114,7 +116,7 @@ from_without state after number table span size answer held = record { found = h
 
 poll_held : (state : State) (number : ℕ) (table : List ℕ) (span : Span) (size : ℕ) (keys : List (List Value)) (end : List Value) (session : Session) → session_of number state.sessions ≡ Some session → (by : Option ℕ) → (polled_unless by state number (BeginSpan table span size)).answer ≡ (answers.Keys keys end)
     → SpanHeld table span size number (polled_unless by state number (BeginSpan table span size)).answer state (polled_unless by state number (BeginSpan table span size)).after
-unfolding done
+unfolding did
 poll_held state number table span size keys end session is None given =
     from_without state (done (without_waiting number state) number (BeginSpan table span size)).after number table span size (done (without_waiting number state) number (BeginSpan table span size)).answer
     (done_held (without_waiting number state) number table span size keys end session is (is_outside (session_of number state.sessions) (BeginSpan table span size)) (is_in_transaction (session_of number state.sessions)) given)
@@ -151,6 +153,10 @@ served_held state number Cut table span size keys end session is asks given = ab
   lost : answers.Lost ≡ (answers.Keys keys end) → ⊥
   lost same = cc
 
+-- counters are no part of it
+span_recounted : (table : List ℕ) (span : Span) (size session : ℕ) (answer : Answer) (before after : State) (counters : List Counter) → SpanHeld table span size session answer before after → SpanHeld table span size session answer before (recounted counters after)
+span_recounted table span size session answer before after counters held = record { found = held.found; is = held.is; tables = held.tables; keys = held.keys; named = held.named; locked = held.locked }
+
 -- *BeginSpan that is answered keys holds the span*
 pub spans_are_held : SpansAreHeld
 spans_are_held limits scene journal entry table span size keys end answered asks side answer =
@@ -159,10 +165,12 @@ spans_are_held limits scene journal entry table span size keys end answered asks
     let tool : Bool = not (is_client entry.actor) in
     let now : State = opens entry state in
     let reported : inner state entry ≡ entry.answer = ap (λ (s : Option Side). answer_at s (inner state entry)) (sym side) ∙ sym answered.answer in
-    let after : after_entry state entry ≡ (serves now entry.session entry.asked).after = ap (λ (s : Option Side). leaves s now entry.session entry.asked) side in
+    let after : leaves entry.side now entry.session entry.asked ≡ (serves now entry.session entry.asked).after = ap (λ (s : Option Side). leaves s now entry.session entry.asked) side in
     let tables : now.tables ≡ state.tables = ap (λ (s : Stored). s.tables) (stored_opened nothing tool entry.session state) in
     let held : SpanHeld table span size entry.session (inner state entry) now (serves now entry.session entry.asked).after =
     found_live (session_of entry.session now.sessions) (SpanHeld table span size entry.session (inner state entry) now (serves now entry.session entry.asked).after) (opened_live nothing tool entry.session state (no_command now entry.session entry.asked (BeginSpan table span size) asks))
     (λ session is. served_held now entry.session entry.asked table span size keys end session is asks (reported ∙ answer)) in
-    rw (state_more (opened limits scene.opening) journal entry, after)
-    (record { found = held.found; is = ap (find_table table) (sym tables) ∙ held.is; tables = held.tables ∙ tables; keys = sym reported ∙ held.keys; named = held.named; locked = held.locked })
+    rw (state_more (opened limits scene.opening) journal entry)
+    (span_recounted table span size entry.session entry.answer state (leaves entry.side now entry.session entry.asked) _
+    (subst (λ (s : State). SpanHeld table span size entry.session entry.answer state s) (sym after)
+    (record { found = held.found; is = ap (find_table table) (sym tables) ∙ held.is; tables = held.tables ∙ tables; keys = sym reported ∙ held.keys; named = held.named; locked = held.locked })))

@@ -1,4 +1,7 @@
 -- CREATE, DROP and RENAME that are done leave the tables that they make.
+use Rattle.server_model.specs.Drawing.{filled}
+use Rattle.server_model.proofs.Filling.{filled_case}
+use Rattle.server_model.specs.States.{is_of_tool}
 use Rattle.std.proofs.Common.{◌≡◌, ℕ, Bool, true, false, not, Option, Some, None, Result, Ok, Err, refl, sym, ap, ◌∙◌}
 use Rattle.base_values.specs.declared.mysql_errors.TheConstants.{ER_TABLE_NOT_LOCKED}
 use Rattle.table_store.specs.Databases.{Database, has_table, rename_tables}
@@ -20,7 +23,7 @@ use Rattle.server_model.specs.Answers.{refuses, ok}
 use Rattle.server_model.specs.declared.request.Request.TheVariants as requests
 use Rattle.server_model.specs.States.{State, is_in_transaction, opened, session_of, view, waiting_of}
 use Rattle.server_model.specs.declared.session.Waiting.{Waiting}
-use Rattle.server_model.specs.PlainServer.{called_unless, calls, does, done, is_over, leaves, loses, polled_of, polled_over, polled_unless, polls, serves, without_waiting}
+use Rattle.server_model.specs.PlainServer.{called_unless, calls, does, did, is_over, leaves, loses, polled_of, polled_over, polled_unless, polls, serves, without_waiting}
 use Rattle.server_model.specs.Effects.{created, effect_unless, defined, dropped, is_outside, renamed_or}
 use Rattle.server_model.specs.Blockers.{need, blocker}
 use Rattle.tool_program.specs.JournalWords.Journals.{opens}
@@ -60,15 +63,19 @@ done_defined base number (BeginSpan table span size) result is outside busy give
 done_defined base number (CopyRow from into columns key) result is outside busy given = absurd (cc)
 
 call_defined : (state : State) (number : ℕ) (request : Request) (result : Result Database ℕ) → definition request state.tables ≡ Some result → (by : Option ℕ) → (called_unless by state number request).answer ≡ ok → result ≡ Ok (called_unless by state number request).after.tables
-unfolding done
-call_defined state number request result is None given = done_defined state number request result is (is_outside (session_of number state.sessions) request) (is_in_transaction (session_of number state.sessions)) given
+unfolding did
+call_defined state number request result is None given =
+    done_defined state number (filled state number request) result (filled_case (λ asked full. definition asked state.tables ≡ Some result → definition full state.tables ≡ Some result) (λ r same. same) (λ statement n same. absurd cc) (is_of_tool (session_of number state.sessions)) state.tables state.counters request is)
+    (is_outside (session_of number state.sessions) (filled state number request)) (is_in_transaction (session_of number state.sessions)) given
 call_defined state number request result is (Some by) given = absurd (waits given) where
   waits : answers.Waits by ≡ ok → ⊥
   waits same = cc
 
 poll_defined : (state : State) (number : ℕ) (request : Request) (result : Result Database ℕ) → definition request state.tables ≡ Some result → (by : Option ℕ) → (polled_unless by state number request).answer ≡ ok → result ≡ Ok (polled_unless by state number request).after.tables
-unfolding done
-poll_defined state number request result is None given = done_defined (without_waiting number state) number request result is (is_outside (session_of number state.sessions) request) (is_in_transaction (session_of number state.sessions)) given
+unfolding did
+poll_defined state number request result is None given =
+    done_defined (without_waiting number state) number (filled state number request) result (filled_case (λ asked full. definition asked state.tables ≡ Some result → definition full state.tables ≡ Some result) (λ r same. same) (λ statement n same. absurd cc) (is_of_tool (session_of number state.sessions)) state.tables state.counters request is)
+    (is_outside (session_of number state.sessions) (filled state number request)) (is_in_transaction (session_of number state.sessions)) given
 poll_defined state number request result is (Some by) given = at (is_over state number) given where
   over : {polls : ℕ} → answers.TimedOut polls ≡ ok → ⊥
   over same = cc

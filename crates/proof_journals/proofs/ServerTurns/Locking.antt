@@ -26,9 +26,9 @@ use Rattle.server_model.specs.Answers.{refuses, ok}
 use Rattle.server_model.specs.States.{State, is_in_transaction, names_held, opened, session_of, view, waiting_of, with_session}
 use Rattle.server_model.specs.declared.session.Waiting.{Waiting}
 use Rattle.server_model.specs.Effects.{all_exist, effect_unless, is_outside, locks_if}
-use Rattle.server_model.specs.PlainServer.{called_unless, calls, does, done, exclusive, is_over, leaves, locking, polled_of, polled_over, polled_unless, polls, serves, without_waiting}
+use Rattle.server_model.specs.PlainServer.{called_unless, calls, does, did, exclusive, is_over, leaves, locking, polled_of, polled_over, polled_unless, polls, serves, without_waiting}
 use Rattle.server_model.specs.Blockers.{need, blocker}
-use Rattle.tool_program.specs.JournalWords.Journals.{after_entry, opens}
+use Rattle.tool_program.specs.JournalWords.Journals.{opens}
 use Rattle.server_model.proofs.LockedRows.Tests.{same_bytes, are_same}
 
 own_taken : (holder number : ℕ) (held : List HeldName) (names : List (List ℕ)) (name : List ℕ) → (holder == number) ≡ true → list_any (bytes_eq name) names ≡ true → holds (as_held holder (held ++ map exclusive names)) number name true ≡ true
@@ -65,14 +65,14 @@ done_taken base number names found is false busy given name among = at (all_exis
   at false given = absurd (refusal given)
 
 call_taken : (state : State) (number : ℕ) (names : List (List ℕ)) (found : Session) → session_of number state.sessions ≡ Some found → (by : Option ℕ) → (called_unless by state number (LockTables names)).answer ≡ ok → Taken (called_unless by state number (LockTables names)).after number names
-unfolding done
+unfolding did
 call_taken state number names found is None given = done_taken state number names found is (is_outside (session_of number state.sessions) (LockTables names)) (is_in_transaction (session_of number state.sessions)) given
 call_taken state number names found is (Some by) given = absurd (waits given) where
   waits : answers.Waits by ≡ ok → ⊥
   waits same = cc
 
 poll_taken : (state : State) (number : ℕ) (names : List (List ℕ)) (found : Session) → session_of number state.sessions ≡ Some found → (by : Option ℕ) → (polled_unless by state number (LockTables names)).answer ≡ ok → Taken (polled_unless by state number (LockTables names)).after number names
-unfolding done
+unfolding did
 poll_taken state number names found is None given = done_taken (without_waiting number state) number names found is (is_outside (session_of number state.sessions) (LockTables names)) (is_in_transaction (session_of number state.sessions)) given
 poll_taken state number names found is (Some by) given = at (is_over state number) given where
   over : {polls : ℕ} → answers.TimedOut polls ≡ ok → ⊥
@@ -112,7 +112,8 @@ locks_are_taken limits scene journal entry names answered asks side answer =
     let tool : Bool = not (is_client entry.actor) in
     let now : State = opens entry state in
     let given : inner state entry ≡ ok = ap (λ (s : Option Side). answer_at s (inner state entry)) (sym side) ∙ sym answered.answer ∙ answer in
-    let after : after_entry state entry ≡ (serves now entry.session entry.asked).after = ap (λ (s : Option Side). leaves s now entry.session entry.asked) side in
-    rw (state_more (opened limits scene.opening) journal entry, after)
+    let after : leaves entry.side now entry.session entry.asked ≡ (serves now entry.session entry.asked).after = ap (λ (s : Option Side). leaves s now entry.session entry.asked) side in
+    rw (state_more (opened limits scene.opening) journal entry)
+    (subst (λ (s : State). Taken s entry.session names) (sym after)
     (found_live (session_of entry.session now.sessions) (Taken (serves now entry.session entry.asked).after entry.session names) (opened_live nothing tool entry.session state (no_command now entry.session entry.asked (LockTables names) asks))
-    (λ found is. served_taken now entry.session entry.asked names found is asks given))
+    (λ found is. served_taken now entry.session entry.asked names found is asks given)))

@@ -1,4 +1,9 @@
 -- What a turn of a session does to names that are held, to requests that wait, to the log and to the tables that stand.
+use Rattle.server_model.specs.declared.counter.Counter.{Counter}
+use Rattle.server_model.specs.PlainServer.{recounted}
+use Rattle.server_model.specs.Drawing.{filled}
+use Rattle.server_model.proofs.Filling.{filled_exclusive}
+use Rattle.server_model.specs.States.{is_of_tool}
 use Rattle.std.proofs.Common.{◌≡◌, ◌⊎◌, ℕ, ◌+◌, Bool, true, false, not, ◌&&◌, ◌||◌, List, [], ◌∷◌, ◌++◌, map, filter, cond, Option, Some, None, Result, Ok, Err, refl, sym, ap, ◌∙◌, subst, inl, inr, arith}
 use Rattle.std.specs.Prelude.{◌==◌}
 use Rattle.std.proofs.Math.Bool.{or-true}
@@ -48,7 +53,7 @@ use Rattle.std.specs.Prelude.{is_some}
 use Rattle.server_model.specs.States.{connected, State, is_exclusive, is_in_transaction, locks_held, names_held, names_in, new_session, opened, pair_names, polls_of, session_of, view, waiting_of, waits_for, with_session, writes_of}
 use Rattle.server_model.specs.declared.request.Request.TheVariants as requests
 use Rattle.server_model.specs.Effects.{Locks, Unlocks, all_exist, begins, created, effect_unless, defined, dropped, is_outside, locks_if, nothing_needed, renamed_or, result_effect}
-use Rattle.server_model.specs.PlainServer.{at_rest, called_unless, calls, commits, counting, does, done, exclusive, forgets, goes_on, holding, is_over, leaves, locking, loses, polled_of, polled_over, polled_unless, polls, serves, shared, unlocking, without_waiting}
+use Rattle.server_model.specs.PlainServer.{at_rest, called_unless, calls, commits, counting, does, done, did, exclusive, forgets, goes_on, holding, is_over, leaves, locking, loses, polled_of, polled_over, polled_unless, polls, serves, shared, unlocking, without_waiting}
 use Rattle.server_model.specs.Answers.{ok}
 use Rattle.server_model.specs.declared.need.Need.{Need}
 use Rattle.server_model.specs.Blockers.{need, need_within, blocker}
@@ -392,10 +397,11 @@ effect_does before w number false busy seen (CopyRow from into columns key) own 
       (all_both (λ event. MayWrite before number event.table) (writes_of (session_of number before.sessions)) (operation_result seen (copy_operation seen from into columns key)).events own (said_all (λ name. MayWrite before number name) seen (copy_operation seen from into columns key) (inr one)))
 
 done_does : (before : State) (w : List Waiting) (number : ℕ) (request : Request) → OwnWrites before number → blocker before number (need before number request) ≡ None → Does (is_exclusive request) before number (done (at_wait before w) number request).after
-unfolding done
+unfolding did
 done_does before w number request own free =
-    effect_does before w number (is_outside (session_of number before.sessions) request) (is_in_transaction (session_of number before.sessions)) (view number before) request own
-    (none_of (blocker_of_names (held_at before) (waiters_at before) number (need before number request).exclusive (need before number request).names) (blocker_of_set (locks_held before.sessions) number (need before number request).locks) free).0
+    subst (λ (takes : Bool). Does takes before number (done (at_wait before w) number request).after) (filled_exclusive (is_of_tool (session_of number before.sessions)) before.tables before.counters request)
+    (effect_does before w number (is_outside (session_of number before.sessions) (filled before number request)) (is_in_transaction (session_of number before.sessions)) (view number before) (filled before number request) own
+    (none_of (blocker_of_names (held_at before) (waiters_at before) number (need before number request).exclusive (need before number request).names) (blocker_of_set (locks_held before.sessions) number (need before number request).locks) free).0)
 
 -- where the session is lost afterwards
 lost_does : (takes : Bool) (before after : State) (number : ℕ) → Does takes before number after → Does takes before number (loses number after)
@@ -551,6 +557,10 @@ own_writes now number tables covered =
     (subst (λ (w : List RowEvent). AllByRecursion (λ event. holds (held_at now) number event.table false ≡ true) w) (writes_face (session_of number now.sessions))
     (covered_held now.sessions number (face_of now.sessions number).hold.names (face_of now.sessions number).hold.locks tables (face_of now.sessions number).hold.writes (face_holds now.sessions number) covered))
 
+-- counters are no part of it
+turn_recounted : (takes : Bool) (number : ℕ) (before after : State) (counters : List Counter) → TurnOf takes number before after → TurnOf takes number before (recounted counters after)
+turn_recounted takes number before after counters turn = record { others = turn.others; waits = turn.waits; granted = turn.granted; events = turn.events; log = turn.log; written = turn.written; tables = turn.tables }
+
 -- *Each entry is such a turn*
 pub entries_are_turns : EntriesAreTurns
 entries_are_turns limits scene journal entry run =
@@ -563,7 +573,7 @@ entries_are_turns limits scene journal entry run =
     let covered = (held.holds.kept.fine number).covered in
     let own : OwnWrites now number = own_writes now number state.tables
     (subst (λ (f : Face). EventsCovered f.hold.names f.hold.locks state.tables f.hold.writes) (sym (faces_opened nothing tool number number state)) covered) in
-    rw (state_more (opened limits scene.opening) journal entry) (from_opened (asks_exclusive (about now number entry.asked)) nothing tool state number (after_entry state entry) (turn_of entry.side now number entry.asked own))
+    rw (state_more (opened limits scene.opening) journal entry) (from_opened (asks_exclusive (about now number entry.asked)) nothing tool state number (after_entry state entry) (turn_recounted (asks_exclusive (about now number entry.asked)) number now (leaves entry.side now number entry.asked) _ (turn_of entry.side now number entry.asked own)))
 
 -- the others' faces stay
 pub entry_faces : (limits : Limits) (scene : Scene) (journal : List Entry) (entry : Entry) → JournalHolds limits scene journal → (n : ℕ) → (n == entry.session) ≡ false → face_of (after_entry (scene_state limits scene journal) entry).sessions n ≡ face_of (scene_state limits scene journal).sessions n

@@ -41,6 +41,7 @@ use Rattle.proof_journals.specs.Turns.{about, scene_state, reported_at, IsSceneR
 use Rattle.tool_program.specs.JournalWords.Journals.{opens}
 use Rattle.server_model.specs.declared.answer.Answer.{Answer}
 use Rattle.server_model.specs.declared.request.Request.{Request}
+use Rattle.server_model.specs.Drawing.{filled}
 use Rattle.server_model.specs.Effects.{effect}
 use Rattle.server_model.specs.Entries.{is_cut}
 use Rattle.proof_journals.specs.Ghost.EffectStates.{EffectLeaves, effect_answer, is_lost, reported_done, undone_hold, was_done, where_done}
@@ -85,14 +86,14 @@ abbrev pub EffectsAreDone : Type 0
 EffectsAreDone =
     (limits : Limits) (scene : Scene) (journal : List Entry) (entry : Entry) (request : Request) (given : Answer) → IsSceneRun limits scene journal → IsEntryReported limits scene journal entry → about (opens entry (scene_state limits scene journal)) entry.session entry.asked ≡ Some request
     → reported_at entry.side entry.answer entry.missed ≡ Some given → was_done given ≡ true
-    → EffectLeaves (effect (where_done entry.asked entry.session (opens entry (scene_state limits scene journal))) entry.session request) (is_lost entry.side) entry.session (stored (scene_state limits scene journal)) (stored (scene_state limits scene (journal ++ entry ∷ [])))
+    → EffectLeaves (effect (where_done entry.asked entry.session (opens entry (scene_state limits scene journal))) entry.session (filled (opens entry (scene_state limits scene journal)) entry.session request)) (is_lost entry.side) entry.session (stored (scene_state limits scene journal)) (stored (scene_state limits scene (journal ++ entry ∷ [])))
     (λ n. (face_of (scene_state limits scene journal).sessions n).hold) (λ n. (face_of (scene_state limits scene (journal ++ entry ∷ [])).sessions n).hold)
 
 -- *What is answered is what the effect answers*
 abbrev pub EffectsAnswer : Type 0
 EffectsAnswer =
     (limits : Limits) (scene : Scene) (journal : List Entry) (entry : Entry) (request : Request) (given : Answer) → IsSceneRun limits scene journal → IsEntryReported limits scene journal entry → about (opens entry (scene_state limits scene journal)) entry.session entry.asked ≡ Some request
-    → reported_at entry.side entry.answer entry.missed ≡ Some given → was_done given ≡ true → given ≡ effect_answer (effect (where_done entry.asked entry.session (opens entry (scene_state limits scene journal))) entry.session request)
+    → reported_at entry.side entry.answer entry.missed ≡ Some given → was_done given ≡ true → given ≡ effect_answer (effect (where_done entry.asked entry.session (opens entry (scene_state limits scene journal))) entry.session (filled (opens entry (scene_state limits scene journal)) entry.session request))
 
 -- *What was not done leaves all*: the tables and the log stay, and its session holds what it held, or nothing.
 abbrev pub UndoneIsLeft : Type 0

@@ -1,4 +1,5 @@
 -- What CREATE, DROP and RENAME leave of the tables, by their answers.
+use Rattle.server_model.specs.PlainServer.{recounted, counters_left}
 use Rattle.std.proofs.Common.{◌≡◌, ℕ, Bool, true, false, cond, not, ◌||◌, List, [], ◌∷◌, ◌++◌, Option, Some, None, Ok, Err, refl, sym, ap, ◌∙◌, subst}
 use Rattle.std.specs.Prelude.{is_some}
 use Rattle.std.specs.Option.{option_map}
@@ -19,7 +20,7 @@ use Rattle.server_model.specs.declared.session.Waiting.{Waiting}
 use Rattle.server_model.specs.Effects.{created, dropped, renamed_or, defined, effect_unless, is_outside}
 use Rattle.server_model.specs.Entries.{is_client, is_command}
 use Rattle.server_model.specs.Blockers.{need, blocker}
-use Rattle.server_model.specs.PlainServer.{Served, does, done, without_waiting, called_unless, calls, is_over, polled_over, polled_unless, polled_of, polls, loses, leaves, serves}
+use Rattle.server_model.specs.PlainServer.{Served, does, done, did, without_waiting, called_unless, calls, is_over, polled_over, polled_unless, polled_of, polls, loses, leaves, serves}
 use Rattle.server_model.specs.Listings.{tables_shown}
 use Rattle.server_model.specs.States.{State, session_of, is_in_transaction, view, waiting_of}
 use Rattle.plan_data.specs.PlanData.{PlanData}
@@ -105,7 +106,7 @@ abbrev Has : (Answer → Database → Type 0) → Served → Type 0
 Has P served = P served.answer served.after.tables
 
 create_done : (schema : Schema) (found : State) (number : ℕ) → is_outside (session_of number found.sessions) (requests.Create schema) ≡ false → Has (CreateLeaves schema found.tables) (done found number (requests.Create schema))
-unfolding done
+unfolding did
 create_done schema found number inside =
     subst (λ (b : Bool). Has (CreateLeaves schema found.tables) (does (effect_unless b (is_in_transaction (session_of number found.sessions)) (view number found) found (requests.Create schema)) found number)) (sym inside) (by (has_table schema.name found.tables) refl) where
       by : (b : Bool) → has_table schema.name found.tables ≡ b → Has (CreateLeaves schema found.tables) (does (defined (created b schema found.tables)) found number)
@@ -113,7 +114,7 @@ create_done schema found number inside =
       by false free = ap (option_map (λ t. t.schema)) (new_found schema.name found.tables (record { schema = schema; rows = [] }) free (same_bytes schema.name))
 
 drop_done : (name : List ℕ) (found : State) (number : ℕ) → Has (DropLeaves name found.tables) (done found number (requests.Drop name))
-unfolding done
+unfolding did
 drop_done name found number = at (is_outside (session_of number found.sessions) (requests.Drop name)) where
   by : (b : Bool) → Has (DropLeaves name found.tables) (does (defined (dropped b name found.tables)) found number)
   by true = ap (option_map (λ t. t.schema)) (gone_none name found.tables)
@@ -124,7 +125,7 @@ drop_done name found number = at (is_outside (session_of number found.sessions) 
   at false = by (has_table name found.tables)
 
 show_done : (found : State) (number : ℕ) → Has (ShowLeaves found.tables) (done found number requests.ShowTables)
-unfolding done
+unfolding did
 show_done found number = at (is_outside (session_of number found.sessions) requests.ShowTables) where
   at : (b : Bool) → Has (ShowLeaves found.tables) (does (effect_unless b (is_in_transaction (session_of number found.sessions)) (view number found) found requests.ShowTables) found number)
   at true = tt
@@ -159,7 +160,7 @@ exchange_does table found number = first (has_table (old_name table) found.table
   first false free false none = ((λ name. refl), λ may. true≢false (sym may.old ∙ none))
 
 exchange_done : (table : List ℕ) (found : State) (number : ℕ) → is_outside (session_of number found.sessions) (exchange table) ≡ false → Has (ExchangeLeaves table found.tables) (done found number (exchange table))
-unfolding done
+unfolding did
 exchange_done table found number inside =
     subst (λ (b : Bool). Has (ExchangeLeaves table found.tables) (does (effect_unless b (is_in_transaction (session_of number found.sessions)) (view number found) found (exchange table)) found number)) (sym inside) (exchange_does table found number)
 
@@ -228,7 +229,7 @@ module _ (plan : PlanData) (journal : List Entry) (entry : Entry) (known : IsKno
         subst (λ (a : Asked). Has P (serves open_now entry.session a)) (sym same) (polled_leaves P open_now entry.session request undone_open each waits)
 
   following : (side : Option Side) → entry.side ≡ side → after ≡ (leaves side open_now entry.session entry.asked).tables
-  following side at = ap (λ (s : State). s.tables) (state_more plan journal entry ∙ ap (λ (o : Option Side). leaves o open_now entry.session entry.asked) at)
+  following side at = ap (λ (s : State). s.tables) (state_more plan journal entry ∙ ap (λ (o : Option Side). recounted (counters_left o open_now entry.session entry.asked) (leaves o open_now entry.session entry.asked)) at)
 
   own_left : (P : Answer → Database → Type 0) (request : Request) → IsAbout request (standing_of plan journal entry.actor) entry.asked → HoldsWaiting P before
       → ((found : State) → IsFoundBy found open_now → Has P (done found entry.session request)) → Left P before entry.answer after

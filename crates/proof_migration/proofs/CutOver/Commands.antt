@@ -4,7 +4,8 @@ use Rattle.std.proofs.lemmas.Bool.{false≢true}
 use Rattle.base_script.specs.declared.actor.Actor.TheVariants.{Lock, Ren}
 use Rattle.base_script.specs.declared.actor.Side.{Side}
 use Rattle.server_model.specs.Entries.{is_client, is_command}
-use Rattle.server_model.specs.PlainServer.{leaves}
+use Rattle.server_model.specs.PlainServer.{leaves, recounted, counters_left}
+use Rattle.server_model.specs.Counting.{counted}
 use Rattle.server_model.specs.States.{State}
 use Rattle.server_model.specs.declared.entry.Asked.{Asked}
 use Rattle.server_model.specs.declared.entry.Asked.TheVariants.{Call, Poll, Command, Cut}
@@ -19,8 +20,9 @@ use Rattle.proof_journals.proofs.Machine.Seated.{state_more}
 use Rattle.proof_journals.specs.Sentry.TurnResults.{AskedTurn, ToolPhaseTurn, IsTurned, last_session}
 use Rattle.proof_migration.proofs.Program.Turns.Follows.{kept_front, kept_run}
 
-stays : (side : Option Side) (asked : Asked) (tool : Bool) (session : ℕ) (state : State) → side ≡ None → is_command asked ≡ true → leaves side (opens_if (is_command asked) tool session state) session asked ≡ state
-unfolding opens_if
+stays : (side : Option Side) (asked : Asked) (tool : Bool) (session : ℕ) (state : State) → side ≡ None → is_command asked ≡ true
+    → recounted (counters_left side (opens_if (is_command asked) tool session state) session asked) (leaves side (opens_if (is_command asked) tool session state) session asked) ≡ state
+unfolding opens_if counted
 stays None (Command word) tool session state none is = refl
 stays None (Call request) tool session state none is = absurd (false≢true is)
 stays None Poll tool session state none is = absurd (false≢true is)

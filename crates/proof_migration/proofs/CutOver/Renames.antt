@@ -35,7 +35,7 @@ use Rattle.tool_program.specs.Programs.{Follows, IsFollowed, IsGiven, given, too
 use Rattle.tool_program.specs.Tools.{ToolPhase, Migrating, SettingUp, Work, is_reverting, moment}
 use Rattle.proof_journals.specs.Plans.{IsSerialPlan, limits_of, scene_of}
 use Rattle.proof_journals.specs.Turns.{IsSceneRun, IsReported, about, request_of, reported_at}
-use Rattle.proof_journals.proofs.Joined.{reported_answer, reported_missed}
+use Rattle.proof_journals.proofs.Joined.{reported_answer, reported_missed, reported_draw}
 use Rattle.proof_journals.proofs.Journals.{opened_waits}
 use Rattle.proof_journals.proofs.PlanJournals.{plan_runs_are_scene_runs}
 use Rattle.proof_journals.proofs.Moves.{renamed_ok}
@@ -147,7 +147,7 @@ module _ (exclusive_is_alone : ExclusiveIsAlone) (definitions_are_done : Definit
   scene_run = plan_runs_are_scene_runs plan journal (unaltered_runs plan journal runs serial before rename.unaltered)
 
   entry_reported : IsReported (limits_of plan) (scene_of plan journal) journal entry
-  entry_reported = record { answer = reported_answer now entry run.answered; missed = reported_missed now entry run.answered }
+  entry_reported = record { answer = reported_answer now entry run.answered; missed = reported_missed now entry run.answered; draw = reported_draw now entry run.answered }
 
   -- WHOSE TURN IT IS
 

@@ -1,4 +1,5 @@
 -- A request that was done needed locks that are apart from those of other sessions; and entries about no request.
+use Rattle.server_model.specs.Drawing.{filled}
 use Rattle.std.proofs.Common.{◌≡◌, ℕ, Bool, true, false, not, List, [], ◌∷◌, ◌++◌, Option, Some, None, refl, sym, ap, ◌∙◌, subst}
 use Rattle.std.specs.Prelude.{◌==◌}
 use Rattle.base_values.specs.declared.event.RowEvent.{RowEvent}
@@ -72,7 +73,7 @@ view_opened entry state =
 
 -- *Where a request was done*, no other session's lock conflicts with one that it needed.
 pub needs_apart : (limits : Limits) (scene : Scene) (journal : List Entry) (entry : Entry) (request : Request) (given : Answer) → IsSceneRun limits scene journal → IsReported limits scene journal entry → about (opens entry (scene_state limits scene journal)) entry.session entry.asked ≡ Some request
-    → reported_at entry.side entry.answer entry.missed ≡ Some given → was_done given ≡ true → (n : ℕ) → (n == entry.session) ≡ false → Apart (need_within (seen_of (scene_state limits scene journal) entry.session) request).locks (holds_of (scene_state limits scene journal) n).locks
+    → reported_at entry.side entry.answer entry.missed ≡ Some given → was_done given ≡ true → (n : ℕ) → (n == entry.session) ≡ false → Apart (need_within (seen_of (scene_state limits scene journal) entry.session) (filled (opens entry (scene_state limits scene journal)) entry.session request)).locks (holds_of (scene_state limits scene journal) n).locks
 needs_apart limits scene journal entry request given run reported is heard answered n differ =
     let before : State = scene_state limits scene journal in
     let now : State = opens entry before in
@@ -80,8 +81,8 @@ needs_apart limits scene journal entry request given run reported is heard answe
     let was : reported_at entry.side (answer_at entry.side (inner before entry)) (missed_at entry.side (inner before entry)) ≡ Some given =
     sym (ap (λ (g : Answer). reported_at entry.side g entry.missed) reported.answer ∙ ap (λ (m : Option Answer). reported_at entry.side (answer_at entry.side (inner before entry)) m) reported.missed) ∙ heard in
     let apart : AreApart now entry.session (need now entry.session request).locks = turn_apart now entry.session entry.asked entry.side request given (opened_one (is_command entry.asked) (not (is_client entry.actor)) entry.session before held.one) is was answered in
-    subst (λ (f : Face). Apart (need_within (seen_of before entry.session) request).locks f.hold.locks) (faces_opened (is_command entry.asked) (not (is_client entry.actor)) entry.session n before)
-    (subst (λ (d : Database). Apart (need_within d request).locks (face_of now.sessions n).hold.locks) (view_opened entry before) (apart n differ))
+    subst (λ (f : Face). Apart (need_within (seen_of before entry.session) (filled now entry.session request)).locks f.hold.locks) (faces_opened (is_command entry.asked) (not (is_client entry.actor)) entry.session n before)
+    (subst (λ (d : Database). Apart (need_within d (filled now entry.session request)).locks (face_of now.sessions n).hold.locks) (view_opened entry before) (apart n differ))
 
 -- ENTRIES ABOUT NOTHING
 
@@ -112,7 +113,7 @@ nothing_asked limits scene journal entry none cut =
     let before : State = scene_state limits scene journal in
     let number : ℕ = entry.session in
     let now : State = opens entry before in
-    let left : StaysBut now (after_entry before entry) number (is_lost entry.side) = nothing_turn now number entry.asked entry.side none cut in
+    let left : StaysBut now (after_entry before entry) number (is_lost entry.side) = (let one = nothing_turn now number entry.asked entry.side none cut in record { stays = one.stays; besides = one.besides }) in
     let holds : holds_of now ≡ holds_of before = λ i n. (faces_opened (is_command entry.asked) (not (is_client entry.actor)) number n before i).hold in
     rw (state_more (opened limits scene.opening) journal entry)
     (record {

@@ -1,4 +1,7 @@
 -- What a turn leaves of what is stored and held, where it writes no row of the new table.
+use Rattle.server_model.specs.Drawing.{filled}
+use Rattle.server_model.proofs.Filling.{filled_case, filled_taking, filled_exclusive, numbered_table}
+use Rattle.server_model.specs.States.{is_of_tool, is_exclusive, session_of}
 use Rattle.std.proofs.Common.{◌≡◌, ℕ, Bool, true, false, cond, List, [], ◌∷◌, ◌++◌, Option, Some, None, Result, Ok, Err, refl, sym, ap, ◌∙◌, subst}
 use Rattle.std.specs.Prelude.{◌==◌}
 use Rattle.std.specs.List.{list_any}
@@ -137,8 +140,12 @@ module _ (m : Migration) (limits : Limits) (scene : Scene) (journal : List Entry
           held None answer = tt
           held (Some side) answer = tt
 
+      -- the request, filled
+      abbrev full : Request
+      full = filled (opens entry before) number request
+
       abbrev effect_now : Effect
-      effect_now = effect (where_done entry.asked number (opens entry before)) number request
+      effect_now = effect (where_done entry.asked number (opens entry before)) number full
 
       abbrev lost : Bool
       lost = is_lost entry.side
@@ -147,7 +154,7 @@ module _ (m : Migration) (limits : Limits) (scene : Scene) (journal : List Entry
       seen = seen_of before number
 
       abbrev the_need : Need
-      the_need = need_within seen request
+      the_need = need_within seen full
 
       module _ (given : Answer) (reported : reported_at entry.side entry.answer entry.missed ≡ Some given) (done : was_done given ≡ true) where
         left : EffectLeaves effect_now lost number (stored before) (stored after) (holds_of before) (holds_of after)
@@ -231,14 +238,21 @@ module _ (m : Migration) (limits : Limits) (scene : Scene) (journal : List Entry
         by_defined (Ok tables) moved is = by_moves ok tables (moved tables refl) is
         by_defined (Err reason) moved is = by_rests (refuses reason) is
 
-        as_asked : (asks : Request) → asks ≡ request → (tables : Database) → IsMoved reported_now before.tables asks tables → IsMoved reported_now before.tables request tables
-        as_asked asks same tables moved = subst (λ (r : Request). IsMoved reported_now before.tables r tables) same moved
+        as_asked : (asks : Request) → asks ≡ full → is_exclusive asks ≡ true → (tables : Database) → IsMoved reported_now before.tables asks tables → IsMoved reported_now before.tables request tables
+        as_asked asks same takes tables moved = subst (λ (r : Request). IsMoved reported_now before.tables r tables) (same ∙ is_full) moved where
+          now : State
+          now = opens entry before
+
+          is_full : full ≡ request
+          is_full =
+              filled_taking (is_of_tool (session_of number now.sessions)) now.tables now.counters request
+              (sym (filled_exclusive (is_of_tool (session_of number now.sessions)) now.tables now.counters request) ∙ ap is_exclusive (sym same) ∙ takes)
 
         view_sound : (P : Database → Type 0) → ((d : Database) → IsWellFormedDatabase d → P d) → P seen
         view_sound P each = each seen (well_formed_events before.tables own.writes served.well_formed (served.fits number))
 
         -- by what is asked
-        by_request : (asks : Request) → asks ≡ request → WritesAway m asks → (busy : Bool) (there : State) → there.tables ≡ before.tables → effect_now ≡ effect_within busy seen there asks → Goal
+        by_request : (asks : Request) → asks ≡ full → WritesAway m asks → (busy : Bool) (there : State) → there.tables ≡ before.tables → effect_now ≡ effect_within busy seen there asks → Goal
         by_request requests.Begin asks away busy there same is = by_grows ok nothing_needed [] tt is
         by_request requests.Commit asks away busy there same is = by_commit ok is
         by_request requests.Rollback asks away busy there same is = by_forgets ok is
@@ -264,14 +278,14 @@ module _ (m : Migration) (limits : Limits) (scene : Scene) (journal : List Entry
             by_all false so = by_rests _ so
         by_request requests.Unlock asks away busy there same is = by_unlocks ok is
         by_request (requests.Create schema) asks away busy there same is =
-            by_defined (created (has_table schema.name there.tables) schema there.tables) (λ all so. as_asked (requests.Create schema) asks all (subst (λ (d : Database). created (has_table schema.name d) schema d ≡ Ok all) same so)) is
+            by_defined (created (has_table schema.name there.tables) schema there.tables) (λ all so. as_asked (requests.Create schema) asks refl all (subst (λ (d : Database). created (has_table schema.name d) schema d ≡ Ok all) same so)) is
         by_request (requests.Drop name) asks away busy there same is =
-            by_defined (dropped (has_table name there.tables) name there.tables) (λ all so. as_asked (requests.Drop name) asks all (subst (λ (d : Database). dropped (has_table name d) name d ≡ Ok all) same so)) is
+            by_defined (dropped (has_table name there.tables) name there.tables) (λ all so. as_asked (requests.Drop name) asks refl all (subst (λ (d : Database). dropped (has_table name d) name d ≡ Ok all) same so)) is
         by_request (requests.Rename pairs) asks away busy there same is = by_result (renamed_or (rename_tables pairs there.tables)) refl is
           where
             by_result : (result : Result Database ℕ) → renamed_or (rename_tables pairs there.tables) ≡ result → effect_now ≡ defined result → Goal
             by_result (Ok made) made_so so =
-                by_moves ok made (as_asked (requests.Rename pairs) asks made (reported ∙ ap (λ (a : Answer). Some a) (says_so ∙ ap effect_answer so), subst (λ (d : Database). renamed_or (rename_tables pairs d) ≡ Ok made) same made_so)) so
+                by_moves ok made (as_asked (requests.Rename pairs) asks refl made (reported ∙ ap (λ (a : Answer). Some a) (says_so ∙ ap effect_answer so), subst (λ (d : Database). renamed_or (rename_tables pairs d) ≡ Ok made) same made_so)) so
             by_result (Err reason) made_so so = by_rests (refuses reason) so
         by_request requests.LogEnd asks away busy there same is = by_rests _ is
         by_request (requests.ReadLog from limit tables) asks away busy there same is = by_rests _ is
@@ -279,11 +293,16 @@ module _ (m : Migration) (limits : Limits) (scene : Scene) (journal : List Entry
         by_request requests.ShowWaiting asks away busy there same is = by_rests _ is
 
         done_goal : Goal
-        done_goal = by (deeded entry before request)
+        done_goal = by (deeded entry before full)
           where
-            by : Deeded before number request effect_now → Goal
+            full_away : WritesAway m full
+            full_away =
+                filled_case (λ asks filled_one. WritesAway m asks → WritesAway m filled_one) (λ r off. off) (λ statement n off. subst (λ (t : List ℕ). bytes_eq t m.new.name ≡ false) (sym (numbered_table n statement)) off)
+                (is_of_tool (session_of number (opens entry before).sessions)) (opens entry before).tables (opens entry before).counters request (writes_away request asked)
+
+            by : Deeded before number full effect_now → Goal
             by (outside_so is) = by_rests (refuses ER_TABLE_NOT_LOCKED) is
-            by (within_so there same log is) = by_request request refl (writes_away request asked) (face_of before.sessions number).busy there same is
+            by (within_so there same log is) = by_request full refl full_away (face_of before.sessions number).busy there same is
 
       reported_goal : (given : Option Answer) → reported_at entry.side entry.answer entry.missed ≡ given → (b : Bool) → reported_done given ≡ b → Goal
       reported_goal given reported false none = undone (ap reported_done reported ∙ none)

@@ -183,14 +183,14 @@ module _ (m : Migration) (at : Clustered m.schema) (rows : List Row) (place : �
       subst Goal (sym is)
       (let keeps : CopierStands m at rows limits scene longer copied (apply_plan m journal now.applier) (now.applier).position entry.session now.applier_session =
       copiers_keep m at rows place plan is_place limits scene journal entry now.copier turn.request (apply_plan m journal now.applier) (now.applier).position now.applier_session
-      (record { run = front; more = run; reported = entry_reported; table = turn.table; new_name = named; map = turn.map; asked = turn.asked; given = turn.given; uncut = turn.uncut; fits = turn.fits })
+      (record { run = front; more = run; reported = entry_reported; table = turn.table; new_name = named; map = turn.map; asked = turn.asked; tool = turn.tool; given = turn.given; uncut = turn.uncut; fits = turn.fits })
       (record { stands = subst (λ (n : ℕ). ToolStands m at rows n now.applier_session moment) (sym turn.its) was.tool.stands; knows = was.copier_knows }) in
       copier_here copied turn.its (subst (λ (n : ℕ). ToolStands m at rows n now.applier_session (moment_of after (copy_state longer copied) (apply_plan m journal now.applier) (now.applier).position)) turn.its keeps.stands) keeps.knows)
   turn_goal next (applier_turns turn is) =
       subst Goal (sym is)
       (let keeps : ApplierStands m at rows limits scene longer applied (copy_state journal now.copier) now.copier_session entry.session =
       appliers_keep m at rows place plan is_place finds limits scene journal entry now.applier turn.request (copy_state journal now.copier) now.copier_session
-      (record { run = front; more = run; reported = entry_reported; table = turn.table; schema = turn.schema; map = turn.map; asked = turn.asked; given = turn.given; uncut = turn.uncut; fits = turn.fits })
+      (record { run = front; more = run; reported = entry_reported; table = turn.table; schema = turn.schema; map = turn.map; asked = turn.asked; tool = turn.tool; given = turn.given; uncut = turn.uncut; fits = turn.fits })
       (record {
         stands = subst (λ (n : ℕ). ToolStands m at rows now.copier_session n moment) (sym turn.its) was.tool.stands;
         knows = was.applier_knows;

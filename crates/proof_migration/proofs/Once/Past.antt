@@ -15,7 +15,7 @@ use Rattle.base_script.specs.declared.operator.OperatorWord.{OperatorWord}
 use Rattle.server_model.specs.Effects.{effect_unless, defined, dropped, is_outside, renamed_or}
 use Rattle.server_model.specs.Entries.{is_client, is_command, same_actor}
 use Rattle.server_model.specs.Blockers.{blocker, need}
-use Rattle.server_model.specs.PlainServer.{Served, called_unless, calls, does, done, is_over, leaves, loses, polled_of, polled_over, polled_unless, polls, serves, without_waiting}
+use Rattle.server_model.specs.PlainServer.{Served, called_unless, calls, does, done, did, is_over, leaves, loses, polled_of, polled_over, polled_unless, polls, serves, without_waiting}
 use Rattle.server_model.specs.States.{State, is_in_transaction, session_of, view, waiting_of}
 use Rattle.server_model.specs.declared.answer.Answer.{Answer}
 use Rattle.server_model.specs.declared.answer.Answer.TheVariants as answers
@@ -48,7 +48,7 @@ use Rattle.proof_journals.specs.Plans.{IsSerialPlan, limits_of, scene_of}
 use Rattle.proof_journals.specs.Scenes.{Stored}
 use Rattle.proof_journals.specs.Turns.{IsReported, about, answer_at, missed_at, request_of, reported_at}
 use Rattle.proof_journals.proofs.Actors.{same_actor_is}
-use Rattle.proof_journals.proofs.Joined.{reported_answer, reported_missed}
+use Rattle.proof_journals.proofs.Joined.{reported_answer, reported_missed, reported_draw}
 use Rattle.proof_journals.proofs.Journals.{opened_waits, stored_opened}
 use Rattle.proof_journals.proofs.Moves.{renamed_other, renamed_old, found_has, renamed_ok}
 use Rattle.proof_journals.specs.ServerTurns.Others.{DefinitionsAreDone}
@@ -123,7 +123,7 @@ StaysFree name served = IsFreeName name served.after.tables
 
 module _ (name dropped_name : List ℕ) (state : State) (number : ℕ) (none : IsFreeName name state.tables) where
   drop_done : (w : List Waiting) → StaysFree name (done (record state { waiting = w }) number (requests.Drop dropped_name))
-  unfolding done
+  unfolding did
   drop_done w = by (is_outside (session_of number state.sessions) (requests.Drop dropped_name)) where
     within : (b : Bool) → StaysFree name (does (defined (dropped b dropped_name state.tables)) (record state { waiting = w }) number)
     within true = ap (option_map (λ table. table.schema)) (none_less name dropped_name state.tables (none_found (find_table name state.tables) none))
@@ -299,7 +299,7 @@ module _ (definitions_are_done : DefinitionsAreDone) (plan : PlanData) (journal 
   -- WHERE THE RENAME IS TOLD
 
   reported : IsReported (limits_of plan) (scene_of plan journal) journal entry
-  reported = record { answer = reported_answer before entry run.answered; missed = reported_missed before entry run.answered }
+  reported = record { answer = reported_answer before entry run.answered; missed = reported_missed before entry run.answered; draw = reported_draw before entry run.answered }
 
   reported_both : (request : Request) → IsAbout request (has entry.actor) entry.asked → (count : ℕ) → answer_in entry.asked entry.side entry.answer entry.missed ≡ Some (answers.Ok count) → reported_at entry.side entry.answer entry.missed ≡ Some (answers.Ok count)
   reported_both request is_about count is = by is_about entry.side (reported_polled is_about entry.side is) where

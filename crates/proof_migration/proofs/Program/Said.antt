@@ -1,4 +1,5 @@
 -- What the inspector is told while it sets up, and what the server has then.
+use Rattle.server_model.specs.Drawing.{filled}
 use Rattle.std.proofs.Common.{◌≡◌, ℕ, Bool, true, false, List, [], ◌∷◌, ◌++◌, length, Option, Some, None, refl, sym, ap, ◌∙◌, subst}
 use Rattle.base_values.specs.declared.gho_schema.schema.Schema.{Schema}
 use Rattle.base_values.specs.GhoSchema.Rows.{key_places}
@@ -38,7 +39,7 @@ module _ (limits : Limits) (scene : Scene) (journal : List Entry) (entry : Entry
   About request = about (opens entry before) entry.session entry.asked ≡ Some request
 
   abbrev effect_now : Request → Effect
-  effect_now request = effect (where_done entry.asked entry.session (opens entry before)) entry.session request
+  effect_now request = effect (where_done entry.asked entry.session (opens entry before)) entry.session (filled (opens entry before) entry.session request)
 
   run : IsSceneRun limits scene journal
   run = run_front limits scene journal (entry ∷ []) more

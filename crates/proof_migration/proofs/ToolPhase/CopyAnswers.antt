@@ -29,7 +29,7 @@ use Rattle.server_model.specs.Operations.{copy_work, copy_from, copy_operation, 
 use Rattle.server_model.specs.Blockers.{need_within}
 use Rattle.server_model.specs.StatementResults.{TableResult, only, tells}
 use Rattle.base_values.specs.declared.event.Change.TheVariants.{Write}
-use Rattle.server_model.specs.PlainServer.{does, done}
+use Rattle.server_model.specs.PlainServer.{does, done, did}
 use Rattle.server_model.specs.States.{State, session_of, is_in_transaction, tables_named, writes_of, view}
 use Rattle.plan_data.specs.PlanData.{PlanData, old_schema, new_map}
 use Rattle.base_values.specs.ToolNames.{ghost_name}
@@ -121,7 +121,7 @@ not_outside (Some session) request none = ap (λ locked. is_beyond locked (table
 
 done_fits : StoresAgain → (plan : PlanData) → IsMapped plan → (found : State) (number : ℕ) (key : List Value) → is_outside (session_of number found.sessions) (requests.CopyRow plan.table (ghost_name plan.table) (new_map plan) key) ≡ false → TablesExist plan found.tables
     → CopyFits (view number found) plan.table (new_map plan) key (done found number (requests.CopyRow plan.table (ghost_name plan.table) (new_map plan) key)).answer
-unfolding done
+unfolding did
 done_fits again plan mapped found number key inside stand =
     subst (λ (b : Bool). CopyFits seen plan.table (new_map plan) key (does (effect_unless b (is_in_transaction (session_of number found.sessions)) seen found request) found number).answer) (sym inside) (by (is_in_transaction (session_of number found.sessions))) where
       seen : Database

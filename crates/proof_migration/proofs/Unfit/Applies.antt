@@ -1,4 +1,11 @@
 -- A turn of the applier's in which a value was refused wrote the row of an event of the migrated table, which has no image there.
+use Rattle.tool_program.specs.JournalWords.Journals.{opens}
+use Rattle.server_model.specs.declared.session.Session.{Session}
+use Rattle.server_model.specs.States.{session_of}
+use Rattle.server_model.specs.States.{is_of_tool}
+use Rattle.server_model.specs.Entries.{is_client}
+use Rattle.proof_migration.proofs.Program.Turns.Follows.{kept_front}
+use Rattle.proof_migration.proofs.ToolServes.{about_uncommanded, tool_serves}
 use Rattle.std.proofs.Common.{◌≡◌, ◌<◌, ℕ, ◌==◌, Bool, true, false, cond, List, [], ◌∷◌, ◌++◌, length, Option, Some, refl, sym, ap, ◌∙◌, subst}
 use Rattle.std.specs.List.{slice_get}
 use Rattle.std.specs.Option.{option_map}
@@ -207,6 +214,9 @@ module _ (plan : PlanData) (m : Migration) (at : Clustered m.schema) (rows : Lis
   is_about : IsAbout (requests.Do statement) (has entry.actor) entry.asked
   is_about = subst (λ (a : Actor). IsAbout (requests.Do statement) (has a) entry.asked) (sym same) (subst (λ (r : Request). IsAbout r (has Apply) entry.asked) asked_so apply_asks.is_about)
 
+  tool_now : is_of_tool (session_of entry.session (opens entry (state_at plan journal)).sessions) ≡ true
+  tool_now = tool_serves plan journal entry (kept_front plan journal (entry ∷ []) kept) turn.together turn.run (about_uncommanded (requests.Do statement) (has entry.actor) entry.asked is_about) (ap is_client same)
+
   -- *What was refused*
   pub row : Row
   row = row_done (Some doing)
@@ -214,7 +224,7 @@ module _ (plan : PlanData) (m : Migration) (at : Clustered m.schema) (rows : Lis
   heard : RowFits m.columns (row_done (Some doing)) entry.answer
   heard =
       own_answer (RowFits m.columns (row_done (Some doing))) (record { waits = λ by. tt; timed = λ waited. tt; lost = tt }) plan journal entry turn.together.known turn.served (requests.Do statement) is_about
-      (λ found is. done_fits m rows of.planned of.finds doing does_rows found entry.session (ap (λ tables. schema_of m.new.name tables) (is.tables ∙ opened_tables plan journal entry) ∙ ghost_now))
+      (λ found is. done_fits m rows of.planned of.finds doing does_rows found entry.session (ap (λ (s : List Session). is_of_tool (session_of entry.session s)) is.sessions ∙ tool_now) (ap (λ tables. schema_of m.new.name tables) (is.tables ∙ opened_tables plan journal entry) ∙ ghost_now))
 
   pub was_refused : entry.answer ≡ answers.Refused number (Some place)
   was_refused = answered

@@ -1,4 +1,6 @@
 -- What the applier's statements are refused: a value has a place only where the row that they write has no image there.
+use Rattle.server_model.specs.declared.request.Request.{Request}
+use Rattle.proof_migration.proofs.ToolServes.{filled_so}
 use Rattle.std.proofs.Common.{◌≡◌, ℕ, Bool, true, false, cond, List, [], ◌∷◌, map, Option, Some, None, Result, Ok, Err, refl, sym, ap, ◌∙◌, subst}
 use Rattle.std.specs.Option.{option_map}
 use Rattle.base_values.specs.StoredValues.{error_number}
@@ -26,8 +28,8 @@ use Rattle.server_model.specs.Effects.{effect_unless, is_outside}
 use Rattle.server_model.specs.Operations.{operation_of, operation_result, result_in, table_of}
 use Rattle.server_model.specs.Rows.{change_rows, rows_met, same_row}
 use Rattle.server_model.specs.StatementResults.{change_first, clashes_besides, result_or_refusal, tells, updated, updates, with_sets}
-use Rattle.server_model.specs.PlainServer.{does, done}
-use Rattle.server_model.specs.States.{State, is_in_transaction, session_of, view, writes_of}
+use Rattle.server_model.specs.PlainServer.{does, done, did}
+use Rattle.server_model.specs.States.{State, is_in_transaction, session_of, view, writes_of, is_of_tool}
 use Rattle.tool_program.specs.EventApplier.Appliers.{Doing, row_done}
 use Rattle.tool_program.specs.EventApplier.Appliers.Doing.{Putting, Removing, Changing}
 use Rattle.proof_journals.specs.Ghost.Rows.Moments.{Row}
@@ -154,9 +156,9 @@ module _ (m : Migration) (rows : List Row) (plan : IsPlanned m rows) (finds : Fi
       by (Some table) is = table_fits table (let same : table.schema ≡ m.new = cc in same)
 
     -- *What is done*: where the new table stands, in any state and session
-    pub done_fits : (found : State) (number : ℕ) → schema_of m.new.name found.tables ≡ Some m.new → Fits row (done found number (requests.Do statement)).answer
-    unfolding done
-    done_fits found number stands = by (is_outside (session_of number found.sessions) (requests.Do statement)) (is_in_transaction (session_of number found.sessions)) where
+    pub done_fits : (found : State) (number : ℕ) → is_of_tool (session_of number found.sessions) ≡ true → schema_of m.new.name found.tables ≡ Some m.new → Fits row (done found number (requests.Do statement)).answer
+    unfolding did
+    done_fits found number tool stands = subst (λ (r : Request). Fits row (did found number r).answer) (sym (filled_so found number (requests.Do statement) tool)) (by (is_outside (session_of number found.sessions) (requests.Do statement)) (is_in_transaction (session_of number found.sessions))) where
       seen : Database
       seen = view number found
 

@@ -5,7 +5,7 @@ use Rattle.server_model.specs.declared.outcome.Progress.TheVariants.{Unfit}
 use Rattle.server_model.specs.declared.request.Request.{Request}
 use Rattle.server_model.specs.declared.session.Limits.{Limits}
 use Rattle.server_model.specs.Entries.{is_cut}
-use Rattle.server_model.specs.States.{State}
+use Rattle.server_model.specs.States.{State, is_of_tool, session_of}
 use Rattle.base_values.specs.ToolNames.{ghost_name}
 use Rattle.tool_program.specs.JournalWords.Journals.{opens}
 use Rattle.tool_program.specs.declared.chunk_copier.copier.Copier.{Copier}
@@ -77,6 +77,7 @@ pub record IsCopierTurn (m : Migration) (limits : Limits) (scene : Scene) (journ
   pub map : copier.map ≡ m.columns
   pub request : Request
   pub asked : about (opens entry (scene_state limits scene journal)) entry.session entry.asked ≡ Some request
+  pub tool : is_of_tool (session_of entry.session (opens entry (scene_state limits scene journal)).sessions) ≡ true
   pub given : copiers.next journal copier ≡ Some request
   pub uncut : is_cut entry.asked ≡ false
   pub fits : (place number : ℕ) → copiers.progress copier entry.answer ≡ Unfit place number → ⊥
@@ -89,6 +90,7 @@ pub record IsApplierTurn (m : Migration) (limits : Limits) (scene : Scene) (jour
   pub map : applier.map ≡ m.columns
   pub request : Request
   pub asked : about (opens entry (scene_state limits scene journal)) entry.session entry.asked ≡ Some request
+  pub tool : is_of_tool (session_of entry.session (opens entry (scene_state limits scene journal)).sessions) ≡ true
   pub given : appliers.next journal applier ≡ request
   pub uncut : is_cut entry.asked ≡ false
   pub fits : (place number : ℕ) → appliers.progress applier entry.answer ≡ Unfit place number → ⊥

@@ -17,7 +17,7 @@ use Rattle.server_model.specs.declared.request.Request.{Request}
 use Rattle.server_model.specs.declared.request.Request.TheVariants as requests
 use Rattle.server_model.specs.Entries.{same_actor, is_client}
 use Rattle.plan_data.specs.PlanData.{PlanData}
-use Rattle.tool_program.specs.JournalWords.Clients.{Reached, client_after, became, after_turn, client_at, new_client, script_of, client_asks, line_asks}
+use Rattle.tool_program.specs.JournalWords.Clients.{Reached, client_after, became, after_turn, client_at, new_client, script_of, client_asks, line_asks, with_draw}
 use Rattle.tool_program.specs.JournalWords.Journals.{turns_of}
 use Rattle.tool_program.specs.JournalWords.KeptPlans.{IsPlanned, IsStruck, KeepsPlan, TakesNext, commands_taken, cut_among, cut_due, side_due, struck_among, words_of}
 use Rattle.tool_program.specs.CutoverCore.CutOvers.{is_bad}
@@ -62,7 +62,7 @@ empty_at place (Some found) is = absurd (none_at place found is)
 
 not_own : (c : ℕ) (client : Reached) (entry : Entry) → is_client entry.actor ≡ false → after_turn c client entry ≡ client
 not_own c client entry kind = by entry.actor kind where
-  by : (actor : Actor) → is_client actor ≡ false → cond (same_actor actor (Client c)) (client_after (became client entry) client) client ≡ client
+  by : (actor : Actor) → is_client actor ≡ false → cond (same_actor actor (Client c)) (client_after (became client entry) (with_draw entry.draw client)) client ≡ client
   by Op kind = refl
   by Insp kind = refl
   by Copy kind = refl

@@ -1,4 +1,6 @@
 -- Where no other session stands in its way an actor's call isn't made to wait.
+use Rattle.server_model.specs.States.{is_of_tool}
+use Rattle.server_model.proofs.Filling.{filled_case, numbered_table}
 use Rattle.std.proofs.Common.{◌≡◌, ◌⊎◌, ℕ, ◌==◌, Bool, true, false, cond, not, ◌||◌, List, [], ◌∷◌, Option, Some, None, refl, sym, ap, ◌∙◌, subst, inl, inr}
 use Rattle.std.specs.Prelude.{is_some}
 use Rattle.std.specs.List.{AllByRecursion, list_any}
@@ -162,5 +164,8 @@ module _ (plan : PlanData) (journal : List Entry) (entry : Entry) (known : IsKno
       ap is_wait (sym (own_given plan journal entry known served unlost) ∙ ap (λ (a : Asked). (serves (opens entry now) entry.session a).answer) asks)
       ∙ ap (λ (blocked : Option ℕ). is_wait (called_unless blocked (opens entry now) entry.session request).answer)
       (unblocked (opens entry now) entry.session (need (opens entry now) entry.session request) (opened_waits (is_command entry.asked) (not (is_client entry.actor)) entry.session now ∙ none_waits none)
-      (opened_clear (Rattle.server_model.specs.States.names_in request) (ap is_command asks) harmless (is_command entry.asked) (not (is_client entry.actor))))
+      (filled_case (λ one full. AllByRecursion (Clears entry.session (Rattle.server_model.specs.States.names_in one)) (opens entry now).sessions → AllByRecursion (Clears entry.session (Rattle.server_model.specs.States.names_in full)) (opens entry now).sessions)
+      (λ r clear. clear) (λ s n clear. subst (λ (t : List ℕ). AllByRecursion (Clears entry.session (t ∷ [])) (opens entry now).sessions) (sym (numbered_table n s)) clear)
+      (is_of_tool (session_of entry.session (opens entry now).sessions)) (opens entry now).tables (opens entry now).counters request
+      (opened_clear (Rattle.server_model.specs.States.names_in request) (ap is_command asks) harmless (is_command entry.asked) (not (is_client entry.actor)))))
       ∙ done_unwaits (opens entry now) entry.session request

@@ -27,7 +27,7 @@ use Rattle.tool_program.specs.Tools.{Work, ToolPhase, SettingUp, Migrating, Tool
 use Rattle.tool_program.proofs.OnlineCalls.Machines.{ToolPhaseIsNamed, named}
 use Rattle.proof_journals.specs.Plans.{limits_of, scene_of, IsSerialPlan}
 use Rattle.proof_journals.specs.Turns.{about}
-use Rattle.proof_journals.proofs.Joined.{reported_answer, reported_missed}
+use Rattle.proof_journals.proofs.Joined.{reported_answer, reported_missed, reported_draw}
 use Rattle.proof_journals.specs.Run.Kept.{IsKept}
 use Rattle.proof_journals.specs.Machine.Machines.{applier_asks, ApplierStands, ToolPhaseStands}
 use Rattle.proof_journals.specs.Machine.Runnable.{IsRunnable}
@@ -137,7 +137,7 @@ module _ (plan : PlanData) (runs : IsRunnable plan) (serial : IsSerialPlan plan)
     read : about (opens entry (state_at plan journal)) entry.session entry.asked ≡ Some (requests.ReadLog work.applier.position work.applier.batch (both_tables plan.table)) → IsRead plan.table (state_at plan journal).log work.applier.position events next
     read asked =
         reading_said plan.table (limits_of plan) (scene_of plan journal) journal entry work.applier.batch work.applier.position events next is.scene
-        (record { answer = reported_answer (state_at plan journal) entry run.answered; missed = reported_missed (state_at plan journal) entry run.answered }) unlost asked reported some (hints_known plan journal work runs serial kept off eq).within
+        (record { answer = reported_answer (state_at plan journal) entry run.answered; missed = reported_missed (state_at plan journal) entry run.answered; draw = reported_draw (state_at plan journal) entry run.answered }) unlost asked reported some (hints_known plan journal work runs serial kept off eq).within
 
     planned : IsRead plan.table (state_at plan journal).log work.applier.position events next → appliers.planned work.applier events ≡ []
     planned one =

@@ -108,7 +108,7 @@ module _ (plan : PlanData) (runs : IsRunnable plan) (serial : IsSerialPlan plan)
 
   still : (whole : List Entry) → Nobody whole → line_outcome (scene_of plan whole) now entry ≡ Still
   still whole nobody =
-      ap (λ (b : Bool). line_outcome_if b (scene_of plan whole) (opens entry now) entry.session entry.asked entry.side entry.answer entry.missed) (no_client whole entry.session nobody)
+      ap (λ (b : Bool). line_outcome_if b (scene_of plan whole) (opens entry now) entry.session entry.asked entry.side entry.answer entry.missed entry.draw) (no_client whole entry.session nobody)
       ∙ ap (λ s. line_outcome_renamed (renames_away plan.table (about (opens entry now) entry.session entry.asked)) (reported_at s entry.answer entry.missed)) unlost
       ∙ still_unless (renames_away plan.table (about (opens entry now) entry.session entry.asked)) entry.answer (by (about (opens entry now) entry.session entry.asked) refl) where
         by : (request : Option Request) → about (opens entry now) entry.session entry.asked ≡ request → renames_away plan.table request ≡ true → (count : ℕ) → entry.answer ≡ answers.Ok count → ⊥

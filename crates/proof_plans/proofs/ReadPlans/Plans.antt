@@ -112,26 +112,26 @@ module _ (migrated : List ℕ) where
 -- THE OPENING AND THE ORDERS
 
 record IsOpened (keys : KeyData) (opening : OpeningData) : Type 0 where
-  pub tables : tables_of keys.texts.table keys.texts.tables ≡ Ok opening.tables
+  pub tables : tables_of keys.version keys.texts.table keys.texts.tables ≡ Ok opening.tables
   pub table : TableRows
   pub found : find_table keys.texts.table opening.tables ≡ Some table
-  pub alter : alter_at keys.texts.table keys.texts.alter ≡ Ok opening.alter
+  pub alter : alter_at keys.version keys.texts.table keys.texts.alter ≡ Ok opening.alter
 
 opened_is : (keys : KeyData) (opening : OpeningData) → opening_of keys ≡ Ok opening → IsOpened keys opening
 unfolding opening_of
 opened_is keys opening is =
     let known = opening_is keys opening is in
-    let tables = bind_ok (of_tables (tables_of keys.texts.table keys.texts.tables)) _ opening is in
+    let tables = bind_ok (of_tables (tables_of keys.version keys.texts.table keys.texts.tables)) _ opening is in
     let table = bind_ok (migrated_in keys.texts.table tables.0) _ opening tables.2 in
     let allowed = bind_ok (without_leftovers keys.texts.table keys.options tables.0) _ opening table.2 in
-    let clauses = bind_ok (of_alter (alter_at keys.texts.table keys.texts.alter)) _ opening allowed.2 in
+    let clauses = bind_ok (of_alter (alter_at keys.version keys.texts.table keys.texts.alter)) _ opening allowed.2 in
     let new = bind_ok (of_alter (altered keys.options.approve_renamed_columns table.0.schema clauses.0)) (λ new. Ok (record { tables = allowed.0; alter = clauses.0; new = new })) opening clauses.2 in
     let made : OpeningData = record { tables = allowed.0; alter = clauses.0; new = new.0 } in
     record {
       tables = known.tables;
       table = known.table;
       found = known.found;
-      alter = alter_was (alter_at keys.texts.table keys.texts.alter) clauses.0 clauses.1 ∙ ap (λ (o : OpeningData). Ok o.alter) (ok_is {C = PlanRefusal} made opening new.2);
+      alter = alter_was (alter_at keys.version keys.texts.table keys.texts.alter) clauses.0 clauses.1 ∙ ap (λ (o : OpeningData). Ok o.alter) (ok_is {C = PlanRefusal} made opening new.2);
     }
 
 operator_was : (read : Result (List Command) OrderRefusal) (commands : List Command) → of_operator read ≡ Ok commands → read ≡ Ok commands
@@ -210,7 +210,7 @@ plans_worded laws kinds plan was =
     let opened = opened_is parts.keys parts.opening parts.opened in
     let migrated : List ℕ = parts.keys.texts.table in
     let ranged = options_ranged parts.members parts.keys parts.said in
-    let short = migrated_named laws migrated parts.keys.texts.tables parts.opening.tables opened.table opened.tables opened.found in
+    let short = migrated_named laws parts.keys.version migrated parts.keys.texts.tables parts.opening.tables opened.table opened.tables opened.found in
     let utf8 : IsUtf8 migrated = subst (λ (p : PlanData). IsUtf8 p.table) (sym parts.same) was.text in
     subst IsWorded parts.same (record {
       scripts = fits_each (tool_names migrated) parts.clients (clients_are migrated parts.keys.texts.clients parts.clients parts.scripts);
@@ -218,5 +218,5 @@ plans_worded laws kinds plan was =
       chunk = ranged.chunk;
       commands = operator_fits parts.keys.texts.operator parts.orders.operator (ordered_is (length parts.clients) parts.keys.texts parts.orders parts.ordered);
       batch = ranged.batch;
-      clauses = kinds migrated parts.keys.texts.alter parts.opening.alter opened.alter;
+      clauses = kinds parts.keys.version migrated parts.keys.texts.alter parts.opening.alter opened.alter;
     })

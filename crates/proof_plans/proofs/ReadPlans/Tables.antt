@@ -35,25 +35,25 @@ pub record Laws : Type 0 where
 abbrev IsNamedSo : List ℕ → TableRows → Type 0
 IsNamedSo migrated table = is_table_name (is_tool_name migrated table.schema.name) table.schema.name ≡ true
 
-table_named : Laws → (migrated : List ℕ) (number : ℕ) (tables : Database) (texts : TableData) (table : TableRows) → table_at migrated number tables texts ≡ Ok table → IsNamedSo migrated table
+table_named : Laws → (version : ℕ) (migrated : List ℕ) (number : ℕ) (tables : Database) (texts : TableData) (table : TableRows) → table_at version migrated number tables texts ≡ Ok table → IsNamedSo migrated table
 unfolding table_at
-table_named laws migrated number tables texts table is =
-    let schema = bind_ok (of_schema number (schema_at migrated texts.create)) _ table is in
+table_named laws version migrated number tables texts table is =
+    let schema = bind_ok (of_schema number (schema_at version migrated texts.create)) _ table is in
     let empty = bind_ok (newly_named number tables schema.0) _ table schema.2 in
-    let was = schema_was number (schema_at migrated texts.create) schema.0 schema.1 in
+    let was = schema_was number (schema_at version migrated texts.create) schema.0 schema.1 in
     let bare : TableRows = record { schema = schema.0; rows = [] } in
     let parts = kept_out (has_table schema.0.name tables) bare empty.0 _ empty.1 in
     let put : put_texts 1 bare texts.rows ≡ Ok table = subst (λ (t : TableRows). put_texts 1 t texts.rows ≡ Ok table) (sym parts.1) (rows_were number (put_texts 1 empty.0 texts.rows) table empty.2) in
     let all : sound.Laws = record { again = laws.again; put = laws.put } in
-    let kept = texts_kept all 1 bare table texts.rows (valid_keyed schema.0 (laws.valid migrated texts.create schema.0 was)) (record { rows_fit = tt; ascends = tt; apart = tt }) put in
-    subst (λ (s : Schema). is_table_name (is_tool_name migrated s.name) s.name ≡ true) (sym kept.schema_is) (laws.declared migrated texts.create schema.0 was).name
+    let kept = texts_kept all 1 bare table texts.rows (valid_keyed schema.0 (laws.valid version migrated texts.create schema.0 was)) (record { rows_fit = tt; ascends = tt; apart = tt }) put in
+    subst (λ (s : Schema). is_table_name (is_tool_name migrated s.name) s.name ≡ true) (sym kept.schema_is) (laws.declared version migrated texts.create schema.0 was).shaped.name
 
-tables_named : Laws → (migrated : List ℕ) (number : ℕ) (tables : Database) (texts : List TableData) (made : Database) → AllByRecursion (IsNamedSo migrated) tables → tables_from migrated number tables texts ≡ Ok made → AllByRecursion (IsNamedSo migrated) made
+tables_named : Laws → (version : ℕ) (migrated : List ℕ) (number : ℕ) (tables : Database) (texts : List TableData) (made : Database) → AllByRecursion (IsNamedSo migrated) tables → tables_from version migrated number tables texts ≡ Ok made → AllByRecursion (IsNamedSo migrated) made
 unfolding tables_from
-tables_named laws migrated number tables [] made all is = subst (AllByRecursion (IsNamedSo migrated)) (ok_is {C = TableRefusal} tables made is) all
-tables_named laws migrated number tables (first ∷ texts) made all is =
-    let table = bind_ok (table_at migrated number tables first) (λ table. tables_from migrated (next_number number) (tables ++ (table ∷ [])) texts) made is in
-    tables_named laws migrated (next_number number) (tables ++ (table.0 ∷ [])) texts made (All-append (IsNamedSo migrated) tables (table.0 ∷ []) all (table_named laws migrated number tables first table.0 table.1, tt)) table.2
+tables_named laws version migrated number tables [] made all is = subst (AllByRecursion (IsNamedSo migrated)) (ok_is {C = TableRefusal} tables made is) all
+tables_named laws version migrated number tables (first ∷ texts) made all is =
+    let table = bind_ok (table_at version migrated number tables first) (λ table. tables_from version migrated (next_number number) (tables ++ (table ∷ [])) texts) made is in
+    tables_named laws version migrated (next_number number) (tables ++ (table.0 ∷ [])) texts made (All-append (IsNamedSo migrated) tables (table.0 ∷ []) all (table_named laws version migrated number tables first table.0 table.1, tt)) table.2
 
 -- a table that is found is one of the tables, and has the name
 pub record IsFound (P : TableRows → Type 0) (name : List ℕ) (table : TableRows) : Type 0 where
@@ -68,9 +68,9 @@ found_is P name (first ∷ tables) table all is = by (is_named name first) refl 
   by false named is later = later is
 
 -- *The migrated table's name has at most 59 characters*
-pub migrated_named : Laws → (migrated : List ℕ) (texts : List TableData) (tables : Database) (table : TableRows) → tables_of migrated texts ≡ Ok tables → find_table migrated tables ≡ Some table → is_name_length 59 migrated ≡ true
-migrated_named laws migrated texts tables table read found =
-    let is = found_is (IsNamedSo migrated) migrated tables table (tables_named laws migrated 1 [] texts tables tt read) found in
+pub migrated_named : Laws → (version : ℕ) (migrated : List ℕ) (texts : List TableData) (tables : Database) (table : TableRows) → tables_of version migrated texts ≡ Ok tables → find_table migrated tables ≡ Some table → is_name_length 59 migrated ≡ true
+migrated_named laws version migrated texts tables table read found =
+    let is = found_is (IsNamedSo migrated) migrated tables table (tables_named laws version migrated 1 [] texts tables tt read) found in
     migrated_fits migrated (subst (λ (n : List ℕ). is_table_name (is_tool_name migrated n) n ≡ true) is.named is.is)
 
 sound_well_formed : (table : TableRows) → IsSound table → IsWellFormedTable table

@@ -1,4 +1,7 @@
 -- What is answered to a request that names one table alone, where that stands: never ER_NO_SUCH_TABLE.
+use Rattle.server_model.specs.States.{is_of_tool}
+use Rattle.server_model.proofs.Filling.{filled_case, numbered_table}
+use Rattle.server_model.specs.Drawing.{numbered}
 use Rattle.std.proofs.Common.{◌≡◌, ℕ, Bool, true, false, not, ◌&&◌, List, [], ◌∷◌, cond, Option, Some, None, Result, Ok, Err, refl, sym, ap, ◌∙◌, subst}
 use Rattle.std.specs.Prelude.{is_some}
 use Rattle.std.specs.List.{list_all, list_any}
@@ -20,7 +23,7 @@ use Rattle.server_model.specs.Chunks.{chunk_end, ends_of, keys_of, span_keys}
 use Rattle.server_model.specs.Effects.{all_exist, begins, created, effect_unless, effect_within, defined, dropped, is_outside, locks_if, of_table, renamed_or, result_effect}
 use Rattle.server_model.specs.Operations.{Operation, after_events, copy_from, copy_operation, copy_work, operation_of, operation_result, result_in, statement_result, table_of}
 use Rattle.server_model.specs.Blockers.{blocker, need, need_within}
-use Rattle.server_model.specs.PlainServer.{called_unless, calls, does, done, is_over, polled_of, polled_over, polled_unless, polls, without_waiting}
+use Rattle.server_model.specs.PlainServer.{called_unless, calls, does, done, did, is_over, polled_of, polled_over, polled_unless, polls, without_waiting}
 use Rattle.server_model.specs.Listings.{events_read}
 use Rattle.server_model.specs.States.{State, is_in_transaction, session_of, view, waiting_of, writes_of}
 use Rattle.server_model.specs.declared.answer.Answer.TheVariants as answers
@@ -144,12 +147,18 @@ module _ (name : List ℕ) where
   within_other busy seen state number requests.ShowTables sees stands alone = refl
   within_other busy seen state number requests.ShowWaiting sees stands alone = refl
 
-  done_other : (state : State) (number : ℕ) (request : Request) → Stands name state.tables → names_alone name request ≡ true → IsOther (done state number request).answer
-  unfolding done
-  done_other state number request stands alone = by (is_outside (session_of number state.sessions) request) where
+  did_other : (state : State) (number : ℕ) (request : Request) → Stands name state.tables → names_alone name request ≡ true → IsOther (did state number request).answer
+  unfolding did
+  did_other state number request stands alone = by (is_outside (session_of number state.sessions) request) where
     by : (b : Bool) → IsOther (does (effect_unless b (is_in_transaction (session_of number state.sessions)) (view number state) state request) state number).answer
     by true = refl
     by false = within_other (is_in_transaction (session_of number state.sessions)) (view number state) state number request (events_stand name state.tables (writes_of (session_of number state.sessions)) stands) stands alone
+
+  done_other : (state : State) (number : ℕ) (request : Request) → Stands name state.tables → names_alone name request ≡ true → IsOther (done state number request).answer
+  done_other state number request stands =
+      filled_case (λ asked full. names_alone name asked ≡ true → IsOther (did state number full).answer) (λ r alone. did_other state number r stands alone)
+      (λ statement n alone. did_other state number (requests.Do (numbered n statement)) stands (subst (λ (t : List ℕ). list_all (bytes_eq name) (t ∷ []) ≡ true) (sym (numbered_table n statement)) alone))
+      (is_of_tool (session_of number state.sessions)) state.tables state.counters request
 
   -- *Calls and polls*
   pub called_other : (state : State) (number : ℕ) (request : Request) → Stands name state.tables → names_alone name request ≡ true → IsOther (calls state number request).answer

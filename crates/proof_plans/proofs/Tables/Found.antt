@@ -47,7 +47,8 @@ serial_stands scene before (item ∷ items) after mine serial stands =
 -- EACH TURN
 
 module _ (marked : MarkedJournalsAreRuns) (finds : RenamesFindTheAltered) (once : RenamesComeOnce) (plan : PlanData) (is : IsAlterable plan) (runs : IsRunnable plan) (worded : IsWorded plan) (serial : IsSerialPlan plan) where
-  run_of : (journal : List Entry) → IsKept plan journal → IsPlanRun plan journal
+  -- a kept journal is a run of its plan
+  pub run_of : (journal : List Entry) → IsKept plan journal → IsPlanRun plan journal
   run_of journal kept = marked plan is worded serial journal kept (all_marked finds plan is worded serial [] journal kept (once plan journal runs serial kept))
 
   -- *It stands*

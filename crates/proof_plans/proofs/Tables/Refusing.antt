@@ -30,7 +30,7 @@ use Rattle.server_model.specs.declared.work.Selection.TheVariants.{AllColumns, C
 use Rattle.server_model.specs.declared.work.Work.{Work}
 use Rattle.server_model.specs.declared.work.Work.TheVariants as works
 use Rattle.server_model.specs.Answers.{refuses, refuses_value}
-use Rattle.server_model.specs.Checks.{◌>>=◌, are_distinct, beside, given_or, has_columns, is_only, keyed, new_row, or_refused, or_unknown, place_of, places_listed, places_named, reach_equal, reach_of, reach_range, row_from, select_of, selection_of, wanted_at, wanted_each, unless, update_of, value_at, work_of}
+use Rattle.server_model.specs.Checks.{◌>>=◌, are_distinct, beside, given_or, has_columns, is_only, keyed, new_row, or_refused, or_unknown, place_of, places_listed, places_named, reach_equal, reach_of, reach_range, row_from, select_of, selection_of, wanted_at, wanted_each, unless, update_of, value_at, work_of, drawn_row}
 use Rattle.server_model.specs.Rows.{change_rows, rows_met, same_row}
 use Rattle.server_model.specs.StatementResults.{change_first, clashes_besides, only, result_or_refusal, selected, tells, updated, updates, with_sets}
 use Rattle.proof_plans.specs.Tables.{is_missing}
@@ -173,8 +173,8 @@ copy_fine schema values = or_fine Any (new_row schema None values) works.Copy (n
 -- *A statement's work*
 pub work_fine : (schema : Schema) (statement : Statement) → IsFine (work_of schema statement)
 unfolding work_of
-work_fine schema (statements.Insert table columns values drawn) = or_fine Any (new_row schema columns values) works.Insert (new_fine schema columns values) (λ row any. tt)
-work_fine schema (statements.Replace table columns values drawn) = or_fine Any (new_row schema columns values) works.Replace (new_fine schema columns values) (λ row any. tt)
+work_fine schema (statements.Insert table columns values drawn) = or_fine Any (drawn_row schema columns values drawn) works.Insert (new_fine schema _ _) (λ row any. tt)
+work_fine schema (statements.Replace table columns values drawn) = or_fine Any (drawn_row schema columns values drawn) works.Replace (new_fine schema _ _) (λ row any. tt)
 work_fine schema (statements.Delete table condition) = or_fine Any (reach_of schema condition) works.Delete (reach_fine schema condition) (λ reach any. tt)
 work_fine schema (statements.Update table sets condition) = or_fine IsFine (update_of schema sets condition) (λ work. work) (update_fine schema sets condition) (λ work fine. fine)
 work_fine schema (statements.Select table what condition) = or_fine IsFine (select_of schema what condition) (λ work. work) (select_fine schema what condition) (λ work fine. fine)

@@ -1,4 +1,8 @@
 -- What a session's turn leaves of a table that nobody writes: it stays as it is, but where it is dropped or renamed.
+use Rattle.base_script.specs.declared.statement.Statement.{Statement}
+use Rattle.server_model.specs.States.{is_of_tool}
+use Rattle.server_model.proofs.Filling.{filled_case, numbered_table}
+use Rattle.server_model.specs.Drawing.{numbered}
 use Rattle.std.proofs.Common.{◌≡◌, ℕ, ◌==◌, Bool, true, false, not, List, [], ◌∷◌, ◌++◌, filter, cond, map, Option, Some, None, Result, Ok, Err, refl, sym, ap, ◌∙◌, subst}
 use Rattle.std.specs.List.{AllByRecursion}
 use Rattle.std.specs.Str.{bytes_eq}
@@ -12,7 +16,7 @@ use Rattle.server_model.specs.Answers.{ok}
 use Rattle.server_model.specs.Effects.{all_exist, begins, effect_unless, effect_within, defined, dropped, is_outside, locks_if, nothing_needed, renamed_or, result_effect, created}
 use Rattle.server_model.specs.Operations.{Operation, after_events, change_table, copy_operation, events_of, operation_result, result_in, statement_result, table_of, operation_of}
 use Rattle.server_model.specs.Blockers.{blocker, need, need_within}
-use Rattle.server_model.specs.PlainServer.{Served, at_rest, called_unless, calls, counting, does, done, goes_on, holding, is_over, locking, loses, polled_of, polled_over, polled_unless, polls, unlocking, without_waiting}
+use Rattle.server_model.specs.PlainServer.{Served, at_rest, called_unless, calls, counting, does, done, did, goes_on, holding, is_over, locking, loses, polled_of, polled_over, polled_unless, polls, unlocking, without_waiting}
 use Rattle.server_model.specs.States.{State, is_in_transaction, new_session, session_of, view, waiting_of, with_session, writes_of}
 use Rattle.server_model.specs.declared.answer.Answer.{Answer}
 use Rattle.server_model.specs.declared.answer.Answer.TheVariants as answers
@@ -162,12 +166,26 @@ module _ (name : List ℕ) where
   within_spared busy seen state number requests.ShowTables off all = rested requests.ShowTables _ state all
   within_spared busy seen state number requests.ShowWaiting off all = rested requests.ShowWaiting _ state all
 
-  done_spared : (state : State) (number : ℕ) (request : Request) → WritesNo name request → Unwritten name state.sessions → Spared name state.tables request (done state number request)
-  unfolding done
-  done_spared state number request off all = by (is_outside (session_of number state.sessions) request) where
+  did_spared : (state : State) (number : ℕ) (request : Request) → WritesNo name request → Unwritten name state.sessions → Spared name state.tables request (did state number request)
+  unfolding did
+  did_spared state number request off all = by (is_outside (session_of number state.sessions) request) where
     by : (b : Bool) → Spared name state.tables request (does (effect_unless b (is_in_transaction (session_of number state.sessions)) (view number state) state request) state number)
     by true = rested request _ state all
     by false = within_spared (is_in_transaction (session_of number state.sessions)) (view number state) state number request off all
+
+  unnumbered : {before after : Database} {answer : Answer} (n : Option ℕ) (statement : Statement) → Leaves name before after (requests.Do (numbered n statement)) answer → Leaves name before after (requests.Do statement) answer
+  unnumbered n statement (stays same) = stays same
+  unnumbered n statement (goes none) = goes none
+  unnumbered n statement (renames pairs count is ok) = absurd cc
+
+  done_spared : (state : State) (number : ℕ) (request : Request) → WritesNo name request → Unwritten name state.sessions → Spared name state.tables request (done state number request)
+  done_spared state number request off all =
+      filled_case (λ asked full. WritesNo name asked → Spared name state.tables asked (did state number full)) (λ r away. did_spared state number r away all)
+      (λ statement n away.
+      let one : Spared name state.tables (requests.Do (numbered n statement)) (did state number (requests.Do (numbered n statement))) =
+      did_spared state number (requests.Do (numbered n statement)) (subst (λ (t : List ℕ). bytes_eq t name ≡ false) (sym (numbered_table n statement)) away) all in
+      record { unwritten = one.unwritten; table = λ never. unnumbered n statement (one.table never) })
+      (is_of_tool (session_of number state.sessions)) state.tables state.counters request off
 
   -- *Calls and polls*
   pub called_spared : (state : State) (number : ℕ) (request : Request) → WritesNo name request → Unwritten name state.sessions → Spared name state.tables request (calls state number request)

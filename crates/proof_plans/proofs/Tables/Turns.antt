@@ -1,4 +1,5 @@
 -- What each turn of a run is about, what it leaves of a table that nobody writes, and what is answered of one that stands.
+use Rattle.server_model.specs.PlainServer.{recounted, counters_left}
 use Rattle.std.proofs.Common.{◌≡◌, ℕ, Bool, true, false, not, ◌||◌, List, [], ◌∷◌, ◌++◌, cond, Option, Some, None, refl, sym, ap, ◌∙◌, subst}
 use Rattle.std.proofs.lemmas.List.{append_cancel_left}
 use Rattle.std.specs.Prelude.{codes, is_some}
@@ -179,7 +180,7 @@ module _ (plan : PlanData) (journal : List Entry) (entry : Entry) (known : IsKno
 
     left_tables : (side : Option Side) (asked : Asked) → entry.side ≡ side → entry.asked ≡ asked → find_table name (leaves side open_now entry.session asked).tables ≡ find_table name open_now.tables → find_table name (state_at plan more).tables ≡ find_table name now.tables
     left_tables side asked at asks same =
-        ap (λ (s : State). find_table name s.tables) (state_more plan journal entry ∙ ap (λ (s : Option Side). leaves s open_now entry.session entry.asked) at ∙ ap (λ (a : Asked). leaves side open_now entry.session a) asks) ∙ same ∙ ap (find_table name) opened_tables
+        ap (λ (s : State). find_table name s.tables) (state_more plan journal entry ∙ ap (λ (s : Option Side). recounted (counters_left s open_now entry.session entry.asked) (leaves s open_now entry.session entry.asked)) at ∙ ap (λ (a : Asked). recounted (counters_left side open_now entry.session a) (leaves side open_now entry.session a)) asks) ∙ same ∙ ap (find_table name) opened_tables
 
     -- *It stays* where nothing is called or polled
     pub rests_left : may_lose entry.asked ≡ false → find_table name (state_at plan more).tables ≡ find_table name now.tables
@@ -212,7 +213,7 @@ module _ (plan : PlanData) (journal : List Entry) (entry : Entry) (known : IsKno
           called (Some After) = refl
 
       more_is : (side : Option Side) → entry.side ≡ side → find_table name (state_at plan more).tables ≡ find_table name (leaves side open_now entry.session entry.asked).tables
-      more_is side at = ap (λ (s : State). find_table name s.tables) (state_more plan journal entry ∙ ap (λ (s : Option Side). leaves s open_now entry.session entry.asked) at)
+      more_is side at = ap (λ (s : State). find_table name s.tables) (state_more plan journal entry ∙ ap (λ (s : Option Side). recounted (counters_left s open_now entry.session entry.asked) (leaves s open_now entry.session entry.asked)) at)
 
       by : (side : Option Side) → entry.side ≡ side → Leaves name open_now.tables (serves open_now entry.session entry.asked).after.tables request (inner now entry) → Left plan journal entry name request
       by (Some Before) at left = left_so (left_tables (Some Before) entry.asked at refl (ap (find_table name) (lost_tables name open_now entry.session)))

@@ -1,5 +1,5 @@
 -- The clauses of a text write kinds of this program.
-use Rattle.std.proofs.Common.{◌≡◌, Bool, true, false, ◌||◌, cond, List, [], ◌∷◌, length, Result, Ok, Err, ap, subst, codes}
+use Rattle.std.proofs.Common.{ℕ, ◌≡◌, Bool, true, false, ◌||◌, cond, List, [], ◌∷◌, length, Result, Ok, Err, ap, subst, codes}
 use Rattle.std.specs.List.{AllByRecursion}
 use Rattle.base_values.specs.declared.row_conversion.clause.Clause.{Clause}
 use Rattle.base_values.specs.declared.row_conversion.clause.Clause.TheVariants.{Add, Drop, Rename, Change, AddIndex, DropIndex}
@@ -34,23 +34,23 @@ in_alter-ok (Err code) x e = absurd cc
 abbrev HasKind : NewColumn → Type 0
 HasKind column = is_kind column.kind ≡ true
 
-new_column_at-has : (ws : List Token) → AllRead HasKind (new_column_at ws)
+new_column_at-has : (version : ℕ) (ws : List Token) → AllRead HasKind (new_column_at version ws)
 unfolding new_column_at
-new_column_at-has ws x e =
-    let a = bind_ok (in_alter (name_at ws)) (λ name. in_alter (kind_at name.1) >>= λ kind. new_attributes_at kind.1 >>= λ attributes. Ok (record { name = name.0; kind = kind.0; nullable = attributes.0.nullable; default = attributes.0.default }, attributes.1)) x e in
-    let b = bind_ok (in_alter (kind_at a.0.1)) (λ kind. new_attributes_at kind.1 >>= λ attributes. Ok (record { name = a.0.0; kind = kind.0; nullable = attributes.0.nullable; default = attributes.0.default }, attributes.1)) x a.2 in
-    let c = bind_ok (new_attributes_at b.0.1) (λ attributes. Ok (record { name = a.0.0; kind = b.0.0; nullable = attributes.0.nullable; default = attributes.0.default }, attributes.1)) x b.2 in
-    subst (λ (y : NewColumn × List Token). HasKind y.0) (ok_is {C = AlterCode} (record { name = a.0.0; kind = b.0.0; nullable = c.0.0.nullable; default = c.0.0.default }, c.0.1) x c.2) (kind_at-is a.0.1 b.0 (in_alter-ok (kind_at a.0.1) b.0 b.1))
+new_column_at-has version ws x e =
+    let a = bind_ok (in_alter (name_at ws)) (λ name. in_alter (kind_at name.1) >>= λ kind. new_attributes_at version kind.1 >>= λ attributes. Ok (record { name = name.0; kind = kind.0; nullable = attributes.0.nullable; default = attributes.0.default; auto = attributes.0.auto }, attributes.1)) x e in
+    let b = bind_ok (in_alter (kind_at a.0.1)) (λ kind. new_attributes_at version kind.1 >>= λ attributes. Ok (record { name = a.0.0; kind = kind.0; nullable = attributes.0.nullable; default = attributes.0.default; auto = attributes.0.auto }, attributes.1)) x a.2 in
+    let c = bind_ok (new_attributes_at version b.0.1) (λ attributes. Ok (record { name = a.0.0; kind = b.0.0; nullable = attributes.0.nullable; default = attributes.0.default; auto = attributes.0.auto }, attributes.1)) x b.2 in
+    subst (λ (y : NewColumn × List Token). HasKind y.0) (ok_is {C = AlterCode} (record { name = a.0.0; kind = b.0.0; nullable = c.0.0.nullable; default = c.0.0.default; auto = c.0.0.auto }, c.0.1) x c.2) (kind_at-is a.0.1 b.0 (in_alter-ok (kind_at a.0.1) b.0 b.1))
 
 abbrev AreClauses : Read Clause → Type 0
 AreClauses = AllRead IsClause
 
-add_column_at-is : (ws : List Token) → AreClauses (add_column_at ws)
+add_column_at-is : (version : ℕ) (ws : List Token) → AreClauses (add_column_at version ws)
 unfolding add_column_at
-add_column_at-is ws x e =
-    let a = bind_ok (new_column_at ws) (λ column. column_position_at column.1 >>= λ column_position. Ok (Add column.0 column_position.0, column_position.1)) x e in
+add_column_at-is version ws x e =
+    let a = bind_ok (new_column_at version ws) (λ column. column_position_at column.1 >>= λ column_position. Ok (Add column.0 column_position.0, column_position.1)) x e in
     let b = bind_ok (column_position_at a.0.1) (λ column_position. Ok (Add a.0.0 column_position.0, column_position.1)) x a.2 in
-    subst (λ (y : Clause × List Token). IsClause y.0) (ok_is {C = AlterCode} (Add a.0.0 b.0.0, b.0.1) x b.2) (new_column_at-has ws a.0 a.1)
+    subst (λ (y : Clause × List Token). IsClause y.0) (ok_is {C = AlterCode} (Add a.0.0 b.0.0, b.0.1) x b.2) (new_column_at-has version ws a.0 a.1)
 
 add_index_at-is : (ws : List Token) → AreClauses (add_index_at ws)
 unfolding add_index_at
@@ -58,20 +58,20 @@ add_index_at-is ws x e =
     let a = bind_ok (in_alter (key_at ws)) (λ key. Ok (AddIndex key.0.name key.0.columns, key.1)) x e in
     subst (λ (y : Clause × List Token). IsClause y.0) (ok_is {C = AlterCode} (AddIndex a.0.0.name a.0.0.columns, a.0.1) x a.2) tt
 
-change_at-is : (ws : List Token) → AreClauses (change_at ws)
+change_at-is : (version : ℕ) (ws : List Token) → AreClauses (change_at version ws)
 unfolding change_at
-change_at-is ws x e =
-    let a = bind_ok (in_alter (name_at (after_column ws))) (λ old. new_column_at old.1 >>= λ column. column_position_at column.1 >>= λ column_position. Ok (Change old.0 column.0 column_position.0, column_position.1)) x e in
-    let b = bind_ok (new_column_at a.0.1) (λ column. column_position_at column.1 >>= λ column_position. Ok (Change a.0.0 column.0 column_position.0, column_position.1)) x a.2 in
+change_at-is version ws x e =
+    let a = bind_ok (in_alter (name_at (after_column ws))) (λ old. new_column_at version old.1 >>= λ column. column_position_at column.1 >>= λ column_position. Ok (Change old.0 column.0 column_position.0, column_position.1)) x e in
+    let b = bind_ok (new_column_at version a.0.1) (λ column. column_position_at column.1 >>= λ column_position. Ok (Change a.0.0 column.0 column_position.0, column_position.1)) x a.2 in
     let c = bind_ok (column_position_at b.0.1) (λ column_position. Ok (Change a.0.0 b.0.0 column_position.0, column_position.1)) x b.2 in
-    subst (λ (y : Clause × List Token). IsClause y.0) (ok_is {C = AlterCode} (Change a.0.0 b.0.0 c.0.0, c.0.1) x c.2) (new_column_at-has a.0.1 b.0 b.1)
+    subst (λ (y : Clause × List Token). IsClause y.0) (ok_is {C = AlterCode} (Change a.0.0 b.0.0 c.0.0, c.0.1) x c.2) (new_column_at-has version a.0.1 b.0 b.1)
 
-modify_at-is : (ws : List Token) → AreClauses (modify_at ws)
+modify_at-is : (version : ℕ) (ws : List Token) → AreClauses (modify_at version ws)
 unfolding modify_at
-modify_at-is ws x e =
-    let b = bind_ok (new_column_at (after_column ws)) (λ column. column_position_at column.1 >>= λ column_position. Ok (Change column.0.name column.0 column_position.0, column_position.1)) x e in
+modify_at-is version ws x e =
+    let b = bind_ok (new_column_at version (after_column ws)) (λ column. column_position_at column.1 >>= λ column_position. Ok (Change column.0.name column.0 column_position.0, column_position.1)) x e in
     let c = bind_ok (column_position_at b.0.1) (λ column_position. Ok (Change b.0.0.name b.0.0 column_position.0, column_position.1)) x b.2 in
-    subst (λ (y : Clause × List Token). IsClause y.0) (ok_is {C = AlterCode} (Change b.0.0.name b.0.0 c.0.0, c.0.1) x c.2) (new_column_at-has (after_column ws) b.0 b.1)
+    subst (λ (y : Clause × List Token). IsClause y.0) (ok_is {C = AlterCode} (Change b.0.0.name b.0.0 c.0.0, c.0.1) x c.2) (new_column_at-has version (after_column ws) b.0 b.1)
 
 drop_column_at-is : (ws : List Token) → AreClauses (drop_column_at ws)
 unfolding drop_column_at
@@ -113,14 +113,14 @@ primary_at-is ws x e =
     let a = bind_ok (in_alter (keyword_at (codes "KEY") ws)) (λ rest. Err refusals.ClusteredKeyChange) x e in
     absurd (never (refusals.ClusteredKeyChange) x a.2)
 
-add_at-is : (ws : List Token) → AreClauses (add_at ws)
+add_at-is : (version : ℕ) (ws : List Token) → AreClauses (add_at version ws)
 unfolding add_at
-add_at-is [] = refused refusals.Syntax
-add_at-is (word ∷ rest) =
+add_at-is version [] = refused refusals.Syntax
+add_at-is version (word ∷ rest) =
     either (is_out_of_scope word) _ _ (refused refusals.Scope)
     (either (is_keyword word (codes "UNIQUE")) _ _ (refused refusals.AddUnique)
     (either (is_keyword word (codes "PRIMARY")) _ _ (primary_at-is rest)
-    (either (is_index_word word) _ _ (add_index_at-is rest) (add_column_at-is (after_column (word ∷ rest))))))
+    (either (is_index_word word) _ _ (add_index_at-is rest) (add_column_at-is version (after_column (word ∷ rest))))))
 
 drop_at-is : (ws : List Token) → AreClauses (drop_at ws)
 unfolding drop_at
@@ -138,22 +138,22 @@ rename_at-is (word ∷ rest) =
     (either (is_keyword word (codes "TO") || is_keyword word (codes "AS")) _ _ (refused refusals.RenameTable)
     (either (is_index_word word) _ _ (refused refusals.Scope) (refused refusals.Syntax)))
 
-clause_at-is : (ws : List Token) → AreClauses (clause_at ws)
+clause_at-is : (version : ℕ) (ws : List Token) → AreClauses (clause_at version ws)
 unfolding clause_at
-clause_at-is [] = refused refusals.Syntax
-clause_at-is (word ∷ rest) =
-    either (is_keyword word (codes "ADD")) _ _ (add_at-is rest)
+clause_at-is version [] = refused refusals.Syntax
+clause_at-is version (word ∷ rest) =
+    either (is_keyword word (codes "ADD")) _ _ (add_at-is version rest)
     (either (is_keyword word (codes "DROP")) _ _ (drop_at-is rest)
     (either (is_keyword word (codes "RENAME")) _ _ (rename_at-is rest)
-    (either (is_keyword word (codes "CHANGE")) _ _ (change_at-is rest)
-    (either (is_keyword word (codes "MODIFY")) _ _ (modify_at-is rest)
+    (either (is_keyword word (codes "CHANGE")) _ _ (change_at-is version rest)
+    (either (is_keyword word (codes "MODIFY")) _ _ (modify_at-is version rest)
     (either (same_sign word (codes ",")) _ _ (refused refusals.Syntax) (refused refusals.Scope))))))
 
 -- ---- the whole text
 
-list_at-are : (ws : List Token) → AllRead (AllByRecursion IsClause) (list_at ws)
+list_at-are : (version : ℕ) (ws : List Token) → AllRead (AllByRecursion IsClause) (list_at version ws)
 unfolding list_at
-list_at-are ws x e = (listed-all IsClause clause_at refusals.Syntax clause_at-is (length ws) ws x e).0
+list_at-are version ws x e = (listed-all IsClause (clause_at version) refusals.Syntax (clause_at-is version) (length ws) ws x e).0
 
 pub alone-is : (clauses all : List Clause) (ws : List Token) → alone clauses ws ≡ Ok all → clauses ≡ all
 alone-is clauses all [] e = cc
@@ -163,16 +163,16 @@ pub faultless-is : (b : Bool) (clauses all : List Clause) → unless_faulty b cl
 faultless-is true clauses all e = absurd cc
 faultless-is false clauses all e = cc
 
-clauses_at-are : (ws : List Token) (clauses : List Clause) → clauses_at ws ≡ Ok clauses → AllByRecursion IsClause clauses
+clauses_at-are : (version : ℕ) (ws : List Token) (clauses : List Clause) → clauses_at version ws ≡ Ok clauses → AllByRecursion IsClause clauses
 unfolding clauses_at
-clauses_at-are ws clauses e =
-    let a = bind_ok (list_at ws) (λ clauses. alone clauses.0 clauses.1) clauses e in
-    subst (AllByRecursion IsClause) (alone-is a.0.0 clauses a.0.1 a.2) (list_at-are ws a.0 a.1)
+clauses_at-are version ws clauses e =
+    let a = bind_ok (list_at version ws) (λ clauses. alone clauses.0 clauses.1) clauses e in
+    subst (AllByRecursion IsClause) (alone-is a.0.0 clauses a.0.1 a.2) (list_at-are version ws a.0 a.1)
 
 pub read-clauses : ReadClausesWriteKinds
 unfolding read
-read-clauses table text clauses e =
+read-clauses version table text clauses e =
     let words = text_words text in
-    let a = bind_ok (front_at table words.words) (λ rest. clauses_at rest >>= λ clauses. unless_faulty words.is_faulty clauses) clauses e in
-    let b = bind_ok (clauses_at a.0) (λ clauses. unless_faulty words.is_faulty clauses) clauses a.2 in
-    subst (AllByRecursion IsClause) (faultless-is words.is_faulty b.0 clauses b.2) (clauses_at-are a.0 b.0 b.1)
+    let a = bind_ok (front_at table words.words) (λ rest. clauses_at version rest >>= λ clauses. unless_faulty words.is_faulty clauses) clauses e in
+    let b = bind_ok (clauses_at version a.0) (λ clauses. unless_faulty words.is_faulty clauses) clauses a.2 in
+    subst (AllByRecursion IsClause) (faultless-is words.is_faulty b.0 clauses b.2) (clauses_at-are version a.0 b.0 b.1)

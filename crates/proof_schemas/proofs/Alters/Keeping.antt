@@ -25,7 +25,7 @@ use Rattle.sql_change.specs.declared.code.AlterCode.TheVariants as codes
 use Rattle.sql_change.specs.declared.places.PlaceChange.{PlaceChange}
 use Rattle.sql_change.specs.declared.so_far.AlteredSoFar.{AlteredSoFar}
 use Rattle.sql_change.specs.AlteredSchema.{step}
-use Rattle.sql_change.specs.ClauseResults.{add_reasons, added, dropped_at, dropped, rename_reasons, with_name, renamed_in, renamed_at, renamed, change_reasons, changed_nullable, changed_in, is_unapproved, unless_unapproved, changed_column, changed_at, changed}
+use Rattle.sql_change.specs.ClauseResults.{add_reasons, added, dropped_at, dropped, rename_reasons, with_name, renamed_in, renamed_at, renamed, change_reasons, changed_nullable, changed_in, is_unapproved, unless_unapproved, changed_column, changed_at, changed, breaks_counter}
 use Rattle.sql_change.specs.Columns.{column_place, has_column, column_named, is_in_keys, is_key_conversion, is_conversion, is_column_position, column_position_place, lacks_default, unless_lacking, column_of, fitting}
 use Rattle.sql_change.specs.IndexClauses.{key_names, index_name, are_columns, index_reasons, index_of, with_index, indexed_as, indexed, index_place, is_clustered, without_unique, without_index, unindexed_at, unindexed}
 use Rattle.sql_change.specs.Places.{has_places, keys_after, indexes_after}
@@ -57,9 +57,9 @@ pub record IsNew (written : NewColumn) (column : Column) : Type 0 where
 column_of-new : StoresAgain → (origin : Option ℕ) (written : NewColumn) (nullable : Bool) (column : Column) → is_kind written.kind ≡ true → column_of origin written nullable ≡ Ok column → IsNew written column
 unfolding column_of
 column_of-new again origin written nullable column kind e =
-    let b = bind_ok (default_or codes.Default (stored_default written.kind nullable written.default)) (λ default. unless_lacking (lacks_default origin nullable default) (made written.name written.kind nullable default)) column e in
-    let stores = default_stores again written.name written.kind nullable written.default b.0 (default_is codes.Default (stored_default written.kind nullable written.default) b.0 b.1) in
-    subst (IsNew written) (lacking-is (lacks_default origin nullable b.0) (made written.name written.kind nullable b.0) column b.2) (record { is = record { kind = kind; default = stores }; name = refl })
+    let b = bind_ok (default_or codes.Default (stored_default written.kind nullable written.default)) (λ default. unless_lacking (lacks_default origin nullable default) (made written.name written.kind nullable default written.auto)) column e in
+    let stores = default_stores again written.name written.kind nullable written.auto written.default b.0 (default_is codes.Default (stored_default written.kind nullable written.default) b.0 b.1) in
+    subst (IsNew written) (lacking-is (lacks_default origin nullable b.0) (made written.name written.kind nullable b.0 written.auto) column b.2) (record { is = record { kind = kind; default = stores }; name = refl })
 
 -- ---- indexes
 
@@ -123,7 +123,7 @@ renamed_in-good standing place column is other good = record {
 
 add-free : (columns : List Column) (written : NewColumn) (column_position : ColumnPosition) → first_reason (add_reasons columns written column_position) ≡ None → has_column columns written.name ≡ false
 add-free columns written column_position none =
-    let scope = leb 64 (length columns) || not (is_column_name written.name) in
+    let scope = leb 64 (length columns) || not (is_column_name written.name) || written.auto in
     let second = none_first (not (is_column_position columns column_position)) codes.UnknownName ((has_column columns written.name, codes.RepeatedName) ∷ (scope, codes.Scope) ∷ []) none in
     (none_first (has_column columns written.name) codes.RepeatedName ((scope, codes.Scope) ∷ []) second.1).0
 
@@ -158,7 +158,7 @@ renamed_at-good approve standing next new (Some found) here good e =
 change-free : (schema : Schema) (place : ℕ) (column : Column) (written : NewColumn) (column_position : ColumnPosition) → first_reason (change_reasons schema place column written column_position) ≡ None → has_column (remove schema.columns place) written.name ≡ false
 change-free schema place column written column_position none =
     let converted = is_in_keys schema.uniques place && not (is_key_conversion column.kind written.kind) in
-    let scope = not (is_conversion column.kind written.kind) || not (is_column_name written.name) in
+    let scope = not (is_conversion column.kind written.kind) || not (is_column_name written.name) || breaks_counter column written in
     let second = none_first (not (is_column_position (remove schema.columns place) column_position)) codes.UnknownName ((has_column (remove schema.columns place) written.name, codes.RepeatedName) ∷ (converted, codes.KeyColumnConverted) ∷ (scope, codes.Scope) ∷ []) none in
     (none_first (has_column (remove schema.columns place) written.name) codes.RepeatedName ((converted, codes.KeyColumnConverted) ∷ (scope, codes.Scope) ∷ []) second.1).0
 

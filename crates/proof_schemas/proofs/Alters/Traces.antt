@@ -6,6 +6,7 @@ use Rattle.base_values.specs.declared.kind.Kind.TheVariants.{Int, VarChar, VarBi
 use Rattle.base_values.specs.declared.gho_schema.schema.Column.{Column}
 use Rattle.base_values.specs.declared.gho_schema.schema.Index.{Index}
 use Rattle.base_values.specs.declared.gho_schema.schema.Schema.{Schema}
+use Rattle.base_values.specs.GhoSchema.AutoIncrement.{is_widest}
 use Rattle.sql_change.specs.declared.places.PlaceChange.{PlaceChange}
 use Rattle.sql_change.specs.declared.places.PlaceChange.TheVariants.{Added, Dropped, Moved}
 use Rattle.sql_change.specs.declared.so_far.AlteredSoFar.{AlteredSoFar}
@@ -17,6 +18,10 @@ use Rattle.proof_schemas.proofs.Alters.Places.{get-opened, get-closed, get-moved
 use Rattle.std.proofs.lemmas.Bool.{or_parts}
 use Rattle.base_values.proofs.SchemaRules.Steps.{some_is}
 
+-- what an AUTO_INCREMENT column stays: no BIGINT UNSIGNED, and without a default where it may not be null
+abbrev pub Counts : Column → Type 0
+Counts column = (is_widest column.kind ≡ false) × (column.nullable ≡ false → column.default ≡ None)
+
 -- a place of a column that was there, and the place where it was
 pub record SamePlace (old : Schema) (standing : AlteredSoFar) (place before : ℕ) : Type 0 where
   pub origin : slice_get standing.origins place ≡ Some (Some before)
@@ -25,6 +30,8 @@ pub record SamePlace (old : Schema) (standing : AlteredSoFar) (place before : �
   pub source : Column
   pub there : slice_get old.columns before ≡ Some source
   pub sort : is_key_conversion source.kind column.kind ≡ true
+  pub auto : column.auto ≡ source.auto
+  pub counts : source.auto ≡ true → Counts source → Counts column
 
 abbrev pub SamePlaces : Schema → AlteredSoFar → List ℕ → List ℕ → Type 0
 SamePlaces old standing [] [] = Unit {0}
@@ -160,6 +167,8 @@ module _ (old : Schema) (standing : AlteredSoFar) (at : ℕ) (column : Column) (
       source = same.source;
       there = same.there;
       sort = same.sort;
+      auto = same.auto;
+      counts = same.counts;
     };
   }
 
@@ -184,6 +193,8 @@ module _ (old : Schema) (standing : AlteredSoFar) (at : ℕ) where
       source = same.source;
       there = same.there;
       sort = same.sort;
+      auto = same.auto;
+      counts = same.counts;
     };
   }
 
@@ -195,7 +206,7 @@ move-after : (from to place : ℕ) (b : Bool) → eqb place from ≡ b → place
 unfolding place_after
 move-after from to place b e = rw e refl
 
-module _ (old : Schema) (standing : AlteredSoFar) (from to : ℕ) (found new : Column) (stands : Stands standing) (lt : from < length standing.schema.columns) (within : to < length standing.schema.columns) (here : slice_get standing.schema.columns from ≡ Some found) where
+module _ (old : Schema) (standing : AlteredSoFar) (from to : ℕ) (found new : Column) (stands : Stands standing) (lt : from < length standing.schema.columns) (within : to < length standing.schema.columns) (here : slice_get standing.schema.columns from ≡ Some found) (auto_kept : new.auto ≡ found.auto) (counter_kept : found.auto ≡ true → Counts new) where
   each-moved-by : (place before : ℕ) (b : Bool) → eqb place from ≡ b → IsKept from found.kind new.kind place → SamePlace old standing place before → After (Moved from to) old (moved_to standing from to new) place before
   unfolding moved_to with_columns
   each-moved-by place before true e kept same =
@@ -212,6 +223,8 @@ module _ (old : Schema) (standing : AlteredSoFar) (from to : ℕ) (found new : C
           source = same.source;
           there = same.there;
           sort = conversions same.source.kind found.kind new.kind (subst (λ (c : Column). is_key_conversion same.source.kind c.kind ≡ true) column same.sort) (kept e);
+          auto = auto_kept ∙ ap (λ (c : Column). c.auto) (sym column) ∙ same.auto;
+          counts = λ on source. counter_kept (ap (λ (c : Column). c.auto) (sym column) ∙ same.auto ∙ on);
         };
       }
   each-moved-by place before false e kept same = record {
@@ -224,6 +237,8 @@ module _ (old : Schema) (standing : AlteredSoFar) (from to : ℕ) (found new : C
       source = same.source;
       there = same.there;
       sort = same.sort;
+      auto = same.auto;
+      counts = same.counts;
     };
   }
 

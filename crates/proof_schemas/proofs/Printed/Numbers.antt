@@ -1,12 +1,8 @@
 -- What is printed of a number is read as that number.
-use Rattle.std.proofs.Common.{◌≡◌, ℕ, suc, ◌^◌, ◌<◌, true, Some, ap, ◌∙◌, arith, lit<}
+use Rattle.std.proofs.Common.{◌≡◌, ℕ, suc, ◌^◌, ◌<◌, Some, ap, ◌∙◌}
 use Rattle.std.specs.Prelude.{ℤ, pos, negsuc, neg_ℤ, unsigned_abs}
 use Rattle.std.specs.Fmt.{decimal, signed_decimal}
-use Rattle.std.specs.Str.{all_ascii_digits}
-use Rattle.std.specs.Str.Parse.{digits_value}
-use Rattle.std.proofs.lemmas.Fmt.{decimal_is_IsNumeral_wide, length-decimal-le_wide}
-use Rattle.std.proofs.lemmas.Str.Parse.{IsNumeralModel, numerals_by_value, tells_all_ascii_digits}
-use Rattle.sql_words.specs.Meanings.{number_value, AreDigits}
+use Rattle.sql_words.specs.Meanings.{number_value}
 use Rattle.sql_words.proofs.NumberWords.{number_value-unsigned, number_value-minus}
 use Rattle.sql_grammar.proofs.WordValues.ReadBack.{decimal_digits, decimal_value}
 

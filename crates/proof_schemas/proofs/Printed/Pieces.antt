@@ -21,7 +21,7 @@ use Rattle.sql_words.proofs.Reprinted.{front_at-printed_text, front_at-printed_b
 use Rattle.sql_grammar.specs.declared.token.Token.{Token}
 use Rattle.sql_show.specs.SchemaText.{quoted, integer_name, printed_kind, written_default, printed_default, column_line, column_name, key_names, key_columns, unique_front, index_front}
 use Rattle.proof_schemas.specs.Printed.Laws.{CanQuote, CanQuoteKey, CanPrintKind, CanPrintValue, CanPrintDefault, CanPrintColumn}
-use Rattle.proof_schemas.specs.Printed.Words.{keyword, name_word, sign_word, number_word, length_words, kind_words, null_words, written_words, default_words, column_words, names_words, places_words, unique_words, index_words}
+use Rattle.proof_schemas.specs.Printed.Words.{keyword, name_word, sign_word, number_word, length_words, kind_words, null_words, written_words, default_words, auto_words, column_words, names_words, places_words, unique_words, index_words}
 use Rattle.proof_schemas.proofs.Printed.Lexing.{Lexes, lex-gap, lex-word, IsEnd, Writes, Closes, Begins, closes-writes, writes-then, closes-then, closes-both, writes-closed, closes-name}
 use Rattle.proof_schemas.proofs.Printed.Numbers.{number_value-decimal, number_value-printed}
 
@@ -62,6 +62,11 @@ module _ (place : ℕ) where
   unfolding front_at
   front-null [] end = refl
   front-null (c ∷ rest) end = rw end.0 refl
+
+  front-auto : (rest : List ℕ) → IsEnd rest → front_at place (codes "AUTO_INCREMENT" ++ rest) ≡ Ok (Found class.Name 14)
+  unfolding front_at
+  front-auto [] end = refl
+  front-auto (c ∷ rest) end = rw end.0 refl
 
 -- ---- words that a blank or a sign follows
 
@@ -143,7 +148,7 @@ some_length : (bytes : List ℕ) (number : ℤ) → number_value bytes ≡ Some 
 some_length [] number e = absurd cc
 some_length (b ∷ bytes) number e = omega arith
 
-writes-number : (bytes : List ℕ) (number : ℤ) → number_value bytes ≡ Some number → Writes bytes (number_word bytes ∷ [])
+pub writes-number : (bytes : List ℕ) (number : ℤ) → number_value bytes ≡ Some number → Writes bytes (number_word bytes ∷ [])
 writes-number bytes number e rest ts end lex = lex-word class.Number bytes rest ts (some_length bytes number e) (λ place. front_at-number_value place bytes rest number e (end-digit rest end)) lex
 
 -- ---- kinds
@@ -236,6 +241,14 @@ begins-default : (default : Option Value) → Begins (printed_default default)
 begins-default None = begins-nothing
 begins-default (Some value) = begins-value value
 
+writes-auto : (auto : Bool) → Writes (cond auto (codes " AUTO_INCREMENT") []) (auto_words auto)
+writes-auto true rest ts end lex = lex-gap 32 (codes "AUTO_INCREMENT" ++ rest) _ refl (lex-word class.Name (codes "AUTO_INCREMENT") rest ts (omega arith) (λ place. front-auto place rest end) lex)
+writes-auto false rest ts end lex = lex
+
+begins-auto : (auto : Bool) → Begins (cond auto (codes " AUTO_INCREMENT") [])
+begins-auto true rest end = (refl, refl, refl)
+begins-auto false rest end = end
+
 -- ---- a column's line
 
 pub writes-column : (column : Column) → CanPrintColumn column → Writes (column_line column) (column_words column)
@@ -246,7 +259,8 @@ writes-column column can =
     let name = closes-both (quoted column.name) (codes " ") (name_word column.name ∷ []) [] (closes-name column.name can.0) closes-blank in
     let kind = closes-then (quoted column.name ++ codes " ") (printed_kind column.kind) (name_word column.name ∷ []) (kind_words column.kind) name (writes-kind column.kind can.1) in
     let to_null = writes-then (quoted column.name ++ codes " " ++ printed_kind column.kind) null (name_word column.name ∷ kind_words column.kind) (null_words column.nullable) kind (begins-null column.nullable) (writes-null column.nullable) in
-    writes-then (quoted column.name ++ codes " " ++ printed_kind column.kind ++ null) default (name_word column.name ∷ kind_words column.kind ++ null_words column.nullable) (default_words column.default) to_null (begins-default column.default) (writes-default column.default can.2)
+    let to_default = writes-then (quoted column.name ++ codes " " ++ printed_kind column.kind ++ null) default (name_word column.name ∷ kind_words column.kind ++ null_words column.nullable) (default_words column.default) to_null (begins-default column.default) (writes-default column.default can.2) in
+    writes-then (quoted column.name ++ codes " " ++ printed_kind column.kind ++ null ++ default) (cond column.auto (codes " AUTO_INCREMENT") []) (name_word column.name ∷ kind_words column.kind ++ null_words column.nullable ++ default_words column.default) (auto_words column.auto) to_default (begins-auto column.auto) (writes-auto column.auto)
 
 -- ---- keys
 

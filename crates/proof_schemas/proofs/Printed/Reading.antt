@@ -18,14 +18,15 @@ use Rattle.base_values.specs.declared.gho_schema.schema.Column.{Column}
 use Rattle.base_values.specs.GhoSchema.Names.{same_name}
 use Rattle.sql_words.specs.declared.word.WordClass.TheVariants as class
 use Rattle.sql_words.proofs.Reprinted.{text_value-printed_text, bytes_value-printed_bytes}
-use Rattle.sql_grammar.specs.declared.attributes.Attribute.TheVariants.{Nullable, Default}
+use Rattle.sql_grammar.specs.declared.attributes.Attribute.TheVariants.{Nullable, Default, AutoIncrement}
 use Rattle.sql_grammar.specs.declared.code.SchemaCode.{SchemaCode}
 use Rattle.sql_grammar.specs.declared.kinds.KindWord.TheVariants as kinds
 use Rattle.sql_grammar.specs.declared.token.Token.{Token}
-use Rattle.sql_grammar.specs.Attributes.{attribute_at}
+use Rattle.sql_grammar.specs.Attributes.{passed_at, attribute_at}
 use Rattle.sql_grammar.specs.Listed.{gathered}
 use Rattle.sql_grammar.specs.Kinds.{kind_word, width_at, length_at, kind_after, kind_at}
 use Rattle.sql_grammar.specs.Tokens.{is_keyword, same_sign}
+use Rattle.sql_grammar.specs.Versions.{has_counters}
 use Rattle.sql_create.specs.declared.written.ColumnAttribute.TheVariants.{Plain}
 use Rattle.sql_create.specs.declared.written.ColumnAttributes.{ColumnAttributes}
 use Rattle.sql_create.specs.Columns.{unwritten_column, with_column_attribute, column_attribute_at, column_attributes_at, column_at}
@@ -33,8 +34,8 @@ use Rattle.base_values.specs.SchemaRules.Valid.{is_kind}
 use Rattle.proof_schemas.proofs.Printed.Numbers.{number_value-decimal, number_value-printed}
 use Rattle.sql_grammar.specs.Pieces.{after_name, name_at, after_sign, after_keyword, sign_at, number_at, keyword_at, literal_of, literal_at}
 use Rattle.sql_show.specs.SchemaText.{quoted, integer_name}
-use Rattle.proof_schemas.specs.Printed.Laws.{CanQuote, CanPrintKind, CanPrintDefault, CanPrintColumn, default_read, line_of, PrintedColumnsAreRead}
-use Rattle.proof_schemas.specs.Printed.Words.{keyword, name_word, sign_word, number_word, kind_words, null_words, default_words, column_words}
+use Rattle.proof_schemas.specs.Printed.Laws.{CanQuote, CanPrintKind, CanPrintDefault, CanPrintColumn, MayCountIn, default_read, line_of, PrintedColumnsAreRead}
+use Rattle.proof_schemas.specs.Printed.Words.{keyword, name_word, sign_word, number_word, kind_words, null_words, default_words, auto_words, column_words}
 
 -- ---- names
 
@@ -136,25 +137,39 @@ abbrev with_default : ColumnAttributes → Option Value → ColumnAttributes
 with_default so_far None = so_far
 with_default so_far (Some value) = with_column_attribute so_far (Plain (Default value))
 
-abbrev gather : ℕ → ColumnAttributes → List Token → Result (ColumnAttributes × List Token) SchemaCode
-gather fuel so_far words = gathered column_attribute_at with_column_attribute fuel so_far words
+abbrev with_auto : ColumnAttributes → Bool → ColumnAttributes
+with_auto so_far true = with_column_attribute so_far (Plain AutoIncrement)
+with_auto so_far false = so_far
 
-module _ (sign : List ℕ) (rest : List Token) where
+abbrev gather : ℕ → ℕ → ColumnAttributes → List Token → Result (ColumnAttributes × List Token) SchemaCode
+gather version fuel so_far words = gathered (column_attribute_at version) with_column_attribute fuel so_far words
+
+module _ (version : ℕ) (sign : List ℕ) (rest : List Token) where
   abbrev end_words : List Token
   end_words = sign_word sign ∷ rest
 
-  stop : (fuel : ℕ) (so_far : ColumnAttributes) → 0 < fuel → gather fuel so_far end_words ≡ Ok (so_far, end_words)
-  unfolding gathered column_attribute_at attribute_at is_keyword
+  stop : (fuel : ℕ) (so_far : ColumnAttributes) → 0 < fuel → gather version fuel so_far end_words ≡ Ok (so_far, end_words)
+  unfolding gathered column_attribute_at attribute_at passed_at is_keyword
   stop zero so_far lt = absurd (omega arith)
   stop (suc fuel) so_far lt = refl
 
-  default-step : (fuel : ℕ) (so_far : ColumnAttributes) (word : Token) (value : Value) → literal_of word ≡ Some value → gather (suc fuel) so_far (keyword (codes "DEFAULT") ∷ word ∷ end_words) ≡ gather fuel (with_default so_far (Some value)) end_words
-  unfolding gathered column_attribute_at attribute_at is_keyword same_name literal_at
-  default-step fuel so_far word value is = rw is refl
+  auto-step : (fuel : ℕ) (so_far : ColumnAttributes) → has_counters version ≡ true → gather version (suc fuel) so_far (keyword (codes "AUTO_INCREMENT") ∷ end_words) ≡ gather version fuel (with_auto so_far true) end_words
+  unfolding gathered column_attribute_at attribute_at is_keyword same_name
+  auto-step fuel so_far may = rw may refl
 
-  default-stop : (fuel : ℕ) (so_far : ColumnAttributes) (word : Token) (value : Value) → literal_of word ≡ Some value → 3 ≤ fuel → gather fuel so_far (keyword (codes "DEFAULT") ∷ word ∷ end_words) ≡ Ok (with_default so_far (Some value), end_words)
-  default-stop zero so_far word value is le = absurd (omega arith)
-  default-stop (suc fuel) so_far word value is le = default-step fuel so_far word value is ∙ stop fuel (with_default so_far (Some value)) (omega arith)
+  auto-gather : (auto : Bool) (fuel : ℕ) (so_far : ColumnAttributes) → MayCountIn version auto → length (auto_words auto ++ end_words) ≤ fuel → gather version fuel so_far (auto_words auto ++ end_words) ≡ Ok (with_auto so_far auto, end_words)
+  auto-gather false fuel so_far may le = stop fuel so_far (omega arith)
+  auto-gather true zero so_far may le = absurd (omega arith)
+  auto-gather true (suc fuel) so_far may le = auto-step fuel so_far (may refl) ∙ stop fuel (with_auto so_far true) (omega arith)
+
+  default-step : (fuel : ℕ) (so_far : ColumnAttributes) (word : Token) (value : Value) (tail : List Token) → literal_of word ≡ Some value → gather version (suc fuel) so_far (keyword (codes "DEFAULT") ∷ word ∷ tail) ≡ gather version fuel (with_default so_far (Some value)) tail
+  unfolding gathered column_attribute_at attribute_at is_keyword same_name literal_at
+  default-step fuel so_far word value tail is = rw is refl
+
+  default-stop : (auto : Bool) (fuel : ℕ) (so_far : ColumnAttributes) (word : Token) (value : Value) → MayCountIn version auto → literal_of word ≡ Some value → length (keyword (codes "DEFAULT") ∷ word ∷ (auto_words auto ++ end_words)) ≤ fuel
+      → gather version fuel so_far (keyword (codes "DEFAULT") ∷ word ∷ (auto_words auto ++ end_words)) ≡ Ok (with_auto (with_default so_far (Some value)) auto, end_words)
+  default-stop auto zero so_far word value may is le = absurd (omega arith)
+  default-stop auto (suc fuel) so_far word value may is le = default-step fuel so_far word value (auto_words auto ++ end_words) is ∙ auto-gather auto fuel (with_default so_far (Some value)) may (omega arith)
 
   num-literal : (number : ℤ) → unsigned_abs number < 10 ^ 38 → literal_of (number_word (printed (Num number))) ≡ Some (Num number)
   unfolding is_keyword printed
@@ -168,69 +183,85 @@ module _ (sign : List ℕ) (rest : List Token) where
   unfolding is_keyword printed
   bytes-literal bytes small = ap (option_map Blob) (bytes_value-printed_bytes bytes small)
 
-  default-gather : (default : Option Value) (fuel : ℕ) (so_far : ColumnAttributes) → CanPrintDefault default → length (default_words default ++ end_words) ≤ fuel → gather fuel so_far (default_words default ++ end_words) ≡ Ok (with_default so_far (default_read default), end_words)
-  default-gather None fuel so_far can le = stop fuel so_far (omega arith)
-  default-gather (Some Null) fuel so_far can le = stop fuel so_far (omega arith)
-  default-gather (Some (Num number)) fuel so_far can le = default-stop fuel so_far (number_word (printed (Num number))) (Num number) (num-literal number can) (omega arith)
-  default-gather (Some (Text text)) fuel so_far can le = default-stop fuel so_far (record { class = class.Text; text = printed (Text text) }) (Text text) (text-literal text) (omega arith)
-  default-gather (Some (Blob bytes)) fuel so_far can le = default-stop fuel so_far (record { class = class.Bytes; text = printed (Blob bytes) }) (Blob bytes) (bytes-literal bytes can) (omega arith)
+  default-gather : (default : Option Value) (auto : Bool) (fuel : ℕ) (so_far : ColumnAttributes) → CanPrintDefault default → MayCountIn version auto → length (default_words default ++ (auto_words auto ++ end_words)) ≤ fuel
+      → gather version fuel so_far (default_words default ++ (auto_words auto ++ end_words)) ≡ Ok (with_auto (with_default so_far (default_read default)) auto, end_words)
+  default-gather None auto fuel so_far can may le = auto-gather auto fuel so_far may le
+  default-gather (Some Null) auto fuel so_far can may le = auto-gather auto fuel so_far may le
+  default-gather (Some (Num number)) auto fuel so_far can may le = default-stop auto fuel so_far (number_word (printed (Num number))) (Num number) may (num-literal number can) le
+  default-gather (Some (Text text)) auto fuel so_far can may le = default-stop auto fuel so_far (record { class = class.Text; text = printed (Text text) }) (Text text) may (text-literal text) le
+  default-gather (Some (Blob bytes)) auto fuel so_far can may le = default-stop auto fuel so_far (record { class = class.Bytes; text = printed (Blob bytes) }) (Blob bytes) may (bytes-literal bytes can) le
 
-  abbrev attributes_of : Bool → Option Value → ColumnAttributes
-  attributes_of nullable default = record { plain = record { nullable = cond nullable None (Some false); default = default }; is_primary = false; is_unique = false }
+  abbrev attributes_of : Bool → Option Value → Bool → ColumnAttributes
+  attributes_of nullable default auto = record { plain = record { nullable = cond nullable None (Some false); default = default; auto = auto }; is_primary = false; is_unique = false }
 
   abbrev not_null : ColumnAttributes
   not_null = with_column_attribute unwritten_column (Plain (Nullable false))
 
-  null-step : (fuel : ℕ) (words : List Token) → gather (suc fuel) unwritten_column (keyword (codes "NOT") ∷ keyword (codes "NULL") ∷ words) ≡ gather fuel not_null words
+  null-step : (fuel : ℕ) (words : List Token) → gather version (suc fuel) unwritten_column (keyword (codes "NOT") ∷ keyword (codes "NULL") ∷ words) ≡ gather version fuel not_null words
   unfolding gathered column_attribute_at attribute_at is_keyword same_name keyword_at after_keyword
   null-step fuel words = refl
 
-  shape-null : (default : Option Value) → with_default unwritten_column default ≡ attributes_of true default
-  shape-null None = refl
-  shape-null (Some value) = refl
+  shape-null : (default : Option Value) (auto : Bool) → with_auto (with_default unwritten_column default) auto ≡ attributes_of true default auto
+  shape-null None true = refl
+  shape-null None false = refl
+  shape-null (Some value) true = refl
+  shape-null (Some value) false = refl
 
-  shape-not : (default : Option Value) → with_default not_null default ≡ attributes_of false default
-  shape-not None = refl
-  shape-not (Some value) = refl
+  shape-not : (default : Option Value) (auto : Bool) → with_auto (with_default not_null default) auto ≡ attributes_of false default auto
+  shape-not None true = refl
+  shape-not None false = refl
+  shape-not (Some value) true = refl
+  shape-not (Some value) false = refl
 
   abbrev read_as : ColumnAttributes → Result (ColumnAttributes × List Token) SchemaCode
   read_as attributes = Ok (attributes, end_words)
 
-  attributes-read : (nullable : Bool) (default : Option Value) → CanPrintDefault default → column_attributes_at (null_words nullable ++ (default_words default ++ end_words)) ≡ Ok (attributes_of nullable (default_read default), end_words)
+  attributes-read : (nullable : Bool) (default : Option Value) (auto : Bool) → CanPrintDefault default → MayCountIn version auto
+      → column_attributes_at version (null_words nullable ++ (default_words default ++ (auto_words auto ++ end_words))) ≡ Ok (attributes_of nullable (default_read default) auto, end_words)
   unfolding column_attributes_at
-  attributes-read true default can = default-gather default (length (default_words default ++ end_words)) unwritten_column can (omega arith) ∙ ap read_as (shape-null (default_read default))
-  attributes-read false default can =
-      let words = default_words default ++ end_words in
-      null-step (suc (length words)) words ∙ default-gather default (suc (length words)) not_null can (omega arith) ∙ ap read_as (shape-not (default_read default))
+  attributes-read true default auto can may =
+      let words = default_words default ++ (auto_words auto ++ end_words) in
+      default-gather default auto (length words) unwritten_column can may (omega arith) ∙ ap read_as (shape-null (default_read default) auto)
+  attributes-read false default auto can may =
+      let words = default_words default ++ (auto_words auto ++ end_words) in
+      null-step (suc (length words)) words ∙ default-gather default auto (suc (length words)) not_null can may (omega arith) ∙ ap read_as (shape-not (default_read default) auto)
 
   -- ---- a column
 
-  default-ends : (default : Option Value) → bytes_eq sign (codes "(") ≡ false → EndsKind (default_words default ++ end_words)
+  auto-ends : (auto : Bool) → bytes_eq sign (codes "(") ≡ false → EndsKind (auto_words auto ++ end_words)
   unfolding after_sign after_keyword is_keyword same_sign same_name
-  default-ends None other = record { no_width = rw other refl; unsigned = refl }
-  default-ends (Some Null) other = record { no_width = rw other refl; unsigned = refl }
-  default-ends (Some (Num number)) other = record { no_width = refl; unsigned = refl }
-  default-ends (Some (Text text)) other = record { no_width = refl; unsigned = refl }
-  default-ends (Some (Blob bytes)) other = record { no_width = refl; unsigned = refl }
+  auto-ends true other = record { no_width = refl; unsigned = refl }
+  auto-ends false other = record { no_width = rw other refl; unsigned = refl }
+
+  default-ends : (default : Option Value) (auto : Bool) → bytes_eq sign (codes "(") ≡ false → EndsKind (default_words default ++ (auto_words auto ++ end_words))
+  unfolding after_sign after_keyword is_keyword same_sign same_name
+  default-ends None auto other = auto-ends auto other
+  default-ends (Some Null) auto other = auto-ends auto other
+  default-ends (Some (Num number)) auto other = record { no_width = refl; unsigned = refl }
+  default-ends (Some (Text text)) auto other = record { no_width = refl; unsigned = refl }
+  default-ends (Some (Blob bytes)) auto other = record { no_width = refl; unsigned = refl }
 
   null-ends : (nullable : Bool) (words : List Token) → EndsKind words → EndsKind (null_words nullable ++ words)
   unfolding after_sign after_keyword is_keyword same_sign same_name
   null-ends true words ends = ends
   null-ends false words ends = record { no_width = refl; unsigned = refl }
 
-  column-parts : (column : Column) → CanPrintColumn column → is_kind column.kind ≡ true → bytes_eq sign (codes "(") ≡ false
-      → column_at (name_word column.name ∷ (kind_words column.kind ++ (null_words column.nullable ++ (default_words column.default ++ end_words)))) ≡ Ok (line_of column, end_words)
+  column-parts : (column : Column) → CanPrintColumn column → MayCountIn version column.auto → is_kind column.kind ≡ true → bytes_eq sign (codes "(") ≡ false
+      → column_at version (name_word column.name ∷ (kind_words column.kind ++ (null_words column.nullable ++ (default_words column.default ++ (auto_words column.auto ++ end_words))))) ≡ Ok (line_of column, end_words)
   unfolding column_at
-  column-parts column can is other =
-      let tail = null_words column.nullable ++ (default_words column.default ++ end_words) in
-      let ends = null-ends column.nullable (default_words column.default ++ end_words) (default-ends column.default other) in
-      rw (name-read column.name (kind_words column.kind ++ tail) can.0, kind-read column.kind tail is can.1 ends, attributes-read column.nullable column.default can.2) refl
+  column-parts column can may is other =
+      let default = default_words column.default ++ (auto_words column.auto ++ end_words) in
+      let tail = null_words column.nullable ++ default in
+      let ends = null-ends column.nullable default (default-ends column.default column.auto other) in
+      rw (name-read column.name (kind_words column.kind ++ tail) can.0, kind-read column.kind tail is can.1 ends, attributes-read column.nullable column.default column.auto can.2 may) refl
 
 pub column-read : PrintedColumnsAreRead
-column-read column sign rest can is other =
+column-read version column sign rest can may is other =
     let front : List Token = name_word column.name ∷ kind_words column.kind in
     let null = null_words column.nullable in
     let default = default_words column.default in
+    let auto = auto_words column.auto in
     let words : List Token = sign_word sign ∷ rest in
-    let apart : column_words column ++ words ≡ front ++ (null ++ (default ++ words)) = append_assoc (front ++ null) default words ∙ append_assoc front null (default ++ words) in
-    ap column_at apart ∙ column-parts sign rest column can is other
+    let apart : column_words column ++ words ≡ front ++ (null ++ (default ++ (auto ++ words))) =
+    append_assoc (front ++ null ++ default) auto words ∙ append_assoc (front ++ null) default (auto ++ words) ∙ append_assoc front null (default ++ (auto ++ words)) in
+    ap (column_at version) apart ∙ column-parts version sign rest column can may is other

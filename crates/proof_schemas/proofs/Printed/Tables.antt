@@ -1,5 +1,6 @@
 -- The words of a schema's text.
-use Rattle.std.proofs.Common.{◌≡◌, ℕ, false, List, [], ◌∷◌, ◌++◌, Result, Ok, Err, refl, ap, subst, ◌∙◌, codes, map, arith, append_assoc, append-nil}
+use Rattle.std.proofs.Common.{◌≡◌, ℕ, false, List, [], ◌∷◌, ◌++◌, Option, Some, None, Result, Ok, Err, refl, ap, subst, ◌∙◌, codes, map, arith, append_assoc, append-nil}
+use Rattle.std.specs.Fmt.{decimal}
 use Rattle.std.specs.List.{flat_map, AllByRecursion}
 use Rattle.base_values.specs.declared.value.Value.TheVariants.{Text}
 use Rattle.base_values.specs.Literals.{printed}
@@ -13,11 +14,12 @@ use Rattle.sql_words.specs.Front.{front_at}
 use Rattle.sql_words.specs.Readings.{Reading, words_of}
 use Rattle.sql_grammar.specs.declared.token.Token.{Token}
 use Rattle.sql_grammar.specs.Tokens.{token_of, words_to, text_words}
-use Rattle.sql_show.specs.SchemaText.{quoted, column_line, key_columns, unique_front, unique_line, index_front, index_line, lines_of, joined, printed_comment, printed_schema}
-use Rattle.proof_schemas.specs.Printed.Laws.{CanQuoteKey, CanPrintColumn, CanPrint, PrintedSchemasHaveWords}
-use Rattle.proof_schemas.specs.Printed.Words.{keyword, name_word, sign_word, column_words, places_words, unique_words, index_words, lines_words, joined_words, comment_words, schema_words}
+use Rattle.sql_show.specs.SchemaText.{quoted, column_line, key_columns, unique_front, unique_line, index_front, index_line, lines_of, joined, printed_start, printed_comment, printed_schema}
+use Rattle.proof_schemas.specs.Printed.Laws.{CanQuoteKey, CanPrintColumn, CanPrintStart, CanPrint, PrintedSchemasHaveWords}
+use Rattle.proof_schemas.specs.Printed.Words.{keyword, name_word, sign_word, number_word, column_words, places_words, unique_words, index_words, lines_words, joined_words, start_words, comment_words, schema_words}
 use Rattle.proof_schemas.proofs.Printed.Lexing.{Lexes, lex-end, lex-gap, lex-word, IsEnd, Writes, Closes, Begins, closes-writes, writes-then, closes-then, closes-both, writes-closed, closes-name}
-use Rattle.proof_schemas.proofs.Printed.Pieces.{closes-close, closes-comma, closes-open, writes-column, writes-text, closes-key_columns, closes-unique_front, closes-index_front}
+use Rattle.proof_schemas.proofs.Printed.Numbers.{number_value-decimal}
+use Rattle.proof_schemas.proofs.Printed.Pieces.{closes-close, closes-comma, closes-open, writes-column, writes-number, writes-text, closes-key_columns, closes-unique_front, closes-index_front}
 
 -- ---- lines
 
@@ -107,6 +109,10 @@ module _ (place : ℕ) (rest : List ℕ) where
   unfolding front_at
   front-comment = refl
 
+  front-start : front_at place (codes "AUTO_INCREMENT" ++ 61 ∷ rest) ≡ Ok (Found class.Name 14)
+  unfolding front_at
+  front-start = refl
+
   front-equals : front_at place (61 ∷ rest) ≡ Ok (Found class.Sign 1)
   unfolding front_at
   front-equals = refl
@@ -127,6 +133,19 @@ closes-comment rest ts lex =
     lex-gap 32 (codes "COMMENT=" ++ rest) _ refl (lex-word class.Name (codes "COMMENT") (codes "=" ++ rest) _ (omega arith) (λ place. front-comment place rest)
     (lex-word class.Sign (codes "=") rest ts (omega arith) (λ place. front-equals place rest) lex))
 
+begins-comment : (comment : List ℕ) → Begins (printed_comment comment)
+begins-comment [] rest end = end
+begins-comment (byte ∷ bytes) rest end = (refl, refl, refl)
+
+closes-start : Closes (codes " AUTO_INCREMENT=") (keyword (codes "AUTO_INCREMENT") ∷ sign_word (codes "=") ∷ [])
+closes-start rest ts lex =
+    lex-gap 32 (codes "AUTO_INCREMENT=" ++ rest) _ refl (lex-word class.Name (codes "AUTO_INCREMENT") (codes "=" ++ rest) _ (omega arith) (λ place. front-start place rest)
+    (lex-word class.Sign (codes "=") rest ts (omega arith) (λ place. front-equals place rest) lex))
+
+writes-start : (start : Option ℕ) → CanPrintStart start → Writes (printed_start start) (start_words start)
+writes-start None can = λ rest ts end lex. lex
+writes-start (Some number) can = closes-then (codes " AUTO_INCREMENT=") (decimal number) (keyword (codes "AUTO_INCREMENT") ∷ sign_word (codes "=") ∷ []) (number_word (decimal number) ∷ []) closes-start (writes-number (decimal number) _ (number_value-decimal number can))
+
 writes-comments : (comment : List ℕ) → Writes (printed_comment comment) (comment_words comment)
 writes-comments [] = λ rest ts end lex. lex
 writes-comments (byte ∷ bytes) = closes-then (codes " COMMENT=") (printed (Text (byte ∷ bytes))) (keyword (codes "COMMENT") ∷ sign_word (codes "=") ∷ []) (record { class = class.Text; text = printed (Text (byte ∷ bytes)) } ∷ []) closes-comment (writes-text (byte ∷ bytes))
@@ -145,6 +164,8 @@ lexes-schema : (schema : Schema) → CanPrint schema → Lexes (printed_schema s
 unfolding printed_schema
 lexes-schema schema can =
     let comment = printed_comment schema.comment in
+    let start = printed_start schema.start in
+    let starts = start_words schema.start in
     let comments = comment_words schema.comment in
     let lines = joined (lines_of schema) in
     let body = joined_words (lines_words schema) in
@@ -160,11 +181,14 @@ lexes-schema schema can =
     closes-then open_text lines front body opened (writes-joined (lines_of schema) (lines_words schema) (all-lines schema can)) in
     let closed : Closes (open_text ++ lines ++ codes "\n)") (front ++ body ++ close) =
     writes-closed (open_text ++ lines) (codes "\n)") (front ++ body) close table stops-closing closes-closing in
-    let commented : Writes (open_text ++ lines ++ codes "\n)" ++ comment) (front ++ body ++ close ++ comments) =
-    closes-then (open_text ++ lines ++ codes "\n)") comment (front ++ body ++ close) comments closed (writes-comments schema.comment) in
-    let whole : Closes (open_text ++ lines ++ codes "\n)" ++ comment ++ codes "\n") (front ++ body ++ close ++ comments ++ []) =
-    writes-closed (open_text ++ lines ++ codes "\n)" ++ comment) (codes "\n") (front ++ body ++ close ++ comments) [] commented stops-line closes-line in
-    let same : front ++ body ++ close ++ comments ++ [] ≡ schema_words schema = append-nil (front ++ body ++ close ++ comments) ∙ append_assoc (front ++ body) close comments in
+    let begun : Writes (open_text ++ lines ++ codes "\n)" ++ start) (front ++ body ++ close ++ starts) =
+    closes-then (open_text ++ lines ++ codes "\n)") start (front ++ body ++ close) starts closed (writes-start schema.start can.start) in
+    let commented : Writes (open_text ++ lines ++ codes "\n)" ++ start ++ comment) (front ++ body ++ close ++ starts ++ comments) =
+    writes-then (open_text ++ lines ++ codes "\n)" ++ start) comment (front ++ body ++ close ++ starts) comments begun (begins-comment schema.comment) (writes-comments schema.comment) in
+    let whole : Closes (open_text ++ lines ++ codes "\n)" ++ start ++ comment ++ codes "\n") (front ++ body ++ close ++ starts ++ comments ++ []) =
+    writes-closed (open_text ++ lines ++ codes "\n)" ++ start ++ comment) (codes "\n") (front ++ body ++ close ++ starts ++ comments) [] commented stops-line closes-line in
+    let same : front ++ body ++ close ++ starts ++ comments ++ [] ≡ schema_words schema =
+    append-nil (front ++ body ++ close ++ starts ++ comments) ∙ append_assoc (front ++ body ++ close) starts comments ∙ append_assoc (front ++ body) close (starts ++ comments) in
     subst (λ (words : List Token). Lexes (printed_schema schema ++ []) (words ++ [])) same (whole [] [] lex-end)
 
 pub words-are : (text : List ℕ) (read : Result (List Reading) WordFault) (ws : List Reading) (ts : List Token) → read ≡ Ok ws → map token_of ws ≡ ts → words_to text read ≡ record { words = ts; is_faulty = false }

@@ -1,16 +1,13 @@
 -- Names that differ: each is found at its own place.
-use Rattle.std.proofs.Common.{◌≡◌, ℕ, zero, suc, ◌+◌, ◌<◌, true, false, not, ◌&&◌, ◌||◌, cond, List, [], ◌∷◌, ◌++◌, length, Option, Some, None, refl, sym, ap, subst, ◌∙◌, map, arith}
-use Rattle.std.specs.Prelude.{position}
-use Rattle.std.specs.Char.{to_ascii_lowercase}
-use Rattle.std.specs.List.{list_any, slice_get, prefix_len, position_or_len, AllByRecursion}
+use Rattle.std.proofs.Common.{◌≡◌, ℕ, zero, suc, ◌+◌, ◌<◌, true, false, not, ◌||◌, List, [], ◌∷◌, ◌++◌, length, Some, refl, sym, ap, subst, ◌∙◌, arith}
+use Rattle.std.specs.List.{list_any, slice_get, position_or_len, AllByRecursion}
 use Rattle.std.proofs.lemmas.Bool.{not-true, lt-ltb, and_parts, or_left, or_parts, or_right}
 use Rattle.std.proofs.lemmas.List.Folds.{list_any-append}
 use Rattle.std.proofs.lemmas.Option.{slice_get_within}
-use Rattle.std.proofs.lemmas.Slice.Eq.{bytes_eq-Decides}
 use Rattle.base_values.specs.GhoSchema.Names.{same_name}
 use Rattle.base_values.specs.SchemaRules.Names.{is_among, differ_from, names_differ, place_of}
 use Rattle.base_values.proofs.SchemaRules.Lists.{All-at, All-weaker}
-use Rattle.base_values.proofs.SchemaRules.SameNames.{same_name-own, same_name-turned, other_name-turned}
+use Rattle.base_values.proofs.SchemaRules.SameNames.{same_name-own, other_name-turned}
 
 -- ---- pairs of names
 

@@ -1,23 +1,19 @@
 -- The parts of a table as its printed text writes it.
-use Rattle.std.proofs.Common.{◌≡◌, ℕ, ◌+◌, ◌≤◌, Bool, true, false, not, cond, List, [], ◌∷◌, ◌++◌, length, Option, Some, None, refl, sym, ap, subst, ◌∙◌, map, arith, append_assoc, append-nil}
-use Rattle.std.specs.Prelude.{is_some, fold, filter}
+use Rattle.std.proofs.Common.{◌≡◌, ℕ, Bool, true, false, List, [], ◌∷◌, ◌++◌, Option, Some, None, refl, sym, ap, ◌∙◌, map, append_assoc, append-nil}
+use Rattle.std.specs.Prelude.{is_some, fold}
 use Rattle.std.specs.List.{filter_map, AllByRecursion}
-use Rattle.std.proofs.lemmas.List.{length-map}
 use Rattle.std.proofs.lemmas.List.Sums.{fold-append}
-use Rattle.std.proofs.lemmas.List.Elements.{filter-append}
 use Rattle.base_values.specs.declared.gho_schema.schema.Column.{Column}
 use Rattle.base_values.specs.declared.gho_schema.schema.Index.{Index}
 use Rattle.base_values.specs.declared.gho_schema.schema.Schema.{Schema}
 use Rattle.sql_create.specs.declared.keys.NamedKeys.{NamedKeys}
 use Rattle.sql_create.specs.declared.parts.Parts.{Parts}
-use Rattle.sql_create.specs.declared.written.Item.{Item}
 use Rattle.sql_create.specs.declared.written.Item.TheVariants as items
 use Rattle.sql_create.specs.declared.written.WrittenColumn.{WrittenColumn}
 use Rattle.sql_create.specs.declared.written.WrittenKey.{WrittenKey}
-use Rattle.sql_create.specs.Keys.{no_keys, with_name, with_key, named_keys}
+use Rattle.sql_create.specs.Keys.{no_keys, with_key, named_keys}
 use Rattle.sql_create.specs.Parts.{no_parts, with_item, parts_of}
 use Rattle.proof_schemas.specs.Printed.Laws.{line_of, names_read, unique_read, index_read, table_read}
-use Rattle.proof_schemas.specs.ReadAgain.{HasName, PrimaryStandsFirst, key_names}
 
 -- ---- what the lines are
 

@@ -1,7 +1,7 @@
 -- Every schema that is read is one that its printed text gives again.
-use Rattle.std.proofs.Common.{◌≡◌, ℕ, ◌+◌, ◌<◌, ◌≤◌, Bool, true, false, not, ◌&&◌, ◌||◌, cond, ltb, List, [], ◌∷◌, ◌++◌, length, Option, Some, None, Result, Ok, Err, refl, sym, ap, subst, ◌∙◌, map, arith, append_assoc, length-append}
+use Rattle.std.proofs.Common.{◌≡◌, ℕ, ◌+◌, ◌≤◌, Bool, true, false, not, ◌&&◌, ◌||◌, cond, ltb, List, [], ◌∷◌, ◌++◌, length, Option, Some, None, Result, Ok, Err, refl, sym, ap, subst, ◌∙◌, map, arith, length-append}
 use Rattle.std.specs.Prelude.{is_some, is_none, filter, fold, count_by}
-use Rattle.std.specs.List.{filter_map, cons_option, list_all, AllByRecursion}
+use Rattle.std.specs.List.{cons_option, list_all, AllByRecursion}
 use Rattle.std.proofs.Math.Bool.{or-true}
 use Rattle.std.proofs.lemmas.Bool.{ltb-false, not-false, and_parts, or_parts}
 use Rattle.std.proofs.lemmas.List.{length-map}
@@ -21,11 +21,13 @@ use Rattle.base_values.specs.SchemaRules.Results.{◌>>=◌}
 use Rattle.sql_grammar.specs.Tokens.{text_words}
 use Rattle.sql_create.specs.declared.keys.NamedKeys.{NamedKeys}
 use Rattle.sql_create.specs.declared.parts.Parts.{Parts}
+use Rattle.sql_create.specs.declared.written.TableOptions.{TableOptions}
 use Rattle.sql_create.specs.declared.written.WrittenColumn.{WrittenColumn}
 use Rattle.sql_create.specs.declared.written.WrittenKey.{WrittenKey}
 use Rattle.base_values.specs.GhoSchema.ClusteredKey.{clustered_place}
 use Rattle.base_values.specs.SchemaRules.Reasons.{Reasons, first_reason}
-use Rattle.sql_create.specs.DeclaredSchema.{column_names, size_reasons, are_known, name_reasons, nullable_of, declared_column, declared_columns, primary_index, key_index, schema_of, clustered, built, declared_parts, declared}
+use Rattle.sql_create.specs.DeclaredSchema.{column_names, size_reasons, are_known, name_reasons, nullable_of, declared_column, declared_columns, primary_index, key_index, schema_of, clustered, keyed, built, declared_parts, declared}
+use Rattle.sql_create.specs.AutoColumn.{started, counting}
 use Rattle.base_values.specs.SchemaRules.Defaults.{stored, stored_default, defaults_fit, default_or}
 use Rattle.base_values.specs.SchemaRules.Names.{names_differ}
 use Rattle.sql_create.specs.Keys.{key_name, no_keys, with_key, named_keys}
@@ -35,9 +37,10 @@ use Rattle.sql_create.specs.Parts.{parts_of}
 use Rattle.sql_create.specs.CreateText.{schema_at}
 use Rattle.sql_create.specs.Written.{written}
 use Rattle.proof_schemas.proofs.Columns.{made}
+use Rattle.proof_schemas.proofs.Counters.{counted, started-counting}
 use Rattle.base_values.proofs.SchemaRules.Lists.{All-append, All-anything, All-filter, All-map, fold-keeps}
 use Rattle.base_values.proofs.SchemaRules.Steps.{bind_ok, unless_ok, none_first, ok_is, default_is}
-use Rattle.proof_schemas.specs.ReadAgain.{HasName, PrimaryStandsFirst, key_names, has_default, IsDeclared, ReadSchemasAreDeclared}
+use Rattle.proof_schemas.specs.ReadAgain.{HasName, PrimaryStandsFirst, key_names, has_default, IsShaped, IsDeclared, ReadSchemasAreDeclared}
 use Rattle.proof_schemas.proofs.ReadAgain.Differ.{Differ, differ-parts, differ-whole}
 use Rattle.proof_schemas.proofs.ReadAgain.Parted.{IsNamedText, text_names}
 use Rattle.proof_schemas.proofs.ReadAgain.Sorted.{differ-sorted}
@@ -92,19 +95,18 @@ pub default-has : (kind : Kind) (nullable : Bool) (written default : Option Valu
 default-has kind nullable (Some value) default e = stored-has nullable (stores value kind nullable) default e
 default-has kind nullable None default e = subst (λ (d : Option Value). (not nullable || is_some d) ≡ true) (ok_is {C = Unfit} (cond nullable (Some Null) None) default e) (null-has nullable)
 
--- what a declared column keeps of the written one, that it has a default where it may be null, and no AUTO_INCREMENT
+-- what a declared column keeps of the written one, and that it has a default where it may be null
 record Kept (written : WrittenColumn) (column : Column) : Type 0 where
   pub name : column.name ≡ written.name
   pub default : has_default column ≡ true
-  pub auto : column.auto ≡ false
 
 column-kept : (primaries : List (List (List ℕ))) (written : WrittenColumn) (column : Column) → declared_column primaries written ≡ Ok column → Kept written column
 unfolding declared_column
 column-kept primaries written column e =
     let nullable = nullable_of primaries written in
-    let b = bind_ok (default_or BadDefault (stored_default written.kind nullable written.attributes.plain.default)) (λ default. Ok (made written.name written.kind nullable default)) column e in
+    let b = bind_ok (default_or BadDefault (stored_default written.kind nullable written.attributes.plain.default)) (λ default. Ok (made written.name written.kind nullable default written.attributes.plain.auto)) column e in
     let has = default-has written.kind nullable written.attributes.plain.default b.0 (default_is BadDefault _ b.0 b.1) in
-    subst (Kept written) (ok_is {C = SchemaCode} (made written.name written.kind nullable b.0) column b.2) (record { name = refl; default = has; auto = refl })
+    subst (Kept written) (ok_is {C = SchemaCode} (made written.name written.kind nullable b.0 written.attributes.plain.auto) column b.2) (record { name = refl; default = has })
 
 abbrev AllKept : List WrittenColumn → List Column → Type 0
 AllKept [] [] = Unit {0}
@@ -132,12 +134,6 @@ have-defaults [] [] kept = tt
 have-defaults [] (c ∷ cs) kept = absurd kept
 have-defaults (w ∷ ws) [] kept = absurd kept
 have-defaults (w ∷ ws) (c ∷ cs) kept = (kept.0.default, have-defaults ws cs kept.1)
-
-have-no-autos : (ws : List WrittenColumn) (columns : List Column) → AllKept ws columns → AllByRecursion (λ column. column.auto ≡ false) columns
-have-no-autos [] [] kept = tt
-have-no-autos [] (c ∷ cs) kept = absurd kept
-have-no-autos (w ∷ ws) [] kept = absurd kept
-have-no-autos (w ∷ ws) (c ∷ cs) kept = (kept.0.auto, have-no-autos ws cs kept.1)
 
 -- ---- names of keys
 
@@ -241,9 +237,9 @@ module _ (migrated name comment : List ℕ) (parts : Parts) (columns : List Colu
       rw (uniques-named own_names parts.primaries front_keys, keys-named own_names back_keys) (sym (filter_map-append (λ (key : WrittenKey). key.text.name) front_keys back_keys)) in
       differ-whole _ (subst Differ (sym apart) sorted)
 
-  whole-declared : Sized migrated name parts → Named parts.primaries (named_keys own_names parts.keys) → AllKept parts.columns columns → defaults_fit columns ≡ true → IsDeclared migrated whole
+  whole-shaped : Sized migrated name parts → Named parts.primaries (named_keys own_names parts.keys) → AllKept parts.columns columns → defaults_fit columns ≡ true → IsShaped migrated whole
   unfolding schema_of
-  whole-declared sized named kept fit =
+  whole-shaped sized named kept fit =
       let are = names-are own_names parts.keys in
       let front = map (primary_index own_names) parts.primaries in
       let back = map (key_index own_names) front_keys in
@@ -260,29 +256,45 @@ module _ (migrated name comment : List ℕ) (parts : Parts) (columns : List Colu
         key_names = keys-differ named.differ;
         has_defaults = have-defaults parts.columns columns kept;
         defaults = fit;
-        autos = have-no-autos parts.columns columns kept;
-        start = refl;
       }
 
 whole-fit : (name comment : List ℕ) (names : List (List ℕ)) (primaries : List (List (List ℕ))) (keys : List WrittenKey) (columns : List Column) → defaults_fit (schema_of name comment names primaries keys columns).columns ≡ true → defaults_fit columns ≡ true
 unfolding schema_of
 whole-fit name comment names primaries keys columns fit = fit
 
-parts-declared : (migrated name comment : List ℕ) (parts : Parts) (schema : Schema) → declared_parts migrated name comment parts ≡ Ok schema → IsDeclared migrated schema
-parts-declared migrated name comment parts schema e =
+-- where its column starts doesn't matter
+started-shaped : (migrated : List ℕ) (schema : Schema) (start : Option ℕ) → IsShaped migrated schema → IsShaped migrated (started schema start)
+started-shaped migrated schema start is = record {
+  name = is.name;
+  unreserved = is.unreserved;
+  column_names = is.column_names;
+  few_uniques = is.few_uniques;
+  few_indexes = is.few_indexes;
+  primary = is.primary;
+  named = is.named;
+  key_names = is.key_names;
+  has_defaults = is.has_defaults;
+  defaults = is.defaults;
+}
+
+parts-declared : (migrated name : List ℕ) (options : TableOptions) (parts : Parts) (schema : Schema) → declared_parts migrated name options parts ≡ Ok schema → IsDeclared migrated schema
+parts-declared migrated name options parts schema e =
     let names = column_names parts.columns in
     let named = named_keys names parts.keys in
-    let outer = unless_ok (first_reason (size_reasons migrated name parts)) (built name comment names parts.primaries parts.columns named) schema e in
-    let inner = unless_ok (first_reason (name_reasons names parts.primaries named)) (declared_columns parts.primaries parts.columns >>= λ columns. clustered (schema_of name comment names parts.primaries named.keys columns)) schema outer.1 in
-    let columns = bind_ok (declared_columns parts.primaries parts.columns) (λ columns. clustered (schema_of name comment names parts.primaries named.keys columns)) schema inner.1 in
-    let whole = schema_of name comment names parts.primaries named.keys columns.0 in
-    let last = unless_ok (first_reason ((not (defaults_fit whole.columns), BadDefault) ∷ (is_none (clustered_place whole), NoClusteredKey) ∷ [])) (Ok whole) schema columns.2 in
+    let outer = unless_ok (first_reason (size_reasons migrated name parts)) (built name options names parts.primaries parts.columns named) schema e in
+    let inner = unless_ok (first_reason (name_reasons names parts.primaries named)) (declared_columns parts.primaries parts.columns >>= keyed name options names parts.primaries named) schema outer.1 in
+    let columns = bind_ok (declared_columns parts.primaries parts.columns) (keyed name options names parts.primaries named) schema inner.1 in
+    let whole = schema_of name options.comment names parts.primaries named.keys columns.0 in
+    let through = bind_ok (clustered whole) (counting options.start) schema columns.2 in
+    let count = counted options.start through.0 schema through.2 in
+    let last = unless_ok (first_reason ((not (defaults_fit whole.columns), BadDefault) ∷ (is_none (clustered_place whole), NoClusteredKey) ∷ [])) (Ok whole) through.0 through.1 in
     let fit = none_first (not (defaults_fit whole.columns)) BadDefault ((is_none (clustered_place whole), NoClusteredKey) ∷ []) last.0 in
-    subst (IsDeclared migrated) (ok_is {C = SchemaCode} whole schema last.1)
-    (whole-declared migrated name comment parts columns.0 (sized migrated name parts outer.0) (name_reasons-none names parts.primaries named inner.0) (columns-kept parts.primaries parts.columns columns.0 columns.1) (whole-fit name comment names parts.primaries named.keys columns.0 (not-false (defaults_fit whole.columns) fit.0)))
+    let shaped : IsShaped migrated through.0 = subst (IsShaped migrated) (ok_is {C = SchemaCode} whole through.0 last.1)
+    (whole-shaped migrated name options.comment parts columns.0 (sized migrated name parts outer.0) (name_reasons-none names parts.primaries named inner.0) (columns-kept parts.primaries parts.columns columns.0 columns.1) (whole-fit name options.comment names parts.primaries named.keys columns.0 (not-false (defaults_fit whole.columns) fit.0))) in
+    subst (IsDeclared migrated) count.same (record { shaped = started-shaped migrated through.0 count.start shaped; counting = started-counting through.0 count.start count.counts; start = count.may })
 
 pub read-declared : ReadSchemasAreDeclared
 unfolding schema_at declared
-read-declared migrated text schema e =
-    let table = bind_ok (written (text_words text)) (declared migrated) schema e in
-    parts-declared migrated table.0.name table.0.comment (parts_of table.0.items) schema table.2
+read-declared version migrated text schema e =
+    let table = bind_ok (written version (text_words text)) (declared migrated) schema e in
+    parts-declared migrated table.0.name table.0.options (parts_of table.0.items) schema table.2

@@ -1,5 +1,5 @@
 -- The schema that a printed text declares is the schema that was printed.
-use Rattle.std.proofs.Common.{◌≡◌, ℕ, zero, suc, ◌+◌, ◌<◌, ◌≤◌, Bool, true, false, not, ◌&&◌, ◌||◌, cond, ltb, List, [], ◌∷◌, ◌++◌, length, Option, Some, None, unwrap_or, Result, Ok, Err, refl, sym, ap, subst, ◌∙◌, map, arith, append_assoc, append-nil, length-append}
+use Rattle.std.proofs.Common.{◌≡◌, ℕ, zero, suc, ◌+◌, ◌<◌, ◌≤◌, Bool, true, false, not, ◌&&◌, ◌||◌, cond, List, [], ◌∷◌, ◌++◌, length, Option, Some, None, unwrap_or, Result, Ok, refl, sym, ap, subst, ◌∙◌, map, arith, append_assoc, append-nil, length-append}
 use Rattle.std.specs.Prelude.{is_some, is_none, filter, count_by, position}
 use Rattle.std.specs.List.{filter_map, cons_option, list_all, list_any, slice_get, AllByRecursion}
 use Rattle.std.proofs.lemmas.Bool.{not-true, le-ltb, lt-ltb, and_parts}
@@ -15,15 +15,17 @@ use Rattle.base_values.specs.declared.gho_schema.schema.Index.{Index}
 use Rattle.base_values.specs.declared.gho_schema.schema.Schema.{Schema}
 use Rattle.base_values.specs.GhoSchema.Names.{same_name}
 use Rattle.sql_grammar.specs.declared.code.SchemaCode.{SchemaCode}
-use Rattle.sql_grammar.specs.declared.code.SchemaCode.TheVariants.{RepeatedName, UnknownKeyColumn, NoClusteredKey, TooManyColumns, TooManyKeys, NameTooLong, ReservedName, BadDefault}
+use Rattle.sql_grammar.specs.declared.code.SchemaCode.TheVariants.{BadDefault}
 use Rattle.base_values.specs.SchemaRules.Results.{◌>>=◌}
 use Rattle.sql_create.specs.declared.keys.NamedKeys.{NamedKeys}
 use Rattle.sql_create.specs.declared.parts.Parts.{Parts}
+use Rattle.sql_create.specs.declared.written.TableOptions.{TableOptions}
 use Rattle.sql_create.specs.declared.written.WrittenColumn.{WrittenColumn}
 use Rattle.sql_create.specs.declared.written.WrittenKey.{WrittenKey}
 use Rattle.base_values.specs.GhoSchema.ClusteredKey.{is_not_null, may_cluster, clustered_among, clustered_place, unique_at, clustered_key}
-use Rattle.base_values.specs.SchemaRules.Reasons.{Reasons, first_reason, unless}
-use Rattle.sql_create.specs.DeclaredSchema.{column_names, size_reasons, are_known, name_reasons, nullable_of, declared_column, declared_columns, primary_index, key_index, schema_of, clustered, built, declared_parts, declared}
+use Rattle.base_values.specs.SchemaRules.Reasons.{first_reason, unless}
+use Rattle.sql_create.specs.DeclaredSchema.{column_names, size_reasons, are_known, name_reasons, nullable_of, declared_column, declared_columns, primary_index, key_index, schema_of, clustered, keyed, built, declared_parts, declared}
+use Rattle.sql_create.specs.AutoColumn.{counting}
 use Rattle.base_values.specs.SchemaRules.Defaults.{stored_default, defaults_fit, default_or}
 use Rattle.base_values.specs.SchemaRules.Names.{is_among, names_differ, place_of, places_of}
 use Rattle.sql_create.specs.Keys.{named_keys}
@@ -33,10 +35,11 @@ use Rattle.base_values.specs.ToolNames.{is_tool_name}
 use Rattle.sql_show.specs.SchemaText.{column_name}
 use Rattle.sql_create.specs.CreateText.{schema_at}
 use Rattle.proof_schemas.proofs.Columns.{made}
+use Rattle.proof_schemas.proofs.Counters.{started-counting, counting-again}
 use Rattle.base_values.proofs.SchemaRules.Lists.{All-at, All-append, slice_get-map-some, slice_get-within-some}
 use Rattle.base_values.proofs.SchemaRules.Steps.{there}
-use Rattle.proof_schemas.specs.Printed.Laws.{CanPrint, default_read, line_of, names_read, table_read}
-use Rattle.proof_schemas.specs.ReadAgain.{HasName, PrimaryStandsFirst, key_names, has_default, IsDeclared, PrintedSchemasAreReadAgain}
+use Rattle.proof_schemas.specs.Printed.Laws.{default_read, line_of, names_read, start_read, table_read}
+use Rattle.proof_schemas.specs.ReadAgain.{HasName, PrimaryStandsFirst, key_names, has_default, IsShaped, IsDeclared, PrintedSchemasAreReadAgain}
 use Rattle.proof_schemas.proofs.ReadAgain.Differ.{Differ, differ-parts, other-place, place-own, among-own}
 use Rattle.proof_schemas.proofs.ReadAgain.Parted.{key_text, primary_text, unique_text, primary_texts, unique_texts, index_texts, parts-read, IsNamedText, text_names, named-are}
 use Rattle.proof_schemas.proofs.Printed.Written.{printed-written}
@@ -53,7 +56,7 @@ names-lines (column ∷ columns) = ap (λ (names : List (List ℕ)). column.name
 name-at : (columns : List Column) (place : ℕ) (column : Column) → slice_get columns place ≡ Some column → column_name columns place ≡ column.name
 name-at columns place column at = rw at refl
 
-All-from-at : {X : Type 0} (P : X → Type 0) (xs : List X) → ((place : ℕ) (x : X) → slice_get xs place ≡ Some x → P x) → AllByRecursion P xs
+pub All-from-at : {X : Type 0} (P : X → Type 0) (xs : List X) → ((place : ℕ) (x : X) → slice_get xs place ≡ Some x → P x) → AllByRecursion P xs
 All-from-at P [] each = tt
 All-from-at P (x ∷ xs) each = (each zero x refl, All-from-at P xs (λ place y at. each (suc place) y at))
 
@@ -218,15 +221,14 @@ default-again column (Some (Num number)) stores has = rw stores refl
 default-again column (Some (Text text)) stores has = rw stores refl
 default-again column (Some (Blob blob)) stores has = rw stores refl
 
-column-made : (name : List ℕ) (kind : Kind) (nullable other : Bool) (written default : Option Value) → other ≡ nullable → stored_default kind nullable written ≡ Ok default
-    → (default_or BadDefault (stored_default kind other written) >>= λ d. Ok (made name kind other d)) ≡ Ok (made name kind nullable default)
-column-made name kind nullable other written default same stored = rw (same, stored) refl
+column-made : (name : List ℕ) (kind : Kind) (nullable other auto : Bool) (written default : Option Value) → other ≡ nullable → stored_default kind nullable written ≡ Ok default
+    → (default_or BadDefault (stored_default kind other written) >>= λ d. Ok (made name kind other d auto)) ≡ Ok (made name kind nullable default auto)
+column-made name kind nullable other auto written default same stored = rw (same, stored) refl
 
-column-again : (primaries : List (List (List ℕ))) (column : Column) → nullable_of primaries (line_of column) ≡ column.nullable → IsColumn column → has_default column ≡ true → column.auto ≡ false → declared_column primaries (line_of column) ≡ Ok column
+column-again : (primaries : List (List (List ℕ))) (column : Column) → nullable_of primaries (line_of column) ≡ column.nullable → IsColumn column → has_default column ≡ true → declared_column primaries (line_of column) ≡ Ok column
 unfolding declared_column
-column-again primaries column nullable is has auto =
-    column-made column.name column.kind column.nullable (nullable_of primaries (line_of column)) (default_read column.default) column.default nullable (default-again column column.default is.default has)
-    ∙ ap (λ (b : Bool). let c : Column = record { name = column.name; kind = column.kind; nullable = column.nullable; default = column.default; auto = b } in let r : Result Column SchemaCode = Ok c in r) (sym auto)
+column-again primaries column nullable is has =
+    column-made column.name column.kind column.nullable (nullable_of primaries (line_of column)) column.auto (default_read column.default) column.default nullable (default-again column column.default is.default has)
 
 columns-again : (primaries : List (List (List ℕ))) (columns : List Column) → AllByRecursion (λ column. declared_column primaries (line_of column) ≡ Ok column) columns → declared_columns primaries (map line_of columns) ≡ Ok columns
 unfolding declared_columns
@@ -350,20 +352,21 @@ line-names : (columns : List Column) → list_all (λ column. is_column_name col
 line-names [] all = refl
 line-names (column ∷ columns) all = let two = and_parts (is_column_name column.name) (list_all (λ column. is_column_name column.name) columns) all in rw (two.0, line-names columns two.1) refl
 
-built-by : (name comment : List ℕ) (names : List (List ℕ)) (primaries : List (List (List ℕ))) (lines : List WrittenColumn) (keys : NamedKeys) (columns : List Column) (schema : Schema) → first_reason (name_reasons names primaries keys) ≡ None → declared_columns primaries lines ≡ Ok columns
-    → schema_of name comment names primaries keys.keys columns ≡ schema → clustered schema ≡ Ok schema → built name comment names primaries lines keys ≡ Ok schema
-built-by name comment names primaries lines keys columns schema reason declares whole ends =
-    ap (λ (r : Option SchemaCode). unless r (declared_columns primaries lines >>= λ cs. clustered (schema_of name comment names primaries keys.keys cs))) reason
-    ∙ ap (λ (r : Result (List Column) SchemaCode). r >>= λ cs. clustered (schema_of name comment names primaries keys.keys cs)) declares
-    ∙ ap clustered whole
-    ∙ ends
+built-by : (name : List ℕ) (options : TableOptions) (names : List (List ℕ)) (primaries : List (List (List ℕ))) (lines : List WrittenColumn) (keys : NamedKeys) (columns : List Column) (bare schema : Schema) → first_reason (name_reasons names primaries keys) ≡ None
+    → declared_columns primaries lines ≡ Ok columns → schema_of name options.comment names primaries keys.keys columns ≡ bare → clustered bare ≡ Ok bare → counting options.start bare ≡ Ok schema → built name options names primaries lines keys ≡ Ok schema
+built-by name options names primaries lines keys columns bare schema reason declares whole ends counts =
+    ap (λ (r : Option SchemaCode). unless r (declared_columns primaries lines >>= keyed name options names primaries keys)) reason
+    ∙ ap (λ (r : Result (List Column) SchemaCode). r >>= keyed name options names primaries keys) declares
+    ∙ ap (λ (s : Schema). clustered s >>= counting options.start) whole
+    ∙ ap (λ (r : Result Schema SchemaCode). r >>= counting options.start) ends
+    ∙ counts
 
-parts-by : (migrated name comment : List ℕ) (parts : Parts) (names : List (List ℕ)) (keys : NamedKeys) (schema : Schema) → first_reason (size_reasons migrated name parts) ≡ None → column_names parts.columns ≡ names → named_keys names parts.keys ≡ keys
-    → built name comment names parts.primaries parts.columns keys ≡ Ok schema → declared_parts migrated name comment parts ≡ Ok schema
-parts-by migrated name comment parts names keys schema reason columns named made =
-    ap (λ (r : Option SchemaCode). unless r (built name comment (column_names parts.columns) parts.primaries parts.columns (named_keys (column_names parts.columns) parts.keys))) reason
-    ∙ ap (λ (ns : List (List ℕ)). built name comment ns parts.primaries parts.columns (named_keys ns parts.keys)) columns
-    ∙ ap (λ (ks : NamedKeys). built name comment names parts.primaries parts.columns ks) named
+parts-by : (migrated name : List ℕ) (options : TableOptions) (parts : Parts) (names : List (List ℕ)) (keys : NamedKeys) (schema : Schema) → first_reason (size_reasons migrated name parts) ≡ None → column_names parts.columns ≡ names → named_keys names parts.keys ≡ keys
+    → built name options names parts.primaries parts.columns keys ≡ Ok schema → declared_parts migrated name options parts ≡ Ok schema
+parts-by migrated name options parts names keys schema reason columns named made =
+    ap (λ (r : Option SchemaCode). unless r (built name options (column_names parts.columns) parts.primaries parts.columns (named_keys (column_names parts.columns) parts.keys))) reason
+    ∙ ap (λ (ns : List (List ℕ)). built name options ns parts.primaries parts.columns (named_keys ns parts.keys)) columns
+    ∙ ap (λ (ks : NamedKeys). built name options names parts.primaries parts.columns ks) named
     ∙ made
 
 module _ (schema : Schema) (valid : IsValid schema) where
@@ -403,26 +406,32 @@ module _ (schema : Schema) (valid : IsValid schema) where
   plain-count : count_by (λ key. not key.is_unique) (unique_keys ++ plain_keys) ≡ length schema.indexes
   plain-count = sym (length-filter (λ (key : WrittenKey). not key.is_unique) (unique_keys ++ plain_keys)) ∙ ap length back-keys ∙ length-map schema.indexes (λ index. key_text false schema.columns index index.name)
 
-  whole-again : PrimaryStandsFirst schema.uniques → schema.start ≡ None → schema_of schema.name schema.comment own_names primaries (unique_keys ++ plain_keys) schema.columns ≡ schema
+  -- the schema before it is known where its column starts
+  abbrev bare : Schema
+  bare = record schema { start = None }
+
+  whole-again : PrimaryStandsFirst schema.uniques → schema_of schema.name schema.comment own_names primaries (unique_keys ++ plain_keys) schema.columns ≡ bare
   unfolding schema_of
-  whole-again first none =
-      let own : schema_of schema.name schema.comment own_names primaries (unique_keys ++ plain_keys) schema.columns ≡ record schema { start = None } =
-      rw (front-keys, back-keys, uniques-again schema.columns own-differ schema.uniques first valid.uniques, indexes-again schema.columns own-differ schema.indexes valid.indexes) refl in
-      own ∙ ap (λ (s : Option ℕ). let whole : Schema = record schema { start = s } in whole) (sym none)
+  whole-again first = rw (front-keys, back-keys, uniques-again schema.columns own-differ schema.uniques first valid.uniques, indexes-again schema.columns own-differ schema.indexes valid.indexes) refl
 
   names-again : text_names (unique_keys ++ plain_keys) ≡ key_names schema.uniques ++ key_names schema.indexes
   names-again =
       filter_map-append (λ (key : WrittenKey). key.text.name) unique_keys plain_keys
       ∙ rw (uniques-names schema.columns schema.uniques, indexes-names schema.columns schema.indexes) refl
 
-  module _ (migrated : List ℕ) (is : IsDeclared migrated schema) where
+  module _ (migrated : List ℕ) (declares : IsDeclared migrated schema) where
+    abbrev is : IsShaped migrated schema
+    is = declares.shaped
+
+    abbrev options : TableOptions
+    options = record { comment = schema.comment; start = start_read schema.start }
+
     own-columns : declared_columns primaries (map line_of schema.columns) ≡ Ok schema.columns
     own-columns =
         columns-again primaries schema.columns
         (All-from-at (λ (column : Column). declared_column primaries (line_of column) ≡ Ok column) schema.columns (λ place column at.
         column-again primaries column (nullable-again schema.columns own-differ schema.uniques place column is.primary own-strict at)
-        (All-at IsColumn schema.columns place column valid.columns at) (All-at (λ (c : Column). has_default c ≡ true) schema.columns place column is.has_defaults at)
-        (All-at (λ (c : Column). c.auto ≡ false) schema.columns place column is.autos at)))
+        (All-at IsColumn schema.columns place column valid.columns at) (All-at (λ (c : Column). has_default c ≡ true) schema.columns place column is.has_defaults at)))
 
     own-named : named_keys own_names (unique_keys ++ plain_keys) ≡ record { names = key_names schema.uniques ++ key_names schema.indexes; keys = unique_keys ++ plain_keys }
     own-named =
@@ -432,12 +441,13 @@ module _ (schema : Schema) (valid : IsValid schema) where
     own-known : list_all (λ key. are_known own_names key.text.columns) (unique_keys ++ plain_keys) ≡ true
     own-known = all-append (λ (key : WrittenKey). are_known own_names key.text.columns) unique_keys plain_keys (uniques-known schema.columns own-differ schema.uniques valid.uniques) (indexes-known schema.columns own-differ schema.indexes valid.indexes)
 
-    built-again : built schema.name schema.comment own_names primaries (map line_of schema.columns) (named (key_names schema.uniques ++ key_names schema.indexes) (unique_keys ++ plain_keys)) ≡ Ok schema
+    built-again : built schema.name options own_names primaries (map line_of schema.columns) (named (key_names schema.uniques ++ key_names schema.indexes) (unique_keys ++ plain_keys)) ≡ Ok schema
     built-again =
         let names = key_names schema.uniques ++ key_names schema.indexes in
         let keys = unique_keys ++ plain_keys in
         let reason = no-name_reason own_names primaries names keys valid.names (few-primaries schema.columns own-differ schema.uniques is.primary) is.key_names (primaries-known schema.columns own-differ schema.uniques valid.uniques) own-known in
-        built-by schema.name schema.comment own_names primaries (map line_of schema.columns) (named names keys) schema.columns schema reason own-columns (whole-again is.primary is.start) (clustered-again schema is.defaults (some-clustered schema valid.clustered))
+        built-by schema.name options own_names primaries (map line_of schema.columns) (named names keys) schema.columns bare schema reason own-columns (whole-again is.primary) (clustered-again bare is.defaults (some-clustered bare valid.clustered))
+        (counting-again bare schema.start (started-counting schema None declares.counting) declares.start)
 
     lines-are : list_all (λ column. is_column_name column.name) (map line_of schema.columns) ≡ true
     lines-are = line-names schema.columns is.column_names
@@ -450,9 +460,9 @@ module _ (schema : Schema) (valid : IsValid schema) where
         let parts : Parts = record { columns = lines; primaries = primaries; keys = keys } in
         let few : length lines ≤ 64 = omega (arith, valid.few, length-map schema.columns line_of) in
         let reason = no-size_reason migrated schema.name parts (length unique_keys) (length schema.indexes) is.name lines-are is.unreserved few unique-count plain-count (key-counts is.primary is.few_uniques) is.few_indexes in
-        ap (declared_parts migrated schema.name schema.comment) (parts-read schema)
-        ∙ parts-by migrated schema.name schema.comment parts own_names (named (key_names schema.uniques ++ key_names schema.indexes) keys) schema reason (names-lines schema.columns) own-named built-again
+        ap (declared_parts migrated schema.name options) (parts-read schema)
+        ∙ parts-by migrated schema.name options parts own_names (named (key_names schema.uniques ++ key_names schema.indexes) keys) schema reason (names-lines schema.columns) own-named built-again
 
 pub printed-again : PrintedSchemasAreReadAgain
 unfolding schema_at
-printed-again migrated schema can valid is = rw (printed-written schema can valid) (declared-again schema valid migrated is)
+printed-again version migrated schema can valid is fits = rw (printed-written version schema can valid fits) (declared-again schema valid migrated is)

@@ -1,7 +1,6 @@
 -- Words as they stand in texts: no backquote in a name, and bytes in a text.
-use Rattle.std.proofs.Common.{◌≡◌, ℕ, zero, suc, ◌+◌, ◌-◌, ◌<◌, ◌%◌, ◌/◌, Bool, true, false, not, ◌&&◌, cond, eqb, ltb, List, [], ◌∷◌, ◌++◌, length, take, drop, get_or, Option, Some, None, Result, Ok, Err, refl, sym, ap, subst, ◌∙◌, map, arith}
-use Rattle.std.specs.Option.{option_map}
-use Rattle.std.specs.List.{prefix_len, position_or_len, AllByRecursion}
+use Rattle.std.proofs.Common.{◌≡◌, ℕ, zero, suc, ◌+◌, ◌-◌, ◌<◌, Bool, true, false, cond, eqb, ltb, List, [], ◌∷◌, take, drop, get_or, Option, Some, None, Result, Ok, Err, refl, subst, map, arith}
+use Rattle.std.specs.List.{prefix_len, AllByRecursion}
 use Rattle.std.proofs.lemmas.Bool.Decides.{nat_tests}
 use Rattle.sql_words.specs.declared.word.WordClass.{WordClass}
 use Rattle.sql_words.specs.declared.word.WordClass.TheVariants as class
@@ -10,8 +9,8 @@ use Rattle.sql_words.specs.declared.word.WordFault.TheVariants as faults
 use Rattle.sql_words.specs.declared.front.Front.{Front}
 use Rattle.sql_words.specs.declared.front.Front.TheVariants.{Gap, Found}
 use Rattle.sql_words.specs.Characters.{is_white, is_name_start, is_name_byte, is_quote, is_sign}
-use Rattle.sql_words.specs.Quoted.{length_of, text_inside, bytes_inside, name_inside}
-use Rattle.sql_words.specs.Front.{begins_comment, begins_bytes, bytes_length, bytes_or_name, name_length, quoted, begins_number, digit_count, sign_width, number, most_digits, line_length, sign_length, front_at}
+use Rattle.sql_words.specs.Quoted.{length_of, text_inside, name_inside}
+use Rattle.sql_words.specs.Front.{begins_comment, bytes_length, bytes_or_name, name_length, quoted, begins_number, digit_count, sign_width, most_digits, line_length, sign_length, front_at}
 use Rattle.sql_words.specs.Readings.{Reading, with_word, read_on, words_after, words_of}
 use Rattle.sql_grammar.specs.declared.token.Token.{Token}
 use Rattle.sql_grammar.specs.Tokens.{token_of, words_or_none, cut_at, words_to, text_words}

@@ -1,33 +1,32 @@
 -- What is read of sound words is sound, and so are the words behind it.
-use Rattle.std.proofs.Common.{◌≡◌, ℕ, zero, suc, Bool, true, false, ◌||◌, cond, List, [], ◌∷◌, length, Option, Some, None, Result, Ok, Err, refl, ap, subst, ◌∙◌, codes}
+use Rattle.std.proofs.Common.{◌≡◌, ℕ, zero, suc, Bool, true, false, cond, List, [], ◌∷◌, length, Option, Some, None, Result, Ok, Err, refl, ap, subst, ◌∙◌, codes}
 use Rattle.std.specs.Prelude.{ℤ}
 use Rattle.std.specs.List.{AllByRecursion}
 use Rattle.std.proofs.lemmas.Option.{cond_some}
 use Rattle.base_values.specs.declared.kind.Kind.{Kind}
-use Rattle.base_values.specs.declared.kind.Kind.TheVariants.{Int, VarChar, VarBinary}
-use Rattle.base_values.specs.declared.value.Value.{Value}
+use Rattle.base_values.specs.declared.kind.Kind.TheVariants.{VarChar, VarBinary}
 use Rattle.sql_words.specs.Meanings.{name_of}
 use Rattle.sql_grammar.specs.declared.attributes.Attribute.{Attribute}
-use Rattle.sql_grammar.specs.declared.attributes.Attribute.TheVariants.{Nullable, Default, Passed}
+use Rattle.sql_grammar.specs.declared.attributes.Attribute.TheVariants.{Nullable, Default, AutoIncrement, Passed}
 use Rattle.sql_grammar.specs.declared.code.SchemaCode.{SchemaCode}
 use Rattle.sql_grammar.specs.declared.code.SchemaCode.TheVariants.{Syntax, Scope}
 use Rattle.sql_grammar.specs.declared.keys.KeyText.{KeyText}
 use Rattle.sql_grammar.specs.declared.kinds.KindWord.{KindWord}
 use Rattle.sql_grammar.specs.declared.kinds.KindWord.TheVariants as kinds
 use Rattle.sql_grammar.specs.declared.token.Token.{Token}
-use Rattle.sql_grammar.specs.Attributes.{not_null_at, default_at, comment_at, character_set_at, collation_at, attribute_at}
+use Rattle.sql_grammar.specs.Attributes.{not_null_at, default_at, comment_at, character_set_at, collation_at, passed_at, attribute_at}
 use Rattle.sql_grammar.specs.Keys.{key_mismatch, closed, names_at, key_columns_at, key_name, key_name_at, key_at}
 use Rattle.sql_grammar.specs.Kinds.{kind_word, width_after, width_at, signed_kind, length_of, length_within, length_at, kind_after, kind_of, kind_at}
 use Rattle.sql_grammar.specs.Listed.{with_others, listed, with_more, gathered}
 use Rattle.sql_grammar.specs.Pieces.{after_keyword, after_sign, found_at, keyword_at, sign_at, with_rest, after_name, name_at, number_of, number_at, text_of, text_at, literal_of, literal_at, any_word_at}
 use Rattle.base_values.specs.SchemaRules.Results.{◌>>=◌}
-use Rattle.sql_grammar.specs.Reads.{Read}
 use Rattle.sql_grammar.specs.Scope.{mismatch}
+use Rattle.sql_grammar.specs.Versions.{has_counters, is_auto_increment}
 use Rattle.sql_grammar.specs.Tokens.{is_keyword, same_sign, is_sign}
-use Rattle.base_values.proofs.SchemaRules.Lists.{All-append}
-use Rattle.base_values.proofs.SchemaRules.Steps.{bind_ok, ok_is, there, some_is}
+use Rattle.std.proofs.lemmas.Bool.{and_parts}
+use Rattle.base_values.proofs.SchemaRules.Steps.{bind_ok, ok_is}
 use Rattle.proof_schemas.specs.Printed.Laws.{CanQuote}
-use Rattle.proof_schemas.proofs.ReadAgain.Sound.{Sound, AreSound}
+use Rattle.proof_schemas.proofs.ReadAgain.Sound.{AreSound}
 use Rattle.proof_schemas.proofs.ReadAgain.SoundValues.{name-sound, SoundValue, literal-sound}
 
 -- ---- steps
@@ -241,38 +240,50 @@ kind_at-sound (word ∷ rest) sound = kind_of-sound (word ∷ rest) rest (kind_w
 
 -- ---- attributes
 
-abbrev pub SoundAttribute : Attribute → Type 0
-SoundAttribute (Nullable nullable) = Unit {0}
-SoundAttribute (Default value) = SoundValue value
-SoundAttribute Passed = Unit {0}
+module _ (version : ℕ) where
+  abbrev pub SoundAttribute : Attribute → Type 0
+  SoundAttribute (Nullable nullable) = Unit {0}
+  SoundAttribute (Default value) = SoundValue value
+  SoundAttribute AutoIncrement = has_counters version ≡ true
+  SoundAttribute Passed = Unit {0}
 
-not_null-sound : (words : List Token) → AreSound words → LeavesSome SoundAttribute (not_null_at words)
-not_null-sound words sound = words-some SoundAttribute (keyword_at (codes "NULL") words) (λ rest. Ok (Some (Nullable false, rest))) (keyword-sound (codes "NULL") words sound) (λ rest left. some-ok {C = SchemaCode} SoundAttribute (Nullable false) rest tt left)
+  not_null-sound : (words : List Token) → AreSound words → LeavesSome SoundAttribute (not_null_at words)
+  not_null-sound words sound = words-some SoundAttribute (keyword_at (codes "NULL") words) (λ rest. Ok (Some (Nullable false, rest))) (keyword-sound (codes "NULL") words sound) (λ rest left. some-ok {C = SchemaCode} SoundAttribute (Nullable false) rest tt left)
 
-default-sound : (words : List Token) → AreSound words → LeavesSome SoundAttribute (default_at words)
-default-sound words sound = some-bind SoundValue SoundAttribute (literal_at words) (λ value. Ok (Some (Default value.0, value.1))) (literal_at-sound words sound) (λ value is left. some-ok {C = SchemaCode} SoundAttribute (Default value.0) value.1 is left)
+  default-sound : (words : List Token) → AreSound words → LeavesSome SoundAttribute (default_at words)
+  default-sound words sound = some-bind SoundValue SoundAttribute (literal_at words) (λ value. Ok (Some (Default value.0, value.1))) (literal_at-sound words sound) (λ value is left. some-ok {C = SchemaCode} SoundAttribute (Default value.0) value.1 is left)
 
-comment-sound : (words : List Token) → AreSound words → LeavesSome SoundAttribute (comment_at words)
-comment-sound words sound = some-bind {A = List ℕ} Anything SoundAttribute (text_at words) (λ text. Ok (Some (Passed, text.1))) (text_at-sound words sound) (λ text u left. some-ok {C = SchemaCode} SoundAttribute Passed text.1 tt left)
+  comment-sound : (words : List Token) → AreSound words → LeavesSome SoundAttribute (comment_at words)
+  comment-sound words sound = some-bind {A = List ℕ} Anything SoundAttribute (text_at words) (λ text. Ok (Some (Passed, text.1))) (text_at-sound words sound) (λ text u left. some-ok {C = SchemaCode} SoundAttribute Passed text.1 tt left)
 
-collation-sound : (words : List Token) → AreSound words → LeavesSome SoundAttribute (collation_at words)
-collation-sound words sound = words-some SoundAttribute (any_word_at words) (λ rest. Ok (Some (Passed, rest))) (any_word-sound words sound) (λ rest left. some-ok {C = SchemaCode} SoundAttribute Passed rest tt left)
+  collation-sound : (words : List Token) → AreSound words → LeavesSome SoundAttribute (collation_at words)
+  collation-sound words sound = words-some SoundAttribute (any_word_at words) (λ rest. Ok (Some (Passed, rest))) (any_word-sound words sound) (λ rest left. some-ok {C = SchemaCode} SoundAttribute Passed rest tt left)
 
-character_set-sound : (words : List Token) → AreSound words → LeavesSome SoundAttribute (character_set_at words)
-character_set-sound words sound =
-    words-some SoundAttribute (keyword_at (codes "SET") words) (λ rest. any_word_at rest >>= λ rest. Ok (Some (Passed, rest))) (keyword-sound (codes "SET") words sound)
-    (λ rest left. words-some SoundAttribute (any_word_at rest) (λ rest. Ok (Some (Passed, rest))) (any_word-sound rest left) (λ rest left. some-ok {C = SchemaCode} SoundAttribute Passed rest tt left))
+  character_set-sound : (words : List Token) → AreSound words → LeavesSome SoundAttribute (character_set_at words)
+  character_set-sound words sound =
+      words-some SoundAttribute (keyword_at (codes "SET") words) (λ rest. any_word_at rest >>= λ rest. Ok (Some (Passed, rest))) (keyword-sound (codes "SET") words sound)
+      (λ rest left. words-some SoundAttribute (any_word_at rest) (λ rest. Ok (Some (Passed, rest))) (any_word-sound rest left) (λ rest left. some-ok {C = SchemaCode} SoundAttribute Passed rest tt left))
 
-pub attribute-sound : (words : List Token) → AreSound words → LeavesSome SoundAttribute (attribute_at words)
-unfolding attribute_at
-attribute-sound [] sound = some-none {C = SchemaCode} SoundAttribute
-attribute-sound (word ∷ rest) sound =
-    some-cond SoundAttribute (is_keyword word (codes "NOT")) _ _ (not_null-sound rest sound.1)
-    (some-cond SoundAttribute (is_keyword word (codes "NULL")) _ _ (some-ok {C = SchemaCode} SoundAttribute (Nullable true) rest tt sound.1)
-    (some-cond SoundAttribute (is_keyword word (codes "DEFAULT")) _ _ (default-sound rest sound.1)
-    (some-cond SoundAttribute (is_keyword word (codes "COMMENT")) _ _ (comment-sound rest sound.1)
-    (some-cond SoundAttribute (is_keyword word (codes "CHARACTER")) _ _ (character_set-sound rest sound.1)
-    (some-cond SoundAttribute (is_keyword word (codes "COLLATE")) _ _ (collation-sound rest sound.1) (some-none {C = SchemaCode} SoundAttribute))))))
+  passed-sound : (words : List Token) → AreSound words → LeavesSome SoundAttribute (passed_at words)
+  unfolding passed_at
+  passed-sound [] sound = some-none {C = SchemaCode} SoundAttribute
+  passed-sound (word ∷ rest) sound =
+      some-cond SoundAttribute (is_keyword word (codes "COMMENT")) _ _ (comment-sound rest sound.1)
+      (some-cond SoundAttribute (is_keyword word (codes "CHARACTER")) _ _ (character_set-sound rest sound.1)
+      (some-cond SoundAttribute (is_keyword word (codes "COLLATE")) _ _ (collation-sound rest sound.1) (some-none {C = SchemaCode} SoundAttribute)))
+
+  auto-some : (b : Bool) (rest : List Token) (other : Result (Option (Attribute × List Token)) SchemaCode) → (b ≡ true → has_counters version ≡ true) → AreSound rest → LeavesSome SoundAttribute other → LeavesSome SoundAttribute (cond b (Ok (Some (AutoIncrement, rest))) other)
+  auto-some true rest other may sound leaves = some-ok {C = SchemaCode} SoundAttribute AutoIncrement rest (may refl) sound
+  auto-some false rest other may sound leaves = leaves
+
+  pub attribute-sound : (words : List Token) → AreSound words → LeavesSome SoundAttribute (attribute_at version words)
+  unfolding attribute_at
+  attribute-sound [] sound = some-none {C = SchemaCode} SoundAttribute
+  attribute-sound (word ∷ rest) sound =
+      some-cond SoundAttribute (is_keyword word (codes "NOT")) _ _ (not_null-sound rest sound.1)
+      (some-cond SoundAttribute (is_keyword word (codes "NULL")) _ _ (some-ok {C = SchemaCode} SoundAttribute (Nullable true) rest tt sound.1)
+      (some-cond SoundAttribute (is_keyword word (codes "DEFAULT")) _ _ (default-sound rest sound.1)
+      (auto-some (is_auto_increment version word) rest (passed_at (word ∷ rest)) (λ on. (and_parts (is_keyword word (codes "AUTO_INCREMENT")) (has_counters version) on).1) sound.1 (passed-sound (word ∷ rest) sound))))
 
 -- ---- keys
 

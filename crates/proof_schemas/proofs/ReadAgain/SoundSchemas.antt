@@ -1,6 +1,6 @@
 -- Every schema that is read of a text can be printed.
-use Rattle.std.proofs.Common.{◌≡◌, ℕ, zero, suc, ◌+◌, ◌-◌, ◌*◌, ◌/◌, ◌%◌, ◌^◌, ◌<◌, ◌≤◌, Bool, true, false, not, ◌&&◌, cond, eqb, ltb, List, [], ◌∷◌, ◌++◌, length, Option, Some, None, unwrap_or, Result, Ok, Err, refl, sym, ap, subst, ◌∙◌, map, arith, lit<, codes}
-use Rattle.std.specs.Prelude.{ℤ, pos, negsuc, neg_ℤ, int_le, unsigned_abs, nat_le, filter, find, fold, is_none}
+use Rattle.std.proofs.Common.{◌≡◌, ℕ, zero, suc, ◌+◌, ◌-◌, ◌*◌, ◌/◌, ◌%◌, ◌^◌, ◌<◌, ◌≤◌, Bool, true, false, not, ◌&&◌, cond, eqb, List, [], ◌∷◌, ◌++◌, length, Option, Some, None, unwrap_or, Result, Ok, Err, refl, subst, map, arith, lit<, codes}
+use Rattle.std.specs.Prelude.{ℤ, pos, negsuc, neg_ℤ, int_le, unsigned_abs, filter, find, is_none, is_some, position}
 use Rattle.std.specs.Fmt.{digit_glyph, digits_onto, digits, decimal, signed_decimal}
 use Rattle.std.specs.List.{AllByRecursion}
 use Rattle.std.proofs.lemmas.Bool.Decides.{nat_tests}
@@ -27,26 +27,31 @@ use Rattle.sql_create.specs.declared.written.WrittenColumn.{WrittenColumn}
 use Rattle.sql_create.specs.declared.written.WrittenKey.{WrittenKey}
 use Rattle.base_values.specs.GhoSchema.ClusteredKey.{clustered_place}
 use Rattle.base_values.specs.SchemaRules.Reasons.{first_reason}
-use Rattle.sql_create.specs.DeclaredSchema.{column_names, size_reasons, name_reasons, nullable_of, declared_column, declared_columns, primary_index, key_index, schema_of, clustered, built, declared_parts, declared}
+use Rattle.sql_create.specs.DeclaredSchema.{column_names, size_reasons, name_reasons, nullable_of, declared_column, declared_columns, primary_index, key_index, schema_of, clustered, keyed, built, declared_parts, declared}
+use Rattle.sql_create.specs.declared.written.TableOptions.{TableOptions}
+use Rattle.sql_create.specs.AutoColumn.{started, counting}
+use Rattle.base_values.specs.GhoSchema.AutoIncrement.{auto_place}
 use Rattle.base_values.specs.SchemaRules.Defaults.{stored, stored_default, defaults_fit, default_or}
 use Rattle.base_values.specs.SchemaRules.Names.{is_among, spelled, numbered, first_free, first_column}
 use Rattle.sql_create.specs.Keys.{key_name, no_keys, with_key, named_keys}
-use Rattle.base_values.specs.SchemaRules.Valid.{is_kind, StoresDefault, IsColumn, IsValid}
-use Rattle.sql_create.specs.Parts.{no_parts, own_primary, own_key, with_item, parts_of}
+use Rattle.base_values.specs.SchemaRules.Valid.{is_kind, StoresDefault, IsColumn}
+use Rattle.sql_create.specs.Parts.{no_parts, own_key, with_item, parts_of}
 use Rattle.sql_create.specs.CreateText.{schema_at}
 use Rattle.sql_create.specs.Written.{written}
+use Rattle.proof_schemas.proofs.Autos.{is_auto}
 use Rattle.proof_schemas.proofs.Columns.{made}
-use Rattle.base_values.proofs.SchemaRules.Lists.{All-append, All-filter, All-map, fold-keeps}
-use Rattle.base_values.proofs.SchemaRules.Steps.{bind_ok, unless_ok, ok_is, there, some_is, default_is}
+use Rattle.proof_schemas.proofs.Counters.{counted}
+use Rattle.base_values.proofs.SchemaRules.Lists.{All-append, All-at, All-filter, All-map, All-weaker, fold-keeps, position-found}
+use Rattle.base_values.proofs.SchemaRules.Steps.{bind_ok, unless_ok, ok_is, default_is}
 use Rattle.proof_schemas.proofs.Valid.{read-valid}
-use Rattle.proof_schemas.specs.Printed.Laws.{CanQuote, CanQuoteKey, CanPrintKind, CanPrintValue, CanPrintDefault, CanPrintColumn, CanPrint}
-use Rattle.proof_schemas.specs.ReadAgain.{ReadSchemasCanPrint, ReadSchemasAreReadAgain}
+use Rattle.proof_schemas.specs.Printed.Laws.{CanQuote, CanQuoteKey, CanPrintKind, CanPrintDefault, CanPrintColumn, CanPrintStart, MayCountIn, FitsVersion}
+use Rattle.proof_schemas.specs.ReadAgain.{MayStart, ReadSchemasCanPrint, ReadSchemasAreReadAgain}
 use Rattle.proof_schemas.proofs.ReadAgain.Reread.{printed-again}
 use Rattle.proof_schemas.proofs.ReadAgain.ReadDeclared.{read-declared}
 use Rattle.proof_schemas.proofs.ReadAgain.Sound.{AreBytes, text-sound}
 use Rattle.proof_schemas.proofs.ReadAgain.SoundValues.{SoundValue}
 use Rattle.proof_schemas.proofs.ReadAgain.SoundReaders.{AreNames, SoundName, SoundKey}
-use Rattle.proof_schemas.proofs.ReadAgain.SoundTables.{SoundDefault, SoundColumn, SoundItem, SoundTable, written-sound}
+use Rattle.proof_schemas.proofs.ReadAgain.SoundTables.{SoundDefault, SoundColumn, SoundItem, written-sound}
 use Rattle.std.proofs.lemmas.Bool.{and_parts, leb-true}
 
 -- ---- decimal digits
@@ -119,24 +124,24 @@ pub default-sound : (kind : Kind) (nullable : Bool) (written default : Option Va
 default-sound kind nullable (Some value) default sound e = stored-sound (stores value kind nullable) default (stores-sound value kind nullable sound) e
 default-sound kind nullable None default sound e = subst SoundDefault (ok_is {C = Unfit} (cond nullable (Some Null) None) default e) (null-sound nullable)
 
-abbrev SoundMade : Column → Type 0
-SoundMade column = CanQuote column.name × SoundDefault column.default
+abbrev SoundMade : ℕ → Column → Type 0
+SoundMade version column = CanQuote column.name × (SoundDefault column.default × MayCountIn version column.auto)
 
-column-made : (primaries : List (List (List ℕ))) (written : WrittenColumn) (column : Column) → SoundColumn written → declared_column primaries written ≡ Ok column → SoundMade column
+column-made : (version : ℕ) (primaries : List (List (List ℕ))) (written : WrittenColumn) (column : Column) → SoundColumn version written → declared_column primaries written ≡ Ok column → SoundMade version column
 unfolding declared_column
-column-made primaries written column sound e =
+column-made version primaries written column sound e =
     let nullable = nullable_of primaries written in
-    let b = bind_ok (default_or BadDefault (stored_default written.kind nullable written.attributes.plain.default)) (λ default. Ok (made written.name written.kind nullable default)) column e in
-    let default = default-sound written.kind nullable written.attributes.plain.default b.0 sound.1 (default_is BadDefault _ b.0 b.1) in
-    subst SoundMade (ok_is {C = SchemaCode} (made written.name written.kind nullable b.0) column b.2) (sound.0, default)
+    let b = bind_ok (default_or BadDefault (stored_default written.kind nullable written.attributes.plain.default)) (λ default. Ok (made written.name written.kind nullable default written.attributes.plain.auto)) column e in
+    let default = default-sound written.kind nullable written.attributes.plain.default b.0 sound.1.0 (default_is BadDefault _ b.0 b.1) in
+    subst (SoundMade version) (ok_is {C = SchemaCode} (made written.name written.kind nullable b.0 written.attributes.plain.auto) column b.2) (sound.0, (default, sound.1.1))
 
-columns-made : (primaries : List (List (List ℕ))) (ws : List WrittenColumn) (columns : List Column) → AllByRecursion SoundColumn ws → declared_columns primaries ws ≡ Ok columns → AllByRecursion SoundMade columns
+columns-made : (version : ℕ) (primaries : List (List (List ℕ))) (ws : List WrittenColumn) (columns : List Column) → AllByRecursion (SoundColumn version) ws → declared_columns primaries ws ≡ Ok columns → AllByRecursion (SoundMade version) columns
 unfolding declared_columns
-columns-made primaries [] columns sound e = subst (AllByRecursion SoundMade) (ok_is {C = SchemaCode} [] columns e) tt
-columns-made primaries (w ∷ ws) columns sound e =
+columns-made version primaries [] columns sound e = subst (AllByRecursion (SoundMade version)) (ok_is {C = SchemaCode} [] columns e) tt
+columns-made version primaries (w ∷ ws) columns sound e =
     let a = bind_ok (declared_column primaries w) (λ first. declared_columns primaries ws >>= λ others. Ok (first ∷ others)) columns e in
     let b = bind_ok (declared_columns primaries ws) (λ others. Ok (a.0 ∷ others)) columns a.2 in
-    subst (AllByRecursion SoundMade) (ok_is {C = SchemaCode} (a.0 ∷ b.0) columns b.2) (column-made primaries w a.0 sound.0 a.1, columns-made primaries ws b.0 sound.1 b.1)
+    subst (AllByRecursion (SoundMade version)) (ok_is {C = SchemaCode} (a.0 ∷ b.0) columns b.2) (column-made version primaries w a.0 sound.0 a.1, columns-made version primaries ws b.0 sound.1 b.1)
 
 -- ---- numbers of an integer column
 
@@ -208,31 +213,31 @@ default-prints column (Some (Num number)) sound stores = number-small number col
 default-prints column (Some (Text text)) sound stores = tt
 default-prints column (Some (Blob blob)) sound stores = sound
 
-columns-print : (columns : List Column) → AllByRecursion SoundMade columns → AllByRecursion IsColumn columns → AllByRecursion CanPrintColumn columns
-columns-print [] sound are = tt
-columns-print (column ∷ columns) sound are = ((sound.0.0, kind-prints column.kind (are.0).kind, default-prints column column.default sound.0.1 (are.0).default), columns-print columns sound.1 are.1)
+columns-print : (version : ℕ) (columns : List Column) → AllByRecursion (SoundMade version) columns → AllByRecursion IsColumn columns → AllByRecursion CanPrintColumn columns
+columns-print version [] sound are = tt
+columns-print version (column ∷ columns) sound are = ((sound.0.0, kind-prints column.kind (are.0).kind, default-prints column column.default sound.0.1.0 (are.0).default), columns-print version columns sound.1 are.1)
 
 -- ---- parts
 
-record SoundParts (parts : Parts) : Type 0 where
-  pub columns : AllByRecursion SoundColumn parts.columns
+record SoundParts (version : ℕ) (parts : Parts) : Type 0 where
+  pub columns : AllByRecursion (SoundColumn version) parts.columns
   pub keys : AllByRecursion (λ key. SoundKey key.text) parts.keys
 
 own_key-sound : (column : WrittenColumn) (b : Bool) → CanQuote column.name → AllByRecursion (λ (key : WrittenKey). SoundKey key.text) (cond b (record { is_unique = true; text = record { name = None; columns = column.name ∷ [] } } ∷ []) [])
 own_key-sound column true can = ((tt, (can, tt)), tt)
 own_key-sound column false can = tt
 
-with_item-sound : (parts : Parts) (item : Item) → SoundParts parts → SoundItem item → SoundParts (with_item parts item)
-with_item-sound parts (items.Column column) are is = record {
-  columns = All-append SoundColumn parts.columns (column ∷ []) are.columns (is, tt);
+with_item-sound : (version : ℕ) (parts : Parts) (item : Item) → SoundParts version parts → SoundItem version item → SoundParts version (with_item parts item)
+with_item-sound version parts (items.Column column) are is = record {
+  columns = All-append (SoundColumn version) parts.columns (column ∷ []) are.columns (is, tt);
   keys = All-append (λ (key : WrittenKey). SoundKey key.text) parts.keys (own_key column) are.keys (own_key-sound column column.attributes.is_unique is.0);
 }
-with_item-sound parts (items.Primary names) are is = record { columns = are.columns; keys = are.keys }
-with_item-sound parts (items.Key key) are is = record { columns = are.columns; keys = All-append (λ (k : WrittenKey). SoundKey k.text) parts.keys (key ∷ []) are.keys (is, tt) }
+with_item-sound version parts (items.Primary names) are is = record { columns = are.columns; keys = are.keys }
+with_item-sound version parts (items.Key key) are is = record { columns = are.columns; keys = All-append (λ (k : WrittenKey). SoundKey k.text) parts.keys (key ∷ []) are.keys (is, tt) }
 
-parts-sound : (written : List Item) → AllByRecursion SoundItem written → SoundParts (parts_of written)
+parts-sound : (version : ℕ) (written : List Item) → AllByRecursion (SoundItem version) written → SoundParts version (parts_of written)
 unfolding parts_of
-parts-sound written all = fold-keeps SoundParts SoundItem with_item with_item-sound no_parts written (record { columns = tt; keys = tt }) all
+parts-sound version written all = fold-keeps (SoundParts version) (SoundItem version) with_item (with_item-sound version) no_parts written (record { columns = tt; keys = tt }) all
 
 -- ---- names of keys
 
@@ -283,8 +288,8 @@ named-sound names keys are all = fold-keeps (λ (named : NamedKeys). AllByRecurs
 
 -- ---- the schema
 
-names-are : (columns : List WrittenColumn) → AllByRecursion SoundColumn columns → AreNames (column_names columns)
-names-are columns sound = All-map SoundColumn CanQuote (λ column. column.name) (λ column is. is.0) columns sound
+names-are : (version : ℕ) (columns : List WrittenColumn) → AllByRecursion (SoundColumn version) columns → AreNames (column_names columns)
+names-are version columns sound = All-map (SoundColumn version) CanQuote (λ column. column.name) (λ column is. is.0) columns sound
 
 abbrev QuotesKey : Index → Type 0
 QuotesKey index = CanQuoteKey index.name
@@ -300,39 +305,91 @@ primaries-quote : (names : List (List ℕ)) (primaries : List (List (List ℕ)))
 primaries-quote names [] = tt
 primaries-quote names (primary ∷ primaries) = (tt, primaries-quote names primaries)
 
-abbrev PrintsWhole : Schema → Type 0
-PrintsWhole schema = IsValid schema → CanPrint schema
+-- the schema can be printed, but for where its column starts, and its columns are those of the version
+record PrintsParts (version : ℕ) (schema : Schema) : Type 0 where
+  pub name : CanQuote schema.name
+  pub columns : AllByRecursion (SoundMade version) schema.columns
+  pub uniques : AllByRecursion QuotesKey schema.uniques
+  pub indexes : AllByRecursion QuotesKey schema.indexes
 
-whole-prints : (name comment : List ℕ) (parts : Parts) (keys : List WrittenKey) (columns : List Column) → CanQuote name → AllByRecursion (λ key. SoundKey key.text) keys → AllByRecursion SoundMade columns → PrintsWhole (schema_of name comment (column_names parts.columns) parts.primaries keys columns)
+whole-prints : (version : ℕ) (name comment : List ℕ) (parts : Parts) (keys : List WrittenKey) (columns : List Column) → CanQuote name → AllByRecursion (λ key. SoundKey key.text) keys → AllByRecursion (SoundMade version) columns
+    → PrintsParts version (schema_of name comment (column_names parts.columns) parts.primaries keys columns)
 unfolding schema_of
-whole-prints name comment parts keys columns can sound made valid =
+whole-prints version name comment parts keys columns can sound made =
     let names = column_names parts.columns in
     let front = filter (λ (key : WrittenKey). key.is_unique) keys in
     record {
       name = can;
-      columns = columns-print columns made valid.columns;
+      columns = made;
       uniques = All-append QuotesKey (map (primary_index names) parts.primaries) (map (key_index names) front) (primaries-quote names parts.primaries) (keys-quote names front (All-filter (λ (key : WrittenKey). SoundKey key.text) (λ key. key.is_unique) keys sound));
       indexes = keys-quote names (filter (λ key. not key.is_unique) keys) (All-filter (λ (key : WrittenKey). SoundKey key.text) (λ key. not key.is_unique) keys sound);
     }
 
-parts-print : (migrated name comment : List ℕ) (parts : Parts) (schema : Schema) → CanQuote name → SoundParts parts → declared_parts migrated name comment parts ≡ Ok schema → PrintsWhole schema
-parts-print migrated name comment parts schema can sound e =
+started-prints : (version : ℕ) (schema : Schema) (start : Option ℕ) → PrintsParts version schema → PrintsParts version (started schema start)
+started-prints version schema start prints = record { name = prints.name; columns = prints.columns; uniques = prints.uniques; indexes = prints.indexes }
+
+parts-print : (version : ℕ) (migrated name : List ℕ) (options : TableOptions) (parts : Parts) (schema : Schema) → CanQuote name → SoundParts version parts → declared_parts migrated name options parts ≡ Ok schema → PrintsParts version schema
+parts-print version migrated name options parts schema can sound e =
     let names = column_names parts.columns in
     let named = named_keys names parts.keys in
-    let outer = unless_ok (first_reason (size_reasons migrated name parts)) (built name comment names parts.primaries parts.columns named) schema e in
-    let inner = unless_ok (first_reason (name_reasons names parts.primaries named)) (declared_columns parts.primaries parts.columns >>= λ columns. clustered (schema_of name comment names parts.primaries named.keys columns)) schema outer.1 in
-    let columns = bind_ok (declared_columns parts.primaries parts.columns) (λ columns. clustered (schema_of name comment names parts.primaries named.keys columns)) schema inner.1 in
-    let whole = schema_of name comment names parts.primaries named.keys columns.0 in
-    let last = unless_ok (first_reason ((not (defaults_fit whole.columns), BadDefault) ∷ (is_none (clustered_place whole), NoClusteredKey) ∷ [])) (Ok whole) schema columns.2 in
-    subst PrintsWhole (ok_is {C = SchemaCode} whole schema last.1)
-    (whole-prints name comment parts named.keys columns.0 can (named-sound names parts.keys (names-are parts.columns sound.columns) sound.keys) (columns-made parts.primaries parts.columns columns.0 sound.columns columns.1))
+    let outer = unless_ok (first_reason (size_reasons migrated name parts)) (built name options names parts.primaries parts.columns named) schema e in
+    let inner = unless_ok (first_reason (name_reasons names parts.primaries named)) (declared_columns parts.primaries parts.columns >>= keyed name options names parts.primaries named) schema outer.1 in
+    let columns = bind_ok (declared_columns parts.primaries parts.columns) (keyed name options names parts.primaries named) schema inner.1 in
+    let whole = schema_of name options.comment names parts.primaries named.keys columns.0 in
+    let through = bind_ok (clustered whole) (counting options.start) schema columns.2 in
+    let count = counted options.start through.0 schema through.2 in
+    let last = unless_ok (first_reason ((not (defaults_fit whole.columns), BadDefault) ∷ (is_none (clustered_place whole), NoClusteredKey) ∷ [])) (Ok whole) through.0 through.1 in
+    let prints : PrintsParts version through.0 = subst (PrintsParts version) (ok_is {C = SchemaCode} whole through.0 last.1)
+    (whole-prints version name options.comment parts named.keys columns.0 can (named-sound names parts.keys (names-are version parts.columns sound.columns) sound.keys) (columns-made version parts.primaries parts.columns columns.0 sound.columns columns.1)) in
+    subst (PrintsParts version) count.same (started-prints version through.0 count.start prints)
+
+-- what was read can be printed in parts
+read-parts : (version : ℕ) (migrated text : List ℕ) (schema : Schema) → AreBytes text → schema_at version migrated text ≡ Ok schema → PrintsParts version schema
+unfolding schema_at declared
+read-parts version migrated text schema are e =
+    let table = bind_ok (written version (text_words text)) (declared migrated) schema e in
+    let sound = written-sound version (text_words text) table.0 (text-sound text are) table.1 in
+    parts-print version migrated table.0.name table.0.options (parts_of table.0.items) schema sound.name (parts-sound version table.0.items sound.items) table.2
+
+start-prints : (place start : Option ℕ) → MayStart place start → CanPrintStart start
+start-prints place None may = tt
+start-prints None (Some start) may = absurd may
+start-prints (Some place) (Some start) may = let high = may.1 in let more : 9223372036854775807 < 10 ^ 38 = lit< tt in omega (arith, high, more)
 
 pub read-prints : StoresAgain → ReadSchemasCanPrint
-unfolding schema_at declared
-read-prints again migrated text schema are e =
-    let table = bind_ok (written (text_words text)) (declared migrated) schema e in
-    let sound = written-sound (text_words text) table.0 (text-sound text are) table.1 in
-    parts-print migrated table.0.name table.0.comment (parts_of table.0.items) schema sound.name (parts-sound table.0.items sound.items) table.2 (read-valid again migrated text schema e)
+read-prints again version migrated text schema are e =
+    let parts = read-parts version migrated text schema are e in
+    let valid = read-valid again version migrated text schema e in
+    let declares = read-declared version migrated text schema e in
+    record {
+      name = parts.name;
+      columns = columns-print version schema.columns parts.columns valid.columns;
+      uniques = parts.uniques;
+      indexes = parts.indexes;
+      start = start-prints (auto_place schema) schema.start declares.start;
+    }
+
+-- ---- the version
+
+never-auto : (version : ℕ) → MayCountIn version false
+never-auto version on = absurd cc
+
+start-fits : (version : ℕ) (columns : List Column) (place start : Option ℕ) → position is_auto columns ≡ place → AllByRecursion (λ column. MayCountIn version column.auto) columns → MayStart place start → MayCountIn version (is_some start)
+start-fits version columns place None is all may = never-auto version
+start-fits version columns None (Some start) is all may = absurd may
+start-fits version columns (Some place) (Some start) is all may = λ on.
+    let found = position-found is_auto columns place is in
+    All-at (λ (column : Column). MayCountIn version column.auto) columns place found.item all found.is found.passes
+
+-- a plan of the version may have a schema of such columns
+pub fits-version : (version : ℕ) (schema : Schema) → AllByRecursion (λ column. MayCountIn version column.auto) schema.columns → MayStart (auto_place schema) schema.start → FitsVersion version schema
+fits-version version schema all may = record { columns = all; start = start-fits version schema.columns (auto_place schema) schema.start refl all may }
+
+pub read-fits : (version : ℕ) (migrated text : List ℕ) (schema : Schema) → AreBytes text → schema_at version migrated text ≡ Ok schema → FitsVersion version schema
+read-fits version migrated text schema are e =
+    let parts = read-parts version migrated text schema are e in
+    fits-version version schema (All-weaker (SoundMade version) (λ (column : Column). MayCountIn version column.auto) (λ c made. made.1.1) schema.columns parts.columns) (read-declared version migrated text schema e).start
 
 pub read-again : StoresAgain → ReadSchemasAreReadAgain
-read-again again migrated text schema are e = printed-again migrated schema (read-prints again migrated text schema are e) (read-valid again migrated text schema e) (read-declared migrated text schema e)
+read-again again version migrated text schema are e =
+    printed-again version migrated schema (read-prints again version migrated text schema are e) (read-valid again version migrated text schema e) (read-declared version migrated text schema e) (read-fits version migrated text schema are e)

@@ -1,5 +1,5 @@
 -- What sound words stand for: names without backquotes, and bytes.
-use Rattle.std.proofs.Common.{◌≡◌, ℕ, zero, suc, ◌+◌, ◌*◌, ◌<◌, Bool, true, false, not, ◌&&◌, ◌||◌, cond, eqb, ltb, List, [], ◌∷◌, ◌++◌, length, take, drop, get_or, Option, Some, None, refl, sym, ap, subst, ◌∙◌, arith, codes}
+use Rattle.std.proofs.Common.{◌≡◌, ℕ, zero, suc, ◌+◌, ◌*◌, ◌<◌, Bool, true, false, not, ◌&&◌, ◌||◌, cond, eqb, ltb, List, [], ◌∷◌, ◌++◌, length, take, drop, get_or, Option, Some, None, refl, subst, arith, codes}
 use Rattle.std.specs.Prelude.{ℤ}
 use Rattle.std.specs.Option.{option_map}
 use Rattle.std.specs.Char.{is_ascii_hexdigit, digit_value}
@@ -16,9 +16,9 @@ use Rattle.sql_grammar.specs.declared.token.Token.{Token}
 use Rattle.sql_grammar.specs.Pieces.{literal_of}
 use Rattle.sql_grammar.specs.Tokens.{is_keyword}
 use Rattle.base_values.proofs.SchemaRules.Lists.{All-append}
-use Rattle.base_values.proofs.SchemaRules.Steps.{there, some_is}
+use Rattle.base_values.proofs.SchemaRules.Steps.{some_is}
 use Rattle.proof_schemas.specs.Printed.Laws.{CanQuote}
-use Rattle.proof_schemas.proofs.ReadAgain.Sound.{AreBytes, SoundText, Sound, All-take, prefix-passes}
+use Rattle.proof_schemas.proofs.ReadAgain.Sound.{AreBytes, SoundText, Sound, prefix-passes}
 use Rattle.std.proofs.lemmas.Bool.{not-true, and_parts}
 
 -- ---- names

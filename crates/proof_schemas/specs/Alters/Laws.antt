@@ -73,7 +73,7 @@ AlteredSchemasAreValid = (approve : Bool) (schema : Schema) (clauses : List Clau
 
 -- The clauses of a text write kinds of this program.
 abbrev pub ReadClausesWriteKinds : Type 0
-ReadClausesWriteKinds = (table text : List ℕ) (clauses : List Clause) → alter_at table text ≡ Ok clauses → AllByRecursion IsClause clauses
+ReadClausesWriteKinds = (version : ℕ) (table text : List ℕ) (clauses : List Clause) → alter_at version table text ≡ Ok clauses → AllByRecursion IsClause clauses
 
 -- A converted row is a row of the altered table.
 abbrev pub ConvertedRowsAreRows : Type 0

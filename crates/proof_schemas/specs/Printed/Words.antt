@@ -50,8 +50,11 @@ abbrev pub default_words : Option Value → List Token
 default_words None = []
 default_words (Some value) = written_words value
 
+abbrev pub auto_words : Bool → List Token
+auto_words auto = if auto then keyword (codes "AUTO_INCREMENT") ∷ [] else []
+
 abbrev pub column_words : Column → List Token
-column_words column = name_word column.name ∷ kind_words column.kind ++ null_words column.nullable ++ default_words column.default
+column_words column = name_word column.name ∷ kind_words column.kind ++ null_words column.nullable ++ default_words column.default ++ auto_words column.auto
 
 -- ---- keys
 
@@ -82,9 +85,13 @@ abbrev pub joined_words : List (List Token) → List Token
 joined_words [] = []
 joined_words (line ∷ lines) = line ++ flat_map (λ next. sign_word (codes ",") ∷ next) lines
 
+abbrev pub start_words : Option ℕ → List Token
+start_words None = []
+start_words (Some number) = keyword (codes "AUTO_INCREMENT") ∷ sign_word (codes "=") ∷ number_word (decimal number) ∷ []
+
 abbrev pub comment_words : List ℕ → List Token
 comment_words [] = []
 comment_words (byte ∷ bytes) = keyword (codes "COMMENT") ∷ sign_word (codes "=") ∷ record { class = class.Text; text = printed (Text (byte ∷ bytes)) } ∷ []
 
 abbrev pub schema_words : Schema → List Token
-schema_words schema = keyword (codes "CREATE") ∷ keyword (codes "TABLE") ∷ name_word schema.name ∷ sign_word (codes "(") ∷ joined_words (lines_words schema) ++ sign_word (codes ")") ∷ comment_words schema.comment
+schema_words schema = keyword (codes "CREATE") ∷ keyword (codes "TABLE") ∷ name_word schema.name ∷ sign_word (codes "(") ∷ joined_words (lines_words schema) ++ sign_word (codes ")") ∷ (start_words schema.start ++ comment_words schema.comment)

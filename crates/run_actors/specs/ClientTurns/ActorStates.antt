@@ -1,7 +1,8 @@
 -- What the code keeps of a client, in the words of how far it is in its script. (This project's rule.)
-use Rattle.std.specs.Prelude.{◌≡◌, if◌then◌else◌, List, drop, Option, None}
+use Rattle.std.specs.Prelude.{◌≡◌, ℕ, Bool, true, false, if◌then◌else◌, List, drop, Option, Some, None}
 use Rattle.base_script.specs.declared.script.ScriptLine.{ScriptLine}
 use Rattle.server_model.specs.declared.entry.Asked.{Asked}
+use Rattle.server_model.specs.declared.entry.Entry.{Entry}
 use Rattle.tool_program.specs.JournalWords.Clients as clients
 use Rattle.run_actors.specs.declared.client_turns.actor_state.ClientState.{ClientState}
 use Rattle.run_actors.specs.declared.client_turns.outcome.LineOutcome.{LineOutcome}
@@ -13,6 +14,15 @@ line_outcome_as clients.Nothing = Nothing
 line_outcome_as clients.Waits = Waits
 line_outcome_as (clients.Marked mark reply) = Marked mark
 line_outcome_as clients.Broken = Broken
+
+-- the line got a mark in the turn: it was answered, timed out, or its session was lost
+abbrev pub is_marked : clients.Became → Bool
+is_marked (clients.Marked mark reply) = true
+is_marked became = false
+
+-- a line that draws a number gets its mark in the same turn, whether it waited before or not
+abbrev pub DrawsAtMark : Entry → Type 0
+DrawsAtMark entry = (waits : Bool) (number : ℕ) → entry.draw ≡ Some number → is_marked (clients.became_in waits entry.asked entry.side entry.answer entry.missed) ≡ true
 
 -- *Reached*: the actor state has how far the client is in this script
 pub record IsReached (script : List ScriptLine) (actor_state : ClientState) (client : clients.Reached) : Type 0 where

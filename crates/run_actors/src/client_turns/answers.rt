@@ -3,8 +3,8 @@
 ghost use Rattle.std.specs.Prelude.{◌≡◌, ◌<◌, ◌∷◌, List, length, Option, is_some, drop};
 ghost use Rattle.base_script.specs.declared.script.ScriptLine.{ScriptLine};
 ghost use Rattle.server_model.specs.declared.transaction.Reply.{Reply};
-ghost use Rattle.tool_program.specs.JournalWords.Clients.{Became, Reached, ends_with, closes, after_transaction, left_after, is_loss, marked, client_after, became};
-ghost use Rattle.run_actors.specs.ClientTurns.ActorStates.{IsReached, line_outcome_as};
+ghost use Rattle.tool_program.specs.JournalWords.Clients.{Became, Reached, ends_with, closes, after_transaction, left_after, is_loss, marked, client_after, became, with_draw};
+ghost use Rattle.run_actors.specs.ClientTurns.ActorStates.{DrawsAtMark, IsReached, line_outcome_as};
 
 use crate::client_turns::actor_state::ClientState;
 use crate::client_turns::outcome::{LineOutcome, line_outcome_of};
@@ -92,9 +92,11 @@ impl ClientState {
         self.place = after_transaction(script.as_slice(), self.place);
     }
 
-    /// A turn of this client.
+    /// A turn of this client. Which number its line drew makes no difference to what is kept.
+    #[tactic(auto, using(crate::proofs::ClientTurns::Drawn::turn_numbered))]
     pub fn took(&mut self, script: &Script, entry: &Entry)
-        ensures { (client : Reached) → IsReached script.now self.old client → IsReached script.now self.new (client_after (became client entry.now) client) }
+        requires draws { DrawsAtMark entry.now }
+        ensures { (client : Reached) → IsReached script.now self.old client → IsReached script.now self.new (client_after (became client entry.now) (with_draw entry.now.draw client)) }
     {
         let outcome = line_outcome_of(self.waits, entry);
         self.becomes(script, outcome);

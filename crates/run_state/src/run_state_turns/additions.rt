@@ -7,6 +7,7 @@ ghost use Rattle.tool_program.specs.JournalWords.Journals.{after_entry};
 ghost use Rattle.tool_program.specs.Tools.{moment};
 ghost use Rattle.tool_state.specs.ToolState.Sound.{HasRoom, IsRead, TriesGrow};
 ghost use Rattle.proof_journals.specs.Run.Counts.{busy_count};
+ghost use Rattle.run_actors.specs.ClientTurns.ActorStates.{DrawsAtMark};
 ghost use Rattle.run_state.specs.Books.{is_planned, actor_state_in, renames_of, AreReached, HasRoomFor, IsRunState};
 
 use crate::{RunState, script_of};
@@ -31,6 +32,7 @@ pub struct TurnFacts {
 #[tactic(auto, using(crate::proofs::Clients::scripted, crate::proofs::Clients::actor_state_within))]
 fn client_took(run_state: &mut RunState<'_>, client: u32, entry: &Entry)
     requires actor { entry.now.actor ≡ Client client }
+    requires draws { DrawsAtMark entry.now }
     requires planned { is_planned run_state.old.plan.now (Client client) ≡ true }
     requires clients { AreReached run_state.old.plan.now run_state.old.journal.items 1 run_state.old.plan.now.clients run_state.old.clients.items }
     ensures clients { AreReached run_state.old.plan.now (run_state.old.journal.items ++ entry.now ∷ []) 1 run_state.old.plan.now.clients run_state.new.clients.items }
@@ -46,6 +48,7 @@ fn client_took(run_state: &mut RunState<'_>, client: u32, entry: &Entry)
 #[tactic(auto, using(crate::proofs::Clients::no_client, crate::proofs::Clients::reached_still))]
 fn clients_took(run_state: &mut RunState<'_>, entry: &Entry)
     requires planned { is_planned run_state.old.plan.now entry.now.actor ≡ true }
+    requires draws { DrawsAtMark entry.now }
     requires clients { AreReached run_state.old.plan.now run_state.old.journal.items 1 run_state.old.plan.now.clients run_state.old.clients.items }
     ensures clients { AreReached run_state.old.plan.now (run_state.old.journal.items ++ entry.now ∷ []) 1 run_state.old.plan.now.clients run_state.new.clients.items }
     ensures rest { run_state.new ≡ record run_state.old { clients = run_state.new.clients } }
@@ -71,6 +74,7 @@ fn renames(run_state: &RunState<'_>, actor: Actor) -> bool
 fn keep(run_state: &mut RunState<'_>, entry: &Entry, facts: TurnFacts)
     requires run_state { IsRunState run_state.old.plan.now run_state.old.journal.items run_state.old }
     requires planned { is_planned run_state.old.plan.now entry.now.actor ≡ true }
+    requires draws { DrawsAtMark entry.now }
     requires few { length run_state.old.journal.items + 1 < 2 ^ 32 }
     requires room { HasRoom run_state.old.tool }
     requires range { IsRead run_state.old.tool.setup facts.range entry.now.answer }
@@ -100,6 +104,7 @@ fn keep(run_state: &mut RunState<'_>, entry: &Entry, facts: TurnFacts)
 pub fn take(run_state: &mut RunState<'_>, entry: Entry, facts: TurnFacts)
     requires run_state { IsRunState run_state.old.plan.now run_state.old.journal.items run_state.old }
     requires planned { is_planned run_state.old.plan.now entry.actor ≡ true }
+    requires draws { DrawsAtMark entry }
     requires few { length run_state.old.journal.items + 1 < 2 ^ 32 }
     requires room { HasRoomFor run_state.old.plan.now run_state.old.journal.items run_state.old }
     requires less { length run_state.old.journal.items < run_state.old.plan.now.options.turn_limit }

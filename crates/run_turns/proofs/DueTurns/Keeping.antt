@@ -10,9 +10,9 @@ use Rattle.server_model.specs.declared.entry.Asked.TheVariants.{Call, Poll, Comm
 use Rattle.server_model.specs.declared.entry.Entry.{Entry}
 use Rattle.server_model.specs.Entries.{is_client, is_command, is_cut}
 use Rattle.server_model.specs.States.{State}
-use Rattle.server_model.specs.PlainServer.{given_at}
+use Rattle.server_model.specs.PlainServer.{given_at, drawn_in}
 use Rattle.plan_data.specs.PlanData.{PlanData}
-use Rattle.tool_program.specs.JournalWords.Journals.{opening, state_at, after_entry, inner_answer, heard, missed, may_lose, IsAnswered}
+use Rattle.tool_program.specs.JournalWords.Journals.{opening, state_at, after_entry, inner_answer, drawn_of, heard, missed, may_lose, IsAnswered}
 use Rattle.tool_program.specs.JournalWords.KeptPlans.{side_due, TakesNext, IsStruck, IsPlanned}
 use Rattle.tool_program.specs.JournalWords.Sessions.{live_session, sessions_named, IsInSession, IsNumbered, NumbersSessions}
 use Rattle.tool_program.specs.Programs.{given, IsGiven, IsFollowed}
@@ -23,11 +23,11 @@ use Rattle.proof_journals.proofs.Run.Keeping.{kept_more, next_of}
 use Rattle.proof_journals.proofs.Journals.{state_more}
 use Rattle.proof_journals.proofs.Run.Living.{all_living}
 use Rattle.run_turns.specs.declared.due_turns.migration_run.turn.Turn.{Turn}
-use Rattle.run_turns.specs.DueTurns.MigrationRun.ServerTurns.{answer_on, entry_on}
+use Rattle.run_turns.specs.DueTurns.MigrationRun.ServerTurns.{opened_on, answer_on, entry_on}
 use Rattle.run_turns.specs.DueTurns.Due.{session_at, next_entry}
 use Rattle.run_turns.specs.DueTurns.Laws.{IsKeptWith, DueTurnsAreKept, DueTurnsAreNumbered}
 use Rattle.run_turns.proofs.DueTurns.Coming.{Comes, Cuts, Gives, comes, Asks, Commands, Called, given_asks, given_uncut, operator_unstruck, Lives, cut_lives}
-use Rattle.run_turns.proofs.DueTurns.Serving.{answers_same, after_more}
+use Rattle.run_turns.proofs.DueTurns.Serving.{answers_same, draws_same, after_more}
 
 module _ (plan : PlanData) (journal : List Entry) (server : State) (actor : Actor) (turn : Turn) (kept : IsKept plan journal) (following : IsAfter (state_at plan journal) server) (comes_so : Comes plan journal actor turn) where
   abbrev session : ℕ
@@ -53,9 +53,15 @@ module _ (plan : PlanData) (journal : List Entry) (server : State) (actor : Acto
   unfolding entry_on inner_answer
   same_answer = ap (given_at turn.side turn.asked) (answers_same (state_at plan journal) server (is_command turn.asked) (not (is_client turn.actor)) session turn.asked following)
 
+  same_draw : entry.draw ≡ drawn_of (state_at plan journal) entry (inner_answer (state_at plan journal) entry)
+  unfolding entry_on
+  same_draw =
+      ap (drawn_in (opened_on server session turn) session turn.asked) same_answer
+      ∙ draws_same (state_at plan journal) server (is_command turn.asked) (not (is_client turn.actor)) session turn.asked (inner_answer (state_at plan journal) entry) following
+
   answered : IsAnswered (state_at plan journal) entry
   unfolding entry_on
-  answered = record { sides = λ lost. unlost turn.asked refl lost; answer = ap (heard turn.side) same_answer; missed = ap (missed turn.side) same_answer; draw = refl }
+  answered = record { sides = λ lost. unlost turn.asked refl lost; answer = ap (heard turn.side) same_answer; missed = ap (missed turn.side) same_answer; draw = same_draw }
 
   -- THE PLAN
 

@@ -7,7 +7,7 @@ use Rattle.base_script.specs.declared.actor.Actor.TheVariants.{Op, Insp, Copy, A
 use Rattle.base_script.specs.declared.actor.Side.{Side}
 use Rattle.base_script.specs.declared.actor.Side.TheVariants.{Before, After}
 use Rattle.server_model.specs.Blockers.{need, blocker}
-use Rattle.server_model.specs.Conditions.{is_free, is_blocked_exclusive, is_freely_polled}
+use Rattle.server_model.specs.Conditions.{is_free, is_blocked_exclusive}
 use Rattle.server_model.specs.Entries.{is_command}
 use Rattle.server_model.specs.States.{State, waiting_of, is_exclusive}
 use Rattle.server_model.specs.declared.entry.Asked.{Asked}
@@ -28,7 +28,6 @@ use Rattle.tool_program.specs.Tools.{ToolPhase, SettingUp, is_reverting, moment}
 use Rattle.tool_program.specs.declared.tool_setup.setup.Setup.{Setup}
 use Rattle.tool_program.specs.declared.tool_setup.setup.Setup.TheVariants.{Listing, Clearing, MakingLog, MakingGhost, Marking, Reaching}
 use Rattle.tool_state.specs.ToolState.Meanings.{work_of, tool_phase_in}
-use Rattle.proof_journals.specs.Run.Counts.{IsAfter}
 use Rattle.proof_journals.proofs.Run.Taking.{server_is}
 use Rattle.proof_journals.specs.Turns.{request_of}
 use Rattle.proof_journals.specs.Machine.MigrationTables.{ToolPhaseTables}

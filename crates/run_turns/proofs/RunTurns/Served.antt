@@ -1,5 +1,5 @@
 -- What a turn on the server gives, in the words of the run.
-use Rattle.std.proofs.Common.{◌≡◌, ◌≤◌, ◌<◌, ℕ, ◌+◌, Bool, true, false, not, List, [], ◌∷◌, ◌++◌, length, Option, Some, None, refl, sym, ap, ◌∙◌, subst, append_assoc, append-nil, arith}
+use Rattle.std.proofs.Common.{◌≡◌, ◌≤◌, ◌<◌, ℕ, ◌+◌, Bool, true, false, not, List, [], ◌∷◌, ◌++◌, length, Option, None, refl, sym, ap, ◌∙◌, subst, append_assoc, append-nil, arith}
 use Rattle.std.proofs.lemmas.Bool.{true≢false, false≢true}
 use Rattle.std.proofs.lemmas.List.{length-append}
 use Rattle.table_store.specs.Databases.{Database}
@@ -11,7 +11,7 @@ use Rattle.server_model.specs.declared.entry.Asked.{Asked}
 use Rattle.server_model.specs.declared.entry.Asked.TheVariants.{Call, Poll, Command, Cut}
 use Rattle.server_model.specs.declared.entry.Entry.{Entry}
 use Rattle.server_model.specs.Entries.{is_client, is_command}
-use Rattle.server_model.specs.PlainServer.{serves, leaves, given_at}
+use Rattle.server_model.specs.PlainServer.{serves, state_left, given_at, number_drawn}
 use Rattle.server_model.specs.States.{State, has_work, load}
 use Rattle.plan_data.specs.PlanData.{PlanData}
 use Rattle.tool_program.specs.JournalWords.Journals.{opening, opens_if, state_after, state_at, after_entry, heard, missed, IsAnswered}
@@ -24,9 +24,12 @@ use Rattle.proof_journals.proofs.Run.Keeping.{kept_none}
 use Rattle.proof_journals.proofs.Run.Taking.{server_is}
 use Rattle.proof_journals.proofs.Run.Living.{never_lost}
 use Rattle.proof_journals.specs.Machine.Runnable.{IsRunnable}
+use Rattle.run_actors.specs.ClientTurns.ActorStates.{DrawsAtMark}
+use Rattle.run_actors.proofs.ClientTurns.DrawnTurns.{drawn_marks}
 use Rattle.run_turns.specs.declared.due_turns.migration_run.counting.Counts.{Counts}
 use Rattle.run_turns.specs.declared.due_turns.migration_run.turn.Turn.{Turn}
-use Rattle.run_turns.specs.DueTurns.MigrationRun.ServerTurns.{session_for, made_for, opened_on, entry_on, counts_of, MayTurn}
+use Rattle.run_turns.specs.DueTurns.MigrationRun.ServerTurns.{session_for, opened_on, entry_on, counts_of, MayTurn}
+use Rattle.run_turns.proofs.DueTurns.MigrationRun.Connecting.{command_left}
 use Rattle.run_turns.proofs.DueTurns.MigrationRun.Counted.{entry_same}
 use Rattle.run_state.specs.declared.run_state.RunState.{RunState}
 use Rattle.run_state.specs.Books.{is_planned, HasRoomFor, IsRunState}
@@ -60,10 +63,10 @@ command_session Cut own made none = absurd (false≢true none)
 -- a command leaves the server as it is
 pub command_still : (state : State) (turn : Turn) → is_command turn.asked ≡ true → turn.side ≡ None → after_entry state (entry_on state 0 turn) ≡ state
 unfolding entry_on opens_if
-command_still state turn command none = ap (λ (side : Option Side). leaves side (opens_if (is_command turn.asked) (not (is_client turn.actor)) 0 state) 0 turn.asked) none ∙ by turn.asked command
+command_still state turn command none = ap (λ (side : Option Side). state_left side (opens_if (is_command turn.asked) (not (is_client turn.actor)) 0 state) 0 turn.asked) none ∙ by turn.asked command
   where
-    by : (asked : Asked) → is_command asked ≡ true → leaves None (opens_if (is_command asked) (not (is_client turn.actor)) 0 state) 0 asked ≡ state
-    by (Command word) is = refl
+    by : (asked : Asked) → is_command asked ≡ true → state_left None (opens_if (is_command asked) (not (is_client turn.actor)) 0 state) 0 asked ≡ state
+    by (Command word) is = sym (command_left state 0 word)
     by (Call request) is = absurd (false≢true is)
     by Poll is = absurd (false≢true is)
     by Cut is = absurd (false≢true is)
@@ -128,8 +131,14 @@ command_is state turn command none =
     entry_same state 0 turn _ refl refl refl (sym none)
     (sym (ap (λ (side : Option Side). heard side (given_at side turn.asked (serves (opened_on state 0 turn) 0 turn.asked).answer)) none ∙ reported turn.asked (opened_on state 0 turn) command))
     (sym (ap (λ (side : Option Side). missed side (given_at side turn.asked (serves (opened_on state 0 turn) 0 turn.asked).answer)) none))
-    refl
+    (sym (ap (λ (side : Option Side). number_drawn side (opened_on state 0 turn) 0 turn.asked) none ∙ undrawn turn.asked (opened_on state 0 turn) command))
   where
+    undrawn : (asked : Asked) (server : State) → is_command asked ≡ true → number_drawn None server 0 asked ≡ None
+    undrawn (Command word) server is = refl
+    undrawn (Call request) server is = absurd (false≢true is)
+    undrawn Poll server is = absurd (false≢true is)
+    undrawn Cut server is = absurd (false≢true is)
+
     reported : (asked : Asked) (server : State) → is_command asked ≡ true → heard None (given_at None asked (serves server 0 asked).answer) ≡ answers.Ok 0
     reported (Command word) server is = refl
     reported (Call request) server is = absurd (false≢true is)
@@ -171,6 +180,9 @@ module _ (plan : PlanData) (journal : List Entry) (run_state : RunState) (sessio
 
   answered : IsAnswered reported entry
   answered = along_last (λ before one. IsAnswered (state_at plan before) one) [] journal entry with.kept.faithful
+
+  pub draws_marked : DrawsAtMark entry
+  draws_marked = drawn_marks reported entry answered
 
   followed : IsFollowed plan journal entry
   unfolding Follows

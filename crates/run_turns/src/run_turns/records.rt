@@ -5,6 +5,7 @@ ghost use Rattle.server_model.specs.States.{has_work, load};
 ghost use Rattle.tool_program.specs.JournalWords.Journals.{after_entry};
 ghost use Rattle.tool_program.specs.Tools.{moment};
 ghost use Rattle.proof_journals.specs.Run.Counts.{busy_count};
+ghost use Rattle.run_actors.specs.ClientTurns.ActorStates.{DrawsAtMark};
 ghost use Rattle.run_state.specs.Books.{is_planned, HasRoomFor, IsRunState};
 ghost use Rattle.run_turns.specs.DueTurns.DueCalls.Ranges.{IsReadAhead};
 
@@ -18,6 +19,7 @@ use server_model::KeyRange;
 pub fn keep(run_state: &mut RunState<'_>, ahead: Option<KeyRange>, taken: Taken)
     requires run_state { IsRunState run_state.old.plan.now run_state.old.journal.items run_state.old }
     requires planned { is_planned run_state.old.plan.now taken.entry.actor ≡ true }
+    requires draws { DrawsAtMark taken.entry }
     requires few { length run_state.old.journal.items + 1 < 2 ^ 32 }
     requires room { HasRoomFor run_state.old.plan.now run_state.old.journal.items run_state.old }
     requires less { length run_state.old.journal.items < run_state.old.plan.now.options.turn_limit }

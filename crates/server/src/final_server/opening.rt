@@ -1,15 +1,16 @@
 //! The final server at its start.
 
-ghost use Rattle.std.specs.Prelude.{◌≡◌, ◌≤◌};
+ghost use Rattle.std.specs.Prelude.{◌≡◌, ◌≤◌, IfOk};
 ghost use Rattle.table_store.specs.Databases.{database};
 ghost use Rattle.server_model.specs.States.{opened};
 ghost use Rattle.server_model.specs.LockedRows.Databases.{IsWellFormedDatabase};
 
 use crate::Server;
+use crate::final_server::counters::counters_of;
 use base_values::Names;
 use server_model::Limits;
 use server_storage::server_store::Store;
-use std::alloc::Global;
+use std::alloc::{AllocError, Global};
 use table_store::paged_tables::Tables;
 
 /// The final server, whose answers to every session are the plain server's.
@@ -17,11 +18,18 @@ pub type FinalServer = Server<Store>;
 
 /// The server at its start, over tables in pages. A wait may be polled once at least. How many events are unread is known at
 /// once of the tables that are watched.
-pub fn open_server(alloc: Global, tables: Tables, limits: Limits, watched: Names) -> FinalServer
+pub fn open_server(
+    alloc: Global,
+    tables: Tables,
+    limits: Limits,
+    watched: Names,
+) -> Result<FinalServer, AllocError>
     requires clients { 1 ≤ limits.client_wait }
     requires tools { 1 ≤ limits.tool_wait }
     requires well_formed { IsWellFormedDatabase (database tables) }
-    ensures { result ≡ opened limits (database tables) }
+    ensures { IfOk result (λ server. server.state ≡ opened limits (database tables)) }
 {
-    Server::open(alloc, Store::new(alloc, tables), limits, watched)
+    let counters = counters_of(alloc, &tables)?;
+    let store = Store::new(alloc, tables);
+    Ok(Server::open(alloc, store, limits, watched, counters))
 }

@@ -19,7 +19,7 @@ use Rattle.server_model.specs.declared.work.Reach.{Reach}
 use Rattle.server_model.specs.declared.work.Selection.{Selection}
 use Rattle.server_model.specs.declared.work.Work.{Work}
 use Rattle.server_model.specs.declared.work.Work.TheVariants.{Insert, Replace, Delete, Update}
-use Rattle.server_model.specs.Checks.{◌>>=◌, value_at, given_or, beside, row_from, new_row, places_listed, unless, places_named, are_distinct, reach_of, selection_of, set_first, stored_set, sets_from, or_refused, update_of, select_of, work_of}
+use Rattle.server_model.specs.Checks.{◌>>=◌, value_at, given_or, beside, row_from, new_row, drawn_row, places_listed, unless, places_named, are_distinct, reach_of, selection_of, set_first, stored_set, sets_from, or_refused, update_of, select_of, work_of}
 use Rattle.base_values.specs.SchemaRules.Valid.{StoresDefault}
 use Rattle.server_model.specs.LockedRows.Coverage.{SetsFit, IsSound}
 
@@ -89,8 +89,8 @@ update_is columns reach (Err at) fit = tt
 -- *what a statement is to do is sound*
 pub work_sound : (schema : Schema) (statement : Statement) → AllByRecursion (λ column. StoresDefault column column.default) schema.columns → IsSound schema.columns (work_of schema statement)
 unfolding work_of
-work_sound schema (statements.Insert table columns values drawn) fits = refused_or schema.columns (IsRow schema.columns) (new_row schema columns values) Insert (new_is schema columns values fits) (λ row is. is)
-work_sound schema (statements.Replace table columns values drawn) fits = refused_or schema.columns (IsRow schema.columns) (new_row schema columns values) Replace (new_is schema columns values fits) (λ row is. is)
+work_sound schema (statements.Insert table columns values drawn) fits = refused_or schema.columns (IsRow schema.columns) (drawn_row schema columns values drawn) Insert (new_is schema _ _ fits) (λ row is. is)
+work_sound schema (statements.Replace table columns values drawn) fits = refused_or schema.columns (IsRow schema.columns) (drawn_row schema columns values drawn) Replace (new_is schema _ _ fits) (λ row is. is)
 work_sound schema (statements.Delete table condition) fits = refused_or schema.columns (λ (reach : Reach). Unit {0}) (reach_of schema condition) Delete (any_is (reach_of schema condition)) (λ reach is. tt)
 work_sound schema (statements.Update table sets condition) fits =
     refused_or schema.columns (IsSound schema.columns) (update_of schema sets condition) (λ work. work)

@@ -2,27 +2,32 @@
 
 ghost use Rattle.std.specs.Prelude.{◌≡◌, ◌<◌, ◌≤◌, ◌+◌, ◌++◌, [], ◌∷◌, true, is_some, length, count_by, drop, option_copied, IfOk, OnOk, OnErr};
 ghost use Rattle.std.specs.List.{list_any};
-ghost use Rattle.server_model.specs.States.{opened, connected, session_of, with_session, is_live, is_in_transaction, is_of_tool, is_waiting, holds_tables, waiting_of, unread, is_exclusive, names_in};
+ghost use Rattle.server_model.specs.States.{counter_of, counters_renamed, counters_without, next_of, opened, connected, session_of, with_session, is_live, is_in_transaction, is_of_tool, is_waiting, holds_tables, waiting_of, unread, is_exclusive, names_in};
 ghost use Rattle.server_model.specs.Blockers.{blocker};
 ghost use Rattle.server_model.specs.Listings.{events_read, waits_shown};
 ghost use Rattle.server_model.specs.Effects.{is_outside};
-ghost use Rattle.server_model.specs.PlainServer.{counting, forgets, goes_on, limit_if, locking, loses, polled_over, is_over, unlocking, without_waiting};
+ghost use Rattle.server_model.specs.PlainServer.{counting, forgets, goes_on, limit_if, locking, loses, polled_over, is_over, recounted, unlocking, without_waiting};
+ghost use Rattle.server_sessions.specs.LiveSessions.CounterMoves.{drawn_in_move, moved};
 ghost use Rattle.server_sessions.specs.LiveSessions.Rooms.{logs};
 
+use crate::live_sessions::counter_moves::{CounterMove, after_drawn, after_given, drawn_by};
 use crate::live_sessions::room::{give_back, make_room};
 use crate::live_sessions::session_list::SessionList;
 use crate::session_locks::{is_exclusive, is_outside, names_blocker, names_in, waits_shown};
 use crate::{
-    begin_wait, end_wait, holds_tables, is_in_transaction, is_live, is_of_tool, is_waiting,
-    polls_of, session_of, waiting_of, writes_of,
+    begin_wait, counters_renamed, counters_with, counters_without, end_wait, holds_tables,
+    is_in_transaction, is_live, is_of_tool, is_waiting, next_of, polls_of, raise, session_of,
+    waiting_of, writes_of,
 };
-use base_values::{Duplicate, Events, Names, Sequence};
+use base_values::gho_schema::Schema;
+use base_values::{Duplicate, Events, Name, Names, Sequence};
 use server_locks::least_session::least;
 use server_locks::row_locks::{Lock, LockSet};
 use server_log::Log;
-use server_model::{Answer, Limits, Need, Request, ShownWaiters, Waiting};
+use server_model::{Answer, Counter, Limits, Need, Request, ShownWaiters, Waiting};
 use std::alloc::{AllocError, Global};
 use std::marker::Model;
+use table_store::Pairs;
 
 /// The sessions, the requests that wait and the log of a server. Contracts see the plain server's state, but for its
 /// tables. Where there is no memory for a call, all is as before.
@@ -32,6 +37,7 @@ pub struct Sessions {
     log: Log,
     waiting: Vec<Waiting>,
     sessions: SessionList,
+    counters: Vec<Counter>,
 }
 
 // By hand: crates above then take it as one call, and don't prove the drop of each part again.
@@ -43,10 +49,12 @@ impl Drop for Sessions {
             log,
             waiting,
             sessions,
+            counters,
         } = self;
         drop(log);
         drop(waiting);
         drop(sessions);
+        drop(counters);
     }
 }
 
@@ -57,7 +65,7 @@ impl Model for Sessions {
 
     ghost Value = { State };
 
-    ghost view = { λ d. record { limits = d.limits; made = d.sessions.made; tables = []; log = d.log.events; waiting = d.waiting.items; sessions = d.sessions.sessions } };
+    ghost view = { λ d. record { limits = d.limits; made = d.sessions.made; tables = []; log = d.log.events; waiting = d.waiting.items; sessions = d.sessions.sessions; counters = d.counters.items } };
 
     ghost invariant = { λ d. IsReady d.limits d.sessions.sessions d.log.spare };
 }
@@ -74,11 +82,11 @@ fn need_of(alloc: Global, request: &Request, locks: LockSet) -> Result<Need, All
 }
 
 impl Sessions {
-    /// No session, as at the server's start. Its log watches these tables.
-    pub fn new(alloc: Global, limits: Limits, watched: Names) -> Sessions
+    /// No session, as at the server's start, over tables with these counters. Its log watches these tables.
+    pub fn new(alloc: Global, limits: Limits, watched: Names, counters: Vec<Counter>) -> Sessions
         requires clients { 1 ≤ limits.client_wait }
         requires tools { 1 ≤ limits.tool_wait }
-        ensures { result ≡ opened limits [] }
+        ensures { result ≡ recounted counters.items (opened limits []) }
     {
         Sessions {
             alloc,
@@ -86,6 +94,7 @@ impl Sessions {
             log: Log::new(alloc, watched),
             waiting: Vec::new(alloc),
             sessions: SessionList::new(alloc),
+            counters,
         }
     }
 
@@ -253,6 +262,67 @@ impl Sessions {
         ensures { result ≡ holds_tables (session_of session self.now.sessions) }
     {
         holds_tables(self.sessions.as_slice(), session)
+    }
+
+    /// Whether the session is the tool's.
+    pub fn is_of_tool(&self, session: u32) -> bool
+        ensures { result ≡ is_of_tool (session_of session self.now.sessions) }
+    {
+        is_of_tool(self.sessions.as_slice(), session)
+    }
+
+    /// The number that is drawn next from the table of this name; none where it has no counter.
+    pub fn next_number(&self, table: &Name) -> Option<u64>
+        ensures { result ≡ next_of table.now self.now.counters }
+    {
+        next_of(self.counters.as_slice(), table)
+    }
+
+    /// The counters after CREATE TABLE.
+    pub fn counters_with(&self, schema: &Schema) -> Result<Vec<Counter>, AllocError>
+        ensures { IfOk result (λ after. after.items ≡ self.now.counters ++ counter_of (record { schema = schema.now; rows = [] })) }
+    {
+        counters_with(self.alloc, self.counters.as_slice(), schema)
+    }
+
+    /// The counters after DROP TABLE.
+    pub fn counters_without(&self, name: &Name) -> Result<Vec<Counter>, AllocError>
+        ensures { IfOk result (λ after. after.items ≡ counters_without name.now self.now.counters) }
+    {
+        counters_without(self.alloc, self.counters.as_slice(), name)
+    }
+
+    /// The counters after RENAME TABLE.
+    pub fn counters_renamed(&self, pairs: &Pairs) -> Result<Vec<Counter>, AllocError>
+        ensures { IfOk result (λ after. after.items ≡ counters_renamed pairs.now self.now.counters) }
+    {
+        counters_renamed(self.alloc, self.counters.as_slice(), pairs.as_slice())
+    }
+
+    /// The counters move by a turn that had this answer. The number is given that was drawn.
+    pub fn move_counters(&mut self, counter_move: CounterMove<'_>, answer: &Answer) -> Option<u64>
+        ensures drawn { result ≡ drawn_in_move counter_move.entry answer.now }
+        ensures counters { self.new ≡ recounted (moved counter_move.entry answer.now self.old.counters) self.old }
+    {
+        match counter_move {
+            CounterMove::Stay => None,
+            CounterMove::Raise {
+                table,
+                drawn,
+                given,
+            } => {
+                let drawn = drawn_by(answer, drawn);
+                raise(&mut self.counters, table, after_drawn(drawn));
+                raise(&mut self.counters, table, after_given(answer, given));
+                drawn
+            }
+            CounterMove::Become(counters) => {
+                if let Answer::Ok(_) = answer {
+                    self.counters = counters;
+                }
+                None
+            }
+        }
     }
 
     /// The session's request that waits.

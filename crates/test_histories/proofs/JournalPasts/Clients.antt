@@ -9,7 +9,7 @@ use Rattle.base_script.specs.declared.script.ScriptLine.{ScriptLine}
 use Rattle.server_model.specs.declared.entry.Entry.{Entry}
 use Rattle.server_model.specs.Entries.{same_actor}
 use Rattle.plan_data.specs.PlanData.{PlanData}
-use Rattle.tool_program.specs.JournalWords.Clients.{Reached, became, client_after, client_at, new_client, script_of}
+use Rattle.tool_program.specs.JournalWords.Clients.{Reached, became, client_after, client_at, new_client, script_of, with_draw}
 use Rattle.tool_program.specs.JournalWords.Histories.{client_ends, entry_adds}
 use Rattle.top_report.proofs.ClientLines.Passing.{apart}
 use Rattle.top_report.proofs.ClientLines.Strangers.{stranger_ends}
@@ -56,10 +56,10 @@ found_is plan before clients number old are found = some_script old (client_at p
 
 -- what it ends is what the turn adds
 pub adds_so : (plan : PlanData) (before : List Entry) (entry : Entry) (clients : List Reached) (number : ℕ) (old : Reached) → entry.actor ≡ Client number → AreReached plan before clients → client_in number clients ≡ Some old
-    → client_ends number old (became old entry) ≡ entry_adds plan before entry
+    → client_ends number (with_draw entry.draw old) (became old entry) ≡ entry_adds plan before entry
 adds_so plan before entry clients number old is are found =
     let so_far : old ≡ client_at plan before number = found_is plan before clients number old are found in
-    ap (λ (client : Reached). client_ends number client (became client entry)) so_far
+    ap (λ (client : Reached). client_ends number (with_draw entry.draw client) (became client entry)) so_far
     ∙ sym (rw is refl)
 
 no_script : {A : Type 0} (a : A) (script : Option (List ScriptLine)) → None ≡ option_map (λ (s : List ScriptLine). a) script → script ≡ None
@@ -111,7 +111,7 @@ set_beside clients client number new false one some differ =
 
 -- a turn of a client that is found moves it alone
 pub found_turn : (plan : PlanData) (before : List Entry) (entry : Entry) (clients : List Reached) (client : ℕ) (old new : Reached) → entry.actor ≡ Client client → (client == 0) ≡ false → client - 1 < length clients
-    → client_in client clients ≡ Some old → new ≡ client_after (became old entry) old → AreReached plan before clients → AreReached plan (before ++ entry ∷ []) (slice_set clients (client - 1) new)
+    → client_in client clients ≡ Some old → new ≡ client_after (became old entry) (with_draw entry.draw old) → AreReached plan before clients → AreReached plan (before ++ entry ∷ []) (slice_set clients (client - 1) new)
 found_turn plan before entry clients client old new is some within found made are = λ number. go number (client == number) refl
   where
     own_is : same_actor entry.actor (Client client) ≡ true
@@ -121,7 +121,7 @@ found_turn plan before entry clients client old new is some within found made ar
     new_is =
         let so_far : old ≡ client_at plan before client = found_is plan before clients client old are found in
         made
-        ∙ ap (λ (c : Reached). client_after (became c entry) c) so_far
+        ∙ ap (λ (c : Reached). client_after (became c entry) (with_draw entry.draw c)) so_far
         ∙ sym (own_turn plan before entry client own_is)
 
     own_found : client_in client (slice_set clients (client - 1) new) ≡ option_map (λ (s : List ScriptLine). client_at plan (before ++ entry ∷ []) client) (script_of client plan)
@@ -156,12 +156,12 @@ one_there clients client old some within at = rw (not_zero client some) (slice_g
 
 -- what a turn of the client at this place adds
 pub place_adds : (plan : PlanData) (before : List Entry) (entry : Entry) (clients : List Reached) (client : ℕ) (old : Reached) → entry.actor ≡ Client client → 0 < client → client - 1 < length clients → old ≡ get_or clients (client - 1) old
-    → AreReached plan before clients → client_ends client old (became old entry) ≡ entry_adds plan before entry
+    → AreReached plan before clients → client_ends client (with_draw entry.draw old) (became old entry) ≡ entry_adds plan before entry
 place_adds plan before entry clients client old is some within at are = adds_so plan before entry clients client old is are (one_there clients client old some within at)
 
 -- it moves that client alone
 pub place_turn : (plan : PlanData) (before : List Entry) (entry : Entry) (clients : List Reached) (client : ℕ) (old new : Reached) → entry.actor ≡ Client client → 0 < client → client - 1 < length clients → old ≡ get_or clients (client - 1) old
-    → new ≡ client_after (became old entry) old → AreReached plan before clients → AreReached plan (before ++ entry ∷ []) (slice_set clients (client - 1) new)
+    → new ≡ client_after (became old entry) (with_draw entry.draw old) → AreReached plan before clients → AreReached plan (before ++ entry ∷ []) (slice_set clients (client - 1) new)
 place_turn plan before entry clients client old new is some within at made are = found_turn plan before entry clients client old new is (not_zero client some) within (one_there clients client old some within at) made are
 
 -- the clients before the first turn

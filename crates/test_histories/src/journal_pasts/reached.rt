@@ -1,7 +1,7 @@
 //! How far a client is in its script, with the lines of its open transaction and the replies to them.
 
 ghost use Rattle.std.specs.Prelude.{◌≡◌, [], false, IfOk, OnOk};
-ghost use Rattle.tool_program.specs.JournalWords.Clients.{Broken, client_after, ends_with, is_inside, is_loss, marked, new_client, number_of, with_line, with_reply};
+ghost use Rattle.tool_program.specs.JournalWords.Clients.{Broken, client_after, ends_with, is_inside, is_loss, marked, new_client, number_of, with_draw, with_line, with_reply};
 ghost use Rattle.tool_program.specs.JournalWords.Clients as clients;
 ghost use Rattle.tool_program.specs.JournalWords.Histories.{breaks, client_ends, line_ends};
 ghost use Rattle.test_histories.specs.JournalPasts.Walks.{ended_items};
@@ -10,6 +10,7 @@ use crate::journal_pasts::pasts::Past;
 use crate::journal_pasts::replies::heard_reply;
 use base_script::{ScriptLine, ScriptWord};
 use base_values::{Duplicate, Sequence};
+use run_actors::client_turns::word_numbered;
 use server_model::{EndedTxn, Entry, Mark, Replies, Reply, TxnEnd, TxnLine, TxnLines};
 use std::alloc::{AllocError, Global};
 use std::marker::Model;
@@ -20,6 +21,8 @@ use top_report::client_lines::{Became, after_line, became_in};
 #[derive(Drop)]
 pub struct Reached<'a> {
     left: &'a [ScriptLine],
+    // The number that the next line drew. A server draws one only for a line that is done or lost in that turn.
+    drawn: Option<u64>,
     begun: u64,
     lines: TxnLines,
     replies: Replies,
@@ -29,10 +32,11 @@ pub struct Reached<'a> {
 
 impl<'a> Model for Reached<'a> {
     ghost use Rattle.tool_program.specs.JournalWords.Clients.{Reached as ReachedView};
+    ghost use Rattle.run_actors.specs.ClientTurns.DrawnLines.{left_drawn};
 
     ghost Value = { ReachedView };
 
-    ghost view = { λ r. record { left = r.left.now; begun = r.begun; lines = r.lines; replies = r.replies; waits = r.waits; is_lost = r.is_lost } };
+    ghost view = { λ r. record { left = left_drawn r.drawn r.left.now; begun = r.begun; lines = r.lines; replies = r.replies; waits = r.waits; is_lost = r.is_lost } };
 }
 
 /// How the transaction ends with a line of this mark, where it does.
@@ -56,6 +60,7 @@ impl<'a> Reached<'a> {
     {
         Reached {
             left: script,
+            drawn: None,
             begun: 0,
             lines: Sequence::new(alloc),
             replies: Sequence::new(alloc),
@@ -121,17 +126,14 @@ impl<'a> Reached<'a> {
     /// Its next line got a mark and a reply: it stands with the lines of the open transaction.
     fn take_line(
         &mut self,
-        line: &ScriptLine,
+        word: ScriptWord,
         mark: Mark,
         reply: Option<Reply>,
     ) -> Result<(), AllocError>
-        ensures { OnOk result (self.new ≡ record self.old { begun = number_of self.old; lines = with_line self.old line.now.word mark; replies = with_reply self.old reply; waits = false; is_lost = is_loss mark }) }
+        ensures { OnOk result (self.new ≡ record self.old { begun = number_of self.old; lines = with_line self.old word mark; replies = with_reply self.old reply; waits = false; is_lost = is_loss mark }) }
     {
         self.begun = self.number()?;
-        self.lines.push(TxnLine {
-            word: line.word.copy()?,
-            mark,
-        })?;
+        self.lines.push(TxnLine { word, mark })?;
         if let Some(reply) = reply {
             self.replies.push(reply)?;
         }
@@ -141,6 +143,7 @@ impl<'a> Reached<'a> {
     }
 
     /// Its next line got a mark and a reply: the transaction that it ended, where it did.
+    #[tactic(auto, using(run_actors::proofs::ClientTurns::DrawnLines::first_drawn, run_actors::proofs::ClientTurns::DrawnLines::none_drawn, run_actors::proofs::ClientTurns::DrawnLines::after_drawn, run_actors::proofs::ClientTurns::DrawnLines::ends_drawn))]
     fn mark(
         &mut self,
         alloc: Global,
@@ -156,9 +159,12 @@ impl<'a> Reached<'a> {
             return Ok(None);
         };
         let inside = self.is_inside();
+        let word = word_numbered(&line.word, self.drawn)?;
+        let ended = ends_with(inside, &line.word, mark);
         self.left = after_line(inside, mark, left);
-        self.take_line(line, mark, reply)?;
-        match ends_with(inside, &line.word, mark) {
+        self.drawn = None;
+        self.take_line(word, mark, reply)?;
+        match ended {
             Some(ended) => Ok(Some(self.end(alloc, client, ended))),
             None => Ok(None),
         }
@@ -175,6 +181,16 @@ impl<'a> Reached<'a> {
         if inside { Some(past) } else { None }
     }
 
+    /// Its next line drew a number, or none.
+    #[tactic(auto, using(run_actors::proofs::ClientTurns::DrawnLines::drawn_again))]
+    fn draw(&mut self, draw: Option<u64>)
+        ensures { self.new ≡ with_draw draw self.old }
+    {
+        if draw.is_some() {
+            self.drawn = draw;
+        }
+    }
+
     /// A turn of this client's, who has this number: the transaction that it ended, where it did.
     pub(crate) fn turn(
         &mut self,
@@ -182,9 +198,10 @@ impl<'a> Reached<'a> {
         client: u32,
         entry: &Entry,
     ) -> Result<Option<Past>, AllocError>
-        ensures ended { IfOk result (λ past. ended_items past ≡ client_ends client self.old (clients.became self.old entry.now)) }
-        ensures rest { OnOk result (self.new ≡ client_after (clients.became self.old entry.now) self.old) }
+        ensures ended { IfOk result (λ past. ended_items past ≡ client_ends client (with_draw entry.now.draw self.old) (clients.became self.old entry.now)) }
+        ensures rest { OnOk result (self.new ≡ client_after (clients.became self.old entry.now) (with_draw entry.now.draw self.old)) }
     {
+        self.draw(entry.draw);
         match became_in(self.waits, entry) {
             Became::Nothing => Ok(None),
             Became::Waits => {

@@ -1,10 +1,11 @@
 //! Calls on a server, with semicolons between them. `CREATE TABLE ..` makes a table, and prints nothing. `1 BEGIN`, `2 INSERT
 //! INTO t VALUES (1)` and the like are what the sessions 1 to 3 ask, whose waits are never polled, and so is `1 log 0 2 t`: the
 //! first two events of the table at the position 0 or after it, printed after the position that follows them. `unread 0 t`
-//! tells how many events there are, and `rows t` the table's committed rows. What may not come now is printed so.
+//! tells how many events there are, and `rows t` the table's committed rows. What may not come now is printed so. ` id 5` follows
+//! an answer for which the number 5 was drawn.
 
 use crate::server_lines::requests::{ask, create, names_of};
-use crate::server_lines::results::{say_asked, say_number};
+use crate::server_lines::results::{push_drawn, say_asked, say_number};
 use base_values::{Name, Text, print_row};
 use server_api::Serve;
 use std::alloc::Global;
@@ -52,7 +53,11 @@ fn say_answer_to<V: Serve>(
     output: &mut Text,
 ) -> Result<(), CallFault> {
     let answer = ask(alloc, server, unsigned_of(session)?, text)?;
-    say_asked(output, answer.as_ref())
+    say_asked(output, answer.as_ref())?;
+    if answer.is_some() {
+        push_drawn(output, server.last_drawn())?;
+    }
+    Ok(())
 }
 
 /// Takes one call.

@@ -146,7 +146,7 @@ fn is_table_name(name: &Name) -> bool
 fn schema_of(alloc: Global, text: &str) -> Result<Schema, CallFault>
     ensures { IfOk result IsValid }
 {
-    match read_schema(alloc, text, "") {
+    match read_schema(alloc, text, "", 2) {
         Ok(schema) => Ok(schema),
         Err(SchemaFault::Refused(_)) => Err(CallFault::Unread),
         Err(SchemaFault::Memory) => Err(CallFault::Memory),

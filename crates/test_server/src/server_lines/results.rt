@@ -72,3 +72,14 @@ pub fn say_asked(output: &mut Text, answer: Option<&Answer>) -> Result<(), CallF
     }
     Ok(())
 }
+
+/// Says the number that was drawn, where one was.
+pub fn push_drawn(output: &mut Text, drawn: Option<u64>) -> Result<(), AllocError> {
+    match drawn {
+        Some(number) => {
+            output.push_str(" id ")?;
+            output.push_number(i128::from(number))
+        }
+        None => Ok(()),
+    }
+}

@@ -22,7 +22,7 @@ fn is_added(added: Result<(), AddFault>) -> Result<bool, AllocError> {
 fn add(alloc: Global, tables: &mut Tables, name: &str, output: &mut Text) -> Result<(), CallFault> {
     let text = format!(in alloc; "CREATE TABLE `{name}` (id INT PRIMARY KEY, a INT)")?;
     // (The text is a schema's, so that only memory can be wanting.)
-    let schema = read_schema(alloc, text.as_str(), "t").map_err(|_| CallFault::Memory)?;
+    let schema = read_schema(alloc, text.as_str(), "t", 1).map_err(|_| CallFault::Memory)?;
     if !is_added(tables.add(Table::new(alloc, schema)))? {
         say(output, "stands")?;
     }

@@ -10,7 +10,7 @@ use test_lines::{CallFault, place_of, row_of, say, say_row, span_of, unsigned_of
 
 /// The schema of a text of CREATE TABLE.
 fn schema_of(alloc: Global, text: &str) -> Result<Schema, CallFault> {
-    read_schema(alloc, text, "t").map_err(|fault| match fault {
+    read_schema(alloc, text, "t", 1).map_err(|fault| match fault {
         SchemaFault::Refused(_) => CallFault::Unread,
         SchemaFault::Memory => CallFault::Memory,
     })

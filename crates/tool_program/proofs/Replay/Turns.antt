@@ -10,7 +10,7 @@ use Rattle.server_model.specs.Answers.{ok}
 use Rattle.server_model.specs.Entries.{is_cut}
 use Rattle.server_model.specs.States.{State}
 use Rattle.plan_data.specs.PlanData.{PlanData}
-use Rattle.tool_program.specs.JournalWords.Journals.{inner_answer, heard, missed, IsAnswered, state_at}
+use Rattle.tool_program.specs.JournalWords.Journals.{drawn_of, inner_answer, heard, missed, IsAnswered, state_at}
 use Rattle.tool_program.specs.JournalWords.Sessions.{live_session, sessions_named, IsInSession, IsNumbered}
 use Rattle.tool_program.specs.JournalWords.KeptPlans.{cut_due, side_due, IsStruck, IsPlanned}
 use Rattle.tool_program.specs.Programs.{given, IsGiven, IsFollowed}
@@ -38,7 +38,7 @@ answered state turn = record {
   side = turn.side;
   answer = heard turn.side (inner_answer state (unanswered turn));
   missed = missed turn.side (inner_answer state (unanswered turn));
-  draw = None;
+  draw = drawn_of state (unanswered turn) (inner_answer state (unanswered turn));
 }
 
 same_inner : (state : State) (entry : Entry) → inner_answer state entry ≡ inner_answer state (unanswered (turn_of entry))
@@ -49,7 +49,7 @@ entry_is : (state : State) (entry : Entry) → IsAnswered state entry → entry 
 entry_is state entry is =
     ap (λ (a : Answer). let e : Entry = record { actor = entry.actor; session = entry.session; asked = entry.asked; side = entry.side; answer = a; missed = entry.missed; draw = entry.draw } in e) (is.answer ∙ ap (heard entry.side) (same_inner state entry))
     ∙ ap (λ (m : Option Answer). let e : Entry = record { actor = entry.actor; session = entry.session; asked = entry.asked; side = entry.side; answer = heard entry.side (inner_answer state (unanswered (turn_of entry))); missed = m; draw = entry.draw } in e) (is.missed ∙ ap (missed entry.side) (same_inner state entry))
-    ∙ ap (λ (d : Option ℕ). let e : Entry = record { actor = entry.actor; session = entry.session; asked = entry.asked; side = entry.side; answer = heard entry.side (inner_answer state (unanswered (turn_of entry))); missed = missed entry.side (inner_answer state (unanswered (turn_of entry))); draw = d } in e) is.draw
+    ∙ ap (λ (d : Option ℕ). let e : Entry = record { actor = entry.actor; session = entry.session; asked = entry.asked; side = entry.side; answer = heard entry.side (inner_answer state (unanswered (turn_of entry))); missed = missed entry.side (inner_answer state (unanswered (turn_of entry))); draw = d } in e) (is.draw ∙ ap (drawn_of state entry) (same_inner state entry))
 
 -- the turn's session
 abbrev pub session_due : List Entry → Asked → Option ℕ → ℕ

@@ -22,6 +22,7 @@ use Rattle.server_model.specs.declared.entry.Asked.{Asked}
 use Rattle.server_model.specs.declared.entry.Asked.TheVariants.{Call, Poll, Cut}
 use Rattle.server_model.specs.declared.entry.Entry.{Entry}
 use Rattle.server_model.specs.Alone.{reply_of}
+use Rattle.server_model.specs.Drawing.{numbered}
 use Rattle.server_model.specs.Entries.{same_actor}
 use Rattle.plan_data.specs.PlanData.{PlanData}
 
@@ -150,12 +151,25 @@ client_after Waits client = record client { waits = true }
 client_after (Marked mark reply) client = marked client mark reply client.left
 client_after Broken client = record client { lines = []; replies = []; is_lost = true }
 
+-- the client with the number that its line drew: the line is done, and stands in its transaction, with that number
+abbrev pub word_numbered : Option ℕ → ScriptWord → ScriptWord
+word_numbered draw (words.Do statement) = words.Do (numbered draw statement)
+word_numbered draw word = word
+
+abbrev pub lines_drawn : ℕ → List ScriptLine → List ScriptLine
+lines_drawn number [] = []
+lines_drawn number (line ∷ lines) = record line { word = word_numbered (Some number) line.word } ∷ lines
+
+abbrev pub with_draw : Option ℕ → Reached → Reached
+with_draw None client = client
+with_draw (Some number) client = record client { left = lines_drawn number client.left }
+
 -- what became of the line in a turn of this client
 abbrev pub became : Reached → Entry → Became
 became client entry = became_in client.waits entry.asked entry.side entry.answer entry.missed
 
 abbrev pub after_turn : ℕ → Reached → Entry → Reached
-after_turn number client entry = if same_actor entry.actor (Client number) then client_after (became client entry) client else client
+after_turn number client entry = if same_actor entry.actor (Client number) then client_after (became client entry) (with_draw entry.draw client) else client
 
 -- the script of a client; clients are numbered from 1
 abbrev pub script_of : ℕ → PlanData → Option (List ScriptLine)

@@ -25,7 +25,7 @@ use Rattle.server_model.specs.declared.entry.Asked.TheVariants.{Call, Poll, Comm
 use Rattle.server_model.specs.declared.entry.Entry.{Entry}
 use Rattle.server_model.specs.Entries.{same_actor}
 use Rattle.plan_data.specs.PlanData.{PlanData}
-use Rattle.tool_program.specs.JournalWords.Clients.{Reached, Became, Marked, Broken, became, client_at, is_inside, number_of, ends_with, with_line, with_reply}
+use Rattle.tool_program.specs.JournalWords.Clients.{with_draw, Reached, Became, Marked, Broken, became, client_at, is_inside, number_of, ends_with, with_line, with_reply}
 
 -- a transaction of a client that ended, and the replies that the client got
 pub record Past : Type 0 where
@@ -107,7 +107,7 @@ alters plan request answer = []
 
 -- what a turn adds to the history
 abbrev pub adds : PlanData → List Entry → Entry → Actor → List HistoryItem
-adds plan before entry (Client number) = client_ends number (client_at plan before number) (became (client_at plan before number) entry)
+adds plan before entry (Client number) = client_ends number (with_draw entry.draw (client_at plan before number)) (became (client_at plan before number) entry)
 adds plan before entry actor = alters plan (about before entry) (answer_in entry.asked entry.side entry.answer entry.missed)
 
 abbrev pub entry_adds : PlanData → List Entry → Entry → List HistoryItem
@@ -127,14 +127,16 @@ pub record NumberedReply : Type 0 where
   pub transaction : ℕ
   pub line : ℕ
   pub reply : Option Reply
+  -- the number that the line drew
+  pub draw : Option ℕ
 
-abbrev pub replied : Reached → Became → List NumberedReply
-replied client (Marked mark reply) = record { transaction = number_of client; line = length client.lines + 1; reply = reply } ∷ []
-replied client other = []
+abbrev pub replied : Reached → Option ℕ → Became → List NumberedReply
+replied client draw (Marked mark reply) = record { transaction = number_of client; line = length client.lines + 1; reply = reply; draw = draw } ∷ []
+replied client draw other = []
 
 abbrev pub replied_in : PlanData → ℕ → List Entry → Entry → List NumberedReply
 replied_in plan number before entry =
-    if same_actor entry.actor (Client number) then replied (client_at plan before number) (became (client_at plan before number) entry) else []
+    if same_actor entry.actor (Client number) then replied (client_at plan before number) entry.draw (became (client_at plan before number) entry) else []
 
 -- *Replies of a client*: what it got for its lines, in order.
 unfoldable pub replies_of : PlanData → List Entry → ℕ → List NumberedReply

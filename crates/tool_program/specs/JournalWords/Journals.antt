@@ -12,7 +12,7 @@ use Rattle.server_model.specs.declared.entry.Asked.TheVariants.{Command, Cut}
 use Rattle.server_model.specs.declared.entry.Entry.{Entry}
 use Rattle.server_model.specs.Entries.{same_actor, is_client, is_command, is_cut}
 use Rattle.server_model.specs.States.{State, opened, is_live, connected}
-use Rattle.server_model.specs.PlainServer.{serves, leaves, given_at}
+use Rattle.server_model.specs.PlainServer.{serves, given_at, drawn_in, state_left}
 use Rattle.plan_data.specs.PlanData.{PlanData}
 
 -- the server at the start of the plan's runs
@@ -28,8 +28,9 @@ opens_if nothing is_tool number state = if nothing || is_live state number then 
 abbrev pub opens : Entry → State → State
 opens entry state = opens_if (is_command entry.asked) (not (is_client entry.actor)) entry.session state
 
+-- the state that the entry leaves, with the counters moved
 abbrev pub after_entry : State → Entry → State
-after_entry state entry = leaves entry.side (opens entry state) entry.session entry.asked
+after_entry state entry = state_left entry.side (opens entry state) entry.session entry.asked
 
 -- the server after turns, from this state on
 unfoldable pub state_after : State → List Entry → State
@@ -60,13 +61,17 @@ may_lose (Command word) = false
 may_lose Cut = false
 may_lose asked = true
 
+-- the number that the entry's statement drew, where this is the inner answer
+abbrev pub drawn_of : State → Entry → Option Answer → Option ℕ
+drawn_of state entry inner = drawn_in (opens entry state) entry.session entry.asked inner
+
 -- An entry has the server's answer. Where its session was lost it has `Lost`, and what was missed where the side is After;
--- a command and a loss between calls have no side. The server generates no number.
+-- a command and a loss between calls have no side. Its draw is the number that its statement drew.
 pub record IsAnswered (state : State) (entry : Entry) : Type 0 where
   pub sides : may_lose entry.asked ≡ false → entry.side ≡ None
   pub answer : entry.answer ≡ heard entry.side (inner_answer state entry)
   pub missed : entry.missed ≡ missed entry.side (inner_answer state entry)
-  pub draw : entry.draw ≡ None
+  pub draw : entry.draw ≡ drawn_of state entry (inner_answer state entry)
 
 -- *Faithful*: each answer of the journal is the plain server's.
 abbrev pub IsFaithfulFrom : State → List Entry → Type 0

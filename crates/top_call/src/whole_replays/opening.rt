@@ -36,11 +36,11 @@ fn watched_in(alloc: Global, plan: &Plan) -> Result<Names, AllocError>
 #[tactic(auto, using(crate::proofs::WholeReplays::AtOpening::well_formed, crate::proofs::WholeReplays::AtOpening::at_opening))]
 pub fn open_plan(alloc: Global, plan: &Plan) -> Result<FinalServer, AllocError>
     requires { WasRead plan.now }
-    ensures { IfOk result (λ server. server ≡ opening plan.now) }
+    ensures { IfOk result (λ server. server.state ≡ opening plan.now) }
 {
     read_plans_are_serial();
     read_options_allow();
     let watched = watched_in(alloc, plan)?;
     let tables = plan.tables().copy_tables(alloc)?;
-    Ok(open_server(alloc, tables, limits_of(plan), watched))
+    open_server(alloc, tables, limits_of(plan), watched)
 }

@@ -1,5 +1,5 @@
 -- The history, as the code finds it.
-use Rattle.std.proofs.Common.{◌≡◌, ℕ, zero, suc, ◌+◌, ◌-◌, ◌==◌, Bool, true, false, cond, List, [], ◌∷◌, ◌++◌, map, Option, Some, None, is_some, option_map, refl, sym, ◌∙◌, ap, ap₂, append-nil, append_assoc, arith, true≢false, codes}
+use Rattle.std.proofs.Common.{◌≡◌, ℕ, zero, suc, ◌+◌, ◌-◌, ◌==◌, Bool, true, false, cond, List, [], ◌∷◌, ◌++◌, map, Option, Some, None, is_some, option_map, refl, sym, ◌∙◌, ap, ap₂, subst, append-nil, append_assoc, arith, true≢false, codes}
 use Rattle.std.proofs.lemmas.Bool.Decides.{nat_tests}
 use Rattle.std.proofs.lemmas.Grind.{flat_map-append}
 use Rattle.std.proofs.lemmas.List.Sums.{fold-append}
@@ -20,14 +20,15 @@ use Rattle.server_model.specs.declared.transaction.TxnEnd.{TxnEnd}
 use Rattle.server_model.specs.Along.{gathered}
 use Rattle.server_model.specs.Entries.{is_client, same_actor}
 use Rattle.plan_data.specs.PlanData.{PlanData}
-use Rattle.tool_program.specs.JournalWords.Clients.{Became, Nothing, Waits, Marked, Broken, Reached, became, client_at, ends_with, is_inside, number_of, script_of}
+use Rattle.tool_program.specs.JournalWords.Clients.{Became, Nothing, Waits, Marked, Broken, Reached, became, client_after, client_at, ends_with, is_inside, number_of, script_of, with_draw}
 use Rattle.tool_program.specs.JournalWords.Histories.{about, adds, alters, asked_about, client_ends, ends_so, entry_adds, history, line_ends, renames_away, request_waiting, answer_in, waits_after, waits_in}
 use Rattle.top_report.specs.declared.client_lines.renames.Renaming.{Renaming}
 use Rattle.top_report.specs.ClientLines.Pasts.{alter_text, history_line, item_text, past_text}
 use Rattle.top_report.specs.ClientLines.Walks.{AreRenaming, Walk, added_by, became_now, client_added, ended_text, ends_now, history_from, is_done, is_open, new_walk, nobody_renames, number_in, renames_at, renames_after, renames_in, renaming_after, tool_added, walk_after, walk_at, walk_of, walks_after, with_renaming}
 use Rattle.top_report.proofs.ClientLines.Actors.{same_is}
 use Rattle.top_report.proofs.ClientLines.Strangers.{stranger_ends}
-use Rattle.top_report.proofs.ClientLines.Walking.{after_is, number_is, open_is, other_turn, own_turn}
+use Rattle.top_report.proofs.ClientLines.Walking.{at_begin, number_is, open_is, other_turn, own_turn}
+use Rattle.top_report.proofs.ClientLines.Numbered.{IsWalk, became_same, ended_same, walk_on, walk_self}
 
 -- ---- what a client's turn ends
 
@@ -70,41 +71,54 @@ walk_passed number entry walks false some =
     rw some (passed_at 1 entry walks (number - 1) ∙ ap (λ (n : ℕ). option_map (passed n entry) (slice_get walks (number - 1))) same)
 
 -- each client's walk is what is kept of how far it is
+abbrev Tracks : Option Walk → Option (List ScriptLine) → Reached → Type 0
+Tracks None None client = Unit {0}
+Tracks (Some walk) (Some script) client = IsWalk walk client
+Tracks walk script client = ⊥
+
 abbrev AreWalks : PlanData → List Entry → List Walk → Type 0
-AreWalks plan before walks = (number : ℕ) → walk_at number walks ≡ option_map (λ (script : List ScriptLine). walk_of (client_at plan before number)) (script_of number plan)
+AreWalks plan before walks = (number : ℕ) → Tracks (walk_at number walks) (script_of number plan) (client_at plan before number)
 
-passed_is : (plan : PlanData) (before : List Entry) (entry : Entry) (number : ℕ) (b : Bool) → same_actor entry.actor (Client number) ≡ b → passed number entry (walk_of (client_at plan before number)) ≡ walk_of (client_at plan (before ++ entry ∷ []) number)
-passed_is plan before entry number true is =
-    rw is (after_is (became (client_at plan before number) entry) (client_at plan before number) ∙ sym (ap walk_of (own_turn plan before entry number is)))
-passed_is plan before entry number false is = rw is (sym (ap walk_of (other_turn plan before entry number is)))
+passed_is : (plan : PlanData) (before : List Entry) (entry : Entry) (number : ℕ) (walk : Walk) (b : Bool) → same_actor entry.actor (Client number) ≡ b → IsWalk walk (client_at plan before number) → IsWalk (passed number entry walk) (client_at plan (before ++ entry ∷ []) number)
+passed_is plan before entry number walk true is own =
+    let client = client_at plan before number in
+    rw is (subst (IsWalk (walk_after (became_now walk entry) walk)) (sym (own_turn plan before entry number is))
+    (subst (λ (b : Became). IsWalk (walk_after b walk) (client_after (became client entry) (with_draw entry.draw client))) (sym (became_same walk client entry own)) (walk_on (became client entry) walk client entry.draw own)))
+passed_is plan before entry number walk false is own = rw is (subst (IsWalk walk) (sym (other_turn plan before entry number is)) own)
 
-mapped : {A B C : Type 0} (f : B → C) (b : B) (o : Option A) → option_map f (option_map (λ (a : A). b) o) ≡ option_map (λ (a : A). f b) o
-mapped f b None = refl
-mapped f b (Some a) = refl
+tracks_on : (plan : PlanData) (before : List Entry) (entry : Entry) (number : ℕ) (walk : Option Walk) (script : Option (List ScriptLine)) → Tracks walk script (client_at plan before number) → Tracks (option_map (passed number entry) walk) script (client_at plan (before ++ entry ∷ []) number)
+tracks_on plan before entry number None None own = tt
+tracks_on plan before entry number None (Some script) own = absurd own
+tracks_on plan before entry number (Some walk) None own = absurd own
+tracks_on plan before entry number (Some walk) (Some script) own = passed_is plan before entry number walk (same_actor entry.actor (Client number)) refl own
 
 walks_more : (plan : PlanData) (before : List Entry) (entry : Entry) (walks : List Walk) → AreWalks plan before walks → AreWalks plan (before ++ entry ∷ []) (walks_after 1 entry walks)
 walks_more plan before entry walks are = λ number.
-    walk_passed number entry walks (number == 0) refl
-    ∙ ap (option_map (passed number entry)) (are number)
-    ∙ mapped (passed number entry) (walk_of (client_at plan before number)) (script_of number plan)
-    ∙ ap (λ (walk : Walk). option_map (λ (script : List ScriptLine). walk) (script_of number plan)) (passed_is plan before entry number (same_actor entry.actor (Client number)) refl)
+    subst (λ (walk : Option Walk). Tracks walk (script_of number plan) (client_at plan (before ++ entry ∷ []) number)) (sym (walk_passed number entry walks (number == 0) refl))
+    (tracks_on plan before entry number (walk_at number walks) (script_of number plan) (are number))
 
-at_begin : (plan : PlanData) (number : ℕ) (o : Option (List ScriptLine)) → script_of number plan ≡ o → option_map new_walk o ≡ option_map (λ (script : List ScriptLine). walk_of (client_at plan [] number)) o
-unfolding client_at
-at_begin plan number None is = refl
-at_begin plan number (Some script) is = rw is refl
+tracks_begin : (plan : PlanData) (number : ℕ) (script : Option (List ScriptLine)) → script_of number plan ≡ script → Tracks (option_map new_walk script) script (client_at plan [] number)
+tracks_begin plan number None is = tt
+tracks_begin plan number (Some script) is = subst (λ (walk : Walk). IsWalk walk (client_at plan [] number)) (at_begin plan number script is) (walk_self (client_at plan [] number))
 
 scripts_begin : (plan : PlanData) (number : ℕ) (b : Bool) → (number == 0) ≡ b → walk_at number (map new_walk plan.clients) ≡ option_map new_walk (script_of number plan)
 scripts_begin plan number true none = rw none refl
 scripts_begin plan number false some = rw some (slice_get-map new_walk plan.clients (number - 1))
 
 walks_begin : (plan : PlanData) → AreWalks plan [] (map new_walk plan.clients)
-walks_begin plan = λ number. scripts_begin plan number (number == 0) refl ∙ at_begin plan number (script_of number plan) refl
+walks_begin plan = λ number.
+    subst (λ (walk : Option Walk). Tracks walk (script_of number plan) (client_at plan [] number)) (sym (scripts_begin plan number (number == 0) refl)) (tracks_begin plan number (script_of number plan) refl)
 
-client_text : (plan : PlanData) (before : List Entry) (entry : Entry) (number : ℕ) (script : Option (List ScriptLine)) → script_of number plan ≡ script
-    → flat_map item_text (client_ends number (client_at plan before number) (became (client_at plan before number) entry)) ≡ client_added number (option_map (λ (s : List ScriptLine). walk_of (client_at plan before number)) script) entry
-client_text plan before entry number None none = ap (flat_map item_text) (stranger_ends plan before entry number none)
-client_text plan before entry number (Some script) is = ended_is number (client_at plan before number) (became (client_at plan before number) entry)
+client_text : (plan : PlanData) (before : List Entry) (entry : Entry) (number : ℕ) (walk : Option Walk) (script : Option (List ScriptLine)) → script_of number plan ≡ script → Tracks walk script (client_at plan before number)
+    → flat_map item_text (client_ends number (with_draw entry.draw (client_at plan before number)) (became (client_at plan before number) entry)) ≡ client_added number walk entry
+client_text plan before entry number None None none own = ap (flat_map item_text) (stranger_ends plan before entry number none)
+client_text plan before entry number None (Some script) is own = absurd own
+client_text plan before entry number (Some walk) None is own = absurd own
+client_text plan before entry number (Some walk) (Some script) is own =
+    let client = client_at plan before number in
+    ended_is number (with_draw entry.draw client) (became client entry)
+    ∙ ended_same number (became client entry) walk client entry.draw own
+    ∙ ap (ended_text number walk) (sym (became_same walk client entry own))
 
 -- ---- the RENAME
 
@@ -306,7 +320,7 @@ turn_text plan before entry walks renaming Apply is are renames = tool_text plan
 turn_text plan before entry walks renaming Lock is are renames = tool_text plan before entry (renames_at renaming Lock) (renames Lock refl ∙ ap (λ (actor : Actor). renames_away plan.table (request_waiting before actor)) (sym is))
 turn_text plan before entry walks renaming Ren is are renames = tool_text plan before entry (renames_at renaming Ren) (renames Ren refl ∙ ap (λ (actor : Actor). renames_away plan.table (request_waiting before actor)) (sym is))
 turn_text plan before entry walks renaming (Client number) is are renames =
-    client_text plan before entry number (script_of number plan) refl ∙ ap (λ (walk : Option Walk). client_added number walk entry) (sym (are number))
+    client_text plan before entry number (walk_at number walks) (script_of number plan) refl (are number)
 
 found : (plan : PlanData) (before entries : List Entry) (walks : List Walk) (renaming : Renaming) → AreWalks plan before walks → AreRenaming plan before renaming
     → flat_map item_text (gathered (entry_adds plan) before entries) ≡ history_from plan.table walks renaming entries

@@ -8,7 +8,7 @@ use Rattle.tool_program.specs.JournalWords.Clients.{script_of}
 use Rattle.tool_program.specs.JournalWords.Histories.{NumberedReply}
 use Rattle.top_report.specs.ClientLines.Replies.{client_line, client_text, numbered_text}
 use Rattle.top_report.specs.ClientLines.Walks.{new_walk, replies_from}
-use Rattle.top_report.proofs.ClientLines.Walking.{replies_found}
+use Rattle.top_report.proofs.ClientLines.FoundReplies.{replies_found}
 
 pub lone_reply : (reply : NumberedReply) → flat_map numbered_text (reply ∷ []) ≡ numbered_text reply
 lone_reply reply = append-nil (numbered_text reply)

@@ -15,7 +15,7 @@ use Rattle.server_model.specs.declared.entry.Entry.{Entry}
 use Rattle.server_model.specs.Along.{gathered}
 use Rattle.server_model.specs.Entries.{same_actor}
 use Rattle.plan_data.specs.PlanData.{PlanData}
-use Rattle.tool_program.specs.JournalWords.Clients.{Became, Nothing, Waits, Marked, Broken, Reached, after_turn, became, after_transaction, client_after, client_at, closes, ends_with, is_inside, kept_unless, left_after, marked, new_client, number_of, script_of, with_line}
+use Rattle.tool_program.specs.JournalWords.Clients.{Became, Nothing, Waits, Marked, Broken, Reached, after_turn, became, after_transaction, client_after, client_at, closes, ends_with, is_inside, kept_unless, left_after, marked, new_client, number_of, script_of, with_draw, with_line}
 use Rattle.tool_program.specs.JournalWords.Histories.{NumberedReply, replied, replied_in, replies_of}
 use Rattle.top_report.specs.ClientLines.Walks.{IsSmall, Walk, after_line, ends_now, is_open, new_walk, number_in, replied_by, replies_from, walk_after, walk_marked, walk_of}
 
@@ -48,12 +48,6 @@ after_is Waits client = refl
 after_is (Marked mark reply) client = marked_is client mark reply client.left
 after_is Broken client = refl
 
-replied_is : (what : Became) (client : Reached) → replied client what ≡ replied_by (walk_of client) what
-replied_is Nothing client = refl
-replied_is Waits client = refl
-replied_is (Marked mark reply) client = ap (λ (n : ℕ). record { transaction = n; line = length client.lines + 1; reply = reply } ∷ []) (sym (number_is client))
-replied_is Broken client = refl
-
 -- ---- the walk through a journal
 
 pub one_more : (plan : PlanData) (before : List Entry) (entry : Entry) (number : ℕ) → client_at plan (before ++ entry ∷ []) number ≡ after_turn number (client_at plan before number) entry
@@ -61,39 +55,15 @@ unfolding client_at
 one_more plan before entry number = fold-append (after_turn number) (new_client (unwrap_or (script_of number plan) [])) before (entry ∷ [])
 
 pub own_turn : (plan : PlanData) (before : List Entry) (entry : Entry) (number : ℕ) → same_actor entry.actor (Client number) ≡ true
-    → client_at plan (before ++ entry ∷ []) number ≡ client_after (became (client_at plan before number) entry) (client_at plan before number)
+    → client_at plan (before ++ entry ∷ []) number ≡ client_after (became (client_at plan before number) entry) (with_draw entry.draw (client_at plan before number))
 own_turn plan before entry number is = one_more plan before entry number ∙ rw is refl
 
 pub other_turn : (plan : PlanData) (before : List Entry) (entry : Entry) (number : ℕ) → same_actor entry.actor (Client number) ≡ false → client_at plan (before ++ entry ∷ []) number ≡ client_at plan before number
 other_turn plan before entry number is = one_more plan before entry number ∙ rw is refl
 
-walk_on : (plan : PlanData) (number : ℕ) (before : List Entry) (entry : Entry) (entries : List Entry) (b : Bool) → same_actor entry.actor (Client number) ≡ b
-    → gathered (replied_in plan number) (before ++ entry ∷ []) entries ≡ replies_from number (walk_of (client_at plan (before ++ entry ∷ []) number)) entries
-    → gathered (replied_in plan number) before (entry ∷ entries) ≡ replies_from number (walk_of (client_at plan before number)) (entry ∷ entries)
-unfolding replies_from
-walk_on plan number before entry entries true is others =
-    let client = client_at plan before number in
-    let next : walk_of (client_at plan (before ++ entry ∷ []) number) ≡ walk_after (became client entry) (walk_of client) =
-    ap walk_of (own_turn plan before entry number is) ∙ sym (after_is (became client entry) client) in
-    rw is (ap₂ (λ (xs ys : List NumberedReply). xs ++ ys) (replied_is (became client entry) client) (others ∙ ap (λ (walk : Walk). replies_from number walk entries) next))
-walk_on plan number before entry entries false is others =
-    let client = client_at plan before number in
-    let next : walk_of (client_at plan (before ++ entry ∷ []) number) ≡ walk_of client = ap walk_of (other_turn plan before entry number is) in
-    rw is (others ∙ ap (λ (walk : Walk). replies_from number walk entries) next)
-
-walk : (plan : PlanData) (number : ℕ) (before entries : List Entry) → gathered (replied_in plan number) before entries ≡ replies_from number (walk_of (client_at plan before number)) entries
-unfolding replies_from
-walk plan number before [] = refl
-walk plan number before (entry ∷ entries) = walk_on plan number before entry entries (same_actor entry.actor (Client number)) refl (walk plan number (before ++ entry ∷ []) entries)
-
 pub at_begin : (plan : PlanData) (number : ℕ) (script : List ScriptLine) → script_of number plan ≡ Some script → walk_of (client_at plan [] number) ≡ new_walk script
 unfolding client_at
 at_begin plan number script is = rw is refl
-
--- A client's replies are those that its walk finds.
-pub replies_found : (plan : PlanData) (journal : List Entry) (number : ℕ) (script : List ScriptLine) → script_of number plan ≡ Some script → replies_of plan journal number ≡ replies_from number (new_walk script) journal
-unfolding replies_of
-replies_found plan journal number script is = walk plan number [] journal ∙ ap (λ (w : Walk). replies_from number w journal) (at_begin plan number script is)
 
 -- ---- the script behind a transaction, line by line
 

@@ -10,16 +10,21 @@ use Rattle.plan_data.specs.PlanData.{PlanData}
 use Rattle.tool_program.specs.JournalWords.Histories.{NumberedReply, replies_of}
 use Rattle.table_print.specs.Tables.{row_lines}
 
--- a reply: `ok 1`, `error 1062`, `rows 2` and then the rows; or `lost`, where the session was lost at the line
-unfoldable pub reply_text : Option Reply → List ℕ
-reply_text (Some (Ok count)) = codes "ok " ++ decimal count ++ codes "\n"
-reply_text (Some (Error number)) = codes "error " ++ decimal number ++ codes "\n"
-reply_text (Some (Rows rows)) = codes "rows " ++ decimal (length rows) ++ codes "\n" ++ row_lines rows
-reply_text None = codes "lost\n"
+-- the number that the line drew for an AUTO_INCREMENT column: ` id 5`
+abbrev pub draw_text : Option ℕ → List ℕ
+draw_text None = []
+draw_text (Some number) = codes " id " ++ decimal number
+
+-- a reply: `ok 1`, `ok 1 id 5`, `error 1062`, `rows 2` and then the rows; or `lost`, where the session was lost at the line
+unfoldable pub reply_text : Option Reply → Option ℕ → List ℕ
+reply_text (Some (Ok count)) draw = codes "ok " ++ decimal count ++ draw_text draw ++ codes "\n"
+reply_text (Some (Error number)) draw = codes "error " ++ decimal number ++ codes "\n"
+reply_text (Some (Rows rows)) draw = codes "rows " ++ decimal (length rows) ++ codes "\n" ++ row_lines rows
+reply_text None draw = codes "lost\n"
 
 -- a reply after the numbers of its transaction in the script and of its line in the transaction: `1.1 ok 1`
 unfoldable pub numbered_text : NumberedReply → List ℕ
-numbered_text numbered = decimal numbered.transaction ++ codes "." ++ decimal numbered.line ++ codes " " ++ reply_text numbered.reply
+numbered_text numbered = decimal numbered.transaction ++ codes "." ++ decimal numbered.line ++ codes " " ++ reply_text numbered.reply numbered.draw
 
 -- a client's line: `client c1`
 abbrev pub client_line : ℕ → List ℕ

@@ -93,16 +93,16 @@ became_now walk entry = became_in walk.waits entry.asked entry.side entry.answer
 
 -- ---- replies
 
-abbrev pub replied_by : Walk → Became → List NumberedReply
-replied_by walk (Marked mark reply) = record { transaction = number_in walk; line = walk.lines + 1; reply = reply } ∷ []
-replied_by walk other = []
+abbrev pub replied_by : Walk → Option ℕ → Became → List NumberedReply
+replied_by walk draw (Marked mark reply) = record { transaction = number_in walk; line = walk.lines + 1; reply = reply; draw = draw } ∷ []
+replied_by walk draw other = []
 
 -- what the client of this number gets in these turns
 unfoldable pub replies_from : ℕ → Walk → List Entry → List NumberedReply
 replies_from client walk [] = []
 replies_from client walk (entry ∷ entries) =
     if same_actor entry.actor (Client client)
-    then replied_by walk (became_now walk entry) ++ replies_from client (walk_after (became_now walk entry) walk) entries
+    then replied_by walk entry.draw (became_now walk entry) ++ replies_from client (walk_after (became_now walk entry) walk) entries
     else replies_from client walk entries
 
 -- ---- the history

@@ -1,12 +1,12 @@
 //! What each client got.
 
-ghost use Rattle.std.specs.Prelude.{◌≡◌, ◌+◌, ◌++◌, OnOk, option_and_then};
+ghost use Rattle.std.specs.Prelude.{◌≡◌, ◌+◌, ◌++◌, None, OnOk, option_and_then};
 ghost use Rattle.std.specs.List.{flat_map};
 ghost use Rattle.tool_program.specs.JournalWords.Clients.{script_of};
 ghost use Rattle.server_model.specs.Alone.{reply_of};
-ghost use Rattle.server_model.specs.declared.transaction.Reply.TheVariants.{Error, Rows};
+ghost use Rattle.server_model.specs.declared.transaction.Reply.TheVariants.{Error, Ok, Rows};
 ghost use Rattle.std.specs.declared.option.Option.TheVariants.{Some};
-ghost use Rattle.top_report.specs.ClientLines.Replies.{client_line, client_text, clients_text, numbered_text, reply_text};
+ghost use Rattle.top_report.specs.ClientLines.Replies.{client_line, client_text, clients_text, draw_text, numbered_text, reply_text};
 ghost use Rattle.top_report.specs.ClientLines.Walks.{became_view, new_walk, number_in, replied_by, replies_from};
 
 use crate::client_lines::became::{Became, is_of};
@@ -22,7 +22,7 @@ use table_print::push_row_lines;
 
 #[tactic(auto, unfolding(crate::specs::ClientLines::Replies::reply_text))]
 fn push_rows(into: &mut Text, rows: &[Row]) -> Result<(), AllocError>
-    ensures { OnOk result (into.new ≡ into.old ++ reply_text (Some (Rows rows.now))) }
+    ensures { OnOk result (into.new ≡ into.old ++ reply_text (Some (Rows rows.now)) None) }
 {
     push_number_line(into, "rows ", rows.len() as u64)?;
     push_row_lines(into, rows)
@@ -30,18 +30,42 @@ fn push_rows(into: &mut Text, rows: &[Row]) -> Result<(), AllocError>
 
 #[tactic(auto, unfolding(crate::specs::ClientLines::Replies::reply_text))]
 fn push_error(into: &mut Text, number: u16) -> Result<(), AllocError>
-    ensures { OnOk result (into.new ≡ into.old ++ reply_text (Some (Error number))) }
+    ensures { OnOk result (into.new ≡ into.old ++ reply_text (Some (Error number)) None) }
 {
     push_number_line(into, "error ", u64::from(number))
 }
 
-/// Adds what a client sees of an answer that it heard, or that its session was lost.
+/// Adds the number that a line drew, where it drew one.
+fn push_draw(into: &mut Text, draw: Option<u64>) -> Result<(), AllocError>
+    ensures { OnOk result (into.new ≡ into.old ++ draw_text draw) }
+{
+    match draw {
+        Some(number) => {
+            into.push_str(" id ")?;
+            push_count(into, number)
+        }
+        None => Ok(()),
+    }
+}
+
+/// Adds a count with the number that the line drew.
 #[tactic(auto, unfolding(crate::specs::ClientLines::Replies::reply_text))]
-fn push_reply(into: &mut Text, heard: Option<&Answer>) -> Result<(), AllocError>
-    ensures { OnOk result (into.new ≡ into.old ++ reply_text (option_and_then (λ answer. reply_of answer.now) heard.entry)) }
+fn push_ok(into: &mut Text, count: u64, draw: Option<u64>) -> Result<(), AllocError>
+    ensures { OnOk result (into.new ≡ into.old ++ reply_text (Some (Ok count)) draw) }
+{
+    into.push_str("ok ")?;
+    push_count(into, count)?;
+    push_draw(into, draw)?;
+    into.push_str("\n")
+}
+
+/// Adds what a client sees of an answer that it heard, with the number that the line drew; or that its session was lost.
+#[tactic(auto, unfolding(crate::specs::ClientLines::Replies::reply_text))]
+fn push_reply(into: &mut Text, heard: Option<&Answer>, draw: Option<u64>) -> Result<(), AllocError>
+    ensures { OnOk result (into.new ≡ into.old ++ reply_text (option_and_then (λ answer. reply_of answer.now) heard.entry) draw) }
 {
     match heard {
-        Some(Answer::Ok(count)) => push_number_line(into, "ok ", *count),
+        Some(Answer::Ok(count)) => push_ok(into, *count, draw),
         Some(Answer::Rows(rows)) => push_rows(into, rows.as_slice()),
         Some(Answer::Refused { number, .. }) => push_error(into, *number),
         Some(Answer::TimedOut { .. }) => push_error(into, ER_LOCK_WAIT_TIMEOUT),
@@ -51,23 +75,33 @@ fn push_reply(into: &mut Text, heard: Option<&Answer>) -> Result<(), AllocError>
 
 /// Adds a reply after the numbers of its transaction and its line.
 #[tactic(auto, unfolding(crate::specs::ClientLines::Replies::numbered_text))]
-fn push_numbered(into: &mut Text, walk: &Walk<'_>, heard: Option<&Answer>) -> Result<(), AllocError>
-    ensures { OnOk result (into.new ≡ into.old ++ numbered_text (record { transaction = number_in walk.now; line = walk.now.lines + 1; reply = option_and_then (λ answer. reply_of answer.now) heard.entry })) }
+fn push_numbered(
+    into: &mut Text,
+    walk: &Walk<'_>,
+    heard: Option<&Answer>,
+    draw: Option<u64>,
+) -> Result<(), AllocError>
+    ensures { OnOk result (into.new ≡ into.old ++ numbered_text (record { transaction = number_in walk.now; line = walk.now.lines + 1; reply = option_and_then (λ answer. reply_of answer.now) heard.entry; draw = draw })) }
 {
     push_count(into, walk.number())?;
     into.push_str(".")?;
     push_count(into, walk.line())?;
     into.push_str(" ")?;
-    push_reply(into, heard)
+    push_reply(into, heard, draw)
 }
 
 /// Adds what a client got in its turn.
 #[tactic(auto, using(crate::proofs::ClientLines::Replying::lone_reply))]
-fn push_replied(into: &mut Text, walk: &Walk<'_>, became: &Became<'_>) -> Result<(), AllocError>
-    ensures { OnOk result (into.new ≡ into.old ++ flat_map numbered_text (replied_by walk.now (became_view became.now))) }
+fn push_replied(
+    into: &mut Text,
+    walk: &Walk<'_>,
+    became: &Became<'_>,
+    draw: Option<u64>,
+) -> Result<(), AllocError>
+    ensures { OnOk result (into.new ≡ into.old ++ flat_map numbered_text (replied_by walk.now draw (became_view became.now))) }
 {
     match became {
-        Became::Marked(_, heard) => push_numbered(into, walk, *heard),
+        Became::Marked(_, heard) => push_numbered(into, walk, *heard, draw),
         Became::Nothing | Became::Waits | Became::Broken => Ok(()),
     }
 }
@@ -86,7 +120,7 @@ fn push_replies(
     for entry in journal {
         if is_of(entry.actor, client) {
             let became = walk.became(entry);
-            push_replied(into, &walk, &became)?;
+            push_replied(into, &walk, &became, entry.draw)?;
             walk.take(&became);
         }
     }

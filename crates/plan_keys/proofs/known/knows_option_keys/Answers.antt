@@ -8,5 +8,5 @@ use Rattle.plan_keys.proofs.known.knows_option_keys.Goals as goal
 
 pub returns-in-Some : goal.returns-in-Some
 returns-in-Some c =
-    rw c.in-Some.is (all_from_yields_List (λ (key : String Global). is_option_key (string_bytes key)) _ _ _ c.all.ensures.ran (YieldsList-from_rest (keys c.in-Some.table.now) c.keys.ensures.rest) (λ x b q k. search (rules, tests))
-    ∙ all_keys-map is_option_key c.in-Some.table.now)
+    rw c.in-Some.is (all_from_yields_List (λ (key : String Global). is_option_key c.args.first (string_bytes key)) _ _ _ c.all.ensures.ran (YieldsList-from_rest (keys c.in-Some.table.now) c.keys.ensures.rest) (λ x b q k. search (rules, tests))
+    ∙ all_keys-map (is_option_key c.args.first) c.in-Some.table.now)

@@ -1,4 +1,5 @@
 -- How long sessions wait is the plan's, behind every journal.
+use Rattle.server_model.specs.Drawing.{filled}
 use Rattle.std.proofs.Common.{◌≡◌, ℕ, Bool, true, false, cond, ◌||◌, List, [], ◌∷◌, Option, Some, None, refl, ap, ◌∙◌}
 use Rattle.base_script.specs.declared.actor.Side.{Side}
 use Rattle.base_script.specs.declared.actor.Side.TheVariants.{Before, After}
@@ -10,7 +11,7 @@ use Rattle.server_model.specs.declared.session.Waiting.{Waiting}
 use Rattle.server_model.specs.Effects.{Effect, effect}
 use Rattle.server_model.specs.Effects.Effect.{Rests, Grows, Writes, Forgets, Moves, Locks, Unlocks}
 use Rattle.server_model.specs.Entries.{is_command}
-use Rattle.server_model.specs.PlainServer.{does, done, without_waiting, called_unless, calls, is_over, polled_over, polled_unless, polled_of, polls, loses, serves, leaves}
+use Rattle.server_model.specs.PlainServer.{does, done, did, without_waiting, called_unless, calls, is_over, polled_over, polled_unless, polled_of, polls, loses, serves, leaves}
 use Rattle.server_model.specs.States.{State, waiting_of, connected, is_live}
 use Rattle.plan_data.specs.PlanData.{PlanData}
 use Rattle.tool_program.specs.JournalWords.Journals.{opening, opens_if, opens, after_entry, state_after, state_at}
@@ -25,8 +26,8 @@ does_limits (Locks answer names) state number = refl
 does_limits (Unlocks answer) state number = refl
 
 done_limits : (state : State) (number : ℕ) (request : Request) → (done state number request).after.limits ≡ state.limits
-unfolding done
-done_limits state number request = does_limits (effect state number request) state number
+unfolding did
+done_limits state number request = does_limits (effect state number (filled state number request)) state number
 
 served_limits : (state : State) (number : ℕ) (asked : Asked) → (serves state number asked).after.limits ≡ state.limits
 unfolding calls polls loses

@@ -1,4 +1,5 @@
 -- A wait of the tool's: the journal has a call that was made to wait, and then each poll that was counted.
+use Rattle.server_model.specs.PlainServer.{recounted, counters_left}
 use Rattle.std.proofs.Common.{◌≡◌, ℕ, suc, ◌+◌, ◌-◌, ◌==◌, Bool, true, false, cond, not, ◌&&◌, List, [], ◌∷◌, ◌++◌, Option, Some, None, refl, sym, ap, ◌∙◌, subst, arith}
 use Rattle.std.specs.Prelude.{filter, reverse}
 use Rattle.std.specs.List.{slice_get}
@@ -125,8 +126,8 @@ module _ (plan : PlanData) (journal : List Entry) (entry : Entry) (together : Is
   open_waits = opened_waits (is_command entry.asked) (not (is_client entry.actor)) own now
 
   -- the state, where the session isn't lost
-  after_is : entry.side ≡ None → (asked : Asked) → entry.asked ≡ asked → state_at plan more ≡ (serves open_now own asked).after
-  after_is no_side asked asks = state_more plan journal entry ∙ ap (λ (side : Option Side). leaves side open_now own entry.asked) no_side ∙ ap (λ (a : Asked). (serves open_now own a).after) asks
+  after_is : entry.side ≡ None → (asked : Asked) → entry.asked ≡ asked → state_at plan more ≡ recounted (counters_left None open_now own asked) (serves open_now own asked).after
+  after_is no_side asked asks = state_more plan journal entry ∙ ap (λ (side : Option Side). recounted (counters_left side open_now own entry.asked) (leaves side open_now own entry.asked)) no_side ∙ ap (λ (a : Asked). recounted (counters_left None open_now own a) (serves open_now own a).after) asks
 
   answer_is : entry.side ≡ None → (asked : Asked) → entry.asked ≡ asked → entry.answer ≡ (serves open_now own asked).answer
   answer_is no_side asked asks = sym (own_given plan journal entry together.known served no_side) ∙ ap (λ (a : Asked). (serves open_now own a).answer) asks
@@ -204,8 +205,8 @@ module _ (plan : PlanData) (journal : List Entry) (entry : Entry) (together : Is
   polled_counts : is_client entry.actor ≡ false → (found : Session) → session_of own open_now.sessions ≡ Some found → entry.asked ≡ Poll → entry.side ≡ None → (w : Waiting) → waiting_of own (state_at plan more).waiting ≡ Some w → Counted
   unfolding polls waited_for
   polled_counts tool found there asks no_side w is = by (waiting_of own open_now.waiting) refl where
-    after : (waiting : Option Waiting) → waiting_of own open_now.waiting ≡ waiting → state_at plan more ≡ (polled_of waiting open_now own).after
-    after waiting old = after_is no_side Poll asks ∙ ap (λ (o : Option Waiting). (polled_of o open_now own).after) old
+    after : (waiting : Option Waiting) → waiting_of own open_now.waiting ≡ waiting → state_at plan more ≡ recounted (counters_left None open_now own Poll) (polled_of waiting open_now own).after
+    after waiting old = after_is no_side Poll asks ∙ ap (λ (o : Option Waiting). recounted (counters_left None open_now own Poll) (polled_of o open_now own).after) old
 
     answer : (waiting : Option Waiting) → waiting_of own open_now.waiting ≡ waiting → entry.answer ≡ (polled_of waiting open_now own).answer
     answer waiting old = answer_is no_side Poll asks ∙ ap (λ (o : Option Waiting). (polled_of o open_now own).answer) old

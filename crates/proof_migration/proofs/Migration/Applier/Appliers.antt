@@ -1,4 +1,5 @@
 -- Each turn of the applier keeps the tool standing.
+use Rattle.proof_migration.proofs.ToolServes.{filled_so}
 use Rattle.std.proofs.Common.{◌≡◌, ◌<◌, ◌≤◌, ℕ, zero, suc, ◌+◌, Bool, true, false, cond, List, [], ◌∷◌, ◌++◌, length, map, take, drop, find, Option, Some, None, Result, Ok, Err, refl, sym, ap, ◌∙◌, subst, arith}
 use Rattle.std.specs.Prelude.{◌==◌}
 use Rattle.std.specs.List.{AllByRecursion, list_any, slice_get}
@@ -213,10 +214,14 @@ module _ (m : Migration) (at : Clustered m.schema) (rows : List Row) (place : �
 
   module _ (given : Answer) (reported : reported_at entry.side entry.answer entry.missed ≡ Some given) (done : was_done given ≡ true) where
     left : EffectLeaves effect_now lost number (stored before) (stored after) (holds_of before) (holds_of after)
-    left = effects_are_done limits scene journal entry request given turn.run turn.reported turn.asked reported done
+    left =
+        subst (λ (r : Request). EffectLeaves (effect (where_done entry.asked number (opens entry before)) number r) lost number (stored before) (stored after) (holds_of before) (holds_of after)) (filled_so (opens entry before) number request turn.tool)
+        (effects_are_done limits scene journal entry request given turn.run turn.reported turn.asked reported done)
 
     says_so : given ≡ effect_answer effect_now
-    says_so = effects_answer limits scene journal entry request given turn.run turn.reported turn.asked reported done
+    says_so =
+        effects_answer limits scene journal entry request given turn.run turn.reported turn.asked reported done
+        ∙ ap (λ (r : Request). effect_answer (effect (where_done entry.asked number (opens entry before)) number r)) (filled_so (opens entry before) number request turn.tool)
 
     heard : Heard entry.side entry.answer given
     heard = heard_as entry.side entry.answer (inner before entry) given entry.missed turn.reported.answer reported
@@ -232,7 +237,8 @@ module _ (m : Migration) (at : Clustered m.schema) (rows : List Row) (place : �
     lost_goal held is answer same besides = ends same (lost_own held is besides) (subst IsBad (sym answer) tt)
 
     busy_now : (one : Effect) → effect_now ≡ one → entry.side ≡ None → given ≡ entry.answer → busy_of after number ≡ busy_after one (busy_of before number)
-    busy_now one is side same = busy_done limits scene journal entry request turn.reported side turn.asked (ap was_done (sym same) ∙ done) ∙ ap (λ (d : Effect). busy_after d (busy_of before number)) is
+    busy_now one is side same = busy_done limits scene journal entry request turn.reported side turn.asked (ap was_done (sym same) ∙ done)
+        ∙ ap (λ (r : Request). busy_after (effect (where_done entry.asked number (opens entry before)) number r) (busy_of before number)) (filled_so (opens entry before) number request turn.tool) ∙ ap (λ (d : Effect). busy_after d (busy_of before number)) is
 
     rests_left : (x : Answer) → effect_now ≡ Rests x → (stored after ≡ stored before) × Besides number (holds_of before) (holds_of after) (unless_lost lost own)
     rests_left x is = subst (λ (d : Effect). EffectLeaves d lost number (stored before) (stored after) (holds_of before) (holds_of after)) is left

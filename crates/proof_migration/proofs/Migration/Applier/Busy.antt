@@ -1,4 +1,6 @@
 -- Whether a session is in a transaction, behind its own turns.
+use Rattle.server_model.specs.PlainServer.{recounted, counters_left}
+use Rattle.server_model.specs.Drawing.{filled}
 use Rattle.std.proofs.Common.{◌≡◌, ℕ, ◌+◌, Bool, true, false, not, List, [], ◌∷◌, ◌++◌, Option, Some, None, refl, sym, ap, ◌∙◌, subst}
 use Rattle.base_script.specs.declared.actor.Side.{Side}
 use Rattle.server_model.specs.declared.answer.Answer.{Answer}
@@ -14,7 +16,7 @@ use Rattle.server_model.specs.Effects.{Effect, effect}
 use Rattle.server_model.specs.Effects.Effect.{Rests, Grows, Writes, Forgets, Moves, Locks, Unlocks}
 use Rattle.server_model.specs.Entries.{is_client, is_command}
 use Rattle.server_model.specs.Blockers.{blocker, need}
-use Rattle.server_model.specs.PlainServer.{at_rest, called_unless, calls, counting, does, done, holding, is_over, leaves, locking, polled_of, polled_over, polled_unless, polls, serves, unlocking, without_waiting}
+use Rattle.server_model.specs.PlainServer.{at_rest, called_unless, calls, counting, does, done, did, holding, is_over, leaves, locking, polled_of, polled_over, polled_unless, polls, serves, unlocking, without_waiting}
 use Rattle.server_model.specs.States.{State, opened, polls_of, session_of, waiting_of, with_session}
 use Rattle.tool_program.specs.JournalWords.Journals.{opens}
 use Rattle.proof_journals.specs.Scenes.{Scene}
@@ -57,33 +59,33 @@ does_busy (Moves answer tables) now w number there = refl
 does_busy (Locks answer names) now w number there = changed_busy now number there (locking names) (λ s. refl) ∙ found_busy now number there
 does_busy (Unlocks answer) now w number there = changed_busy now number there unlocking (λ s. refl) ∙ found_busy now number there
 
-done_busy : (now : State) (w : List Waiting) (number : ℕ) (request : Request) (there : There now number) → busy_of (done (at_wait now w) number request).after number ≡ busy_after (effect (at_wait now w) number request) (busy_of now number)
-unfolding done
-done_busy now w number request there = does_busy (effect (at_wait now w) number request) now w number there
+done_busy : (now : State) (w : List Waiting) (number : ℕ) (request : Request) (there : There now number) → busy_of (done (at_wait now w) number request).after number ≡ busy_after (effect (at_wait now w) number (filled now number request)) (busy_of now number)
+unfolding did
+done_busy now w number request there = does_busy (effect (at_wait now w) number (filled now number request)) now w number there
 
 -- a turn whose request was done
-served_busy : (now : State) (number : ℕ) (asked : Asked) (request : Request) → There now number → about now number asked ≡ Some request → was_done (serves now number asked).answer ≡ true → busy_of (serves now number asked).after number ≡ busy_after (effect (where_done asked number now) number request) (busy_of now number)
+served_busy : (now : State) (number : ℕ) (asked : Asked) (request : Request) → There now number → about now number asked ≡ Some request → was_done (serves now number asked).answer ≡ true → busy_of (serves now number asked).after number ≡ busy_after (effect (where_done asked number now) number (filled now number request)) (busy_of now number)
 unfolding calls polls
 served_busy now number (Call asks) request there is answered =
-    subst (λ (r : Request). busy_of (calls now number asks).after number ≡ busy_after (effect now number r) (busy_of now number)) (let same : asks ≡ request = cc in same) (at (blocker now number (need now number asks)) answered)
+    subst (λ (r : Request). busy_of (calls now number asks).after number ≡ busy_after (effect now number (filled now number r)) (busy_of now number)) (let same : asks ≡ request = cc in same) (at (blocker now number (need now number asks)) answered)
   where
-    at : (by : Option ℕ) → was_done (called_unless by now number asks).answer ≡ true → busy_of (called_unless by now number asks).after number ≡ busy_after (effect now number asks) (busy_of now number)
+    at : (by : Option ℕ) → was_done (called_unless by now number asks).answer ≡ true → busy_of (called_unless by now number asks).after number ≡ busy_after (effect now number (filled now number asks)) (busy_of now number)
     at None answer = done_busy now now.waiting number asks there
     at (Some by) answer = absurd (let no : false ≡ true = answer in cc)
 served_busy now number Poll request there is answered = at (waiting_of number now.waiting) is answered
   where
-    over : (b : Bool) (by : ℕ) (asks : Request) → was_done (polled_over b by now number).answer ≡ true → busy_of (polled_over b by now number).after number ≡ busy_after (effect (without_waiting number now) number asks) (busy_of now number)
+    over : (b : Bool) (by : ℕ) (asks : Request) → was_done (polled_over b by now number).answer ≡ true → busy_of (polled_over b by now number).after number ≡ busy_after (effect (without_waiting number now) number (filled now number asks)) (busy_of now number)
     over true by asks answer = absurd (let no : false ≡ true = answer in cc)
     over false by asks answer = absurd (let no : false ≡ true = answer in cc)
 
-    each : (asks : Request) (by : Option ℕ) → was_done (polled_unless by now number asks).answer ≡ true → busy_of (polled_unless by now number asks).after number ≡ busy_after (effect (without_waiting number now) number asks) (busy_of now number)
+    each : (asks : Request) (by : Option ℕ) → was_done (polled_unless by now number asks).answer ≡ true → busy_of (polled_unless by now number asks).after number ≡ busy_after (effect (without_waiting number now) number (filled now number asks)) (busy_of now number)
     each asks None answer = done_busy now (without_waiting number now).waiting number asks there
     each asks (Some by) answer = over (is_over now number) by asks answer
 
-    at : (waiting : Option Waiting) → request_of waiting ≡ Some request → was_done (polled_of waiting now number).answer ≡ true → busy_of (polled_of waiting now number).after number ≡ busy_after (effect (without_waiting number now) number request) (busy_of now number)
+    at : (waiting : Option Waiting) → request_of waiting ≡ Some request → was_done (polled_of waiting now number).answer ≡ true → busy_of (polled_of waiting now number).after number ≡ busy_after (effect (without_waiting number now) number (filled now number request)) (busy_of now number)
     at None asks answer = absurd cc
     at (Some waiting) asks answer =
-        subst (λ (r : Request). busy_of (polled_of (Some waiting) now number).after number ≡ busy_after (effect (without_waiting number now) number r) (busy_of now number)) (let same : waiting.request ≡ request = cc in same)
+        subst (λ (r : Request). busy_of (polled_of (Some waiting) now number).after number ≡ busy_after (effect (without_waiting number now) number (filled now number r)) (busy_of now number)) (let same : waiting.request ≡ request = cc in same)
         (each waiting.request (blocker now number (need now number waiting.request)) answer)
 served_busy now number (Command word) request there is answered = absurd cc
 served_busy now number Cut request there is answered = absurd (let no : false ≡ true = answered in cc)
@@ -136,16 +138,16 @@ module _ (limits : Limits) (scene : Scene) (journal : List Entry) (entry : Entry
   answered : entry.answer ≡ (serves now entry.session entry.asked).answer
   answered = reported.answer ∙ ap (λ (s : Option Side). answer_at s (inner before entry)) heard
 
-  left : scene_state limits scene (journal ++ entry ∷ []) ≡ (serves now entry.session entry.asked).after
-  left = state_more (opened limits scene.opening) journal entry ∙ ap (λ (s : Option Side). leaves s now entry.session entry.asked) heard
+  left : scene_state limits scene (journal ++ entry ∷ []) ≡ recounted (counters_left None now entry.session entry.asked) (serves now entry.session entry.asked).after
+  left = state_more (opened limits scene.opening) journal entry ∙ ap (λ (s : Option Side). recounted (counters_left s now entry.session entry.asked) (leaves s now entry.session entry.asked)) heard
 
   -- *Behind a deed that was done and heard*
-  pub busy_done : was_done entry.answer ≡ true → busy_of (scene_state limits scene (journal ++ entry ∷ [])) entry.session ≡ busy_after (effect (where_done entry.asked entry.session now) entry.session request) (busy_of before entry.session)
+  pub busy_done : was_done entry.answer ≡ true → busy_of (scene_state limits scene (journal ++ entry ∷ [])) entry.session ≡ busy_after (effect (where_done entry.asked entry.session now) entry.session (filled now entry.session request)) (busy_of before entry.session)
   busy_done done_so =
       ap (λ (s : State). busy_of s entry.session) left
-      ∙ live (busy_of (serves now entry.session entry.asked).after entry.session ≡ busy_after (effect (where_done entry.asked entry.session now) entry.session request) (busy_of now entry.session))
+      ∙ live (busy_of (serves now entry.session entry.asked).after entry.session ≡ busy_after (effect (where_done entry.asked entry.session now) entry.session (filled now entry.session request)) (busy_of now entry.session))
       (λ there. served_busy now entry.session entry.asked request there asked (ap was_done (sym answered) ∙ done_so))
-      ∙ ap (busy_after (effect (where_done entry.asked entry.session now) entry.session request)) same_busy
+      ∙ ap (busy_after (effect (where_done entry.asked entry.session now) entry.session (filled now entry.session request))) same_busy
 
   -- *Where its request waits* its session is as before
   pub busy_waits : IsWait entry.answer → busy_of (scene_state limits scene (journal ++ entry ∷ [])) entry.session ≡ busy_of before entry.session

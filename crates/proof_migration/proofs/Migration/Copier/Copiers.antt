@@ -1,4 +1,5 @@
 -- Each turn of the copier keeps the tool standing.
+use Rattle.proof_migration.proofs.ToolServes.{filled_so}
 use Rattle.std.proofs.Common.{◌≡◌, ◌<◌, ℕ, zero, suc, ◌+◌, ◌==◌, nat_lt, Bool, true, false, cond, List, [], ◌∷◌, ◌++◌, length, take, filter, Option, Some, None, Result, Ok, Err, refl, sym, ap, ◌∙◌, subst, inl, arith}
 use Rattle.std.specs.List.{AllByRecursion, list_any, slice_get}
 use Rattle.std.specs.Str.{bytes_eq}
@@ -205,10 +206,14 @@ module _ (m : Migration) (at : Clustered m.schema) (rows : List Row) (place : �
 
   module _ (given : Answer) (reported : reported_at entry.side entry.answer entry.missed ≡ Some given) (done : was_done given ≡ true) where
     left : EffectLeaves effect_now lost number (stored before) (stored after) (holds_of before) (holds_of after)
-    left = effects_are_done limits scene journal entry request given turn.run turn.reported turn.asked reported done
+    left =
+        subst (λ (r : Request). EffectLeaves (effect (where_done entry.asked number (opens entry before)) number r) lost number (stored before) (stored after) (holds_of before) (holds_of after)) (filled_so (opens entry before) number request turn.tool)
+        (effects_are_done limits scene journal entry request given turn.run turn.reported turn.asked reported done)
 
     says_so : given ≡ effect_answer effect_now
-    says_so = effects_answer limits scene journal entry request given turn.run turn.reported turn.asked reported done
+    says_so =
+        effects_answer limits scene journal entry request given turn.run turn.reported turn.asked reported done
+        ∙ ap (λ (r : Request). effect_answer (effect (where_done entry.asked number (opens entry before)) number r)) (filled_so (opens entry before) number request turn.tool)
 
     heard : Heard entry.side entry.answer given
     heard = heard_as entry.side entry.answer (inner before entry) given entry.missed turn.reported.answer reported

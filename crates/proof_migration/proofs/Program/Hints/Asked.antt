@@ -1,4 +1,5 @@
 -- What a turn asks and logs, of the changelog.
+use Rattle.proof_migration.proofs.ToolServes.{tool_serves}
 use Rattle.std.proofs.Common.{◌≡◌, ◌⊎◌, ℕ, Bool, true, false, cond, List, [], ◌∷◌, ◌++◌, Option, Some, None, refl, sym, ap, ◌∙◌, subst, inl, inr}
 use Rattle.std.specs.Str.{bytes_eq}
 use Rattle.std.proofs.lemmas.Bool.{true≢false, false_from_ne_true}
@@ -11,7 +12,7 @@ use Rattle.server_model.specs.declared.entry.Asked.TheVariants.{Call, Poll, Comm
 use Rattle.server_model.specs.declared.entry.Entry.{Entry}
 use Rattle.server_model.specs.declared.request.Request.{Request}
 use Rattle.server_model.specs.declared.request.Request.TheVariants as requests
-use Rattle.server_model.specs.Entries.{is_command, is_cut, same_actor}
+use Rattle.server_model.specs.Entries.{is_command, is_cut, same_actor, is_client}
 use Rattle.server_model.specs.Operations.{table_of}
 use Rattle.server_model.specs.States.{State}
 use Rattle.plan_data.specs.PlanData.{PlanData}
@@ -245,7 +246,7 @@ module _ (plan : PlanData) (runs : IsRunnable plan) (serial : IsSerialPlan plan)
       left : LeavesHint t work.cutover.attempts entry.answer now then
       left =
           hint_left t (limits_of plan) (scene_of plan more) journal entry scene_run run.answered.sides none work.cutover.attempts uncut (is ∙ ap (λ (s : Statement). Some (requests.Do s)) asks.0)
-          (idle_face same stands.inspector.busy (uncommanded (requests.Do statement) is))
+          (idle_face same stands.inspector.busy (uncommanded (requests.Do statement) is)) (tool_serves plan journal entry before together run (uncommanded (requests.Do statement) is) (ap is_client same))
 
       by : LogsAway t now then ⊎ LogsHint t work.cutover.attempts entry.answer now then → LogsAway t now then ⊎ (LogsHint t work.cutover.attempts entry.answer now then × (may_hint work.cutover.phase ≡ true))
       by (inl away) = inl away

@@ -40,7 +40,7 @@ use Rattle.tool_program.proofs.OnlineCalls.Machines.{ToolPhaseIsNamed, named}
 use Rattle.proof_journals.specs.Plans.{IsSerialPlan, limits_of, scene_of}
 use Rattle.proof_journals.specs.Turns.{about}
 use Rattle.proof_journals.proofs.Actors.{same_actor_is}
-use Rattle.proof_journals.proofs.Joined.{reported_answer, reported_missed}
+use Rattle.proof_journals.proofs.Joined.{reported_answer, reported_missed, reported_draw}
 use Rattle.proof_journals.specs.Ghost.Invariant.{NotOf}
 use Rattle.proof_journals.proofs.Ghost.Turns.{run_front}
 use Rattle.proof_journals.specs.Run.Kept.{IsKept}
@@ -305,7 +305,7 @@ module _ (plan : PlanData) (runs : IsRunnable plan) (serial : IsSerialPlan plan)
         subst (λ (l : List RowEvent). IsRead t l work.applier.position events next) (sym logs.log)
         (read_later t now.log logs.events work.applier.position next events
         (reading_said t (limits_of plan) (scene_of plan more) journal entry work.applier.batch work.applier.position events next (run_front (limits_of plan) (scene_of plan more) journal (entry ∷ []) (scene_run plan runs serial journal entry kept off))
-        (record { answer = reported_answer now entry the_run.answered; missed = reported_missed now entry the_run.answered }) (heard_here (answers.Events events next) is (λ same. cc)) (ap (about (opens entry now) entry.session) asks) is some stands.knows.within))
+        (record { answer = reported_answer now entry the_run.answered; missed = reported_missed now entry the_run.answered; draw = reported_draw now entry the_run.answered }) (heard_here (answers.Events events next) is (λ same. cc)) (ap (about (opens entry now) entry.session) asks) is some stands.knows.within))
 
     -- its call at this step, that is answered events
     called : (events : List RowEvent) (next : ℕ) → entry.answer ≡ answers.Events events next → (step : ApplyStep) → entry.asked ≡ Call (appliers.call_at journal work.applier step) → answers_to (appliers.call_at journal work.applier step) (answers.Events events next) ≡ true → Reads t then.log work.applier (answers.Events events next)

@@ -1,4 +1,5 @@
 -- What a turn logs of the changelog: nothing; or the hint row that the inspector writes.
+use Rattle.proof_migration.proofs.ToolServes.{filled_so}
 use Rattle.std.proofs.Common.{◌≡◌, ◌≤◌, ◌⊎◌, ℕ, Bool, true, false, List, [], ◌∷◌, ◌++◌, Option, Some, None, refl, sym, ap, ◌∙◌, subst, inl, inr, arith}
 use Rattle.std.specs.Prelude.{◌==◌}
 use Rattle.std.proofs.lemmas.List.{append-nil}
@@ -19,7 +20,7 @@ use Rattle.server_model.specs.Effects.Effect.{Rests, Writes}
 use Rattle.server_model.specs.Entries.{is_cut}
 use Rattle.server_model.specs.Operations.{operation_of, operation_result}
 use Rattle.server_model.specs.Blockers.{need_within}
-use Rattle.server_model.specs.States.{State}
+use Rattle.server_model.specs.States.{State, is_of_tool, session_of}
 use Rattle.base_values.specs.ToolNames.{log_name}
 use Rattle.base_values.specs.declared.mysql_errors.TheConstants.{ER_TABLE_NOT_LOCKED}
 use Rattle.tool_program.specs.JournalWords.Journals.{may_lose, opens}
@@ -118,7 +119,7 @@ module _ (t : List ℕ) (limits : Limits) (scene : Scene) (journal : List Entry)
     cut_left is no_side = let left = cuts_are_left limits scene journal entry is (sides no_side) in rests no_hold tt left.0 left.1
 
     -- *The turn that asks for an attempt's hint row*
-    module _ (attempt : ℕ) (uncut : is_cut entry.asked ≡ false) (asked : about (opens entry before) entry.session entry.asked ≡ Some (requests.Do (hint_insert t attempt))) (idle : (face_of before.sessions entry.session).busy ≡ false) where
+    module _ (attempt : ℕ) (uncut : is_cut entry.asked ≡ false) (asked : about (opens entry before) entry.session entry.asked ≡ Some (requests.Do (hint_insert t attempt))) (idle : (face_of before.sessions entry.session).busy ≡ false) (tool : is_of_tool (session_of entry.session (opens entry before).sessions) ≡ true) where
       abbrev request : Request
       request = requests.Do (hint_insert t attempt)
 
@@ -155,10 +156,10 @@ module _ (t : List ℕ) (limits : Limits) (scene : Scene) (journal : List Entry)
 
       module _ (given : Answer) (reported : reported_at entry.side entry.answer entry.missed ≡ Some given) (done : was_done given ≡ true) where
         left_as : (one : Effect) → effect_now ≡ one → EffectLeaves one (is_lost entry.side) entry.session (stored before) (stored after) (holds_of before) (holds_of after)
-        left_as one is = subst (λ (d : Effect). EffectLeaves d (is_lost entry.side) entry.session (stored before) (stored after) (holds_of before) (holds_of after)) is (effects_are_done limits scene journal entry request given run entry_reported asked reported done)
+        left_as one is = subst (λ (d : Effect). EffectLeaves d (is_lost entry.side) entry.session (stored before) (stored after) (holds_of before) (holds_of after)) (ap (effect (where_done entry.asked entry.session (opens entry before)) entry.session) (filled_so (opens entry before) entry.session request tool) ∙ is) (effects_are_done limits scene journal entry request given run entry_reported asked reported done)
 
         says_so : given ≡ effect_answer effect_now
-        says_so = effects_answer limits scene journal entry request given run entry_reported asked reported done
+        says_so = effects_answer limits scene journal entry request given run entry_reported asked reported done ∙ ap (λ (r : Request). effect_answer (effect (where_done entry.asked entry.session (opens entry before)) entry.session r)) (filled_so (opens entry before) entry.session request tool)
 
         lost_away : (b : Bool) → NotOf (log_name t) (unless_lost b own).writes
         lost_away true = tt

@@ -1,4 +1,5 @@
 -- What the INSERT of a hint row leaves, where it is done: its row in the log, and what sessions hold as it was.
+use Rattle.proof_migration.proofs.ToolServes.{filled_so}
 use Rattle.std.proofs.Common.{◌≡◌, ℕ, pos, Bool, true, false, cond, codes, List, [], ◌∷◌, ◌++◌, Option, Some, None, Result, Ok, Err, refl, sym, ap, ◌∙◌, subst}
 use Rattle.std.specs.Prelude.{◌==◌, int_le, nat_le, ◌&&◌}
 use Rattle.std.specs.Fmt.{signed_decimal}
@@ -23,8 +24,8 @@ use Rattle.server_model.specs.Effects.{effect_unless, is_outside}
 use Rattle.server_model.specs.Operations.{events_of, operation_of, operation_result, result_in, statement_result}
 use Rattle.server_model.specs.Blockers.{blocker, need}
 use Rattle.server_model.specs.StatementResults.{only, tells}
-use Rattle.server_model.specs.PlainServer.{Served, at_rest, called_unless, calls, does, done, is_over, polled_of, polled_over, polled_unless, polls, serves, without_waiting}
-use Rattle.server_model.specs.States.{State, is_in_transaction, kept_names, names_held, session_of, view, waiting_of, with_session, writes_of}
+use Rattle.server_model.specs.PlainServer.{Served, at_rest, called_unless, calls, does, done, did, is_over, polled_of, polled_over, polled_unless, polls, serves, without_waiting}
+use Rattle.server_model.specs.States.{State, is_in_transaction, kept_names, names_held, session_of, view, waiting_of, with_session, writes_of, is_of_tool}
 use Rattle.server_model.specs.declared.answer.Answer.{Answer}
 use Rattle.server_model.specs.declared.answer.Answer.TheVariants as answers
 use Rattle.server_model.specs.declared.entry.Asked.{Asked}
@@ -169,6 +170,7 @@ pub record Hinted (t : List ℕ) (n : ℕ) (state : State) (after : State) : Typ
 
 -- a session that holds no name, is in no transaction and wrote nothing
 pub record IsBare (state : State) (number : ℕ) : Type 0 where
+  pub tool : is_of_tool (session_of number state.sessions) ≡ true
   pub names : (found : Session) → session_of number state.sessions ≡ Some found → found.names ≡ []
   pub busy : is_in_transaction (session_of number state.sessions) ≡ false
   pub writes : writes_of (session_of number state.sessions) ≡ []
@@ -187,8 +189,8 @@ module _ (t : List ℕ) (n : ℕ) (state : State) (number : ℕ) (bare : IsBare 
   })
 
   done_so : (w : List Waiting) → DoneSo (done (record state { waiting = w }) number (writes_hint t n))
-  unfolding done
-  done_so w = by (is_outside (session_of number state.sessions) (writes_hint t n)) where
+  unfolding did
+  done_so w = subst (λ (r : Request). DoneSo (did (record state { waiting = w }) number r)) (sym (filled_so (record state { waiting = w }) number (writes_hint t n) bare.tool)) (by (is_outside (session_of number state.sessions) (writes_hint t n))) where
     by : (outside : Bool) → DoneSo (does (effect_unless outside (is_in_transaction (session_of number state.sessions)) (view number state) (record state { waiting = w }) (writes_hint t n)) (record state { waiting = w }) number)
     by true = λ count ok. absurd cc
     by false = within w

@@ -1,4 +1,6 @@
 -- A turn of the inspector's is such a turn as the sentry relation asks.
+use Rattle.proof_migration.proofs.ToolServes.{tool_serves}
+use Rattle.server_model.specs.PlainServer.{recounted, counters_left}
 use Rattle.std.proofs.Common.{◌≡◌, ◌≢◌, ◌<◌, ◌+◌, ℕ, Bool, true, false, not, cond, List, [], ◌∷◌, ◌++◌, take, Option, Some, None, refl, sym, ap, ◌∙◌, subst}
 use Rattle.std.proofs.Math.Nat.{ne_of_lt}
 use Rattle.std.proofs.lemmas.Bool.{true≢false}
@@ -253,6 +255,7 @@ module _ (entries_are_turns : EntriesAreTurns) (plan : PlanData) (journal : List
       -- the session has nothing but its request
       bare : IsBare now entry.session
       bare = record {
+        tool = tool_serves plan journal entry (kept_front plan journal (entry ∷ []) kept) together run called (ap is_client inspects);
         names = entries.nameless entries_are_turns plan journal entry runs serial kept off called busy locked;
         busy = entries.idle_now entries_are_turns plan journal entry runs serial kept off called busy;
         writes = entries.writeless entries_are_turns plan journal entry runs serial kept off called busy;
@@ -272,7 +275,7 @@ module _ (entries_are_turns : EntriesAreTurns) (plan : PlanData) (journal : List
           let asked_row : request ≡ writes_hint plan.table work.cutover.attempts = subst (AsksAt request work.cutover.table work.cutover.attempts) hints asks ∙ ap (λ (t : List ℕ). writes_hint t work.cutover.attempts) own_table in
           let done : Hinted plan.table work.cutover.attempts now (entries.served entries_are_turns plan journal entry runs serial kept off).after = hinted plan.table work.cutover.attempts now entry.session bare log_stands entry.asked (about_here ∙ ap Some asked_row) uncut count
           (entries.given_heard entries_are_turns plan journal entry runs serial kept off (heard count is) ∙ is) in
-          let left : after ≡ (entries.served entries_are_turns plan journal entry runs serial kept off).after = entries.after_is entries_are_turns plan journal entry runs serial kept off None (heard count is) in
+          let left : after ≡ recounted (counters_left None now entry.session entry.asked) (entries.served entries_are_turns plan journal entry runs serial kept off).after = entries.after_is entries_are_turns plan journal entry runs serial kept off None (heard count is) in
           record {
             earlier = unhinted work tool_phase hints;
             tables = (shared_turn (ap asks_exclusive (about_here ∙ ap Some asked_row))).old_stays;

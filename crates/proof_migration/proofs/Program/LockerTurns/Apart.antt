@@ -1,4 +1,5 @@
 -- No two live sessions have one number; so a session that holds no name can be lost, and others hold what they held.
+use Rattle.server_model.specs.Drawing.{filled}
 use Rattle.std.proofs.Common.{◌≡◌, ℕ, Bool, true, false, not, ◌||◌, List, [], ◌∷◌, ◌++◌, filter, cond, Option, Some, None, refl, sym, ap, ◌∙◌}
 use Rattle.std.specs.Prelude.{◌==◌, is_some}
 use Rattle.std.proofs.lemmas.Bool.{true≢false}
@@ -9,7 +10,7 @@ use Rattle.base_script.specs.declared.actor.Side.TheVariants.{Before, After}
 use Rattle.server_model.specs.Effects.{Effect, Forgets, Grows, Locks, Moves, Rests, Unlocks, Writes, effect}
 use Rattle.server_model.specs.Entries.{is_client, is_command}
 use Rattle.server_model.specs.Blockers.{blocker, need}
-use Rattle.server_model.specs.PlainServer.{at_rest, called_unless, calls, counting, does, done, holding, is_over, leaves, locking, loses, polled_of, polled_over, polled_unless, polls, serves, unlocking, without_waiting}
+use Rattle.server_model.specs.PlainServer.{at_rest, called_unless, calls, counting, does, done, did, holding, is_over, leaves, locking, loses, polled_of, polled_over, polled_unless, polls, serves, unlocking, without_waiting}
 use Rattle.server_model.specs.States.{State, connected, names_held, new_session, session_of, waiting_of, with_session}
 use Rattle.server_model.specs.declared.entry.Asked.{Asked}
 use Rattle.server_model.specs.declared.entry.Asked.TheVariants.{Call, Poll, Command, Cut}
@@ -89,8 +90,8 @@ apart_does (Locks answer names) state number apart = apart_with number (locking 
 apart_does (Unlocks answer) state number apart = apart_with number unlocking state.sessions (λ s. refl) apart
 
 apart_done : (state : State) (number : ℕ) (request : Request) → IsApart state.sessions → IsApart (done state number request).after.sessions
-unfolding done
-apart_done state number request apart = apart_does (effect state number request) state number apart
+unfolding did
+apart_done state number request apart = apart_does (effect state number (filled state number request)) state number apart
 
 apart_served : (state : State) (number : ℕ) (asked : Asked) → IsApart state.sessions → IsApart (serves state number asked).after.sessions
 unfolding calls polls loses

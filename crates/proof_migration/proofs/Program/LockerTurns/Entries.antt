@@ -1,4 +1,5 @@
 -- What a turn of the tool's leaves, of a kept journal in which the RENAME isn't done yet.
+use Rattle.server_model.specs.PlainServer.{recounted, counters_left}
 use Rattle.std.proofs.Common.{◌≡◌, ℕ, Bool, true, false, not, ◌||◌, List, [], ◌∷◌, ◌++◌, cond, Option, Some, None, Ok, refl, sym, ap, ◌∙◌, subst}
 use Rattle.std.proofs.lemmas.Bool.{true≢false, ne_eqb, or_left, or_right}
 use Rattle.std.proofs.lemmas.List.Folds.{list_any-append}
@@ -32,7 +33,7 @@ use Rattle.proof_journals.specs.Plans.{IsSerialPlan, limits_of, scene_of}
 use Rattle.proof_journals.specs.Scenes.{SessionHold, Stored, no_hold}
 use Rattle.proof_journals.specs.Turns.{IsSceneRun, IsReported, about, reported_at}
 use Rattle.proof_journals.proofs.Faces.{faces_opened, writes_face}
-use Rattle.proof_journals.proofs.Joined.{reported_answer, reported_missed}
+use Rattle.proof_journals.proofs.Joined.{reported_answer, reported_missed, reported_draw}
 use Rattle.proof_journals.proofs.Journals.{JournalHolds, journal_holds, stored_opened}
 use Rattle.proof_journals.proofs.PlanJournals.{plan_runs_are_scene_runs}
 use Rattle.proof_journals.specs.ServerTurns.Others.{DefinitionsAreDone, EntriesAreTurns, ExclusiveIsAlone, LocksAreTaken, TurnOf, asks_exclusive, held_at}
@@ -113,7 +114,7 @@ module _ (entries_are_turns : EntriesAreTurns) (plan : PlanData) (journal : List
   scene_run = plan_runs_are_scene_runs plan journal (unaltered_runs plan journal runs serial kept_before (unaltered_front plan journal (entry ∷ []) off))
 
   reported : IsReported (limits_of plan) (scene_of plan journal) journal entry
-  reported = record { answer = reported_answer before entry run.answered; missed = reported_missed before entry run.answered }
+  reported = record { answer = reported_answer before entry run.answered; missed = reported_missed before entry run.answered; draw = reported_draw before entry run.answered }
 
   -- *The turn, as others see it*
   pub turn : TurnOf (asks_exclusive (about now entry.session entry.asked)) entry.session before after
@@ -133,8 +134,8 @@ module _ (entries_are_turns : EntriesAreTurns) (plan : PlanData) (journal : List
   pub held_now : held_at now ≡ held_at before
   held_now = held_opened (is_command entry.asked) (not (is_client entry.actor)) entry.session before
 
-  pub after_is : (side : Option Side) → entry.side ≡ side → after ≡ leaves side now entry.session entry.asked
-  after_is side is = state_more plan journal entry ∙ ap (λ (s : Option Side). leaves s now entry.session entry.asked) is
+  pub after_is : (side : Option Side) → entry.side ≡ side → after ≡ recounted (counters_left side now entry.session entry.asked) (leaves side now entry.session entry.asked)
+  after_is side is = state_more plan journal entry ∙ ap (λ (s : Option Side). recounted (counters_left s now entry.session entry.asked) (leaves s now entry.session entry.asked)) is
 
   pub heard_side : (entry.answer ≡ answers.Lost → ⊥) → entry.side ≡ None
   heard_side heard = by entry.side refl where
@@ -196,8 +197,8 @@ module _ (entries_are_turns : EntriesAreTurns) (plan : PlanData) (journal : List
 
   -- between calls
   module _ (cut : entry.asked ≡ Cut) where
-    cut_after : after ≡ loses entry.session now
-    cut_after = after_is None (run.answered.sides (ap may_lose cut)) ∙ ap (λ (a : Asked). (serves now entry.session a).after) cut
+    cut_after : after ≡ recounted (counters_left None now entry.session Cut) (loses entry.session now)
+    cut_after = after_is None (run.answered.sides (ap may_lose cut)) ∙ ap (λ (a : Asked). recounted (counters_left None now entry.session a) (serves now entry.session a).after) cut
 
     pub cut_nothing : HoldsNothing entry.session after
     unfolding loses

@@ -1,5 +1,7 @@
 -- What LOCK TABLES, UNLOCK TABLES, CREATE, DROP and RENAME leave on the server: they commit no row; only the last three
 -- change which tables stand, and these change no lock that is held.
+use Rattle.server_model.proofs.Filling.{filled_case, numbered_table}
+use Rattle.server_model.specs.States.{is_of_tool}
 use Rattle.std.proofs.Common.{◌≡◌, ℕ, Bool, true, false, List, [], ◌∷◌, ◌++◌, cond, Option, Some, None, Result, Ok, Err, refl, sym, ap, ◌∙◌, subst}
 use Rattle.std.specs.Prelude.{◌==◌}
 use Rattle.std.proofs.lemmas.Bool.{true≢false, false≢true}
@@ -11,7 +13,7 @@ use Rattle.table_store.specs.Databases.{Database, has_table, rename_tables}
 use Rattle.server_model.specs.Answers.{refuses}
 use Rattle.server_model.specs.Effects.{all_exist, created, effect_unless, defined, dropped, is_outside, locks_if, renamed_or}
 use Rattle.server_model.specs.Blockers.{blocker, need}
-use Rattle.server_model.specs.PlainServer.{Served, called_unless, calls, counting, does, done, is_over, polled_of, polled_over, polled_unless, polls, serves, without_waiting}
+use Rattle.server_model.specs.PlainServer.{Served, called_unless, calls, counting, does, done, did, is_over, polled_of, polled_over, polled_unless, polls, serves, without_waiting}
 use Rattle.server_model.specs.States.{State, is_exclusive, is_in_transaction, locks_held, names_held, names_in, session_of, view, waiters, waiting_of, with_session}
 use Rattle.server_model.specs.declared.answer.Answer.{Answer}
 use Rattle.server_model.specs.declared.answer.Answer.TheVariants as answers
@@ -101,12 +103,17 @@ module _ (state : State) (number : ℕ) (w : List Waiting) where
   within busy seen (requests.Rename pairs) is = moved (requests.Rename pairs) refl (renamed_or (rename_tables pairs state.tables))
   within busy seen request is = absurd cc
 
-  done_quiet : (request : Request) → is_rowless request ≡ true → Quiet request state number (done there number request)
-  unfolding done
-  done_quiet request is = by (is_outside (session_of number state.sessions) request) where
+  did_quiet : (request : Request) → is_rowless request ≡ true → Quiet request state number (did there number request)
+  unfolding did
+  did_quiet request is = by (is_outside (session_of number state.sessions) request) where
     by : (outside : Bool) → Quiet request state number (does (effect_unless outside (is_in_transaction (session_of number state.sessions)) (view number there) there request) there number)
     by true = refused request ER_TABLE_NOT_LOCKED
     by false = within (is_in_transaction (session_of number state.sessions)) (view number there) request is
+
+  done_quiet : (request : Request) → is_rowless request ≡ true → Quiet request state number (done there number request)
+  done_quiet request =
+      filled_case (λ asked full. is_rowless asked ≡ true → Quiet asked state number (did there number full)) did_quiet (λ statement n rowless. absurd (false≢true rowless))
+      (is_of_tool (session_of number state.sessions)) state.tables state.counters request
 
 -- CALLS AND POLLS
 
@@ -166,5 +173,10 @@ names_granted state number asked request asks uncut free = by (blocker state num
   answers_so Cut asks uncut one blocks free = uncut refl
 
   by : (blocked : Option ℕ) → blocker state number (need state number request) ≡ blocked → blocker_of_names (held_at state) (waiters state.waiting) number (is_exclusive request) (names_in request) ≡ None
-  by None is = (none_of (blocker_of_names (names_held state.sessions) (waiters state.waiting) number (is_exclusive request) (names_in request)) (blocker_of_set (locks_held state.sessions) number (need state number request).locks) is).0
+  by None is =
+      filled_case
+      (λ asks full. blocker_of_names (held_at state) (waiters state.waiting) number (is_exclusive full) (names_in full) ≡ None → blocker_of_names (held_at state) (waiters state.waiting) number (is_exclusive asks) (names_in asks) ≡ None)
+      (λ r free. free) (λ s n free. subst (λ (t : List ℕ). blocker_of_names (held_at state) (waiters state.waiting) number false (t ∷ []) ≡ None) (numbered_table n s) free)
+      (is_of_tool (session_of number state.sessions)) state.tables state.counters request
+      (none_of (blocker_of_names (names_held state.sessions) (waiters state.waiting) number (need state number request).exclusive (need state number request).names) (blocker_of_set (locks_held state.sessions) number (need state number request).locks) is).0
   by (Some one) is = absurd (answers_so asked asks uncut one is free)

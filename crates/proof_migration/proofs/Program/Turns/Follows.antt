@@ -72,7 +72,7 @@ goes_more plan m at rows of journal entry kept off going was =
     record {
       work = turn.after;
       tool_phase = turn.tool_phase;
-      goes = goes_on plan of.serial of.runs.fitting m at rows of.place of.planned of.is_place of.finds of.of journal entry known run off (kept_scene plan m rows of (journal ++ entry ∷ []) kept off) was.work turn.after was.tool_phase unmarked turn.going turn.tool_phase going turn.effect was.goes;
+      goes = goes_on plan of.serial of.runs.fitting m at rows of.place of.planned of.is_place of.finds of.of journal entry known run off (kept_scene plan m rows of (journal ++ entry ∷ []) kept off) was.work turn.after was.tool_phase unmarked turn.going turn.tool_phase going turn.effect was.goes (kept_front plan journal (entry ∷ []) kept);
     }
 
 -- *Followers go on*

@@ -1,4 +1,7 @@
 -- How the migration stands behind a journal that is kept, and that each turn keeps it so.
+use Rattle.server_model.specs.Entries.{is_client}
+use Rattle.proof_journals.specs.Run.Kept.{IsKept}
+use Rattle.proof_migration.proofs.ToolServes.{about_called_so, tool_serves}
 use Rattle.std.proofs.Common.{◌≡◌, ◌⊎◌, ◌<◌, ℕ, zero, suc, ◌+◌, Bool, true, false, cond, ◌&&◌, List, [], ◌∷◌, ◌++◌, length, Option, Some, None, refl, sym, ap, ◌∙◌, subst, inl, inr}
 use Rattle.std.specs.List.{AllByRecursion, slice_get}
 use Rattle.std.proofs.lemmas.Bool.{true≢false}
@@ -109,7 +112,7 @@ rests_own m at rows copier applier now rests (returns next old row rest is kept)
 module _ (plan : PlanData) (serial : IsSerialPlan plan) (fit : IsFitting plan) (m : Migration) (at : Clustered m.schema) (rows : List Row) (place : ℕ) (planned : IsPlanned m rows) (is_place : clustered_place m.new ≡ Some place) (finds : FindsRows m) (of : IsOf plan m) (journal : List Entry) (entry : Entry)
     (known : IsKnownAsked plan journal) (run : IsRun plan journal entry) (off : IsUnaltered plan (journal ++ entry ∷ [])) (scene_run : IsSceneRun (limits_of plan) (scene_of plan (journal ++ entry ∷ [])) (journal ++ entry ∷ [])) (work then_work : Work) (tool_phase : (moment plan journal).tool.tool_phase ≡ Migrating work)
     (unmarked : Unmarked plan journal work) (going : is_reverting (moment plan journal).tool.reason ≡ false) (then_tool_phase : (moment plan (journal ++ entry ∷ [])).tool.tool_phase ≡ Migrating then_work) (then_going : is_reverting (moment plan (journal ++ entry ∷ [])).tool.reason ≡ false)
-    (effect : Effect plan journal entry work then_work) (goes : Goes plan m at rows journal work) where
+    (effect : Effect plan journal entry work then_work) (goes : Goes plan m at rows journal work) (kept : IsKept plan journal) where
   abbrev more : List Entry
   more = journal ++ entry ∷ []
 
@@ -258,6 +261,7 @@ module _ (plan : PlanData) (serial : IsSerialPlan plan) (fit : IsFitting plan) (
         map = goes.map;
         request = asks.request;
         asked = about_called plan serial fit journal entry known run off Copy asks.request same asks.is_about;
+        tool = tool_serves plan journal entry kept together run (about_called_so (opens entry now) entry.session entry.asked asks.request (about_called plan serial fit journal entry known run off Copy asks.request same asks.is_about)) (ap is_client same);
         given = (asks.waits).next;
         uncut = uncut;
         fits = fits;
@@ -276,6 +280,7 @@ module _ (plan : PlanData) (serial : IsSerialPlan plan) (fit : IsFitting plan) (
         map = goes.apply_map;
         request = asks.request;
         asked = about_called plan serial fit journal entry known run off Apply asks.request same asks.is_about;
+        tool = tool_serves plan journal entry kept together run (about_called_so (opens entry now) entry.session entry.asked asks.request (about_called plan serial fit journal entry known run off Apply asks.request same asks.is_about)) (ap is_client same);
         given = asks.next;
         uncut = uncut;
         fits = fits;

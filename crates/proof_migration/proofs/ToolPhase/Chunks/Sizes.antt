@@ -21,7 +21,7 @@ use Rattle.server_model.specs.declared.outcome.Progress.TheVariants.{Unfit}
 use Rattle.server_model.specs.declared.request.Request.{Request}
 use Rattle.server_model.specs.declared.request.Request.TheVariants as requests
 use Rattle.server_model.specs.Blockers.{need_within}
-use Rattle.server_model.specs.PlainServer.{does, done}
+use Rattle.server_model.specs.PlainServer.{does, done, did}
 use Rattle.server_model.specs.States.{State, session_of, is_in_transaction, view}
 use Rattle.plan_data.specs.PlanData.{PlanData}
 use Rattle.tool_program.specs.ChunkCopier.Copiers as copiers
@@ -72,7 +72,7 @@ take_few (suc n) [] = omega arith
 take_few (suc n) (x ∷ xs) = let rest = take_few n xs in omega (arith, rest)
 
 pub keys_few : (found : State) (number : ℕ) (table : List ℕ) (span : Span) (size : ℕ) → FewKeys size (done found number (requests.BeginSpan table span size)).answer
-unfolding done span_keys
+unfolding did span_keys
 keys_few found number table span size = at (is_outside (session_of number found.sessions) (requests.BeginSpan table span size)) where
   begun_few : (one : Option TableRows) → FewKeys size (does (begins one span size (need_within (view number found) (requests.BeginSpan table span size))) found number).answer
   begun_few None = tt

@@ -1,5 +1,8 @@
 -- While nobody asks for a table's name exclusively, nobody waits for it, nor is made to wait: what one turn of the server
 -- leaves of that.
+use Rattle.server_model.specs.States.{is_of_tool}
+use Rattle.server_model.proofs.Filling.{filled_case}
+use Rattle.server_model.specs.Drawing.{numbered}
 use Rattle.std.proofs.Common.{◌≡◌, ℕ, Bool, true, false, not, ◌&&◌, ◌||◌, List, [], ◌∷◌, ◌++◌, map, cond, Option, Some, None, Result, Ok, Err, refl, sym, subst}
 use Rattle.std.specs.Prelude.{◌==◌, is_some}
 use Rattle.std.specs.List.{AllByRecursion, list_any}
@@ -32,7 +35,7 @@ use Rattle.server_model.specs.Effects.{Effect, Rests, Grows, Writes, Forgets, Mo
 use Rattle.server_model.specs.Entries.{is_client, is_command}
 use Rattle.server_model.specs.Operations.{copy_operation, operation_result, statement_result}
 use Rattle.server_model.specs.Blockers.{need_within, need, blocker}
-use Rattle.server_model.specs.PlainServer.{shared, holding, at_rest, unlocking, counting, does, done, without_waiting, called_unless, calls, is_over, polled_over, polled_unless, polled_of, polls, loses, serves, leaves}
+use Rattle.server_model.specs.PlainServer.{shared, holding, at_rest, unlocking, counting, does, done, did, without_waiting, called_unless, calls, is_over, polled_over, polled_unless, polled_of, polls, loses, serves, leaves}
 use Rattle.server_model.specs.States.{State, with_session, session_of, new_session, connected, kept_names, shared_names, name_held, names_held, waiting_of, waits_for, waiters, names_in, is_exclusive, is_in_transaction, view}
 use Rattle.tool_program.specs.JournalWords.Journals.{opens, opens_if, after_entry}
 use Rattle.proof_journals.proofs.Waiting.{IsDone, done_answers}
@@ -142,10 +145,15 @@ module _ (table : List ℕ) where
   effect_unlocks false busy seen state requests.ShowTables none = tt
   effect_unlocks false busy seen state requests.ShowWaiting none = tt
 
-  done_spared : (state : State) (number : ℕ) (request : Request) → is_lock request ≡ false → IsSpared table state → IsSpared table (done state number request).after
-  unfolding done
-  done_spared state number request none is =
+  did_spared : (state : State) (number : ℕ) (request : Request) → is_lock request ≡ false → IsSpared table state → IsSpared table (did state number request).after
+  unfolding did
+  did_spared state number request none is =
       does_spared (effect state number request) state number (effect_unlocks (is_outside (session_of number state.sessions) request) (is_in_transaction (session_of number state.sessions)) (view number state) state request none) is
+
+  done_spared : (state : State) (number : ℕ) (request : Request) → is_lock request ≡ false → IsSpared table state → IsSpared table (done state number request).after
+  done_spared state number request none is =
+      filled_case (λ asked full. is_lock asked ≡ false → IsSpared table (did state number full).after) (λ r off. did_spared state number r off is) (λ statement n off. did_spared state number (requests.Do (numbered n statement)) off is)
+      (is_of_tool (session_of number state.sessions)) state.tables state.counters request none
 
   -- CALLS, POLLS AND LOSSES
 
@@ -208,7 +216,9 @@ module _ (table : List ℕ) where
 
   -- *One turn more*
   pub turn_spared : (state : State) (entry : Entry) → ((request : Request) → entry.asked ≡ Call request → Spares table request) → IsSpared table state → IsSpared table (after_entry state entry)
-  turn_spared state entry spares is = leaves_spared entry.side (opens entry state) entry.session entry.asked spares (opened_spared (is_command entry.asked) (not (is_client entry.actor)) entry.session state is)
+  turn_spared state entry spares is =
+      let one = leaves_spared entry.side (opens entry state) entry.session entry.asked spares (opened_spared (is_command entry.asked) (not (is_client entry.actor)) entry.session state is) in
+      record { sessions = one.sessions; waiting = one.waiting }
 
 -- NOBODY IS MADE TO WAIT
 

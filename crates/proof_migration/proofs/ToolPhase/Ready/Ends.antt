@@ -16,7 +16,7 @@ use Rattle.server_model.specs.declared.transaction.Reply.{Reply}
 use Rattle.server_model.specs.declared.transaction.TxnLine.{TxnLine}
 use Rattle.server_model.specs.Entries.{same_actor}
 use Rattle.plan_data.specs.PlanData.{PlanData}
-use Rattle.tool_program.specs.JournalWords.Clients.{Became, Nothing, Waits, Marked, Broken, Reached, new_client, is_inside, ends_with, closes, after_transaction, left_after, kept_unless, with_line, marked, client_after, became, after_turn, script_of, client_at, is_empty, client_over, all_over, clients_over}
+use Rattle.tool_program.specs.JournalWords.Clients.{Became, Nothing, Waits, Marked, Broken, Reached, new_client, is_inside, ends_with, closes, after_transaction, left_after, kept_unless, with_line, marked, client_after, became, after_turn, script_of, client_at, is_empty, client_over, all_over, clients_over, with_draw, lines_drawn, word_numbered}
 use Rattle.proof_journals.specs.Machine.Scripts.{inside_after}
 use Rattle.proof_migration.specs.ToolPhase.Ready.{LinesEnd, ScriptsEnd}
 
@@ -101,10 +101,24 @@ after_ends Broken client is = record { lost = λ lost. refl; left = by (is_insid
   by true ends = ends_outside client.left ends
   by false ends = ends
 
+-- a line that drew ends where it ended
+drawn_left : (number : ℕ) (inside : Bool) (lines : List ScriptLine) → LinesEnd inside lines → LinesEnd inside (lines_drawn number lines)
+drawn_left number inside [] ends = ends
+drawn_left number inside (line ∷ lines) ends = by line.word ends where
+  by : (word : ScriptWord) → LinesEnd (inside_after inside word) lines → LinesEnd (inside_after inside (word_numbered (Some number) word)) lines
+  by words.Begin ends = ends
+  by words.Commit ends = ends
+  by words.Rollback ends = ends
+  by (words.Do statement) ends = ends
+
+drawn_ends : (draw : Option ℕ) (client : Reached) → ClientEnds client → ClientEnds (with_draw draw client)
+drawn_ends None client is = is
+drawn_ends (Some number) client is = record { lost = is.lost; left = drawn_left number (is_inside client.lines) client.left is.left }
+
 turn_ends : (c : ℕ) (client : Reached) (entry : Entry) → ClientEnds client → ClientEnds (after_turn c client entry)
 turn_ends c client entry is = by (same_actor entry.actor (Client c)) where
-  by : (b : Bool) → ClientEnds (cond b (client_after (became client entry) client) client)
-  by true = after_ends (became client entry) client is
+  by : (b : Bool) → ClientEnds (cond b (client_after (became client entry) (with_draw entry.draw client)) client)
+  by true = after_ends (became client entry) (with_draw entry.draw client) (drawn_ends entry.draw client is)
   by false = is
 
 fold_keeps : {A X : Type 0} (P : A → Type 0) (f : A → X → A) → ((a : A) (x : X) → P a → P (f a x)) → (a : A) (xs : List X) → P a → P (fold f a xs)
@@ -140,10 +154,14 @@ after_none Waits client none = none
 after_none (Marked mark reply) client none = marked_none client mark reply client.left refl none
 after_none Broken client none = none
 
+drawn_none : (draw : Option ℕ) (client : Reached) → client.left ≡ [] → (with_draw draw client).left ≡ []
+drawn_none None client none = none
+drawn_none (Some number) client none = ap (lines_drawn number) none
+
 turn_none : (c : ℕ) (client : Reached) (entry : Entry) → client.left ≡ [] → (after_turn c client entry).left ≡ []
 turn_none c client entry none = by (same_actor entry.actor (Client c)) where
-  by : (b : Bool) → (cond b (client_after (became client entry) client) client).left ≡ []
-  by true = after_none (became client entry) client none
+  by : (b : Bool) → (cond b (client_after (became client entry) (with_draw entry.draw client)) client).left ≡ []
+  by true = after_none (became client entry) (with_draw entry.draw client) (drawn_none entry.draw client none)
   by false = none
 
 none_left : (plan : PlanData) (journal : List Entry) (c : ℕ) → script_of c plan ≡ None → (client_at plan journal c).left ≡ []

@@ -1,5 +1,6 @@
 -- Each turn of the applier keeps the ghost relation; and what its statements rest on holds of each ALTER.
-use Rattle.std.specs.Prelude.{◌≡◌, ◌+◌, ℕ, Bool, false, List, [], ◌∷◌, ◌++◌, length, Some, Ok}
+use Rattle.server_model.specs.States.{is_of_tool, session_of}
+use Rattle.std.specs.Prelude.{◌≡◌, ◌+◌, ℕ, Bool, true, false, List, [], ◌∷◌, ◌++◌, length, Some, Ok}
 use Rattle.base_values.specs.declared.gho_schema.schema.Schema.{Schema}
 use Rattle.base_values.specs.GhoSchema.ClusteredKey.{clustered_place}
 use Rattle.base_values.specs.declared.row_conversion.clause.Clause.{Clause}
@@ -36,6 +37,7 @@ pub record IsApplierTurn (m : Migration) (limits : Limits) (scene : Scene) (jour
   pub schema : applier.new_schema ≡ m.new
   pub map : applier.map ≡ m.columns
   pub asked : about (opens entry (scene_state limits scene journal)) entry.session entry.asked ≡ Some request
+  pub tool : is_of_tool (session_of entry.session (opens entry (scene_state limits scene journal)).sessions) ≡ true
   pub given : next journal applier ≡ request
   pub uncut : is_cut entry.asked ≡ false
   pub fits : (place number : ℕ) → progress applier entry.answer ≡ Unfit place number → ⊥

@@ -1,5 +1,6 @@
 -- Each turn of the tool's machines keeps the ghost relation.
-use Rattle.std.specs.Prelude.{◌≡◌, ◌+◌, ℕ, false, List, [], ◌∷◌, ◌++◌, length, Some}
+use Rattle.server_model.specs.States.{is_of_tool, session_of}
+use Rattle.std.specs.Prelude.{◌≡◌, ◌+◌, ℕ, true, false, List, [], ◌∷◌, ◌++◌, length, Some}
 use Rattle.server_model.specs.declared.entry.Entry.{Entry}
 use Rattle.server_model.specs.declared.outcome.Progress.TheVariants.{Unfit}
 use Rattle.server_model.specs.declared.request.Request.{Request}
@@ -27,6 +28,7 @@ pub record IsCopierTurn (m : Migration) (limits : Limits) (scene : Scene) (journ
   pub new_name : m.new.name ≡ ghost_name m.name
   pub map : copier.map ≡ m.columns
   pub asked : about (opens entry (scene_state limits scene journal)) entry.session entry.asked ≡ Some request
+  pub tool : is_of_tool (session_of entry.session (opens entry (scene_state limits scene journal)).sessions) ≡ true
   pub given : next journal copier ≡ Some request
   pub uncut : is_cut entry.asked ≡ false
   pub fits : (place number : ℕ) → progress copier entry.answer ≡ Unfit place number → ⊥

@@ -6,7 +6,7 @@ use Rattle.std.proofs.lemmas.Bool.{or_parts}
 use Rattle.std.proofs.lemmas.Bool.Decides.{nat_tests}
 use Rattle.toml.specs.Data.{Members}
 use Rattle.base_values.specs.SchemaRules.Results.{◌>>=◌}
-use Rattle.base_values.proofs.SchemaRules.Steps.{bind_ok, ok_is, kept_out}
+use Rattle.base_values.proofs.SchemaRules.Steps.{bind_ok, ok_is, kept_out, let_through}
 use Rattle.plan_data.specs.declared.options.Options.{Options}
 use Rattle.plan_data.specs.PlanData.{PlanData}
 use Rattle.plan_keys.specs.declared.fault.KeyRefusal.{KeyRefusal}
@@ -20,6 +20,7 @@ use Rattle.plan_keys.specs.PlanKeys.{KeyData, TypedData, typed_of, in_range, few
 use Rattle.plan_reader.specs.declared.limits.TheConstants.{PLAN_LIMIT}
 use Rattle.plan_reader.specs.declared.fault.PlanRefusal.{PlanRefusal}
 use Rattle.plan_reader.specs.declared.fault.PlanRefusal.TheVariants as plans
+use Rattle.plan_reader.specs.Built.{is_built, built}
 use Rattle.plan_reader.specs.Clients.{clients_of}
 use Rattle.plan_reader.specs.Openings.{opening_of}
 use Rattle.plan_reader.specs.Orders.{has_many_orders, few_orders, orders_of}
@@ -66,9 +67,9 @@ allowed_within numbers truths options is =
 allowed_in : (typed : TypedData) (found : KeyData) → in_range typed ≡ Ok found → IsAllowed found.options
 unfolding in_range
 allowed_in typed found is =
-    let version = bind_ok (within 1 1 typed.version) _ found is in
-    let options = bind_ok (options_within typed.numbers typed.truths) (λ options. Ok (record { texts = typed.texts; options = options })) found version.2 in
-    subst (λ (k : KeyData). IsAllowed k.options) (ok_is {C = KeyRefusal} (record { texts = typed.texts; options = options.0 }) found options.2)
+    let version = bind_ok (within 1 2 typed.version) _ found is in
+    let options = bind_ok (options_within typed.numbers typed.truths) (λ options. Ok (record { version = version.0; texts = typed.texts; options = options; later = typed.later })) found version.2 in
+    subst (λ (k : KeyData). IsAllowed k.options) (ok_is {C = KeyRefusal} (record { version = version.0; texts = typed.texts; options = options.0; later = typed.later }) found options.2)
     (allowed_within typed.numbers typed.truths options.0 options.1)
 
 allowed_few : (typed : Result TypedData KeyRefusal) (found : KeyData) → (typed >>= in_range >>= few) ≡ Ok found → IsAllowed found.options
@@ -96,8 +97,9 @@ allowed_at members plan is =
     let found = bind_ok (keys_in members) _ plan is in
     let opening = bind_ok (opening_of found.0) _ plan found.2 in
     let clients = bind_ok (clients_of found.0.texts.table found.0.texts.clients) _ plan opening.2 in
-    let orders = bind_ok (orders_of (length clients.0) found.0.texts) (λ orders. Ok (plan_of found.0 opening.0 clients.0 orders)) plan clients.2 in
-    subst (λ (p : PlanData). IsAllowed p.options) (ok_is {C = PlanRefusal} (plan_of found.0 opening.0 clients.0 orders.0) plan orders.2)
+    let orders = bind_ok (orders_of (length clients.0) found.0.texts) (λ orders. built found.0 (plan_of found.0 opening.0 clients.0 orders)) plan clients.2 in
+    let all = let_through (is_built found.0 (plan_of found.0 opening.0 clients.0 orders.0)) (plan_of found.0 opening.0 clients.0 orders.0) plan plans.NotBuilt orders.2 in
+    subst (λ (p : PlanData). IsAllowed p.options) all.1
     (allowed_given (keys_of members) found.0 (allowed_keys members) found.1)
 
 -- *Read plans allow*

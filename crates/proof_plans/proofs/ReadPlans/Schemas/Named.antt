@@ -20,10 +20,10 @@ added (table ∷ tables) new differ none =
     let parts = or_parts (is_named new.schema.name table) (has_table new.schema.name tables) none in
     (following table.schema.name tables new differ.0 (other_way table.schema.name new.schema.name _ parts.0 refl), added tables new differ.1 parts.1)
 
-pub differ_from : Laws → ReadSchemasAreValid → (migrated : List ℕ) (number : ℕ) (tables : Database) (texts : List TableData) (made : Database) → NamesDiffer tables → tables_from migrated number tables texts ≡ Ok made → NamesDiffer made
+pub differ_from : Laws → ReadSchemasAreValid → (version : ℕ) (migrated : List ℕ) (number : ℕ) (tables : Database) (texts : List TableData) (made : Database) → NamesDiffer tables → tables_from version migrated number tables texts ≡ Ok made → NamesDiffer made
 unfolding tables_from
-differ_from laws valid migrated number tables [] made differ is = subst NamesDiffer (ok_is tables made is) differ
-differ_from laws valid migrated number tables (first ∷ texts) made differ is =
-    let table = bind_ok (table_at migrated number tables first) (λ table. tables_from migrated (next_number number) (tables ++ (table ∷ [])) texts) made is in
-    let read = table_is laws valid migrated number tables first table.0 table.1 in
-    differ_from laws valid migrated (next_number number) (tables ++ (table.0 ∷ [])) texts made (added tables table.0 differ read.new) table.2
+differ_from laws valid version migrated number tables [] made differ is = subst NamesDiffer (ok_is tables made is) differ
+differ_from laws valid version migrated number tables (first ∷ texts) made differ is =
+    let table = bind_ok (table_at version migrated number tables first) (λ table. tables_from version migrated (next_number number) (tables ++ (table ∷ [])) texts) made is in
+    let read = table_is laws valid version migrated number tables first table.0 table.1 in
+    differ_from laws valid version migrated (next_number number) (tables ++ (table.0 ∷ [])) texts made (added tables table.0 differ read.new) table.2

@@ -9,7 +9,7 @@ use Rattle.base_values.specs.declared.row_conversion.clause.NewColumn.{NewColumn
 use Rattle.base_values.specs.declared.row_conversion.clause.ColumnPosition.{ColumnPosition}
 use Rattle.base_values.specs.declared.row_conversion.clause.ColumnPosition.TheVariants.{Unsaid, First, After}
 use Rattle.sql_grammar.specs.declared.attributes.Attribute.{Attribute}
-use Rattle.sql_grammar.specs.declared.attributes.Attribute.TheVariants.{Nullable, Default, Passed}
+use Rattle.sql_grammar.specs.declared.attributes.Attribute.TheVariants.{Nullable, Default, AutoIncrement, Passed}
 use Rattle.sql_grammar.specs.declared.attributes.Attributes.{Attributes}
 use Rattle.sql_grammar.specs.declared.code.SchemaCode.{SchemaCode}
 use Rattle.sql_grammar.specs.declared.token.Token.{Token}
@@ -72,32 +72,33 @@ primary-some {A} P words x e =
     let b = bind_ok (in_alter (keyword_at (codes "KEY") words)) (λ rest. Err refusals.ClusteredKeyChange) (Some x) e in
     absurd (refused_some {A = A × List Token} refusals.ClusteredKeyChange x b.2)
 
-attribute_at-sound : (words : List Token) → AreSound words → LeavesSome SoundAttribute (new_attribute_at words)
+attribute_at-sound : (version : ℕ) (words : List Token) → AreSound words → LeavesSome (SoundAttribute version) (new_attribute_at version words)
 unfolding new_attribute_at
-attribute_at-sound [] sound = some-none {C = AlterCode} SoundAttribute
-attribute_at-sound (word ∷ rest) sound =
-    some-cond SoundAttribute (is_keyword word (codes "UNIQUE")) _ _ (some-err {C = AlterCode} SoundAttribute refusals.AddUnique)
-    (some-cond SoundAttribute (is_keyword word (codes "PRIMARY")) _ _ (primary-some SoundAttribute rest) (alter-some SoundAttribute (attribute_at (word ∷ rest)) (attribute-sound (word ∷ rest) sound)))
+attribute_at-sound version [] sound = some-none {C = AlterCode} (SoundAttribute version)
+attribute_at-sound version (word ∷ rest) sound =
+    some-cond (SoundAttribute version) (is_keyword word (codes "UNIQUE")) _ _ (some-err {C = AlterCode} (SoundAttribute version) refusals.AddUnique)
+    (some-cond (SoundAttribute version) (is_keyword word (codes "PRIMARY")) _ _ (primary-some (SoundAttribute version) rest) (alter-some (SoundAttribute version) (attribute_at version (word ∷ rest)) (attribute-sound version (word ∷ rest) sound)))
 
-with-own : (so_far : Attributes) (attribute : Attribute) → SoundOwn so_far → SoundAttribute attribute → SoundOwn (with_attribute so_far attribute)
-with-own so_far (Nullable nullable) is own = is
-with-own so_far (Default value) is own = own
-with-own so_far Passed is own = is
+with-own : (version : ℕ) (so_far : Attributes) (attribute : Attribute) → SoundOwn so_far → SoundAttribute version attribute → SoundOwn (with_attribute so_far attribute)
+with-own version so_far (Nullable nullable) is own = is
+with-own version so_far (Default value) is own = own
+with-own version so_far AutoIncrement is own = is
+with-own version so_far Passed is own = is
 
-attributes_at-sound : (words : List Token) → AreSound words → Leaves SoundOwn (new_attributes_at words)
+attributes_at-sound : (version : ℕ) (words : List Token) → AreSound words → Leaves SoundOwn (new_attributes_at version words)
 unfolding new_attributes_at
-attributes_at-sound words sound = gathered-sound SoundOwn SoundAttribute new_attribute_at with_attribute attribute_at-sound with-own (length words) unwritten words tt sound
+attributes_at-sound version words sound = gathered-sound SoundOwn (SoundAttribute version) (new_attribute_at version) with_attribute (attribute_at-sound version) (with-own version) (length words) unwritten words tt sound
 
 abbrev pub SoundNew : NewColumn → Type 0
 SoundNew column = CanQuote column.name × SoundDefault column.default
 
-new_column-sound : (words : List Token) → AreSound words → Leaves SoundNew (new_column_at words)
+new_column-sound : (version : ℕ) (words : List Token) → AreSound words → Leaves SoundNew (new_column_at version words)
 unfolding new_column_at
-new_column-sound words sound =
-    leaves-bind CanQuote SoundNew (in_alter (name_at words)) (λ name. in_alter (kind_at name.1) >>= λ kind. new_attributes_at kind.1 >>= λ attributes. Ok (record { name = name.0; kind = kind.0; nullable = attributes.0.nullable; default = attributes.0.default }, attributes.1)) (alter-name words sound)
-    (λ name is left. leaves-bind {A = Kind} Anything SoundNew (in_alter (kind_at name.1)) (λ kind. new_attributes_at kind.1 >>= λ attributes. Ok (record { name = name.0; kind = kind.0; nullable = attributes.0.nullable; default = attributes.0.default }, attributes.1)) (alter-leaves {A = Kind} Anything (kind_at name.1) (kind_at-sound name.1 left))
-    (λ kind u left. leaves-bind SoundOwn SoundNew (new_attributes_at kind.1) (λ attributes. Ok (record { name = name.0; kind = kind.0; nullable = attributes.0.nullable; default = attributes.0.default }, attributes.1)) (attributes_at-sound kind.1 left)
-    (λ attributes own left. leaves-ok {C = AlterCode} SoundNew (record { name = name.0; kind = kind.0; nullable = attributes.0.nullable; default = attributes.0.default }) attributes.1 (is, own) left)))
+new_column-sound version words sound =
+    leaves-bind CanQuote SoundNew (in_alter (name_at words)) (λ name. in_alter (kind_at name.1) >>= λ kind. new_attributes_at version kind.1 >>= λ attributes. Ok (record { name = name.0; kind = kind.0; nullable = attributes.0.nullable; default = attributes.0.default; auto = attributes.0.auto }, attributes.1)) (alter-name words sound)
+    (λ name is left. leaves-bind {A = Kind} Anything SoundNew (in_alter (kind_at name.1)) (λ kind. new_attributes_at version kind.1 >>= λ attributes. Ok (record { name = name.0; kind = kind.0; nullable = attributes.0.nullable; default = attributes.0.default; auto = attributes.0.auto }, attributes.1)) (alter-leaves {A = Kind} Anything (kind_at name.1) (kind_at-sound name.1 left))
+    (λ kind u left. leaves-bind SoundOwn SoundNew (new_attributes_at version kind.1) (λ attributes. Ok (record { name = name.0; kind = kind.0; nullable = attributes.0.nullable; default = attributes.0.default; auto = attributes.0.auto }, attributes.1)) (attributes_at-sound version kind.1 left)
+    (λ attributes own left. leaves-ok {C = AlterCode} SoundNew (record { name = name.0; kind = kind.0; nullable = attributes.0.nullable; default = attributes.0.default; auto = attributes.0.auto }) attributes.1 (is, own) left)))
 
 after-sound : (words : List Token) → AreSound words → Leaves {A = ColumnPosition} Anything (after_at words)
 after-sound words sound = leaves-bind {B = ColumnPosition} CanQuote Anything (in_alter (name_at words)) (λ name. Ok (After name.0, name.1)) (alter-name words sound) (λ name is left. leaves-ok {A = ColumnPosition} {C = AlterCode} Anything (After name.0) name.1 tt left)
@@ -121,10 +122,10 @@ SoundClause (Change old column column_position) = SoundNew column
 SoundClause (AddIndex name columns) = SoundName name
 SoundClause (DropIndex name) = Unit {0}
 
-add_column-sound : (words : List Token) → AreSound words → Leaves SoundClause (add_column_at words)
+add_column-sound : (version : ℕ) (words : List Token) → AreSound words → Leaves SoundClause (add_column_at version words)
 unfolding add_column_at
-add_column-sound words sound =
-    leaves-bind SoundNew SoundClause (new_column_at words) (λ column. column_position_at column.1 >>= λ column_position. Ok (Add column.0 column_position.0, column_position.1)) (new_column-sound words sound)
+add_column-sound version words sound =
+    leaves-bind SoundNew SoundClause (new_column_at version words) (λ column. column_position_at column.1 >>= λ column_position. Ok (Add column.0 column_position.0, column_position.1)) (new_column-sound version words sound)
     (λ column is left. leaves-bind {A = ColumnPosition} Anything SoundClause (column_position_at column.1) (λ column_position. Ok (Add column.0 column_position.0, column_position.1)) (column_position-sound column.1 left) (λ column_position u left. leaves-ok {C = AlterCode} SoundClause (Add column.0 column_position.0) column_position.1 is left))
 
 add_index-sound : (words : List Token) → AreSound words → Leaves SoundClause (add_index_at words)
@@ -132,17 +133,17 @@ unfolding add_index_at
 add_index-sound words sound =
     leaves-bind SoundKey SoundClause (in_alter (key_at words)) (λ key. Ok (AddIndex key.0.name key.0.columns, key.1)) (alter-leaves SoundKey (key_at words) (key_at-sound words sound)) (λ key is left. leaves-ok {C = AlterCode} SoundClause (AddIndex key.0.name key.0.columns) key.1 is.0 left)
 
-change-sound : (words : List Token) → AreSound words → Leaves SoundClause (change_at words)
+change-sound : (version : ℕ) (words : List Token) → AreSound words → Leaves SoundClause (change_at version words)
 unfolding change_at
-change-sound words sound =
-    leaves-bind CanQuote SoundClause (in_alter (name_at (after_column words))) (λ old. new_column_at old.1 >>= λ column. column_position_at column.1 >>= λ column_position. Ok (Change old.0 column.0 column_position.0, column_position.1)) (alter-name (after_column words) (after_column-sound words sound))
-    (λ old n left. leaves-bind SoundNew SoundClause (new_column_at old.1) (λ column. column_position_at column.1 >>= λ column_position. Ok (Change old.0 column.0 column_position.0, column_position.1)) (new_column-sound old.1 left)
+change-sound version words sound =
+    leaves-bind CanQuote SoundClause (in_alter (name_at (after_column words))) (λ old. new_column_at version old.1 >>= λ column. column_position_at column.1 >>= λ column_position. Ok (Change old.0 column.0 column_position.0, column_position.1)) (alter-name (after_column words) (after_column-sound words sound))
+    (λ old n left. leaves-bind SoundNew SoundClause (new_column_at version old.1) (λ column. column_position_at column.1 >>= λ column_position. Ok (Change old.0 column.0 column_position.0, column_position.1)) (new_column-sound version old.1 left)
     (λ column is left. leaves-bind {A = ColumnPosition} Anything SoundClause (column_position_at column.1) (λ column_position. Ok (Change old.0 column.0 column_position.0, column_position.1)) (column_position-sound column.1 left) (λ column_position u left. leaves-ok {C = AlterCode} SoundClause (Change old.0 column.0 column_position.0) column_position.1 is left)))
 
-modify-sound : (words : List Token) → AreSound words → Leaves SoundClause (modify_at words)
+modify-sound : (version : ℕ) (words : List Token) → AreSound words → Leaves SoundClause (modify_at version words)
 unfolding modify_at
-modify-sound words sound =
-    leaves-bind SoundNew SoundClause (new_column_at (after_column words)) (λ column. column_position_at column.1 >>= λ column_position. Ok (Change column.0.name column.0 column_position.0, column_position.1)) (new_column-sound (after_column words) (after_column-sound words sound))
+modify-sound version words sound =
+    leaves-bind SoundNew SoundClause (new_column_at version (after_column words)) (λ column. column_position_at column.1 >>= λ column_position. Ok (Change column.0.name column.0 column_position.0, column_position.1)) (new_column-sound version (after_column words) (after_column-sound words sound))
     (λ column is left. leaves-bind {A = ColumnPosition} Anything SoundClause (column_position_at column.1) (λ column_position. Ok (Change column.0.name column.0 column_position.0, column_position.1)) (column_position-sound column.1 left) (λ column_position u left. leaves-ok {C = AlterCode} SoundClause (Change column.0.name column.0 column_position.0) column_position.1 is left))
 
 drop_column-sound : (words : List Token) → AreSound words → Leaves SoundClause (drop_column_at words)
@@ -168,14 +169,14 @@ primary-sound words x e =
     let b = bind_ok (in_alter (keyword_at (codes "KEY") words)) (λ rest. Err refusals.ClusteredKeyChange) x e in
     absurd (never refusals.ClusteredKeyChange x b.2)
 
-add-sound : (words : List Token) → AreSound words → Leaves SoundClause (add_at words)
+add-sound : (version : ℕ) (words : List Token) → AreSound words → Leaves SoundClause (add_at version words)
 unfolding add_at
-add-sound [] sound = refused refusals.Syntax
-add-sound (word ∷ rest) sound =
+add-sound version [] sound = refused refusals.Syntax
+add-sound version (word ∷ rest) sound =
     leaves-cond SoundClause (is_out_of_scope word) _ _ (refused refusals.Scope)
     (leaves-cond SoundClause (is_keyword word (codes "UNIQUE")) _ _ (refused refusals.AddUnique)
     (leaves-cond SoundClause (is_keyword word (codes "PRIMARY")) _ _ (primary-sound rest)
-    (leaves-cond SoundClause (is_index_word word) _ _ (add_index-sound rest sound.1) (add_column-sound (after_column (word ∷ rest)) (after_column-sound (word ∷ rest) sound)))))
+    (leaves-cond SoundClause (is_index_word word) _ _ (add_index-sound rest sound.1) (add_column-sound version (after_column (word ∷ rest)) (after_column-sound (word ∷ rest) sound)))))
 
 drop-sound : (words : List Token) → AreSound words → Leaves SoundClause (drop_at words)
 unfolding drop_at
@@ -193,28 +194,28 @@ rename-sound (word ∷ rest) sound =
     (leaves-cond SoundClause (is_keyword word (codes "TO") || is_keyword word (codes "AS")) _ _ (refused refusals.RenameTable)
     (leaves-cond SoundClause (is_index_word word) _ _ (refused refusals.Scope) (refused refusals.Syntax)))
 
-clause-sound : (words : List Token) → AreSound words → Leaves SoundClause (clause_at words)
+clause-sound : (version : ℕ) (words : List Token) → AreSound words → Leaves SoundClause (clause_at version words)
 unfolding clause_at
-clause-sound [] sound = refused refusals.Syntax
-clause-sound (word ∷ rest) sound =
-    leaves-cond SoundClause (is_keyword word (codes "ADD")) _ _ (add-sound rest sound.1)
+clause-sound version [] sound = refused refusals.Syntax
+clause-sound version (word ∷ rest) sound =
+    leaves-cond SoundClause (is_keyword word (codes "ADD")) _ _ (add-sound version rest sound.1)
     (leaves-cond SoundClause (is_keyword word (codes "DROP")) _ _ (drop-sound rest sound.1)
     (leaves-cond SoundClause (is_keyword word (codes "RENAME")) _ _ (rename-sound rest sound.1)
-    (leaves-cond SoundClause (is_keyword word (codes "CHANGE")) _ _ (change-sound rest sound.1)
-    (leaves-cond SoundClause (is_keyword word (codes "MODIFY")) _ _ (modify-sound rest sound.1)
+    (leaves-cond SoundClause (is_keyword word (codes "CHANGE")) _ _ (change-sound version rest sound.1)
+    (leaves-cond SoundClause (is_keyword word (codes "MODIFY")) _ _ (modify-sound version rest sound.1)
     (leaves-cond SoundClause (same_sign word (codes ",")) _ _ (refused refusals.Syntax) (refused refusals.Scope))))))
 
 -- ---- the whole text
 
-list-sound : (words : List Token) → AreSound words → Leaves (AllByRecursion SoundClause) (list_at words)
+list-sound : (version : ℕ) (words : List Token) → AreSound words → Leaves (AllByRecursion SoundClause) (list_at version words)
 unfolding list_at
-list-sound words sound = listed-sound SoundClause clause_at refusals.Syntax clause-sound (length words) words sound
+list-sound version words sound = listed-sound SoundClause (clause_at version) refusals.Syntax (clause-sound version) (length words) words sound
 
-clauses-sound : (words : List Token) (clauses : List Clause) → AreSound words → clauses_at words ≡ Ok clauses → AllByRecursion SoundClause clauses
+clauses-sound : (version : ℕ) (words : List Token) (clauses : List Clause) → AreSound words → clauses_at version words ≡ Ok clauses → AllByRecursion SoundClause clauses
 unfolding clauses_at
-clauses-sound words clauses sound e =
-    let a = bind_ok (list_at words) (λ clauses. alone clauses.0 clauses.1) clauses e in
-    subst (AllByRecursion SoundClause) (alone-is a.0.0 clauses a.0.1 a.2) (list-sound words sound a.0 a.1).0
+clauses-sound version words clauses sound e =
+    let a = bind_ok (list_at version words) (λ clauses. alone clauses.0 clauses.1) clauses e in
+    subst (AllByRecursion SoundClause) (alone-is a.0.0 clauses a.0.1 a.2) (list-sound version words sound a.0 a.1).0
 
 of_table-by : (b : Bool) (code : AlterCode) (rest words : List Token) → AreSound rest → cond b (Ok rest) (Err code) ≡ Ok words → AreSound words
 of_table-by true code rest words sound e = subst AreSound (ok_is {C = AlterCode} rest words e) sound
@@ -235,10 +236,10 @@ unfolding front_at
 front-sound table words sound = after_alter-sound table words (after_keyword (codes "ALTER") words) sound (after_keyword-sound (codes "ALTER") words sound)
 
 -- the clauses of a text of bytes are sound
-pub read-sound : (table text : List ℕ) (clauses : List Clause) → AreBytes text → alter_at table text ≡ Ok clauses → AllByRecursion SoundClause clauses
+pub read-sound : (version : ℕ) (table text : List ℕ) (clauses : List Clause) → AreBytes text → alter_at version table text ≡ Ok clauses → AllByRecursion SoundClause clauses
 unfolding read
-read-sound table text clauses are e =
+read-sound version table text clauses are e =
     let words = text_words text in
-    let a = bind_ok (front_at table words.words) (λ rest. clauses_at rest >>= λ clauses. unless_faulty words.is_faulty clauses) clauses e in
-    let b = bind_ok (clauses_at a.0) (λ clauses. unless_faulty words.is_faulty clauses) clauses a.2 in
-    subst (AllByRecursion SoundClause) (faultless-is words.is_faulty b.0 clauses b.2) (clauses-sound a.0 b.0 (front-sound table words.words (text-sound text are) a.0 a.1) b.1)
+    let a = bind_ok (front_at table words.words) (λ rest. clauses_at version rest >>= λ clauses. unless_faulty words.is_faulty clauses) clauses e in
+    let b = bind_ok (clauses_at version a.0) (λ clauses. unless_faulty words.is_faulty clauses) clauses a.2 in
+    subst (AllByRecursion SoundClause) (faultless-is words.is_faulty b.0 clauses b.2) (clauses-sound version a.0 b.0 (front-sound table words.words (text-sound text are) a.0 a.1) b.1)

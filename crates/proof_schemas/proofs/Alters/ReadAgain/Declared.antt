@@ -29,7 +29,7 @@ use Rattle.sql_change.specs.declared.places.PlaceChange.{PlaceChange}
 use Rattle.sql_change.specs.declared.places.PlaceChange.TheVariants.{Added, Dropped, Moved}
 use Rattle.sql_change.specs.declared.so_far.AlteredSoFar.{AlteredSoFar}
 use Rattle.sql_change.specs.AlteredSchema.{step, steps, result_reasons, map_of, result_of, altered}
-use Rattle.sql_change.specs.ClauseResults.{add_reasons, added, dropped_at, dropped, rename_reasons, with_name, renamed_in, renamed_at, renamed, change_reasons, changed_nullable, changed_in, is_unapproved, unless_unapproved, changed_column, changed_at, changed}
+use Rattle.sql_change.specs.ClauseResults.{add_reasons, added, dropped_at, dropped, rename_reasons, with_name, renamed_in, renamed_at, renamed, change_reasons, changed_nullable, changed_in, is_unapproved, unless_unapproved, changed_column, changed_at, changed, breaks_counter}
 use Rattle.sql_change.specs.Columns.{has_column, column_named, is_in_keys, is_key_conversion, is_conversion, is_column_position, column_position_place, lacks_default, unless_lacking, column_of, fitting}
 use Rattle.sql_change.specs.IndexClauses.{index_name, are_columns, index_reasons, index_of, with_index, indexed_as, indexed, index_place, is_clustered, without_unique, without_index, unindexed_at, unindexed, key_names as table_names}
 use Rattle.sql_change.specs.Places.{has_places, index_after, keys_after, indexes_after}
@@ -38,32 +38,39 @@ use Rattle.base_values.proofs.SchemaRules.Steps.{bind_ok, unless_ok, none_first,
 use Rattle.sql_change.proofs.Tables.{fitting-is, approved-is}
 use Rattle.proof_schemas.specs.Alters.Laws.{Altered}
 use Rattle.proof_schemas.proofs.Alters.Apart.{All-insert, All-taken, All-set}
-use Rattle.proof_schemas.proofs.Alters.Steps.{column_named-here, lacking-is}
-use Rattle.proof_schemas.specs.ReadAgain.{HasName, PrimaryStandsFirst, key_names, has_default, IsDeclared}
+use Rattle.proof_schemas.proofs.Alters.Steps.{column_named-here, lacking-is, column_of-written, changed-auto, counter-kept}
+use Rattle.proof_schemas.specs.ReadAgain.{HasName, PrimaryStandsFirst, key_names, has_default, IsShaped}
 use Rattle.proof_schemas.proofs.ReadAgain.Differ.{Differ, differ-parts, differ-whole}
 use Rattle.proof_schemas.proofs.ReadAgain.ReadDeclared.{default-has}
-use Rattle.proof_schemas.specs.Alters.ReadAgain.{AlteredSchemasAreDeclared}
+use Rattle.proof_schemas.proofs.Autos.{count, count-added, count-less, count-moved, count-set}
 use Rattle.proof_schemas.proofs.Alters.ReadAgain.Names.{Left, done, out, kept, left-own, left-filter, left-remove, left-both, left-length, left-all, left-differ, left-names, after-names, after-all, left-first}
 
 -- ---- the columns that clauses write
 
--- a valid name, a default where it may be null, and no AUTO_INCREMENT
+-- a valid name, and a default where it may be null
 abbrev IsFine : Column → Type 0
-IsFine column = (is_column_name column.name ≡ true) × (has_default column ≡ true) × (column.auto ≡ false)
+IsFine column = (is_column_name column.name ≡ true) × (has_default column ≡ true)
 
 column_of-fine : (origin : Option ℕ) (written : NewColumn) (nullable : Bool) (column : Column) → is_column_name written.name ≡ true → column_of origin written nullable ≡ Ok column → IsFine column
 unfolding column_of
 column_of-fine origin written nullable column name e =
-    let b = bind_ok (default_or codes.Default (stored_default written.kind nullable written.default)) (λ default. unless_lacking (lacks_default origin nullable default) (made written.name written.kind nullable default)) column e in
+    let b = bind_ok (default_or codes.Default (stored_default written.kind nullable written.default)) (λ default. unless_lacking (lacks_default origin nullable default) (made written.name written.kind nullable default written.auto)) column e in
     let has = default-has written.kind nullable written.default b.0 (default_is codes.Default (stored_default written.kind nullable written.default) b.0 b.1) in
-    subst IsFine (lacking-is (lacks_default origin nullable b.0) (made written.name written.kind nullable b.0) column b.2) (name, has, refl)
+    subst IsFine (lacking-is (lacks_default origin nullable b.0) (made written.name written.kind nullable b.0 written.auto) column b.2) (name, has)
 
 -- ---- what is kept of columns and of keys
 
--- the columns are fine, and their defaults fit
-record FineColumns (columns : List Column) : Type 0 where
+-- a schema of that shape, with that start, and with at most so many AUTO_INCREMENT columns
+pub record Held (begun : Option ℕ) (most : ℕ) (migrated : List ℕ) (schema : Schema) : Type 0 where
+  pub shaped : IsShaped migrated schema
+  pub start : schema.start ≡ begun
+  pub few : count schema.columns ≤ most
+
+-- the columns are fine, their defaults fit, and few of them have AUTO_INCREMENT
+record FineColumns (most : ℕ) (columns : List Column) : Type 0 where
   pub all : AllByRecursion IsFine columns
   pub fit : defaults_fit columns ≡ true
+  pub few : count columns ≤ most
 
 record FineKeys (uniques indexes : List Index) : Type 0 where
   pub few_uniques : length uniques ≤ 8
@@ -72,36 +79,43 @@ record FineKeys (uniques indexes : List Index) : Type 0 where
   pub named : AllByRecursion HasName indexes
   pub differ : Differ (key_names uniques ++ key_names indexes)
 
-declared-columns : (migrated : List ℕ) (schema : Schema) → IsDeclared migrated schema → FineColumns schema.columns
-declared-columns migrated schema is = record {
-  all =
-      let plain : AllByRecursion (λ (c : Column). (has_default c ≡ true) × (c.auto ≡ false)) schema.columns = All-both (λ (c : Column). has_default c ≡ true) (λ (c : Column). c.auto ≡ false) schema.columns is.has_defaults is.autos in
-      let both : AllByRecursion (λ (c : Column). (is_column_name c.name ≡ true) × ((has_default c ≡ true) × (c.auto ≡ false))) schema.columns =
-      All-both (λ (c : Column). is_column_name c.name ≡ true) (λ (c : Column). (has_default c ≡ true) × (c.auto ≡ false)) schema.columns (list_all-All (λ (c : Column). is_column_name c.name) schema.columns is.column_names) plain in
-      All-weaker (λ (c : Column). (is_column_name c.name ≡ true) × ((has_default c ≡ true) × (c.auto ≡ false))) IsFine (λ c all. (all.0, all.1.0, all.1.1)) schema.columns both;
-  fit = is.defaults;
-}
+module _ (begun : Option ℕ) (most : ℕ) (migrated : List ℕ) where
+  declared-columns : (schema : Schema) → Held begun most migrated schema → FineColumns most schema.columns
+  declared-columns schema is = record {
+    all = All-both (λ (c : Column). is_column_name c.name ≡ true) (λ (c : Column). has_default c ≡ true) schema.columns (list_all-All (λ (c : Column). is_column_name c.name) schema.columns is.shaped.column_names) is.shaped.has_defaults;
+    fit = is.shaped.defaults;
+    few = is.few;
+  }
 
-declared-keys : (migrated : List ℕ) (schema : Schema) → IsDeclared migrated schema → FineKeys schema.uniques schema.indexes
-declared-keys migrated schema is = record { few_uniques = is.few_uniques; few_indexes = is.few_indexes; primary = is.primary; named = is.named; differ = differ-parts (key_names schema.uniques ++ key_names schema.indexes) is.key_names }
+  declared-keys : (schema : Schema) → Held begun most migrated schema → FineKeys schema.uniques schema.indexes
+  declared-keys schema is = record {
+    few_uniques = is.shaped.few_uniques;
+    few_indexes = is.shaped.few_indexes;
+    primary = is.shaped.primary;
+    named = is.shaped.named;
+    differ = differ-parts (key_names schema.uniques ++ key_names schema.indexes) is.shaped.key_names;
+  }
 
 abbrev with_parts : Schema → List Column → List Index → List Index → Schema
 with_parts schema columns uniques indexes = record schema { columns = columns; uniques = uniques; indexes = indexes }
 
-whole-declared : (migrated : List ℕ) (schema : Schema) (columns : List Column) (uniques indexes : List Index) → IsDeclared migrated schema → FineColumns columns → FineKeys uniques indexes → IsDeclared migrated (with_parts schema columns uniques indexes)
-whole-declared migrated schema columns uniques indexes is fine keys = record {
-  name = is.name;
-  unreserved = is.unreserved;
-  column_names = All-list_all (λ (c : Column). is_column_name c.name) columns (All-weaker IsFine (λ (c : Column). is_column_name c.name ≡ true) (λ c all. all.0) columns fine.all);
-  few_uniques = keys.few_uniques;
-  few_indexes = keys.few_indexes;
-  primary = keys.primary;
-  named = keys.named;
-  key_names = differ-whole (key_names uniques ++ key_names indexes) keys.differ;
-  has_defaults = All-weaker IsFine (λ (c : Column). has_default c ≡ true) (λ c all. all.1) columns fine.all;
-  defaults = fine.fit;
-  autos = All-weaker IsFine (λ (c : Column). c.auto ≡ false) (λ c all. all.2) columns fine.all;
+whole-declared : (begun : Option ℕ) (most : ℕ) (migrated : List ℕ) (schema : Schema) (columns : List Column) (uniques indexes : List Index) → Held begun most migrated schema → FineColumns most columns → FineKeys uniques indexes
+    → Held begun most migrated (with_parts schema columns uniques indexes)
+whole-declared begun most migrated schema columns uniques indexes is fine keys = record {
+  shaped = record {
+    name = is.shaped.name;
+    unreserved = is.shaped.unreserved;
+    column_names = All-list_all (λ (c : Column). is_column_name c.name) columns (All-weaker IsFine (λ (c : Column). is_column_name c.name ≡ true) (λ c all. all.0) columns fine.all);
+    few_uniques = keys.few_uniques;
+    few_indexes = keys.few_indexes;
+    primary = keys.primary;
+    named = keys.named;
+    key_names = differ-whole (key_names uniques ++ key_names indexes) keys.differ;
+    has_defaults = All-weaker IsFine (λ (c : Column). has_default c ≡ true) (λ c all. all.1) columns fine.all;
+    defaults = fine.fit;
+  };
   start = is.start;
+  few = fine.few;
 }
 
 -- ---- keys
@@ -210,11 +224,23 @@ fits-now standing next e = (let_through (defaults_fit standing.schema.columns) s
 
 add-named : (columns : List Column) (written : NewColumn) (column_position : ColumnPosition) → first_reason (add_reasons columns written column_position) ≡ None → is_column_name written.name ≡ true
 add-named columns written column_position none =
-    let scope = leb 64 (length columns) || not (is_column_name written.name) in
+    let scope = leb 64 (length columns) || not (is_column_name written.name) || written.auto in
     let second = none_first (not (is_column_position columns column_position)) codes.UnknownName ((has_column columns written.name, codes.RepeatedName) ∷ (scope, codes.Scope) ∷ []) none in
     let third = none_first (has_column columns written.name) codes.RepeatedName ((scope, codes.Scope) ∷ []) second.1 in
     let last = none_first scope codes.Scope [] third.1 in
-    not-false (is_column_name written.name) (or_parts (leb 64 (length columns)) (not (is_column_name written.name)) last.0).1
+    not-false (is_column_name written.name) (or_parts (leb 64 (length columns)) (not (is_column_name written.name)) (or_parts (leb 64 (length columns) || not (is_column_name written.name)) written.auto last.0).0).1
+
+column_of-auto : (origin : Option ℕ) (written : NewColumn) (nullable : Bool) (column : Column) → column_of origin written nullable ≡ Ok column → written.auto ≡ column.auto
+column_of-auto origin written nullable column e = (column_of-written origin written nullable column e).auto
+
+-- an added column has no AUTO_INCREMENT
+add-plain : (columns : List Column) (written : NewColumn) (column_position : ColumnPosition) (column : Column) → written.auto ≡ column.auto → first_reason (add_reasons columns written column_position) ≡ None → column.auto ≡ false
+add-plain columns written column_position column same none =
+    let scope = leb 64 (length columns) || not (is_column_name written.name) || written.auto in
+    let second = none_first (not (is_column_position columns column_position)) codes.UnknownName ((has_column columns written.name, codes.RepeatedName) ∷ (scope, codes.Scope) ∷ []) none in
+    let third = none_first (has_column columns written.name) codes.RepeatedName ((scope, codes.Scope) ∷ []) second.1 in
+    let last = none_first scope codes.Scope [] third.1 in
+    sym same ∙ (or_parts (leb 64 (length columns) || not (is_column_name written.name)) written.auto last.0).1
 
 rename-named : (approve : Bool) (columns : List Column) (place : ℕ) (old new : List ℕ) → first_reason (rename_reasons approve columns place old new) ≡ None → is_column_name new ≡ true
 rename-named approve columns place old new none =
@@ -224,12 +250,12 @@ rename-named approve columns place old new none =
 change-named : (schema : Schema) (place : ℕ) (column : Column) (written : NewColumn) (column_position : ColumnPosition) → first_reason (change_reasons schema place column written column_position) ≡ None → is_column_name written.name ≡ true
 change-named schema place column written column_position none =
     let converted = is_in_keys schema.uniques place && not (is_key_conversion column.kind written.kind) in
-    let scope = not (is_conversion column.kind written.kind) || not (is_column_name written.name) in
+    let scope = not (is_conversion column.kind written.kind) || not (is_column_name written.name) || breaks_counter column written in
     let second = none_first (not (is_column_position (remove schema.columns place) column_position)) codes.UnknownName ((has_column (remove schema.columns place) written.name, codes.RepeatedName) ∷ (converted, codes.KeyColumnConverted) ∷ (scope, codes.Scope) ∷ []) none in
     let third = none_first (has_column (remove schema.columns place) written.name) codes.RepeatedName ((converted, codes.KeyColumnConverted) ∷ (scope, codes.Scope) ∷ []) second.1 in
     let fourth = none_first converted codes.KeyColumnConverted ((scope, codes.Scope) ∷ []) third.1 in
     let last = none_first scope codes.Scope [] fourth.1 in
-    not-false (is_column_name written.name) (or_parts (not (is_conversion column.kind written.kind)) (not (is_column_name written.name)) last.0).1
+    not-false (is_column_name written.name) (or_parts (not (is_conversion column.kind written.kind)) (not (is_column_name written.name)) (or_parts (not (is_conversion column.kind written.kind) || not (is_column_name written.name)) (breaks_counter column written) last.0).0).1
 
 table-names : (schema : Schema) → table_names schema ≡ key_names schema.uniques ++ key_names schema.indexes
 unfolding table_names
@@ -243,39 +269,39 @@ index-free schema names name none =
     let last = none_first (leb 8 (length schema.indexes)) codes.Scope [] third.1 in
     (subst (λ (names : List (List ℕ)). is_among names name ≡ false) (table-names schema) third.0, leb-false 8 (length schema.indexes) last.0)
 
-module _ (migrated : List ℕ) where
-  put_in-declared : (standing : AlteredSoFar) (at : ℕ) (column : Column) → IsFine column → defaults_fit (put_in standing at column).schema.columns ≡ true → IsDeclared migrated standing.schema → IsDeclared migrated (put_in standing at column).schema
+module _ (begun : Option ℕ) (most : ℕ) (migrated : List ℕ) where
+  put_in-declared : (standing : AlteredSoFar) (at : ℕ) (column : Column) → IsFine column → column.auto ≡ false → defaults_fit (put_in standing at column).schema.columns ≡ true → Held begun most migrated standing.schema → Held begun most migrated (put_in standing at column).schema
   unfolding put_in with_columns
-  put_in-declared standing at column fine fit is =
-      let columns = declared-columns migrated standing.schema is in
-      whole-declared migrated standing.schema (insert standing.schema.columns at column) _ _ is (record { all = All-insert IsFine standing.schema.columns at column fine columns.all; fit = fit }) (changed-keys (Added at) standing.schema.uniques standing.schema.indexes (declared-keys migrated standing.schema is))
+  put_in-declared standing at column fine none fit is =
+      let columns = declared-columns begun most migrated standing.schema is in
+      whole-declared begun most migrated standing.schema (insert standing.schema.columns at column) _ _ is (record { all = All-insert IsFine standing.schema.columns at column fine columns.all; fit = fit; few = subst (λ (n : ℕ). n ≤ most) (sym (count-added standing.schema.columns at column none)) columns.few }) (changed-keys (Added at) standing.schema.uniques standing.schema.indexes (declared-keys begun most migrated standing.schema is))
 
-  taken_out-declared : (standing : AlteredSoFar) (at : ℕ) → IsDeclared migrated standing.schema → IsDeclared migrated (taken_out standing at).schema
+  taken_out-declared : (standing : AlteredSoFar) (at : ℕ) → Held begun most migrated standing.schema → Held begun most migrated (taken_out standing at).schema
   unfolding taken_out with_columns
   taken_out-declared standing at is =
-      let columns = declared-columns migrated standing.schema is in
+      let columns = declared-columns begun most migrated standing.schema is in
       let left = left-remove standing.schema.columns at in
-      whole-declared migrated standing.schema (remove standing.schema.columns at) _ _ is (record { all = All-taken IsFine standing.schema.columns at columns.all; fit = fit-left (remove standing.schema.columns at) standing.schema.columns left columns.fit })
-      (changed-keys (Dropped at) standing.schema.uniques standing.schema.indexes (declared-keys migrated standing.schema is))
+      whole-declared begun most migrated standing.schema (remove standing.schema.columns at) _ _ is (record { all = All-taken IsFine standing.schema.columns at columns.all; fit = fit-left (remove standing.schema.columns at) standing.schema.columns left columns.fit; few = le_trans {k = most} (count-less standing.schema.columns at) columns.few })
+      (changed-keys (Dropped at) standing.schema.uniques standing.schema.indexes (declared-keys begun most migrated standing.schema is))
 
-  moved_to-declared : (standing : AlteredSoFar) (from to : ℕ) (column : Column) → IsFine column → defaults_fit (moved_to standing from to column).schema.columns ≡ true → IsDeclared migrated standing.schema → IsDeclared migrated (moved_to standing from to column).schema
+  moved_to-declared : (standing : AlteredSoFar) (from to : ℕ) (old column : Column) → slice_get standing.schema.columns from ≡ Some old → column.auto ≡ old.auto → IsFine column → defaults_fit (moved_to standing from to column).schema.columns ≡ true → Held begun most migrated standing.schema → Held begun most migrated (moved_to standing from to column).schema
   unfolding moved_to with_columns
-  moved_to-declared standing from to column fine fit is =
-      let columns = declared-columns migrated standing.schema is in
-      whole-declared migrated standing.schema (insert (remove standing.schema.columns from) to column) _ _ is (record { all = All-insert IsFine (remove standing.schema.columns from) to column fine (All-taken IsFine standing.schema.columns from columns.all); fit = fit })
-      (changed-keys (Moved from to) standing.schema.uniques standing.schema.indexes (declared-keys migrated standing.schema is))
+  moved_to-declared standing from to old column at same fine fit is =
+      let columns = declared-columns begun most migrated standing.schema is in
+      whole-declared begun most migrated standing.schema (insert (remove standing.schema.columns from) to column) _ _ is (record { all = All-insert IsFine (remove standing.schema.columns from) to column fine (All-taken IsFine standing.schema.columns from columns.all); fit = fit; few = subst (λ (n : ℕ). n ≤ most) (sym (count-moved standing.schema.columns from to old column at same)) columns.few })
+      (changed-keys (Moved from to) standing.schema.uniques standing.schema.indexes (declared-keys begun most migrated standing.schema is))
 
-  renamed_in-declared : (standing : AlteredSoFar) (place : ℕ) (old : Column) (name : List ℕ) → slice_get standing.schema.columns place ≡ Some old → is_column_name name ≡ true → IsDeclared migrated standing.schema → IsDeclared migrated (renamed_in standing place (with_name old name)).schema
+  renamed_in-declared : (standing : AlteredSoFar) (place : ℕ) (old : Column) (name : List ℕ) → slice_get standing.schema.columns place ≡ Some old → is_column_name name ≡ true → Held begun most migrated standing.schema → Held begun most migrated (renamed_in standing place (with_name old name)).schema
   unfolding renamed_in
   renamed_in-declared standing place old name at fine is =
-      let columns = declared-columns migrated standing.schema is in
+      let columns = declared-columns begun most migrated standing.schema is in
       let own = All-at IsFine standing.schema.columns place old columns.all at in
-      whole-declared migrated standing.schema (slice_set standing.schema.columns place (with_name old name)) standing.schema.uniques standing.schema.indexes is
-      (record { all = All-set IsFine standing.schema.columns place (with_name old name) (fine, own.1, own.2) columns.all; fit = fit-set standing.schema.columns place old (with_name old name) at refl columns.fit }) (declared-keys migrated standing.schema is)
+      whole-declared begun most migrated standing.schema (slice_set standing.schema.columns place (with_name old name)) standing.schema.uniques standing.schema.indexes is
+      (record { all = All-set IsFine standing.schema.columns place (with_name old name) (fine, own.1) columns.all; fit = fit-set standing.schema.columns place old (with_name old name) at refl columns.fit; few = subst (λ (n : ℕ). n ≤ most) (sym (count-set standing.schema.columns place old (with_name old name) at refl)) columns.few }) (declared-keys begun most migrated standing.schema is)
 
   -- ---- the clauses
 
-  added-declared : (standing next : AlteredSoFar) (written : NewColumn) (column_position : ColumnPosition) → IsDeclared migrated standing.schema → added standing written column_position ≡ Ok next → IsDeclared migrated next.schema
+  added-declared : (standing next : AlteredSoFar) (written : NewColumn) (column_position : ColumnPosition) → Held begun most migrated standing.schema → added standing written column_position ≡ Ok next → Held begun most migrated next.schema
   unfolding added
   added-declared standing next written column_position is e =
       let columns = standing.schema.columns in
@@ -283,24 +309,24 @@ module _ (migrated : List ℕ) where
       let let_in = unless_ok (first_reason (add_reasons columns written column_position)) (column_of None written (unwrap_or written.nullable true) >>= λ column. fitting (put_in standing place column)) next e in
       let made = bind_ok (column_of None written (unwrap_or written.nullable true)) (λ column. fitting (put_in standing place column)) next let_in.1 in
       let fine = column_of-fine None written (unwrap_or written.nullable true) made.0 (add-named columns written column_position let_in.0) made.1 in
-      subst (λ (s : AlteredSoFar). IsDeclared migrated s.schema) (fitting-is (put_in standing place made.0) next made.2) (put_in-declared standing place made.0 fine (fits-now (put_in standing place made.0) next made.2) is)
+      subst (λ (s : AlteredSoFar). Held begun most migrated s.schema) (fitting-is (put_in standing place made.0) next made.2) (put_in-declared standing place made.0 fine (add-plain columns written column_position made.0 (column_of-auto None written (unwrap_or written.nullable true) made.0 made.1) let_in.0) (fits-now (put_in standing place made.0) next made.2) is)
 
-  dropped_at-declared : (standing next : AlteredSoFar) (found : Option (ℕ × Column)) → IsDeclared migrated standing.schema → dropped_at standing found ≡ Ok next → IsDeclared migrated next.schema
+  dropped_at-declared : (standing next : AlteredSoFar) (found : Option (ℕ × Column)) → Held begun most migrated standing.schema → dropped_at standing found ≡ Ok next → Held begun most migrated next.schema
   dropped_at-declared standing next None is e = absurd cc
   dropped_at-declared standing next (Some found) is e =
-      subst (λ (s : AlteredSoFar). IsDeclared migrated s.schema) (kept_out (is_in_keys standing.schema.uniques found.0) (taken_out standing found.0) next codes.KeyColumnDropped e).1 (taken_out-declared standing found.0 is)
+      subst (λ (s : AlteredSoFar). Held begun most migrated s.schema) (kept_out (is_in_keys standing.schema.uniques found.0) (taken_out standing found.0) next codes.KeyColumnDropped e).1 (taken_out-declared standing found.0 is)
 
-  renamed_at-declared : (approve : Bool) (standing next : AlteredSoFar) (new : List ℕ) (found : Option (ℕ × Column)) → ((f : ℕ × Column) → found ≡ Some f → slice_get standing.schema.columns f.0 ≡ Some f.1) → IsDeclared migrated standing.schema
-      → renamed_at approve standing new found ≡ Ok next → IsDeclared migrated next.schema
+  renamed_at-declared : (approve : Bool) (standing next : AlteredSoFar) (new : List ℕ) (found : Option (ℕ × Column)) → ((f : ℕ × Column) → found ≡ Some f → slice_get standing.schema.columns f.0 ≡ Some f.1) → Held begun most migrated standing.schema
+      → renamed_at approve standing new found ≡ Ok next → Held begun most migrated next.schema
   renamed_at-declared approve standing next new None here is e = absurd cc
   renamed_at-declared approve standing next new (Some found) here is e =
       let let_in = unless_ok (first_reason (rename_reasons approve standing.schema.columns found.0 found.1.name new)) (Ok (renamed_in standing found.0 (with_name found.1 new))) next e in
       let fine = rename-named approve standing.schema.columns found.0 found.1.name new let_in.0 in
-      subst (λ (s : AlteredSoFar). IsDeclared migrated s.schema) (ok_is {C = AlterCode} (renamed_in standing found.0 (with_name found.1 new)) next let_in.1) (renamed_in-declared standing found.0 found.1 new (here found refl) fine is)
+      subst (λ (s : AlteredSoFar). Held begun most migrated s.schema) (ok_is {C = AlterCode} (renamed_in standing found.0 (with_name found.1 new)) next let_in.1) (renamed_in-declared standing found.0 found.1 new (here found refl) fine is)
 
-  changed_at-declared : (approve : Bool) (standing next : AlteredSoFar) (written : NewColumn) (column_position : ColumnPosition) (found : Option (ℕ × Column)) → IsDeclared migrated standing.schema → changed_at approve standing written column_position found ≡ Ok next → IsDeclared migrated next.schema
-  changed_at-declared approve standing next written column_position None is e = absurd cc
-  changed_at-declared approve standing next written column_position (Some found) is e =
+  changed_at-declared : (approve : Bool) (standing next : AlteredSoFar) (written : NewColumn) (column_position : ColumnPosition) (found : Option (ℕ × Column)) → ((f : ℕ × Column) → found ≡ Some f → slice_get standing.schema.columns f.0 ≡ Some f.1) → Held begun most migrated standing.schema → changed_at approve standing written column_position found ≡ Ok next → Held begun most migrated next.schema
+  changed_at-declared approve standing next written column_position None here is e = absurd cc
+  changed_at-declared approve standing next written column_position (Some found) here is e =
       let place = found.0 in
       let others = remove standing.schema.columns place in
       let nullable = changed_nullable standing.schema place written in
@@ -309,50 +335,53 @@ module _ (migrated : List ℕ) where
       let fit = bind_ok (fitting (changed_in standing place column_position made.0)) (λ changed. unless_unapproved (is_unapproved approve found.1.name written.name) changed) next made.2 in
       let same = fitting-is (changed_in standing place column_position made.0) fit.0 fit.1 ∙ approved-is (is_unapproved approve found.1.name written.name) fit.0 next fit.2 in
       let fine = column_of-fine (origin_at standing place) written nullable made.0 (change-named standing.schema place found.1 written column_position let_in.0) made.1 in
-      subst (λ (s : AlteredSoFar). IsDeclared migrated s.schema) same (moved_to-declared standing place (column_position_place others column_position place) made.0 fine (fits-now (changed_in standing place column_position made.0) fit.0 fit.1) is)
+      let auto : made.0.auto ≡ found.1.auto = sym (column_of-auto (origin_at standing place) written nullable made.0 made.1) ∙ changed-auto found.1 written (counter-kept standing.schema place found.1 written column_position let_in.0) in
+      subst (λ (s : AlteredSoFar). Held begun most migrated s.schema) same (moved_to-declared standing place (column_position_place others column_position place) found.1 made.0 (here found refl) auto fine (fits-now (changed_in standing place column_position made.0) fit.0 fit.1) is)
 
   -- ---- indexes
 
-  indexed_as-declared : (standing next : AlteredSoFar) (names : List (List ℕ)) (name : List ℕ) → IsDeclared migrated standing.schema → indexed_as standing names name ≡ Ok next → IsDeclared migrated next.schema
+  indexed_as-declared : (standing next : AlteredSoFar) (names : List (List ℕ)) (name : List ℕ) → Held begun most migrated standing.schema → indexed_as standing names name ≡ Ok next → Held begun most migrated next.schema
   indexed_as-declared standing next names name is e =
       let index = index_of standing.schema names name in
       let let_in = unless_ok (first_reason (index_reasons standing.schema names name)) (Ok (with_index standing index)) next e in
       let free = index-free standing.schema names name let_in.0 in
-      let keys = index-fine standing.schema.uniques standing.schema.indexes index name refl free.0 free.1 (declared-keys migrated standing.schema is) in
-      subst (λ (s : AlteredSoFar). IsDeclared migrated s.schema) (ok_is {C = AlterCode} (with_index standing index) next let_in.1)
-      (whole-declared migrated standing.schema standing.schema.columns standing.schema.uniques (standing.schema.indexes ++ index ∷ []) is (declared-columns migrated standing.schema is) keys)
+      let keys = index-fine standing.schema.uniques standing.schema.indexes index name refl free.0 free.1 (declared-keys begun most migrated standing.schema is) in
+      subst (λ (s : AlteredSoFar). Held begun most migrated s.schema) (ok_is {C = AlterCode} (with_index standing index) next let_in.1)
+      (whole-declared begun most migrated standing.schema standing.schema.columns standing.schema.uniques (standing.schema.indexes ++ index ∷ []) is (declared-columns begun most migrated standing.schema is) keys)
 
-  unindexed_at-declared : (standing next : AlteredSoFar) (unique index : Option ℕ) → IsDeclared migrated standing.schema → unindexed_at standing unique index ≡ Ok next → IsDeclared migrated next.schema
+  unindexed_at-declared : (standing next : AlteredSoFar) (unique index : Option ℕ) → Held begun most migrated standing.schema → unindexed_at standing unique index ≡ Ok next → Held begun most migrated next.schema
   unindexed_at-declared standing next (Some place) index is e =
-      let keys = keys-left (remove standing.schema.uniques place) standing.schema.uniques standing.schema.indexes standing.schema.indexes (left-remove standing.schema.uniques place) (left-own standing.schema.indexes) (declared-keys migrated standing.schema is) in
-      subst (λ (s : AlteredSoFar). IsDeclared migrated s.schema) (kept_out (is_clustered (clustered_place standing.schema) place) (without_unique standing place) next codes.ClusteredKeyChange e).1
-      (whole-declared migrated standing.schema standing.schema.columns (remove standing.schema.uniques place) standing.schema.indexes is (declared-columns migrated standing.schema is) keys)
+      let keys = keys-left (remove standing.schema.uniques place) standing.schema.uniques standing.schema.indexes standing.schema.indexes (left-remove standing.schema.uniques place) (left-own standing.schema.indexes) (declared-keys begun most migrated standing.schema is) in
+      subst (λ (s : AlteredSoFar). Held begun most migrated s.schema) (kept_out (is_clustered (clustered_place standing.schema) place) (without_unique standing place) next codes.ClusteredKeyChange e).1
+      (whole-declared begun most migrated standing.schema standing.schema.columns (remove standing.schema.uniques place) standing.schema.indexes is (declared-columns begun most migrated standing.schema is) keys)
   unindexed_at-declared standing next None (Some place) is e =
-      let keys = keys-left standing.schema.uniques standing.schema.uniques (remove standing.schema.indexes place) standing.schema.indexes (left-own standing.schema.uniques) (left-remove standing.schema.indexes place) (declared-keys migrated standing.schema is) in
-      subst (λ (s : AlteredSoFar). IsDeclared migrated s.schema) (ok_is {C = AlterCode} (without_index standing place) next e)
-      (whole-declared migrated standing.schema standing.schema.columns standing.schema.uniques (remove standing.schema.indexes place) is (declared-columns migrated standing.schema is) keys)
+      let keys = keys-left standing.schema.uniques standing.schema.uniques (remove standing.schema.indexes place) standing.schema.indexes (left-own standing.schema.uniques) (left-remove standing.schema.indexes place) (declared-keys begun most migrated standing.schema is) in
+      subst (λ (s : AlteredSoFar). Held begun most migrated s.schema) (ok_is {C = AlterCode} (without_index standing place) next e)
+      (whole-declared begun most migrated standing.schema standing.schema.columns standing.schema.uniques (remove standing.schema.indexes place) is (declared-columns begun most migrated standing.schema is) keys)
   unindexed_at-declared standing next None None is e = absurd cc
 
-  step-declared : (approve : Bool) (standing next : AlteredSoFar) (clause : Clause) → IsDeclared migrated standing.schema → step approve standing clause ≡ Ok next → IsDeclared migrated next.schema
+  step-declared : (approve : Bool) (standing next : AlteredSoFar) (clause : Clause) → Held begun most migrated standing.schema → step approve standing clause ≡ Ok next → Held begun most migrated next.schema
   unfolding step dropped renamed changed indexed unindexed
   step-declared approve standing next (Add column column_position) is e = added-declared standing next column column_position is e
   step-declared approve standing next (Drop name) is e = dropped_at-declared standing next (column_named standing.schema.columns name) is e
   step-declared approve standing next (Rename before new) is e = renamed_at-declared approve standing next new (column_named standing.schema.columns before) (column_named-here standing.schema.columns before) is e
-  step-declared approve standing next (Change before column column_position) is e = changed_at-declared approve standing next column column_position (column_named standing.schema.columns before) is e
+  step-declared approve standing next (Change before column column_position) is e = changed_at-declared approve standing next column column_position (column_named standing.schema.columns before) (column_named-here standing.schema.columns before) is e
   step-declared approve standing next (AddIndex name columns) is e = indexed_as-declared standing next columns (index_name standing.schema columns name) is e
   step-declared approve standing next (DropIndex name) is e = unindexed_at-declared standing next (index_place standing.schema.uniques name) (index_place standing.schema.indexes name) is e
 
-  steps-declared : (approve : Bool) (standing next : AlteredSoFar) (clauses : List Clause) → IsDeclared migrated standing.schema → steps approve standing clauses ≡ Ok next → IsDeclared migrated next.schema
+  steps-declared : (approve : Bool) (standing next : AlteredSoFar) (clauses : List Clause) → Held begun most migrated standing.schema → steps approve standing clauses ≡ Ok next → Held begun most migrated next.schema
   unfolding steps
-  steps-declared approve standing next [] is e = subst (λ (s : AlteredSoFar). IsDeclared migrated s.schema) (ok_is {C = AlterCode} standing next e) is
+  steps-declared approve standing next [] is e = subst (λ (s : AlteredSoFar). Held begun most migrated s.schema) (ok_is {C = AlterCode} standing next e) is
   steps-declared approve standing next (clause ∷ clauses) is e =
       let b = bind_ok (step approve standing clause) (λ s. steps approve s clauses) next e in
       steps-declared approve b.0 next clauses (step-declared approve standing b.0 clause is b.1) b.2
 
-pub altered-declared : AlteredSchemasAreDeclared
+-- what an ALTER leaves of the shape, the start and the AUTO_INCREMENT columns
+pub altered-held : (migrated : List ℕ) (approve : Bool) (schema : Schema) (clauses : List Clause) (new : Altered) → IsShaped migrated schema → altered approve schema clauses ≡ Ok new → Held schema.start (count schema.columns) migrated new.0
 unfolding altered
-altered-declared migrated approve schema clauses new is e =
+altered-held migrated approve schema clauses new is e =
     let b = bind_ok (steps approve (start schema) clauses) (result_of schema) new e in
     let made : Altered = (b.0.schema, map_of b.0.schema.columns b.0.origins) in
     let r = unless_ok (first_reason (result_reasons schema b.0)) (Ok made) new b.2 in
-    subst (λ (n : Altered). IsDeclared migrated n.0) (ok_is {C = AlterCode} made new r.1) (steps-declared migrated approve (start schema) b.0 clauses is b.1)
+    let held : Held schema.start (count schema.columns) migrated schema = record { shaped = is; start = refl; few = omega arith } in
+    subst (λ (n : Altered). Held schema.start (count schema.columns) migrated n.0) (ok_is {C = AlterCode} made new r.1) (steps-declared schema.start (count schema.columns) migrated approve (start schema) b.0 clauses held b.1)

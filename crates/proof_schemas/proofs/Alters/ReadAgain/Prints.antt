@@ -43,11 +43,11 @@ use Rattle.proof_schemas.proofs.Alters.ReadAgain.Names.{after-all, left-all, lef
 column_of-prints : StoresAgain → (origin : Option ℕ) (written : NewColumn) (nullable : Bool) (column : Column) → is_kind written.kind ≡ true → SoundNew written → column_of origin written nullable ≡ Ok column → CanPrintColumn column
 unfolding column_of
 column_of-prints again origin written nullable column kind sound e =
-    let b = bind_ok (default_or codes.Default (stored_default written.kind nullable written.default)) (λ default. unless_lacking (lacks_default origin nullable default) (made written.name written.kind nullable default)) column e in
+    let b = bind_ok (default_or codes.Default (stored_default written.kind nullable written.default)) (λ default. unless_lacking (lacks_default origin nullable default) (made written.name written.kind nullable default written.auto)) column e in
     let is = default_is codes.Default (stored_default written.kind nullable written.default) b.0 b.1 in
-    let stores = default_stores again written.name written.kind nullable written.default b.0 is in
-    let prints = default-prints (made written.name written.kind nullable b.0) b.0 (default-sound written.kind nullable written.default b.0 sound.1 is) stores in
-    subst CanPrintColumn (lacking-is (lacks_default origin nullable b.0) (made written.name written.kind nullable b.0) column b.2) (sound.0, kind-prints written.kind kind, prints)
+    let stores = default_stores again written.name written.kind nullable written.auto written.default b.0 is in
+    let prints = default-prints (made written.name written.kind nullable b.0 written.auto) b.0 (default-sound written.kind nullable written.default b.0 sound.1 is) stores in
+    subst CanPrintColumn (lacking-is (lacks_default origin nullable b.0) (made written.name written.kind nullable b.0 written.auto) column b.2) (sound.0, kind-prints written.kind kind, prints)
 
 -- ---- keys
 
@@ -72,6 +72,7 @@ put_in-prints standing at column can prints = record {
   columns = All-insert CanPrintColumn standing.schema.columns at column can prints.columns;
   uniques = after-quotes (Added at) standing.schema.uniques prints.uniques;
   indexes = less-quotes (Added at) standing.schema.indexes prints.indexes;
+  start = prints.start;
 }
 
 taken_out-prints : (standing : AlteredSoFar) (at : ℕ) → Prints standing → Prints (taken_out standing at)
@@ -81,6 +82,7 @@ taken_out-prints standing at prints = record {
   columns = All-taken CanPrintColumn standing.schema.columns at prints.columns;
   uniques = after-quotes (Dropped at) standing.schema.uniques prints.uniques;
   indexes = less-quotes (Dropped at) standing.schema.indexes prints.indexes;
+  start = prints.start;
 }
 
 moved_to-prints : (standing : AlteredSoFar) (from to : ℕ) (column : Column) → CanPrintColumn column → Prints standing → Prints (moved_to standing from to column)
@@ -90,11 +92,12 @@ moved_to-prints standing from to column can prints = record {
   columns = All-insert CanPrintColumn (remove standing.schema.columns from) to column can (All-taken CanPrintColumn standing.schema.columns from prints.columns);
   uniques = after-quotes (Moved from to) standing.schema.uniques prints.uniques;
   indexes = less-quotes (Moved from to) standing.schema.indexes prints.indexes;
+  start = prints.start;
 }
 
 renamed_in-prints : (standing : AlteredSoFar) (place : ℕ) (column : Column) → CanPrintColumn column → Prints standing → Prints (renamed_in standing place column)
 unfolding renamed_in
-renamed_in-prints standing place column can prints = record { name = prints.name; columns = All-set CanPrintColumn standing.schema.columns place column can prints.columns; uniques = prints.uniques; indexes = prints.indexes }
+renamed_in-prints standing place column can prints = record { name = prints.name; columns = All-set CanPrintColumn standing.schema.columns place column can prints.columns; uniques = prints.uniques; indexes = prints.indexes; start = prints.start }
 
 -- ---- the clauses
 
@@ -149,14 +152,14 @@ indexed_as-prints : (standing next : AlteredSoFar) (names : List (List ℕ)) (na
 indexed_as-prints standing next names name can prints e =
     let index = index_of standing.schema names name in
     let let_in = unless_ok (first_reason (index_reasons standing.schema names name)) (Ok (with_index standing index)) next e in
-    subst Prints (ok_is {C = AlterCode} (with_index standing index) next let_in.1) (record { name = prints.name; columns = prints.columns; uniques = prints.uniques; indexes = All-append QuotesKey standing.schema.indexes (index ∷ []) prints.indexes (can, tt) })
+    subst Prints (ok_is {C = AlterCode} (with_index standing index) next let_in.1) (record { name = prints.name; columns = prints.columns; uniques = prints.uniques; indexes = All-append QuotesKey standing.schema.indexes (index ∷ []) prints.indexes (can, tt); start = prints.start })
 
 unindexed_at-prints : (standing next : AlteredSoFar) (unique index : Option ℕ) → Prints standing → unindexed_at standing unique index ≡ Ok next → Prints next
 unindexed_at-prints standing next (Some place) index prints e =
     subst Prints (kept_out (is_clustered (clustered_place standing.schema) place) (without_unique standing place) next codes.ClusteredKeyChange e).1
-    (record { name = prints.name; columns = prints.columns; uniques = left-all QuotesKey (left-remove standing.schema.uniques place) prints.uniques; indexes = prints.indexes })
+    (record { name = prints.name; columns = prints.columns; uniques = left-all QuotesKey (left-remove standing.schema.uniques place) prints.uniques; indexes = prints.indexes; start = prints.start })
 unindexed_at-prints standing next None (Some place) prints e =
-    subst Prints (ok_is {C = AlterCode} (without_index standing place) next e) (record { name = prints.name; columns = prints.columns; uniques = prints.uniques; indexes = left-all QuotesKey (left-remove standing.schema.indexes place) prints.indexes })
+    subst Prints (ok_is {C = AlterCode} (without_index standing place) next e) (record { name = prints.name; columns = prints.columns; uniques = prints.uniques; indexes = left-all QuotesKey (left-remove standing.schema.indexes place) prints.indexes; start = prints.start })
 unindexed_at-prints standing next None None prints e = absurd cc
 
 step-prints : StoresAgain → (approve : Bool) (standing next : AlteredSoFar) (clause : Clause) → IsClause clause → SoundClause clause → Prints standing → step approve standing clause ≡ Ok next → Prints next

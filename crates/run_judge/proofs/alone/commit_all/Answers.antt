@@ -1,4 +1,4 @@
-use Rattle.std.proofs.Common.{ℕ, ◌∙◌}
+use Rattle.std.proofs.Common.{◌∙◌}
 use Rattle.server_model.specs.Operations.{after_events}
 use Rattle.run_judge.proofs.AloneSessions.{all_fresh, nothing_changes, nothing_fits}
 use Rattle.run_judge.proofs.alone.commit_all.Goals as goal

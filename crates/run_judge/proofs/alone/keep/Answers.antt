@@ -1,7 +1,5 @@
-use Rattle.std.proofs.Common.{List, ◌++◌, sym, ap, ◌∙◌, subst}
+use Rattle.std.proofs.Common.{List, ◌++◌, ap, ◌∙◌}
 use Rattle.base_values.specs.declared.event.RowEvent.{RowEvent}
-use Rattle.server_transaction.specs.ServerData.FittingEvents.{EventsFit}
-use Rattle.server_model.specs.LockedRows.Databases.{IsWellFormedDatabase}
 use Rattle.server_model.specs.Operations.{after_events}
 use Rattle.run_judge.proofs.AloneSessions.{alone_more, said_fit, said_well_formed}
 use Rattle.run_judge.proofs.alone.keep.Goals as goal

@@ -1,5 +1,4 @@
-use Rattle.std.proofs.Common.{sym, ap, ◌∙◌, subst}
-use Rattle.table_store.specs.Databases.{Database}
+use Rattle.std.proofs.Common.{sym, ◌∙◌, subst}
 use Rattle.server_model.specs.LockedRows.Databases.{IsWellFormedDatabase}
 use Rattle.run_judge.proofs.AloneSessions.{alone_fresh, end_well_formed, outcome_replies, outcome_tables}
 use Rattle.run_judge.proofs.alone.run_alone.Goals as goal

@@ -17,10 +17,11 @@ use Rattle.server_model.specs.declared.request.Request.TheVariants as requests
 use Rattle.server_model.specs.declared.session.Waiting.{Waiting}
 use Rattle.server_model.specs.Chunks.{keys_of, ends_of}
 use Rattle.server_model.specs.Entries.{is_client, is_command}
-use Rattle.server_model.specs.States.{State, session_of, is_in_transaction, view, waiting_of}
+use Rattle.server_model.specs.States.{is_of_tool, State, session_of, is_in_transaction, view, waiting_of}
+use Rattle.server_model.proofs.Filling.{filled_case}
 use Rattle.server_model.specs.Blockers.{need, blocker}
 use Rattle.server_model.specs.Effects.{of_table, effect_within, effect_unless, is_outside}
-use Rattle.server_model.specs.PlainServer.{does, done, called_unless, calls, is_over, polled_over, polled_unless, polled_of, polls, serves, without_waiting}
+use Rattle.server_model.specs.PlainServer.{does, done, did, called_unless, calls, is_over, polled_over, polled_unless, polled_of, polls, serves, without_waiting}
 use Rattle.plan_data.specs.PlanData.{PlanData}
 use Rattle.tool_program.specs.JournalWords.Journals.{opens, state_at, inner_answer, heard, IsFaithful}
 use Rattle.tool_program.specs.Programs.{IsGiven, Follows}
@@ -70,13 +71,18 @@ module _ (state : State) (number : ℕ) where
   within_tells (requests.Ends table) = ends_at table
   within_tells request = tt
 
-  done_tells : (request : Request) → TellsEnds state.tables request (done state number request).answer
-  unfolding done
-  done_tells request = at (is_outside (session_of number state.sessions) request)
+  did_tells : (request : Request) → TellsEnds state.tables request (did state number request).answer
+  unfolding did
+  did_tells request = at (is_outside (session_of number state.sessions) request)
     where
       at : (b : Bool) → TellsEnds state.tables request (does (effect_unless b (is_in_transaction (session_of number state.sessions)) (view number state) state request) state number).answer
       at true = quiet_tells state.tables request _ tt
       at false = within_tells request
+
+  done_tells : (request : Request) → TellsEnds state.tables request (done state number request).answer
+  done_tells request =
+      filled_case (λ asks full. TellsEnds state.tables asks (did state number full).answer) did_tells (λ statement n. tt)
+      (is_of_tool (session_of number state.sessions)) state.tables state.counters request
 
 called_tells : (state : State) (number : ℕ) (request : Request) → TellsEnds state.tables request (calls state number request).answer
 unfolding calls

@@ -4,11 +4,15 @@ use Rattle.std.specs.Prelude.{is_some, Result, Ok, Err, IfOk, OnOk, IsOk}
 use Rattle.std.specs.Option.{option_map}
 use Rattle.std.proofs.lemmas.Bool.{false≢true}
 use Rattle.base_script.specs.declared.actor.Actor.{Actor}
-use Rattle.server_model.specs.declared.entry.Asked.TheVariants.{Cut}
+use Rattle.base_script.specs.declared.operator.OperatorWord.{OperatorWord}
+use Rattle.base_script.specs.declared.actor.Side.{Side}
+use Rattle.server_model.specs.declared.entry.Asked.{Asked}
+use Rattle.server_model.specs.declared.entry.Asked.TheVariants.{Command, Cut}
 use Rattle.server_model.specs.Entries.{is_client}
 use Rattle.server_model.specs.declared.session.Session.{Session}
 use Rattle.server_model.specs.States.{State, session_of, is_live, is_waiting, new_session, connected}
-use Rattle.server_model.specs.PlainServer.{loses}
+use Rattle.server_model.specs.PlainServer.{loses, state_left}
+use Rattle.server_model.specs.Counting.{counted}
 use Rattle.server_model.specs.Conditions.{MayLose}
 use Rattle.tool_program.specs.JournalWords.Journals.{opens_if}
 use Rattle.proof_journals.specs.Run.Counts.{numbered, IsAfter, kind_of}
@@ -32,7 +36,7 @@ none_live (Some session) is = absurd (cc)
 connected_as : (reported : State) (made number : ℕ) (tool : Bool) → reported.made ≤ made → number ≡ made + 1 → connected number tool (numbered made reported) ≡ numbered number (connected number tool reported)
 connected_as reported made number tool below is =
     let most : max made number ≡ number = omega (arith, is) in
-    ap (λ (n : ℕ). record { limits = reported.limits; made = n; tables = reported.tables; log = reported.log; waiting = reported.waiting; sessions = reported.sessions ++ new_session number tool ∷ [] }) most
+    ap (λ (n : ℕ). record { limits = reported.limits; made = n; tables = reported.tables; log = reported.log; waiting = reported.waiting; sessions = reported.sessions ++ new_session number tool ∷ []; counters = reported.counters }) most
 
 -- a new one
 pub connects : (reported state after : State) (number : ℕ) (tool : Bool) → IsAfter reported state → ((k : ℕ) → reported.made < k → kind_of k reported.sessions ≡ None) → number ≡ state.made + 1 → after ≡ connected number tool state → IsAfter (opens_if false tool number reported) after
@@ -87,3 +91,19 @@ opened_ok (Err e) state after actor is made = tt
 pub on_ok : {A E : Type 0} (r : Result A E) (P : Type 0) → OnOk r P → IsOk r → P
 on_ok (Ok x) P is ok = is
 on_ok (Err e) P is ok = absurd (false≢true ok)
+
+-- COUNTERS
+
+-- a loss between calls gives no number back, and draws none
+pub cut_left : (state : State) (number : ℕ) → state_left None state number Cut ≡ loses number state
+unfolding loses counted
+cut_left state number = refl
+
+-- a command leaves the counters
+pub command_left : (state : State) (number : ℕ) (word : OperatorWord) → state ≡ state_left None state number (Command word)
+unfolding counted
+command_left state number word = refl
+
+pub commanded_left : (state : State) (number : ℕ) (side : Option Side) (asked : Asked) (word : OperatorWord) → side ≡ None → asked ≡ Command word → state ≡ state_left side state number asked
+commanded_left state number side asked word none asks =
+    command_left state number word ∙ ap (λ (a : Asked). state_left None state number a) (sym asks) ∙ ap (λ (s : Option Side). state_left s state number asked) (sym none)

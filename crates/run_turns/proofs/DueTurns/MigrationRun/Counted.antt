@@ -9,7 +9,7 @@ use Rattle.server_model.specs.declared.entry.Entry.{Entry}
 use Rattle.server_model.specs.declared.session.Session.{Session}
 use Rattle.server_model.specs.Entries.{is_client}
 use Rattle.server_model.specs.States.{State, session_of, is_waiting, is_in_transaction, holds_tables, new_session, connected, has_work, load}
-use Rattle.server_model.specs.PlainServer.{serves, leaves, given_at}
+use Rattle.server_model.specs.PlainServer.{serves, state_left, number_drawn, given_at}
 use Rattle.tool_program.specs.JournalWords.Journals.{opens_if, after_entry, heard, missed}
 use Rattle.proof_journals.specs.Run.Counts.{IsAfter, kind_of, is_open, is_busy, busy_count, weight, weigh, others}
 use Rattle.proof_journals.proofs.Run.Turns.{is_lost, kind_left, Leaves, turn_leaves, opened_kind, opened, entry_turned}
@@ -129,15 +129,17 @@ module _ (state : State) (own : Option ℕ) (turn : Turn) (may : MayTurn state o
   -- BEHIND THE TURN
 
   abbrev after : State
-  after = leaves turn.side open_now number turn.asked
+  after = state_left turn.side open_now number turn.asked
 
   -- it is what the entry leaves
   pub entry_leaves : after_entry state (entry_on state number turn) ≡ after
   unfolding entry_on
-  entry_leaves = ap (λ (s : State). leaves turn.side s number turn.asked) opened_is
+  entry_leaves = ap (λ (s : State). state_left turn.side s number turn.asked) opened_is
 
   left_rec : Leaves (is_lost turn.side turn.asked) number open_now after
-  left_rec = turn_leaves turn.side open_now number turn.asked
+  left_rec =
+      let left = turn_leaves turn.side open_now number turn.asked in
+      record { turned = record { sessions = left.turned.sessions; waiting = left.turned.waiting; apart = left.turned.apart }; own = left.own; kinds = left.kinds; made = left.made; count = left.count }
 
   pub lost_gone : is_lost_in turn.side turn.asked ≡ true → session_of number after.sessions ≡ None
   lost_gone lost = none_there (session_of number after.sessions) (left_rec.own ∙ ap (λ (b : Bool). kind_left b (kind_of number open_now.sessions)) (lost_same turn.side turn.asked ∙ lost))
@@ -241,10 +243,13 @@ module _ (state : State) (own : Option ℕ) (turn : Turn) (may : MayTurn state o
         ap (λ (s : State). given_at turn.side turn.asked (serves s k turn.asked).answer) (opened_now ∙ sym opened_is)
         ∙ ap (λ (n : ℕ). given_at turn.side turn.asked (serves (opened_on state number turn) n turn.asked).answer) same
 
-    pub leaves_after : leaves turn.side one k turn.asked ≡ after
-    leaves_after = ap (λ (s : State). leaves turn.side s k turn.asked) opened_now ∙ ap (λ (n : ℕ). leaves turn.side open_now n turn.asked) same
+    pub draw_reported : number_drawn turn.side one k turn.asked ≡ number_drawn turn.side (opened_on state number turn) number turn.asked
+    draw_reported = ap (λ (s : State). number_drawn turn.side s k turn.asked) (opened_now ∙ sym opened_is) ∙ ap (λ (n : ℕ). number_drawn turn.side (opened_on state number turn) n turn.asked) same
 
-    pub leaves_reported : leaves turn.side one k turn.asked ≡ after_entry state (entry_on state number turn)
+    pub leaves_after : state_left turn.side one k turn.asked ≡ after
+    leaves_after = ap (λ (s : State). state_left turn.side s k turn.asked) opened_now ∙ ap (λ (n : ℕ). state_left turn.side open_now n turn.asked) same
+
+    pub leaves_reported : state_left turn.side one k turn.asked ≡ after_entry state (entry_on state number turn)
     leaves_reported = leaves_after ∙ sym entry_leaves
 
     pub kind_reported : kind_of k one.sessions ≡ Some tool
@@ -260,7 +265,7 @@ module _ (state : State) (own : Option ℕ) (turn : Turn) (may : MayTurn state o
     busy_reported = ap (λ (s : State). weigh (is_busy s.waiting) (session_of k s.sessions)) opened_now ∙ ap (λ (n : ℕ). weigh (is_busy open_now.waiting) (session_of n open_now.sessions)) same
 
     -- behind a turn whose answer came
-    module _ (left : State) (leaves_so : left ≡ leaves turn.side one k turn.asked) where
+    module _ (left : State) (leaves_so : left ≡ state_left turn.side one k turn.asked) where
       left_after : left ≡ after
       left_after = leaves_so ∙ leaves_after
 
@@ -300,7 +305,7 @@ module _ (state : State) (own : Option ℕ) (turn : Turn) (may : MayTurn state o
       err_made = subst (λ (n : ℕ). n ≤ made_for own state.made) (sym (made ∙ ap (λ (s : State). s.made) opened_now)) made_open
 
 -- the entry, part by part
-pub entry_same : (state : State) (session : ℕ) (turn : Turn) (entry : Entry) → entry.actor ≡ turn.actor → entry.session ≡ session → entry.asked ≡ turn.asked → entry.side ≡ turn.side → entry.answer ≡ heard turn.side (answer_on state session turn) → entry.missed ≡ missed turn.side (answer_on state session turn) → entry.draw ≡ None
+pub entry_same : (state : State) (session : ℕ) (turn : Turn) (entry : Entry) → entry.actor ≡ turn.actor → entry.session ≡ session → entry.asked ≡ turn.asked → entry.side ≡ turn.side → entry.answer ≡ heard turn.side (answer_on state session turn) → entry.missed ≡ missed turn.side (answer_on state session turn) → entry.draw ≡ number_drawn turn.side (opened_on state session turn) session turn.asked
     → entry ≡ entry_on state session turn
 unfolding entry_on
 entry_same state session turn entry actor number asked side answer missed draw = λ i. record { actor = actor i; session = number i; asked = asked i; side = side i; answer = answer i; missed = missed i; draw = draw i }

@@ -7,7 +7,7 @@ use Rattle.server_model.specs.declared.entry.Asked.TheVariants.{Cut}
 use Rattle.server_model.specs.declared.entry.Entry.{Entry}
 use Rattle.server_model.specs.Entries.{is_client, is_command}
 use Rattle.server_model.specs.States.{State, load}
-use Rattle.server_model.specs.PlainServer.{serves, given_at}
+use Rattle.server_model.specs.PlainServer.{serves, given_at, number_drawn}
 use Rattle.tool_program.specs.JournalWords.Journals.{opens_if, heard, missed}
 use Rattle.proof_journals.specs.Run.Counts.{busy_count, AreApart}
 use Rattle.proof_journals.specs.Run.Laws.{NoneWaits}
@@ -37,7 +37,7 @@ answer_on state session turn = given_at turn.side turn.asked (serves (opened_on 
 -- *Entry of a turn* that is taken in this session, of the server in this state
 unfoldable pub entry_on : State → ℕ → Turn → Entry
 entry_on state session turn =
-    record { actor = turn.actor; session = session; asked = turn.asked; side = turn.side; answer = heard turn.side (answer_on state session turn); missed = missed turn.side (answer_on state session turn); draw = None }
+    record { actor = turn.actor; session = session; asked = turn.asked; side = turn.side; answer = heard turn.side (answer_on state session turn); missed = missed turn.side (answer_on state session turn); draw = number_drawn turn.side (opened_on state session turn) session turn.asked }
 
 -- the session is lost in the turn
 abbrev pub is_lost_in : Option Side → Asked → Bool

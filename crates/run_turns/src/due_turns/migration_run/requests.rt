@@ -2,7 +2,7 @@
 
 ghost use Rattle.std.specs.Prelude.{◌≡◌, false, None, IfOk, OnOk, OnErr};
 ghost use Rattle.server_model.specs.declared.answer.Answer.TheVariants.{Lost};
-ghost use Rattle.server_model.specs.PlainServer.{serves, leaves, given_at};
+ghost use Rattle.server_model.specs.PlainServer.{serves, state_left, number_drawn, given_at};
 ghost use Rattle.tool_program.specs.JournalWords.Journals.{heard, missed};
 ghost use Rattle.run_turns.specs.DueTurns.MigrationRun.FreeTurns.{is_free_in};
 ghost use Rattle.run_turns.specs.DueTurns.MigrationRun.Requests.{MayAsk};
@@ -19,23 +19,28 @@ pub struct Heard {
     pub answer: Answer,
     /// The answer that nobody heard, where the session was lost after it.
     pub missed: Option<Answer>,
+    /// The number that the statement drew, also where nobody hears the answer.
+    pub draw: Option<u64>,
 }
 
 /// The actor hears the answer.
-fn reported(answer: Answer) -> Heard
+fn reported(answer: Answer, draw: Option<u64>) -> Heard
     ensures answer { result.answer ≡ answer }
     ensures missed { result.missed ≡ None }
+    ensures draw { result.draw ≡ draw }
 {
     Heard {
         answer,
         missed: None,
+        draw,
     }
 }
 
 /// The session is lost, and nobody hears the answer.
-fn lost(side: Option<Side>, inner: Option<Answer>) -> Heard
+fn lost(side: Option<Side>, inner: Option<Answer>, draw: Option<u64>) -> Heard
     ensures answer { result.answer ≡ Lost }
     ensures missed { result.missed ≡ missed side inner }
+    ensures draw { result.draw ≡ draw }
 {
     Heard {
         answer: Answer::Lost,
@@ -43,6 +48,7 @@ fn lost(side: Option<Side>, inner: Option<Answer>) -> Heard
             Some(Side::After) => inner,
             _ => None,
         },
+        draw,
     }
 }
 
@@ -57,14 +63,24 @@ pub fn ask<V: Serve>(
     requires { MayAsk (V.state server.old) session side asked.now }
     ensures answer { IfOk result (λ reported. reported.answer ≡ heard side (given_at side asked.now (serves (V.state server.old) session asked.now).answer)) }
     ensures missed { IfOk result (λ reported. reported.missed ≡ missed side (given_at side asked.now (serves (V.state server.old) session asked.now).answer)) }
-    ensures ok { OnOk result (V.state server.new ≡ leaves side (V.state server.old) session asked.now) }
+    ensures draw { IfOk result (λ reported. reported.draw ≡ number_drawn side (V.state server.old) session asked.now) }
+    ensures ok { OnOk result (V.state server.new ≡ state_left side (V.state server.old) session asked.now) }
     ensures err { OnErr result (V.state server.new ≡ V.state server.old) }
     ensures costs { OnErr result (is_free_in (V.state server.old) session side asked.now ≡ false) }
 {
     match (side, asked) {
-        (None, Asked::Call(request)) => Ok(reported(server.call(session, request)?)),
-        (None, Asked::Poll) => Ok(reported(server.poll(session)?)),
-        (None, Asked::Command(_)) => Ok(reported(Answer::Ok(0))),
-        _ => Ok(lost(side, server.lose(session, side, asked)?)),
+        (None, Asked::Call(request)) => {
+            let answer = server.call(session, request)?;
+            Ok(reported(answer, server.last_drawn()))
+        }
+        (None, Asked::Poll) => {
+            let answer = server.poll(session)?;
+            Ok(reported(answer, server.last_drawn()))
+        }
+        (None, Asked::Command(_)) => Ok(reported(Answer::Ok(0), None)),
+        _ => {
+            let inner = server.lose(session, side, asked)?;
+            Ok(lost(side, inner, server.last_drawn()))
+        }
     }
 }

@@ -2,7 +2,7 @@
 
 ghost use Rattle.std.specs.Prelude.{◌≡◌, ◌≤◌, ℕ, Bool, true, false, Some, None, IfOk, OnOk, OnErr};
 ghost use Rattle.server_model.specs.States.{State, connected, is_live, is_waiting, has_work};
-ghost use Rattle.server_model.specs.PlainServer.{serves, leaves, given_at};
+ghost use Rattle.server_model.specs.PlainServer.{serves, state_left, number_drawn, given_at};
 ghost use Rattle.tool_program.specs.JournalWords.Journals.{after_entry, heard, missed};
 ghost use Rattle.proof_journals.specs.Run.Counts.{IsAfter, kind_of};
 ghost use Rattle.run_turns.specs.DueTurns.MigrationRun.FreeTurns.{is_free_in, is_free_turn};
@@ -36,7 +36,7 @@ fn entry_of(turn: Turn, session: u32, heard: Heard) -> Entry
     ensures side { result.side ≡ turn.side }
     ensures answer { result.answer ≡ heard.answer }
     ensures missed { result.missed ≡ heard.missed }
-    ensures draw { result.draw ≡ None }
+    ensures draw { result.draw ≡ heard.draw }
 {
     Entry {
         actor: turn.actor,
@@ -44,7 +44,7 @@ fn entry_of(turn: Turn, session: u32, heard: Heard) -> Entry
         side: turn.side,
         answer: heard.answer,
         missed: heard.missed,
-        draw: None,
+        draw: heard.draw,
         asked: turn.into_asked(),
     }
 }
@@ -61,7 +61,8 @@ fn ask_in<V: Serve>(
     requires live { is_live (V.state server.old) number ≡ true }
     ensures answer { IfOk result (λ reported. reported.answer ≡ heard turn.now.side (given_at turn.now.side turn.now.asked (serves (V.state server.old) number turn.now.asked).answer)) }
     ensures missed { IfOk result (λ reported. reported.missed ≡ missed turn.now.side (given_at turn.now.side turn.now.asked (serves (V.state server.old) number turn.now.asked).answer)) }
-    ensures ok { OnOk result (V.state server.new ≡ leaves turn.now.side (V.state server.old) number turn.now.asked) }
+    ensures draw { IfOk result (λ reported. reported.draw ≡ number_drawn turn.now.side (V.state server.old) number turn.now.asked) }
+    ensures ok { OnOk result (V.state server.new ≡ state_left turn.now.side (V.state server.old) number turn.now.asked) }
     ensures own { OnErr result ((own : ℕ) → session ≡ Some own → V.state server.new ≡ V.state server.old) }
     ensures new { OnErr result (session ≡ None → (reported : State) (is_tool : Bool) → kind_of number reported.sessions ≡ None → is_waiting reported number ≡ false → IsAfter (connected number is_tool reported) (V.state server.old) → IsAfter reported (V.state server.new)) }
     ensures made { OnErr result ((V.state server.new).made ≡ (V.state server.old).made) }

@@ -7,4 +7,4 @@ use Rattle.sql_alter.proofs.clauses.list_at.Given as goal
 
 -- the clauses so far, and those that are still read
 abbrev pub invariant-loop : goal.invariant-loop
-invariant-loop l = with_front l.clauses (listed clause_at Syntax (length l.words - l.counter) l.rest) ≡ listed clause_at Syntax (length l.words) l.fn.words
+invariant-loop l = with_front l.clauses (listed (clause_at l.version) Syntax (length l.words - l.counter) l.rest) ≡ listed (clause_at l.fn.version) Syntax (length l.words) l.fn.words

@@ -8,15 +8,15 @@ pub returns-in_err-option_at : goal.returns-in_err-option_at
 unfolding options_at
 returns-in_err-option_at c =
     let p = err_from_is_err_and c.from_residual-in_err-option_at.result c.from_residual-in_err-option_at.ensures.1 in
-    rw (p.1, p.2) (one_fails option_at with_option c.in_err-option_at.field-0.0 c.loop.comment (length c.args.words.now) c.loop.counter c.loop.rest.now _ c.loop-test.true c.in_err-option_at.ensures c.loop.invariant)
+    rw (p.1, p.2) (one_fails (option_at c.args.version) with_option c.in_err-option_at.field-0.0 c.loop.options (length c.args.words.now) c.loop.counter c.loop.rest.now _ c.loop-test.true c.in_err-option_at.ensures c.loop.invariant)
 
 pub returns-in-None : goal.returns-in-None
 unfolding options_at
-returns-in-None c = no_more option_at with_option c.loop.comment (length c.args.words.now) c.loop.counter c.loop.rest.now _ c.loop-test.true (rw c.in-None.is at c.in_ok-option_at.ensures) c.loop.invariant
+returns-in-None c = no_more (option_at c.args.version) with_option c.loop.options (length c.args.words.now) c.loop.counter c.loop.rest.now _ c.loop-test.true (rw c.in-None.is at c.in_ok-option_at.ensures) c.loop.invariant
 
 pub loop-preserved : goal.loop-preserved
-loop-preserved c = rw c.with_option-comment.ensures (one_more option_at with_option c.loop.comment (length c.args.words.now) c.loop.counter c.loop.rest.now _ c.in-Some.option c.in-Some.following.now c.loop-test.true (rw c.in-Some.is at c.in_ok-option_at.ensures) c.loop.invariant)
+loop-preserved c = rw c.with_option-options.ensures (one_more (option_at c.args.version) with_option c.loop.options (length c.args.words.now) c.loop.counter c.loop.rest.now _ c.in-Some.option c.in-Some.following.now c.loop-test.true (rw c.in-Some.is at c.in_ok-option_at.ensures) c.loop.invariant)
 
 pub returns : goal.returns
 unfolding options_at
-returns c = all_read option_at with_option c.loop.comment (length c.args.words.now) c.loop.counter c.loop.rest.now _ c.loop-test.false c.loop.invariant
+returns c = all_read (option_at c.args.version) with_option c.loop.options (length c.args.words.now) c.loop.counter c.loop.rest.now _ c.loop-test.false c.loop.invariant

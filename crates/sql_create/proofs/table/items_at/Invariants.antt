@@ -7,4 +7,4 @@ use Rattle.sql_create.proofs.table.items_at.Given as goal
 
 -- the items so far, and those that are still read
 abbrev pub invariant-loop : goal.invariant-loop
-invariant-loop l = with_front l.items (listed item_at Syntax (length l.words - l.counter) l.rest) ≡ listed item_at Syntax (length l.words) l.fn.words
+invariant-loop l = with_front l.items (listed (item_at l.version) Syntax (length l.words - l.counter) l.rest) ≡ listed (item_at l.fn.version) Syntax (length l.words) l.fn.words

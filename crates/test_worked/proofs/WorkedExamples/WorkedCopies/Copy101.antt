@@ -1,6 +1,6 @@
 -- One worked run of a plan, with all that the law over journals asks of it, turn by turn; so by the law its new table is the
 -- altered one at the mark.
-use Rattle.std.proofs.Common.{pos, true, false, None, ◌≡◌, ◌≤◌, ◌<◌, ℕ, Bool, List, [], ◌∷◌, ◌++◌, drop, Option, Some, Ok, refl, sym, ap, ◌∙◌, subst, cond, arith}
+use Rattle.std.proofs.Common.{pos, true, false, None, ◌≡◌, ℕ, Bool, List, [], ◌∷◌, ◌++◌, drop, Option, Some, Ok, refl, sym, ap, ◌∙◌, subst, cond, arith}
 use Rattle.std.specs.Prelude.{codes, ◌==◌}
 use Rattle.std.specs.List.{AllByRecursion}
 use Rattle.base_values.specs.declared.kind.Kind.TheVariants.{Int, VarChar}
@@ -18,7 +18,6 @@ use Rattle.base_values.specs.declared.row_conversion.map.Origin.TheVariants as f
 use Rattle.sql_change.specs.AlteredSchema.{altered}
 use Rattle.base_values.specs.SchemaRules.Valid.{IsValid}
 use Rattle.base_values.specs.declared.event.Change.TheVariants as changes
-use Rattle.table_store.specs.declared.renames.Pair.{Pair}
 use Rattle.base_script.specs.declared.actor.Actor.TheVariants.{Op, Insp, Copy, Apply, Lock, Ren, Client}
 use Rattle.base_script.specs.declared.operator.OperatorWord.TheVariants as commanded
 use Rattle.base_script.specs.declared.statement.Condition.TheVariants as conditions
@@ -54,14 +53,16 @@ use Rattle.proof_migration.specs.Migration.Planning.{migration_of}
 use Rattle.proof_migration.proofs.Migration.Planning.Planned.{alters_planned}
 use Rattle.proof_journals.specs.Ghost.Rows.Moments.{Row}
 use Rattle.proof_journals.specs.Ghost.Rows.Timelines.{IsPlanned, Migration}
-use Rattle.proof_journals.specs.Ghost.Copies.{IsAltered}
+use Rattle.proof_journals.specs.Ghost.Copies.{IsAltered, rows_now}
+use Rattle.proof_journals.specs.Ghost.ToolTurns.{ToolMoment}
+use Rattle.table_store.specs.Databases.{find_table}
 use Rattle.proof_journals.specs.Ghost.HeldKeys.{Clustered}
 use Rattle.proof_journals.specs.Ghost.Invariant.{NotOf}
 use Rattle.proof_journals.proofs.Ghost.Turns.{run_front}
 use Rattle.proof_migration.specs.Migration.Applier.FoundColumns.{FindsRows}
 use Rattle.proof_migration.proofs.Migration.Applier.Stated.{alters_find_rows}
 use Rattle.proof_migration.specs.Migration.Away.{KeepsAway, OthersAway}
-use Rattle.proof_migration.specs.Migration.Machines.{IsMigrationEnd, IsMigrationStart, Machines, MigrationRun, MigrationTurn, Step, hold_at, journal_after, machines_after}
+use Rattle.proof_migration.specs.Migration.Machines.{IsMigrationEnd, IsMigrationStart, Machines, MigrationRun, MigrationTurn, Step, hold_at, journal_after, machines_after, moment_at}
 use Rattle.proof_migration.specs.Migration.Machines.MigrationTurn.{copier_turns, applier_turns, others_turn}
 use Rattle.proof_migration.specs.Migration.Machines.Step.{Turned}
 use Rattle.proof_migration.proofs.Migration.Migrating.{journals_alter}
@@ -104,7 +105,7 @@ abbrev map_101 : List Rattle.base_values.specs.declared.row_conversion.map.MapCo
 map_101 = (record { kind = VarChar 4; nullable = true; origin = from.Added (Text (codes "n")) } ∷ record { kind = Int 1 false; nullable = false; origin = from.Old 0 } ∷ record { kind = Int 4 false; nullable = true; origin = from.Old 1 } ∷ record { kind = Int 4 false; nullable = true; origin = from.Old 2 } ∷ [])
 
 abbrev alter_101 : List Clause
-alter_101 = (clauses.Add (record { name = codes "b"; kind = VarChar 4; nullable = None; default = (Some (Text (codes "n"))) }) First ∷ clauses.Change (codes "m0") (record { name = codes "m0"; kind = Int 4 false; nullable = None; default = None }) Unsaid ∷ [])
+alter_101 = (clauses.Add (record { name = codes "b"; kind = VarChar 4; nullable = None; default = (Some (Text (codes "n"))); auto = false }) First ∷ clauses.Change (codes "m0") (record { name = codes "m0"; kind = Int 4 false; nullable = None; default = None; auto = false }) Unsaid ∷ [])
 
 abbrev new_101 : Altered
 new_101 = (made_101, map_101)
@@ -541,27 +542,27 @@ now_38 = record { copier = copier_34; copier_session = 3; applier = applier_38; 
 
 turn_19 : MigrationTurn m_101 limits_101 scene_101 journal_18 entry_19 now_18 now_19
 unfolding computing plans.client_names plans.client_tables plans.script_names
-turn_19 = copier_turns (record { its = refl; table = refl; map = refl; request = (requests.ChunkEnd (codes "t") (Closed ((Num (pos 5)) ∷ [])) ((Num (pos 7)) ∷ []) 1); asked = refl; given = refl; uncut = refl; fits = going }) refl
+turn_19 = copier_turns (record { its = refl; table = refl; map = refl; request = (requests.ChunkEnd (codes "t") (Closed ((Num (pos 5)) ∷ [])) ((Num (pos 7)) ∷ []) 1); asked = refl; tool = refl; given = refl; uncut = refl; fits = going }) refl
 
 turn_20 : MigrationTurn m_101 limits_101 scene_101 journal_19 entry_20 now_19 now_20
 unfolding computing plans.client_names plans.client_tables plans.script_names
-turn_20 = applier_turns (record { its = refl; table = refl; schema = refl; map = refl; request = (requests.ReadLog 0 3 (codes "t" ∷ codes "_t_ghc" ∷ [])); asked = refl; given = refl; uncut = refl; fits = going }) refl
+turn_20 = applier_turns (record { its = refl; table = refl; schema = refl; map = refl; request = (requests.ReadLog 0 3 (codes "t" ∷ codes "_t_ghc" ∷ [])); asked = refl; tool = refl; given = refl; uncut = refl; fits = going }) refl
 
 turn_21 : MigrationTurn m_101 limits_101 scene_101 journal_20 entry_21 now_20 now_21
 unfolding computing plans.client_names plans.client_tables plans.script_names
-turn_21 = applier_turns (record { its = refl; table = refl; schema = refl; map = refl; request = requests.Begin; asked = refl; given = refl; uncut = refl; fits = going }) refl
+turn_21 = applier_turns (record { its = refl; table = refl; schema = refl; map = refl; request = requests.Begin; asked = refl; tool = refl; given = refl; uncut = refl; fits = going }) refl
 
 turn_22 : MigrationTurn m_101 limits_101 scene_101 journal_21 entry_22 now_21 now_22
 unfolding computing plans.client_names plans.client_tables plans.script_names
-turn_22 = applier_turns (record { its = refl; table = refl; schema = refl; map = refl; request = (requests.Do (statements.Replace (codes "_t_gho") None ((Text (codes "n")) ∷ (Num (pos 7)) ∷ (Num (pos 6)) ∷ Null ∷ []) None)); asked = refl; given = refl; uncut = refl; fits = going }) refl
+turn_22 = applier_turns (record { its = refl; table = refl; schema = refl; map = refl; request = (requests.Do (statements.Replace (codes "_t_gho") None ((Text (codes "n")) ∷ (Num (pos 7)) ∷ (Num (pos 6)) ∷ Null ∷ []) None)); asked = refl; tool = refl; given = refl; uncut = refl; fits = going }) refl
 
 turn_23 : MigrationTurn m_101 limits_101 scene_101 journal_22 entry_23 now_22 now_23
 unfolding computing plans.client_names plans.client_tables plans.script_names
-turn_23 = applier_turns (record { its = refl; table = refl; schema = refl; map = refl; request = requests.Commit; asked = refl; given = refl; uncut = refl; fits = over }) refl
+turn_23 = applier_turns (record { its = refl; table = refl; schema = refl; map = refl; request = requests.Commit; asked = refl; tool = refl; given = refl; uncut = refl; fits = over }) refl
 
 turn_24 : MigrationTurn m_101 limits_101 scene_101 journal_23 entry_24 now_23 now_24
 unfolding computing plans.client_names plans.client_tables plans.script_names
-turn_24 = copier_turns (record { its = refl; table = refl; map = refl; request = (requests.BeginSpan (codes "t") (record { low = (Closed ((Num (pos 5)) ∷ [])); high = (Closed ((Num (pos 5)) ∷ [])) }) 1); asked = refl; given = refl; uncut = refl; fits = going }) refl
+turn_24 = copier_turns (record { its = refl; table = refl; map = refl; request = (requests.BeginSpan (codes "t") (record { low = (Closed ((Num (pos 5)) ∷ [])); high = (Closed ((Num (pos 5)) ∷ [])) }) 1); asked = refl; tool = refl; given = refl; uncut = refl; fits = going }) refl
 
 turn_25 : MigrationTurn m_101 limits_101 scene_101 journal_24 entry_25 now_24 now_24
 unfolding computing plans.client_names plans.client_tables plans.script_names
@@ -581,27 +582,27 @@ turn_28 = others_turn (record { sides = λ may. refl; no_copier = refl; no_appli
 
 turn_29 : MigrationTurn m_101 limits_101 scene_101 journal_28 entry_29 now_24 now_29
 unfolding computing plans.client_names plans.client_tables plans.script_names
-turn_29 = copier_turns (record { its = refl; table = refl; map = refl; request = (requests.CopyRow (codes "t") (codes "_t_gho") map_101 ((Num (pos 5)) ∷ [])); asked = refl; given = refl; uncut = refl; fits = going }) refl
+turn_29 = copier_turns (record { its = refl; table = refl; map = refl; request = (requests.CopyRow (codes "t") (codes "_t_gho") map_101 ((Num (pos 5)) ∷ [])); asked = refl; tool = refl; given = refl; uncut = refl; fits = going }) refl
 
 turn_30 : MigrationTurn m_101 limits_101 scene_101 journal_29 entry_30 now_29 now_30
 unfolding computing plans.client_names plans.client_tables plans.script_names
-turn_30 = copier_turns (record { its = refl; table = refl; map = refl; request = requests.Commit; asked = refl; given = refl; uncut = refl; fits = over }) refl
+turn_30 = copier_turns (record { its = refl; table = refl; map = refl; request = requests.Commit; asked = refl; tool = refl; given = refl; uncut = refl; fits = over }) refl
 
 turn_31 : MigrationTurn m_101 limits_101 scene_101 journal_30 entry_31 now_30 now_31
 unfolding computing plans.client_names plans.client_tables plans.script_names
-turn_31 = copier_turns (record { its = refl; table = refl; map = refl; request = (requests.ChunkEnd (codes "t") (Open ((Num (pos 5)) ∷ [])) ((Num (pos 7)) ∷ []) 1); asked = refl; given = refl; uncut = refl; fits = going }) refl
+turn_31 = copier_turns (record { its = refl; table = refl; map = refl; request = (requests.ChunkEnd (codes "t") (Open ((Num (pos 5)) ∷ [])) ((Num (pos 7)) ∷ []) 1); asked = refl; tool = refl; given = refl; uncut = refl; fits = going }) refl
 
 turn_32 : MigrationTurn m_101 limits_101 scene_101 journal_31 entry_32 now_31 now_32
 unfolding computing plans.client_names plans.client_tables plans.script_names
-turn_32 = copier_turns (record { its = refl; table = refl; map = refl; request = (requests.BeginSpan (codes "t") (record { low = (Open ((Num (pos 5)) ∷ [])); high = (Closed ((Num (pos 7)) ∷ [])) }) 1); asked = refl; given = refl; uncut = refl; fits = going }) refl
+turn_32 = copier_turns (record { its = refl; table = refl; map = refl; request = (requests.BeginSpan (codes "t") (record { low = (Open ((Num (pos 5)) ∷ [])); high = (Closed ((Num (pos 7)) ∷ [])) }) 1); asked = refl; tool = refl; given = refl; uncut = refl; fits = going }) refl
 
 turn_33 : MigrationTurn m_101 limits_101 scene_101 journal_32 entry_33 now_32 now_33
 unfolding computing plans.client_names plans.client_tables plans.script_names
-turn_33 = copier_turns (record { its = refl; table = refl; map = refl; request = (requests.CopyRow (codes "t") (codes "_t_gho") map_101 ((Num (pos 7)) ∷ [])); asked = refl; given = refl; uncut = refl; fits = going }) refl
+turn_33 = copier_turns (record { its = refl; table = refl; map = refl; request = (requests.CopyRow (codes "t") (codes "_t_gho") map_101 ((Num (pos 7)) ∷ [])); asked = refl; tool = refl; given = refl; uncut = refl; fits = going }) refl
 
 turn_34 : MigrationTurn m_101 limits_101 scene_101 journal_33 entry_34 now_33 now_34
 unfolding computing plans.client_names plans.client_tables plans.script_names
-turn_34 = copier_turns (record { its = refl; table = refl; map = refl; request = requests.Commit; asked = refl; given = refl; uncut = refl; fits = over }) refl
+turn_34 = copier_turns (record { its = refl; table = refl; map = refl; request = requests.Commit; asked = refl; tool = refl; given = refl; uncut = refl; fits = over }) refl
 
 turn_35 : MigrationTurn m_101 limits_101 scene_101 journal_34 entry_35 now_34 now_34
 unfolding computing plans.client_names plans.client_tables plans.script_names
@@ -617,7 +618,7 @@ turn_37 = others_turn (record { sides = λ may. refl; no_copier = refl; no_appli
 
 turn_38 : MigrationTurn m_101 limits_101 scene_101 journal_37 entry_38 now_34 now_38
 unfolding computing plans.client_names plans.client_tables plans.script_names
-turn_38 = applier_turns (record { its = refl; table = refl; schema = refl; map = refl; request = (requests.ReadLog 1 3 (codes "t" ∷ codes "_t_ghc" ∷ [])); asked = refl; given = refl; uncut = refl; fits = over }) refl
+turn_38 = applier_turns (record { its = refl; table = refl; schema = refl; map = refl; request = (requests.ReadLog 1 3 (codes "t" ∷ codes "_t_ghc" ∷ [])); asked = refl; tool = refl; given = refl; uncut = refl; fits = over }) refl
 
 turn_39 : MigrationTurn m_101 limits_101 scene_101 journal_38 entry_39 now_38 now_38
 unfolding computing plans.client_names plans.client_tables plans.script_names
@@ -738,6 +739,25 @@ away_101 n no_copier no_applier =
     let quiet : AllByRecursion (λ (s : Session). s.writes ≡ []) (scene_state limits_101 scene_101 journal_18).sessions = (refl, (refl, tt)) in
     subst (NotOf (codes "_t_gho")) (sym (quiet_found n (scene_state limits_101 scene_101 journal_18).sessions quiet)) tt
 
+abbrev moment_18 : ToolMoment
+moment_18 = moment_at m_101 (scene_state limits_101 scene_101 journal_18) journal_18 now_18
+
+-- the migrated table's rows at the start
+abbrev rows_18 : List Row
+rows_18 = ((Num (pos 5)) ∷ (Num (pos 2)) ∷ (Num (pos 6)) ∷ []) ∷ ((Num (pos 7)) ∷ (Num (pos 6)) ∷ Null ∷ []) ∷ []
+
+tables_found_18 : find_table m_101.name moment_18.stored.tables ≡ Some (record { schema = m_101.schema; rows = rows_18 })
+unfolding computing plans.client_names plans.client_tables plans.script_names
+tables_found_18 = refl
+
+rows_logged_18 : rows_now m_101 rows_101 moment_18 ≡ rows_18
+unfolding computing plans.client_names plans.client_tables plans.script_names Rattle.proof_journals.specs.Ghost.Rows.Moments.rows_at
+rows_logged_18 = refl
+
+-- Both sides are computed by themselves: compared with each other they grow.
+found_18 : find_table m_101.name moment_18.stored.tables ≡ Some (record { schema = m_101.schema; rows = rows_now m_101 rows_101 moment_18 })
+found_18 = tables_found_18 ∙ ap (λ (rows : List Row). Some (record { schema = m_101.schema; rows = rows })) (sym rows_logged_18)
+
 start_101 : IsMigrationStart m_101 rows_101 limits_101 scene_101 journal_18 now_18
 unfolding computing plans.client_names plans.client_tables plans.script_names Rattle.proof_journals.specs.Ghost.Rows.Moments.LogFits Rattle.proof_journals.specs.Ghost.Rows.Moments.rows_at
 start_101 =
@@ -745,7 +765,7 @@ start_101 =
       start = record {
         fits = ((λ named. ((refl, (refl, (refl, tt))), (refl, tt))), tt);
         noted = grind (arith);
-        old = refl;
+        old = found_18;
         empty = refl;
         range = refl;
         resting = refl;

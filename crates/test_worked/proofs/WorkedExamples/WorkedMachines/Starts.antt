@@ -1,12 +1,11 @@
 -- The machines at their starts, on a table `t`.
-use Rattle.std.proofs.Common.{◌≡◌, ℕ, List, false, [], ◌∷◌, Some, refl, codes}
+use Rattle.std.proofs.Common.{◌≡◌, List, false, [], ◌∷◌, Some, refl, codes}
 use Rattle.std.specs.Prelude.{pos}
 use Rattle.std.specs.Fmt.{digits}
 use Rattle.base_values.specs.declared.value.Value.{Value}
 use Rattle.base_values.specs.declared.value.Value.TheVariants.{Num, Text}
 use Rattle.base_values.specs.declared.span.Bound.TheVariants.{Closed}
 use Rattle.base_values.specs.declared.gho_schema.schema.Schema.{Schema}
-use Rattle.base_values.specs.declared.row_conversion.map.MapColumn.{MapColumn}
 use Rattle.server_model.specs.declared.request.Request.TheVariants as requests
 use Rattle.tool_changelog.specs.Hints.{hint_row, hint_of}
 use Rattle.base_values.specs.ToolNames.{log_name}

@@ -57,7 +57,7 @@ abbrev new_table : Altered
 new_table = (made_schema, (record { kind = Int 4 false; nullable = false; origin = from.Old 0 } ∷ record { kind = Int 4 false; nullable = true; origin = from.Added Null } ∷ []))
 
 abbrev alter : List Clause
-alter = (clauses.Add (record { name = codes "b"; kind = Int 4 false; nullable = None; default = None }) Unsaid ∷ [])
+alter = (clauses.Add (record { name = codes "b"; kind = Int 4 false; nullable = None; default = None; auto = false }) Unsaid ∷ [])
 
 valid : IsValid old_schema
 unfolding computing

@@ -6,4 +6,4 @@ use Rattle.plan_reader.proofs.plan_tables.tables.read_tables.Given as goal
 
 -- the tables so far with those that are left are all
 abbrev pub invariant-loop-table_keys : goal.invariant-loop-table_keys
-invariant-loop-table_keys l = tables_from l.migrated l.number (database l.tables) (map table_data (drop l.table_keys-index l.keys)) ≡ tables_from l.migrated 1 [] (map table_data l.keys)
+invariant-loop-table_keys l = tables_from l.version l.migrated l.number (database l.tables) (map table_data (drop l.table_keys-index l.keys)) ≡ tables_from l.version l.migrated 1 [] (map table_data l.keys)

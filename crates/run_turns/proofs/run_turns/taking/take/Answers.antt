@@ -7,18 +7,21 @@ use Rattle.tool_program.specs.JournalWords.Sessions.{live_session}
 use Rattle.tool_program.specs.Tools.{moment}
 use Rattle.plan_data.specs.PlanData.{PlanData}
 use Rattle.proof_journals.specs.Run.Counts.{busy_count}
+use Rattle.run_actors.specs.ClientTurns.ActorStates.{DrawsAtMark}
 use Rattle.run_state.specs.Books.{is_planned, HasRoomFor, IsRunState}
 use Rattle.run_turns.specs.DueTurns.MigrationRun.FreeTurns.{is_free_turn}
-use Rattle.run_turns.specs.DueTurns.Due.{next_entry}
 use Rattle.run_turns.specs.DueTurns.DueCalls.Ranges.{IsReadAhead}
 use Rattle.run_turns.specs.RunTurns.Invariants.{IsRun}
 use Rattle.run_turns.proofs.DueTurns.MigrationRun.Results.{on_err}
 use Rattle.run_turns.proofs.RunTurns.Costs.{reading_costs}
-use Rattle.run_turns.proofs.RunTurns.Served.{planned_entry, reported_ahead, work_reported, load_reported, busy_reported, run_more}
+use Rattle.run_turns.proofs.RunTurns.Served.{planned_entry, draws_marked, reported_ahead, work_reported, load_reported, busy_reported, run_more}
 use Rattle.run_turns.proofs.run_turns.taking.take.Goals as goal
 
 pub keep-requires-clause-planned : goal.keep-requires-clause-planned
 keep-requires-clause-planned g c = subst (λ (one : Entry). is_planned c.args.run_state.now.plan.now one.actor ≡ true) (sym c.in_ok-taken.ensures.entry) (planned_entry c.args.run_state.now.plan.now c.args.run_state.now.journal.items c.args.run_state.now c.args.sessions.now (g.V.Serve.state c.args.server.now) c.args.turn c.requires.run c.requires.due)
+
+pub keep-requires-clause-draws : goal.keep-requires-clause-draws
+keep-requires-clause-draws g c = subst DrawsAtMark (sym c.in_ok-taken.ensures.entry) (draws_marked c.args.run_state.now.plan.now c.args.run_state.now.journal.items c.args.run_state.now c.args.sessions.now (g.V.Serve.state c.args.server.now) c.args.turn c.requires.run c.requires.due)
 
 pub keep-requires-clause-reported : goal.keep-requires-clause-reported
 keep-requires-clause-reported g c =

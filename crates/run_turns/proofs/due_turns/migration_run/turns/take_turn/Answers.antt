@@ -1,7 +1,7 @@
 use Rattle.std.proofs.Common.{◌≡◌, false, ap, ◌∙◌}
 use Rattle.tool_program.specs.JournalWords.Journals.{heard, missed}
 use Rattle.proof_journals.specs.Run.Counts.{IsAfter}
-use Rattle.run_turns.proofs.DueTurns.MigrationRun.Counted.{given_reported, leaves_reported, kind_reported, work_reported, open_reported, busy_reported, open_part, busy_part, gone_reported, stays_reported, made_reported, counts_reported, err_after, err_made, entry_same}
+use Rattle.run_turns.proofs.DueTurns.MigrationRun.Counted.{given_reported, draw_reported, leaves_reported, kind_reported, work_reported, open_reported, busy_reported, open_part, busy_part, gone_reported, stays_reported, made_reported, counts_reported, err_after, err_made, entry_same}
 use Rattle.run_turns.specs.DueTurns.MigrationRun.FreeTurns.{is_free_turn}
 use Rattle.run_turns.proofs.DueTurns.MigrationRun.Costs.{opens_one, asks_so}
 use Rattle.run_turns.proofs.DueTurns.MigrationRun.Results.{on_err}
@@ -34,7 +34,8 @@ pub returns-clause-entry : goal.returns-clause-entry
 returns-clause-entry g c =
     let given = given_reported (g.V.Serve.state c.args.server.now) c.args.session c.args.turn c.requires.may (g.V.Serve.state c.open_session.new.server) c.in_ok-number.number (c.in_ok-number.ensures.opened c.requires.may.own) c.in_ok-number.ensures.next in
     entry_same (g.V.Serve.state c.args.server.now) _ c.args.turn c.entry_of.result c.entry_of.ensures.actor (c.entry_of.ensures.session ∙ c.in_ok-number.ensures.next) c.entry_of.ensures.asked c.entry_of.ensures.side
-    (c.entry_of.ensures.answer ∙ c.in_ok-heard.ensures.answer ∙ ap (heard c.args.turn.side) given) (c.entry_of.ensures.missed ∙ c.in_ok-heard.ensures.missed ∙ ap (missed c.args.turn.side) given) c.entry_of.ensures.draw
+    (c.entry_of.ensures.answer ∙ c.in_ok-heard.ensures.answer ∙ ap (heard c.args.turn.side) given) (c.entry_of.ensures.missed ∙ c.in_ok-heard.ensures.missed ∙ ap (missed c.args.turn.side) given)
+    (c.entry_of.ensures.draw ∙ c.in_ok-heard.ensures.draw ∙ draw_reported (g.V.Serve.state c.args.server.now) c.args.session c.args.turn c.requires.may (g.V.Serve.state c.open_session.new.server) c.in_ok-number.number (c.in_ok-number.ensures.opened c.requires.may.own) c.in_ok-number.ensures.next)
 
 pub returns-clause-work : goal.returns-clause-work
 returns-clause-work g c =

@@ -1,0 +1,7 @@
+mod ColumnValues
+mod LockedCounters
+mod Numbers
+mod OtherTables
+mod Schemas
+mod SmallNumbers
+mod Sparing

@@ -1,0 +1,5 @@
+pub mod ColumnValues
+pub mod LockedCounters
+pub mod Numbers
+pub mod OtherTables
+pub mod SmallNumbers

@@ -1,0 +1,4 @@
+pub mod AllClients
+pub mod Auditing
+pub mod Judging
+pub mod PrintedTables
