@@ -1,14 +1,35 @@
 //! What clients got, as a report prints it.
 
 use crate::tables::{push_number_line, push_rows};
+use base_script::{ScriptWord, Statement};
 use base_values::Text;
 use server_model::{Mark, Replies, Reply, TxnLine};
 use std::alloc::AllocError;
 use test_histories::journal_pasts::{PastItem, Reached, Walked};
 
-fn push_reply(text: &mut Text, reply: &Reply) -> Result<(), AllocError> {
+/// The number that a line drew for an AUTO_INCREMENT column; none where it drew none.
+fn drawn_in(word: &ScriptWord) -> Option<u64> {
+    match word {
+        ScriptWord::Do(Statement::Insert { drawn, .. }) => *drawn,
+        ScriptWord::Do(Statement::Replace { drawn, .. }) => *drawn,
+        _ => None,
+    }
+}
+
+/// Adds a count, and the number that the line drew, where it drew one.
+fn push_ok(text: &mut Text, count: u64, drawn: Option<u64>) -> Result<(), AllocError> {
+    text.push_str("ok ")?;
+    text.push_number(i128::from(count))?;
+    if let Some(number) = drawn {
+        text.push_str(" id ")?;
+        text.push_number(i128::from(number))?;
+    }
+    text.push_str("\n")
+}
+
+fn push_reply(text: &mut Text, reply: &Reply, drawn: Option<u64>) -> Result<(), AllocError> {
     match reply {
-        Reply::Ok(count) => push_number_line(text, "ok ", *count),
+        Reply::Ok(count) => push_ok(text, *count, drawn),
         Reply::Error(number) => push_number_line(text, "error ", u64::from(*number)),
         Reply::Rows(rows) => {
             push_number_line(text, "rows ", rows.len() as u64)?;
@@ -28,16 +49,16 @@ fn push_place(text: &mut Text, number: u64, line: u64) -> Result<(), AllocError>
 /// Adds what a line got: that its session was lost, or the next of these replies; gives those after it.
 fn push_line<'a>(
     text: &mut Text,
-    mark: Mark,
+    line: &TxnLine,
     replies: &'a [Reply],
 ) -> Result<&'a [Reply], AllocError> {
-    match (mark, replies.split_first()) {
+    match (line.mark, replies.split_first()) {
         (Mark::Lost(_), _) => {
             text.push_str("lost\n")?;
             Ok(replies)
         }
         (_, Some((reply, others))) => {
-            push_reply(text, reply)?;
+            push_reply(text, reply, drawn_in(&line.word))?;
             Ok(others)
         }
         (_, None) => {
@@ -59,7 +80,7 @@ fn push_lines(
     for line in lines {
         place = place.saturating_add(1);
         push_place(text, number, place)?;
-        rest = push_line(text, line.mark, rest)?;
+        rest = push_line(text, line, rest)?;
     }
     Ok(())
 }
