@@ -2,7 +2,7 @@
 
 use crate::losses::run_with_losses;
 use crate::orders::run_in_orders;
-use crate::workers::{run_by_meeting, run_by_workers};
+use crate::workers::{rebuild_by_meeting, run_by_meeting, run_by_workers};
 use std::io;
 use std::rt::Files;
 use test_program::{Program, names_in, text_in};
@@ -18,6 +18,8 @@ pub enum Runs {
     Workers,
     /// Two workers that meet, of the folder `meetings`.
     Meetings,
+    /// A rebuild by two shards that meet, of the folder `shards`.
+    Shards,
 }
 
 impl Runs {
@@ -27,6 +29,7 @@ impl Runs {
             Runs::Losses => "losses",
             Runs::Workers => "workers",
             Runs::Meetings => "meetings",
+            Runs::Shards => "shards",
         }
     }
 }
@@ -43,6 +46,7 @@ fn run_plan<R: Print + AllocGlobal>(
         Runs::Losses => run_with_losses(rt, program, name, plan),
         Runs::Workers => run_by_workers(rt, program, name, plan),
         Runs::Meetings => run_by_meeting(rt, program, name, plan),
+        Runs::Shards => rebuild_by_meeting(rt, program, name, plan),
     }
 }
 

@@ -1,4 +1,4 @@
-//! Runs by worker threads, and replays in the orders that they print.
+//! Runs by worker threads, and replays in the orders that they print; and rebuilds by two threads.
 
 use crate::as_reference::is_reference_run;
 use std::alloc::{AllocError, Global};
@@ -109,6 +109,30 @@ pub fn run_by_meeting<R: Print + AllocGlobal>(
         println!(rt; "{name}: two workers meet before each of eight turns")
     } else {
         println!(rt; "{name}: two workers don't meet before each of eight turns")
+    }
+}
+
+/// Whether two shards of a rebuild, each of which waits at the gate for the other before it begins, do meet, and print the table that
+/// one shard prints.
+fn shards_meet(alloc: Global, program: &Program, plan: &str) -> Result<bool, AllocError> {
+    let gate = Meeting::new(1);
+    let words = "rebuild --workers 2";
+    let ran = run_between(alloc, program, words, plan.as_bytes(), SOUND, &gate)?;
+    let alone = run(alloc, program, "rebuild --workers 1", plan.as_bytes())?;
+    Ok(gate.all_met() && ran.ended.status == 0 && ran.printed() == alone.printed())
+}
+
+/// Rebuilds a plan's table by two shards that meet, and says whether they do.
+pub fn rebuild_by_meeting<R: Print + AllocGlobal>(
+    rt: &R,
+    program: &Program,
+    name: &str,
+    plan: &str,
+) -> io::Result<()> {
+    if shards_meet(rt.alloc(), program, plan)? {
+        println!(rt; "{name}: two shards meet, and print the table of one")
+    } else {
+        println!(rt; "{name}: two shards don't meet, or print another table than one")
     }
 }
 

@@ -9,7 +9,8 @@
 //! each actor, with the actor's session lost before that turn. Each run must be as one transaction at a time. The plans of
 //! `workers` are run by one worker thread, two, four and sixteen, and then replayed in the order that the report prints: the two
 //! reports are the same. Those of `meetings` are run by two workers, at a gate that keeps each before its turn until the other has
-//! come as far: that they take turn about shows that they are threads.
+//! come as far: that they take turn about shows that they are threads. That of `shards` is rebuilt by two shards, each of which waits
+//! at the gate until the other stands there too.
 //!
 //! `meeting_clients` has plans of clients whose transactions meet, with lines that the report must have: the clients', which an
 //! independent model gave. Here too each run must be as one transaction at a time.
@@ -49,6 +50,7 @@ fn main(rt: HostRuntime) -> io::Result<()> {
     run_files(&rt, &program, Runs::Losses)?;
     run_files(&rt, &program, Runs::Workers)?;
     run_files(&rt, &program, Runs::Meetings)?;
+    run_files(&rt, &program, Runs::Shards)?;
     run_case_files(&rt, &program, "meeting_clients", Asked::HasLines)?;
     run_case_files(&rt, &program, "altered_reports", Asked::TellsReport)?;
     run_case_files(&rt, &program, "other_plans", Asked::TellsPlan)?;

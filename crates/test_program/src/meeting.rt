@@ -15,6 +15,7 @@ const LOOKS: u32 = 100_000_000;
 pub struct Meeting {
     last: u64,
     reached: [AtomicU64; 2],
+    missed: AtomicU64,
 }
 
 impl Meeting {
@@ -23,7 +24,16 @@ impl Meeting {
         Meeting {
             last,
             reached: [AtomicU64::new(0), AtomicU64::new(0)],
+            missed: AtomicU64::new(0),
         }
+    }
+
+    /// Whether each worker has reached its last turn, and none looked for the other in vain.
+    pub fn all_met(&self) -> bool {
+        let [first, second] = &self.reached;
+        first.load(Ordering::SeqCst) >= self.last
+            && second.load(Ordering::SeqCst) >= self.last
+            && self.missed.load(Ordering::SeqCst) == 0
     }
 }
 
@@ -45,6 +55,7 @@ impl Gate for Meeting {
             }
             thread::yield_now();
         }
+        self.missed.store(1, Ordering::SeqCst);
     }
 
     fn after(&self, _worker: u32, _nth: u64) {}

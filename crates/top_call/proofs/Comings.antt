@@ -14,18 +14,20 @@ use Rattle.plan_reader.specs.declared.limits.TheConstants.{PLAN_LIMIT}
 use Rattle.plan_reader.specs.Plans.{document, plan_at, read}
 use Rattle.top_words.specs.Commands.{command}
 use Rattle.top_words.specs.declared.command.Command.{Command}
-use Rattle.top_words.specs.declared.command.Command.TheVariants.{Check, Replay, Run, Generate, Trace}
+use Rattle.top_words.specs.declared.command.Command.TheVariants.{Check, Replay, Run, Generate, Trace, Rebuild}
 use Rattle.top_endings.specs.declared.command.PlanCommand.{PlanCommand}
 use Rattle.top_endings.specs.declared.command.PlanCommand.TheVariants as plans
 use Rattle.top_endings.specs.declared.printed.Printed.{Printed}
+use Rattle.top_endings.specs.declared.refusals.Refusal.TheVariants as refusals
 use Rattle.top_endings.specs.declared.status.Status.TheVariants as statuses
 use Rattle.top_endings.specs.declared.turn.Turn.{Turn}
 use Rattle.top_endings.specs.Endings.{Taking, IsWorkload, IsUsage, IsReadFault}
 use Rattle.top_endings.specs.Checks.{IsSchema}
+use Rattle.top_endings.specs.Rebuilt.{has_second_unique}
 use Rattle.top_endings.specs.Texts.{IsRefusal, usage_text, read_fault_text}
 use Rattle.top_workload.specs.Workloads.{workload}
 use Rattle.top_call.specs.Comings.{ComesTo, HasNoPlan, IsAccepted, LeavesSource, TellsPlan}
-use Rattle.top_call.specs.Outcomes.{Comes, IsTaken, IsUntaken, TakesNone, report_at, trace_at}
+use Rattle.top_call.specs.Outcomes.{Comes, IsTaken, IsUntaken, RebuildComes, TakesNone, rebuild_at, report_at, trace_at}
 
 no_turn : IsUntaken [] []
 no_turn = record { no_turns = refl; no_journal = refl }
@@ -44,14 +46,15 @@ pub fault_reported : (source : Taking) (printed : Option Printed) → IfSome pri
 fault_reported source None is rose = nothing_reported source
 fault_reported source (Some printed) is rose = λ chosen. inr (record { untaken = no_turn; shows = record { status_is = ap (λ (one : Printed). one.status) is; text_is = ap (λ (one : Printed). one.text) is; rose = rose } })
 
-refusal_comes : (chosen : PlanCommand) (bytes : List ℕ) (refusal : PlanRefusal) (printed : Option Printed) → IfSome printed (IsRefusal refusal) → Comes chosen bytes (Err refusal) printed [] []
+refusal_comes : (chosen : PlanCommand) (bytes : List ℕ) (refusal : PlanRefusal) (printed : Option Printed) → IfSome printed (IsRefusal (refusals.Plan refusal)) → Comes chosen bytes (Err refusal) printed [] []
 refusal_comes plans.Check bytes refusal printed shows = record { untaken = no_turn; shows = shows }
 refusal_comes plans.Replay bytes refusal printed shows = record { untaken = no_turn; shows = shows }
 refusal_comes (plans.Run workers) bytes refusal printed shows = record { untaken = no_turn; shows = shows }
 refusal_comes plans.Trace bytes refusal printed shows = record { untaken = no_turn; shows = shows }
+refusal_comes (plans.Rebuild workers) bytes refusal printed shows = record { untaken = no_turn; shows = shows }
 
 -- its bytes are refused
-pub refusal_reported : (source : Taking) (printed : Option Printed) (bytes : List ℕ) (refusal : PlanRefusal) → ReadsWhole PLAN_LIMIT source.before source.after bytes → read bytes ≡ Err refusal → IfSome printed (IsRefusal refusal) → HasNoPlan source printed [] []
+pub refusal_reported : (source : Taking) (printed : Option Printed) (bytes : List ℕ) (refusal : PlanRefusal) → ReadsWhole PLAN_LIMIT source.before source.after bytes → read bytes ≡ Err refusal → IfSome printed (IsRefusal (refusals.Plan refusal)) → HasNoPlan source printed [] []
 refusal_reported source printed bytes refusal whole refused shows = λ chosen. inl (record {
   bytes = bytes;
   whole = whole;
@@ -80,6 +83,15 @@ run_reported workers source bytes plan printed turns journal was taken = of_plan
 
 pub trace_reported : (source : Taking) (bytes : List ℕ) (plan : PlanData) (printed : Option Printed) (turns : List Turn) (journal : List Entry) → IsAccepted source bytes plan → IsTaken plans.Trace plan (trace_at bytes plan journal) printed turns journal → TellsPlan plans.Trace source printed turns journal
 trace_reported source bytes plan printed turns journal was taken = of_plan plans.Trace source bytes plan printed turns journal was taken
+
+-- a rebuild refuses a plan whose altered schema has a second unique key, and takes another
+pub second_unique_reported : (workers : ℕ) (source : Taking) (bytes : List ℕ) (plan : PlanData) (printed : Option Printed) → IsAccepted source bytes plan → has_second_unique plan ≡ true → IfSome printed (IsRefusal refusals.SecondUnique) → TellsPlan (plans.Rebuild workers) source printed [] []
+second_unique_reported workers source bytes plan printed was more shows =
+    of_plan (plans.Rebuild workers) source bytes plan printed [] [] was (subst (λ (b : Bool). RebuildComes b workers bytes plan printed [] []) (sym more) (record { untaken = no_turn; shows = shows }))
+
+pub rebuild_reported : (workers : ℕ) (source : Taking) (bytes : List ℕ) (plan : PlanData) (printed : Option Printed) (turns : List Turn) (journal : List Entry) → IsAccepted source bytes plan → has_second_unique plan ≡ false → IsTaken (plans.Rebuild workers) plan (rebuild_at plan journal) printed turns journal → TellsPlan (plans.Rebuild workers) source printed turns journal
+rebuild_reported workers source bytes plan printed turns journal was one taken =
+    of_plan (plans.Rebuild workers) source bytes plan printed turns journal was (subst (λ (b : Bool). RebuildComes b workers bytes plan printed turns journal) (sym one) taken)
 
 -- bytes that are a plan are UTF-8
 pub plans_are_utf8 : (bytes : List ℕ) (plan : PlanData) → read bytes ≡ Ok plan → is_utf8 bytes ≡ true
@@ -112,6 +124,7 @@ nothing_comes (Some Replay) left faults = nothing_reported (Unmoved left faults)
 nothing_comes (Some (Run workers)) left faults = nothing_reported (Unmoved left faults) (plans.Run workers)
 nothing_comes (Some (Generate number)) left faults = left_as_it_was left faults _ None (nothing_shown _)
 nothing_comes (Some Trace) left faults = nothing_reported (Unmoved left faults) plans.Trace
+nothing_comes (Some (Rebuild workers)) left faults = nothing_reported (Unmoved left faults) (plans.Rebuild workers)
 
 -- what comes under the commands that read a plan
 pub check_comes : (source : Taking) (printed : Option Printed) (turns : List Turn) (journal : List Entry) → TellsPlan plans.Check source printed turns journal → ComesTo (Some Check) source printed turns journal
@@ -125,6 +138,10 @@ replay_comes source printed turns journal tells = tells
 pub trace_comes : (source : Taking) (printed : Option Printed) (turns : List Turn) (journal : List Entry) → TellsPlan plans.Trace source printed turns journal → ComesTo (Some Trace) source printed turns journal
 unfolding ComesTo
 trace_comes source printed turns journal tells = tells
+
+pub rebuild_comes : (workers : ℕ) (source : Taking) (printed : Option Printed) (turns : List Turn) (journal : List Entry) → TellsPlan (plans.Rebuild workers) source printed turns journal → ComesTo (Some (Rebuild workers)) source printed turns journal
+unfolding ComesTo
+rebuild_comes workers source printed turns journal tells = tells
 
 -- under words that ask for a run
 pub run_comes : (words : List (List ℕ)) (workers : ℕ) (source : Taking) (printed : Option Printed) (turns : List Turn) (journal : List Entry) → command words ≡ Some (Run workers) → TellsPlan (plans.Run workers) source printed turns journal → ComesTo (command words) source printed turns journal

@@ -1,5 +1,5 @@
 -- How a call ends, from what its words and its source come to and what was given of it.
-use Rattle.std.proofs.Common.{◌≡◌, ℕ, true, List, Option, Some, None, Result, Ok, Err, inl, inr, refl, sym, ap, ◌∙◌, subst}
+use Rattle.std.proofs.Common.{◌≡◌, ℕ, Bool, true, false, cond, List, Option, Some, None, Result, Ok, Err, inl, inr, refl, sym, ap, ◌∙◌, subst}
 use Rattle.std.specs.Io.KnownBytes.{Appends}
 use Rattle.server_model.specs.declared.entry.Entry.{Entry}
 use Rattle.server_model.specs.declared.outcome.Verdict.{Verdict}
@@ -10,20 +10,23 @@ use Rattle.plan_reader.specs.Plans.{read}
 use Rattle.tool_program.specs.Verdicts.{verdict_of}
 use Rattle.top_words.specs.Commands.{command}
 use Rattle.top_words.specs.declared.command.Command.{Command}
-use Rattle.top_words.specs.declared.command.Command.TheVariants.{Check, Replay, Run, Generate, Trace}
+use Rattle.top_words.specs.declared.command.Command.TheVariants.{Check, Replay, Run, Generate, Trace, Rebuild}
 use Rattle.top_endings.specs.declared.command.PlanCommand.{PlanCommand}
 use Rattle.top_endings.specs.declared.command.PlanCommand.TheVariants as plans
 use Rattle.top_endings.specs.declared.printed.Printed.{Printed}
+use Rattle.top_endings.specs.declared.refusals.Refusal.{Refusal}
+use Rattle.top_endings.specs.declared.refusals.Refusal.TheVariants as refusals
 use Rattle.top_endings.specs.declared.status.Status.{Status}
 use Rattle.top_endings.specs.declared.status.Status.TheVariants as statuses
 use Rattle.top_endings.specs.declared.turn.Turn.{Turn}
 use Rattle.top_endings.specs.Endings.{Taking, Giving, IsReadFault, IsUsage, IsWorkload, Gives, asked, reads_plan}
 use Rattle.top_endings.specs.Checks.{IsSchema}
+use Rattle.top_endings.specs.Rebuilt.{has_second_unique}
 use Rattle.top_endings.specs.Texts.{IsRefusal}
 use Rattle.top_call.specs.WholeReplays.SoundRuns.{IsSoundRun}
 use Rattle.top_call.specs.Comings.{IsRead, TellsPlan, ComesTo, Does}
-use Rattle.top_call.specs.Outcomes.{IsTaken, TakesNone, Comes, run_text, status_of}
-use Rattle.top_call.specs.Promises.{Ends, EndsUnder, PrintsDone, PrintsReport}
+use Rattle.top_call.specs.Outcomes.{IsTaken, RebuildComes, TakesNone, Comes, run_text, status_of}
+use Rattle.top_call.specs.Promises.{Ends, EndsUnder, PrintsDone, PrintsReport, refusal_by, refusal_of}
 use Rattle.top_call.specs.TopLaws.{Laws}
 use Rattle.top_call.proofs.Headline.{runs_of}
 use Rattle.top_call.proofs.Taken.{sound_of, ends_as, is_taken, tells_alter}
@@ -45,6 +48,7 @@ module _ (words : List (List ℕ)) (source : Taking) (sink : Giving) (turns : Li
   reads_by plans.Replay is = ap reads_plan is
   reads_by (plans.Run workers) is = ap reads_plan is
   reads_by plans.Trace is = ap reads_plan is
+  reads_by (plans.Rebuild workers) is = ap reads_plan is
 
   usage_under : (printed : Printed) → command words ≡ None → Gave printed → TakesNone (IsUsage source) (Some printed) turns journal → Under printed.status
   usage_under printed faulty given comes =
@@ -62,7 +66,7 @@ module _ (words : List (List ℕ)) (source : Taking) (sink : Giving) (turns : Li
   fault_under chosen printed is given comes =
       subst Under (sym comes.shows.status_is) (record { reads = reads_by chosen is; untaken = comes.untaken; rose = comes.shows.rose; given = text_given printed _ comes.shows.text_is given })
 
-  refusal_under : (chosen : PlanCommand) (printed : Printed) (was : IsRead chosen source (Some printed) turns journal) (refusal : PlanRefusal) → command words ≡ Some (asked chosen) → read was.bytes ≡ Err refusal → Gave printed → TakesNone (IsRefusal refusal) (Some printed) turns journal → Under printed.status
+  refusal_under : (chosen : PlanCommand) (printed : Printed) (was : IsRead chosen source (Some printed) turns journal) (refusal : Refusal) → command words ≡ Some (asked chosen) → refusal_of (read was.bytes) (command words) ≡ Some refusal → Gave printed → TakesNone (IsRefusal refusal) (Some printed) turns journal → Under printed.status
   refusal_under chosen printed was refusal is said given comes =
       subst Under (sym comes.shows.status_is) (record {
         reads = reads_by chosen is;
@@ -92,6 +96,7 @@ module _ (words : List (List ℕ)) (source : Taking) (sink : Giving) (turns : Li
   printed_done plans.Replay prints = prints
   printed_done (plans.Run workers) prints = prints
   printed_done plans.Trace prints = prints
+  printed_done (plans.Rebuild workers) prints = prints
 
   module _ (laws : Laws) (chosen : PlanCommand) (printed : Printed) (was : IsRead chosen source (Some printed) turns journal) (plan : PlanData) (is : command words ≡ Some (asked chosen)) (said : read was.bytes ≡ Ok plan) (given : Gave printed) (taken : IsTaken chosen plan (run_text chosen was.bytes plan journal) (Some printed) turns journal) where
     sound : IsSoundRun plan journal
@@ -125,15 +130,31 @@ module _ (words : List (List ℕ)) (source : Taking) (sink : Giving) (turns : Li
     report_under : Under printed.status
     report_under = verdict_under (verdict_of plan journal) refl taken.reports.status_is
 
+  -- a refusal of the plan, whatever the command is
+  unread_under : (chosen : PlanCommand) (printed : Printed) (was : IsRead chosen source (Some printed) turns journal) (refusal : PlanRefusal) → command words ≡ Some (asked chosen) → read was.bytes ≡ Err refusal → Gave printed → TakesNone (IsRefusal (refusals.Plan refusal)) (Some printed) turns journal → Under printed.status
+  unread_under chosen printed was refusal is said = refusal_under chosen printed was (refusals.Plan refusal) is (ap (λ (r : Result PlanData PlanRefusal). refusal_of r (command words)) said)
+
+  -- a plan that was read, under `rebuild`
+  rebuild_under : Laws → (workers : ℕ) (printed : Printed) (was : IsRead (plans.Rebuild workers) source (Some printed) turns journal) (plan : PlanData) → command words ≡ Some (Rebuild workers) → read was.bytes ≡ Ok plan → Gave printed → RebuildComes (has_second_unique plan) workers was.bytes plan (Some printed) turns journal → Under printed.status
+  rebuild_under laws workers printed was plan is said given = by (has_second_unique plan) refl where
+    refused : has_second_unique plan ≡ true → refusal_of (read was.bytes) (command words) ≡ Some refusals.SecondUnique
+    refused more = ap (λ (r : Result PlanData PlanRefusal). refusal_of r (command words)) said ∙ ap (λ (chosen : Option Command). refusal_by chosen plan) is ∙ ap (λ (b : Bool). cond b (Some refusals.SecondUnique) None) more
+
+    by : (b : Bool) → has_second_unique plan ≡ b → RebuildComes b workers was.bytes plan (Some printed) turns journal → Under printed.status
+    by true more comes = refusal_under (plans.Rebuild workers) printed was refusals.SecondUnique is (refused more) given comes
+    by false one taken = report_under laws (plans.Rebuild workers) printed was plan is said given taken
+
   said_under : Laws → (chosen : PlanCommand) (printed : Printed) (was : IsRead chosen source (Some printed) turns journal) (said : Result PlanData PlanRefusal) → command words ≡ Some (asked chosen) → read was.bytes ≡ said → Gave printed → Comes chosen was.bytes said (Some printed) turns journal → Under printed.status
   said_under laws plans.Check printed was (Ok plan) is said given comes = schema_under printed was plan is said given comes
   said_under laws plans.Replay printed was (Ok plan) is said given comes = report_under laws plans.Replay printed was plan is said given comes
   said_under laws (plans.Run workers) printed was (Ok plan) is said given comes = report_under laws (plans.Run workers) printed was plan is said given comes
   said_under laws plans.Trace printed was (Ok plan) is said given comes = report_under laws plans.Trace printed was plan is said given comes
-  said_under laws plans.Check printed was (Err refusal) is said given comes = refusal_under plans.Check printed was refusal is said given comes
-  said_under laws plans.Replay printed was (Err refusal) is said given comes = refusal_under plans.Replay printed was refusal is said given comes
-  said_under laws (plans.Run workers) printed was (Err refusal) is said given comes = refusal_under (plans.Run workers) printed was refusal is said given comes
-  said_under laws plans.Trace printed was (Err refusal) is said given comes = refusal_under plans.Trace printed was refusal is said given comes
+  said_under laws (plans.Rebuild workers) printed was (Ok plan) is said given comes = rebuild_under laws workers printed was plan is said given comes
+  said_under laws plans.Check printed was (Err refusal) is said given comes = unread_under plans.Check printed was refusal is said given comes
+  said_under laws plans.Replay printed was (Err refusal) is said given comes = unread_under plans.Replay printed was refusal is said given comes
+  said_under laws (plans.Run workers) printed was (Err refusal) is said given comes = unread_under (plans.Run workers) printed was refusal is said given comes
+  said_under laws plans.Trace printed was (Err refusal) is said given comes = unread_under plans.Trace printed was refusal is said given comes
+  said_under laws (plans.Rebuild workers) printed was (Err refusal) is said given comes = unread_under (plans.Rebuild workers) printed was refusal is said given comes
 
   plan_under : Laws → (chosen : PlanCommand) (printed : Printed) → command words ≡ Some (asked chosen) → Gave printed → TellsPlan chosen source (Some printed) turns journal → Under printed.status
   plan_under laws chosen printed is given (inl was) = said_under laws chosen printed was (read was.bytes) is refl given was.comes
@@ -147,6 +168,7 @@ module _ (words : List (List ℕ)) (source : Taking) (sink : Giving) (turns : Li
   whole_under laws (Some Check) printed is given comes = plan_under laws plans.Check printed is given comes
   whole_under laws (Some Replay) printed is given comes = plan_under laws plans.Replay printed is given comes
   whole_under laws (Some Trace) printed is given comes = plan_under laws plans.Trace printed is given comes
+  whole_under laws (Some (Rebuild workers)) printed is given comes = plan_under laws (plans.Rebuild workers) printed is given comes
 
   given_under : Laws → (printed : Option Printed) (status : Status) → ComesTo (command words) source printed turns journal → Gives printed sink status → Under status
   given_under laws None status comes gives = subst Under (sym gives.status_is) (record { comes = comes; given = gives.given })

@@ -20,7 +20,7 @@ use Rattle.proof_plans.specs.ReadPlans.Laws.{WasRead}
 use Rattle.run_turns.specs.Runs.{is_over}
 use Rattle.top_call.specs.WholeReplays.SoundRuns.{IsSoundRun, EndsInTime}
 use Rattle.top_endings.specs.declared.command.PlanCommand.{PlanCommand}
-use Rattle.top_endings.specs.declared.command.PlanCommand.TheVariants.{Check, Replay, Run, Trace}
+use Rattle.top_endings.specs.declared.command.PlanCommand.TheVariants.{Check, Replay, Run, Trace, Rebuild}
 use Rattle.top_endings.specs.declared.turn.Turn.{Turn}
 use Rattle.top_call.specs.Outcomes.{Takes}
 use Rattle.top_call.specs.Promises.{Completes, EndsBy, IsDoneWhereSmooth, IsDoneWithRoom}
@@ -35,6 +35,7 @@ sound_of Check plan turns journal taken = absurd taken
 sound_of Replay plan turns journal taken = taken.0.sound
 sound_of (Run workers) plan turns journal taken = taken.sound
 sound_of Trace plan turns journal taken = taken.0.sound
+sound_of (Rebuild workers) plan turns journal taken = taken.0.sound
 
 -- *Completes*
 pub completes : Laws → (plan : PlanData) (journal : List Entry) → WasRead plan → IsKept plan journal → Completes plan journal

@@ -5,7 +5,7 @@ use Rattle.std.proofs.lemmas.Bool.{true≢false}
 use Rattle.server_model.specs.declared.entry.Entry.{Entry}
 use Rattle.top_words.specs.Commands.{command}
 use Rattle.top_words.specs.declared.command.Command.{Command}
-use Rattle.top_words.specs.declared.command.Command.TheVariants.{Check, Replay, Run, Generate, Trace}
+use Rattle.top_words.specs.declared.command.Command.TheVariants.{Check, Replay, Run, Generate, Trace, Rebuild}
 use Rattle.top_endings.specs.declared.printed.Printed.{Printed}
 use Rattle.top_endings.specs.declared.turn.Turn.{Turn}
 use Rattle.top_endings.specs.Endings.{Taking, Giving, reads_plan}
@@ -18,6 +18,7 @@ unread_by (Some Check) source printed turns journal comes none = absurd (true≢
 unread_by (Some Replay) source printed turns journal comes none = absurd (true≢false none)
 unread_by (Some (Run workers)) source printed turns journal comes none = absurd (true≢false none)
 unread_by (Some Trace) source printed turns journal comes none = absurd (true≢false none)
+unread_by (Some (Rebuild workers)) source printed turns journal comes none = absurd (true≢false none)
 unread_by (Some (Generate number)) source printed turns journal comes none = comes.takes_none
 
 -- *The source is left as it was*, whatever the status

@@ -8,7 +8,7 @@ use Rattle.plan_reader.specs.declared.limits.TheConstants.{PLAN_LIMIT}
 use Rattle.plan_reader.specs.Plans.{read}
 use Rattle.top_words.specs.Commands.{command}
 use Rattle.top_words.specs.declared.command.Command.{Command}
-use Rattle.top_words.specs.declared.command.Command.TheVariants.{Check, Replay, Run, Generate, Trace}
+use Rattle.top_words.specs.declared.command.Command.TheVariants.{Check, Replay, Run, Generate, Trace, Rebuild}
 use Rattle.top_endings.specs.declared.command.PlanCommand.{PlanCommand}
 use Rattle.top_endings.specs.declared.command.PlanCommand.TheVariants as plans
 use Rattle.top_endings.specs.declared.printed.Printed.{Printed}
@@ -51,6 +51,7 @@ ComesTo (Some Replay) source = TellsPlan plans.Replay source
 ComesTo (Some (Run workers)) source = TellsPlan (plans.Run workers) source
 ComesTo (Some (Generate number)) source = LeavesSource source (IsWorkload number source)
 ComesTo (Some Trace) source = TellsPlan plans.Trace source
+ComesTo (Some (Rebuild workers)) source = TellsPlan (plans.Rebuild workers) source
 
 -- *Does*: what a call did. Its words and the source come to what is printed, with its turns and its journal; of this so much
 -- was given; and the number is that of how it ended.

@@ -2,6 +2,8 @@ pub mod Comings
 pub mod Outcomes
 pub mod PrintedOrders
 pub mod Promises
+pub mod Rebuilds
+pub mod RestedServers
 pub mod TopLaws
 pub mod WorkerPlans
 pub mod PlanWorks

@@ -1,6 +1,6 @@
 -- What comes of a plan's bytes: the turns that are taken, what is printed, and the status that it has where it is printed
 -- whole. (This project's rule.)
-use Rattle.std.specs.Prelude.{◌≡◌, true, ℕ, List, [], map, Option, IfSome, Result, Ok, Err}
+use Rattle.std.specs.Prelude.{◌≡◌, Bool, true, false, ℕ, List, [], map, Option, IfSome, Result, Ok, Err}
 use Rattle.server_model.specs.declared.entry.Entry.{Entry}
 use Rattle.server_model.specs.declared.outcome.Verdict.{Verdict}
 use Rattle.server_model.specs.declared.outcome.Verdict.TheVariants as verdicts
@@ -14,15 +14,18 @@ use Rattle.top_report.specs.Reports.{report}
 use Rattle.top_trace.specs.Texts.{trace_text}
 use Rattle.run_turns.specs.Runs.{is_over}
 use Rattle.top_endings.specs.declared.command.PlanCommand.{PlanCommand}
-use Rattle.top_endings.specs.declared.command.PlanCommand.TheVariants.{Check, Replay, Run, Trace}
+use Rattle.top_endings.specs.declared.command.PlanCommand.TheVariants.{Check, Replay, Run, Trace, Rebuild}
 use Rattle.top_endings.specs.declared.printed.Printed.{Printed}
 use Rattle.top_endings.specs.declared.status.Status.{Status}
 use Rattle.top_endings.specs.declared.status.Status.TheVariants as statuses
 use Rattle.top_endings.specs.declared.turn.Turn.{Turn}
 use Rattle.top_endings.specs.Checks.{IsSchema}
+use Rattle.top_endings.specs.Rebuilt.{has_second_unique}
 use Rattle.top_endings.specs.Texts.{IsRefusal}
+use Rattle.top_endings.specs.declared.refusals.Refusal.TheVariants as refusals
 use Rattle.top_call.specs.WholeReplays.Replays.{IsSoundReplay}
 use Rattle.top_call.specs.PlanWorks.Works.{IsSoundRunByWorkers}
+use Rattle.top_call.specs.Rebuilds.{text_at_mark}
 
 -- the status of a report
 abbrev pub status_of : Verdict → Status
@@ -39,12 +42,13 @@ abbrev pub worker_turns : List Turn → List WorkerTurn
 worker_turns turns = map (λ turn. record { worker = turn.worker; actor = turn.actor }) turns
 
 -- *Takes*: what holds of the turns that a command takes of a plan: they are those of a sound replay, or of a sound run by this
--- many workers; `check` takes none
+-- many workers; `check` takes none, and `rebuild` none of a plan whose altered schema has a second unique key
 abbrev pub Takes : PlanCommand → PlanData → List Turn → List Entry → Type 0
 Takes Check plan turns journal = ⊥
 Takes Replay plan turns journal = IsSoundReplay plan journal × (turns ≡ turns_of journal)
 Takes (Run workers) plan turns journal = IsSoundRunByWorkers plan journal (worker_turns turns) workers
 Takes Trace plan turns journal = IsSoundReplay plan journal × (turns ≡ turns_of journal)
+Takes (Rebuild workers) plan turns journal = IsSoundReplay plan journal × (turns ≡ turns_of journal) × (has_second_unique plan ≡ false)
 
 -- no turn was taken
 pub record IsUntaken (turns : List Turn) (journal : List Entry) : Type 0 where
@@ -64,10 +68,16 @@ report_at plan journal verdict = report plan journal verdict (state_at plan jour
 abbrev pub trace_at : List ℕ → PlanData → List Entry → Verdict → List ℕ
 trace_at bytes plan journal verdict = trace_text bytes plan journal verdict (state_at plan journal).tables
 
+-- the rebuild of such a run: where the RENAME was done, the table right after it; else the report
+abbrev pub rebuild_at : PlanData → List Entry → Verdict → List ℕ
+rebuild_at plan journal verdicts.Done = text_at_mark plan journal
+rebuild_at plan journal verdict = report_at plan journal verdict
+
 -- *Text of a run*: what a command prints of a run, with this verdict, of the plan of these bytes: its report, or what the command
 -- has in its place
 abbrev pub run_text : PlanCommand → List ℕ → PlanData → List Entry → Verdict → List ℕ
 run_text Trace bytes plan journal = trace_at bytes plan journal
+run_text (Rebuild workers) bytes plan journal = rebuild_at plan journal
 run_text chosen bytes plan journal = report_at plan journal
 
 -- the text of a run that has ended, or has as many turns as the plan allows
@@ -83,10 +93,16 @@ pub record IsTaken (chosen : PlanCommand) (plan : PlanData) (text : Verdict → 
   pub takes : Takes chosen plan turns journal
   pub reports : IfSome printed (IsRunPrinted text plan journal)
 
+-- what comes of a plan under `rebuild`, whose altered schema has a second unique key, or hasn't
+abbrev pub RebuildComes : Bool → ℕ → List ℕ → PlanData → Option Printed → List Turn → List Entry → Type 0
+RebuildComes true workers bytes plan printed turns journal = TakesNone (IsRefusal refusals.SecondUnique) printed turns journal
+RebuildComes false workers bytes plan printed turns journal = IsTaken (Rebuild workers) plan (run_text (Rebuild workers) bytes plan journal) printed turns journal
+
 -- What comes of bytes that say this under a command: the plan's altered schema, or its replay or run, or the refusal.
 abbrev pub Comes : PlanCommand → List ℕ → Result PlanData PlanRefusal → Option Printed → List Turn → List Entry → Type 0
 Comes Check bytes (Ok plan) printed turns journal = TakesNone (IsSchema plan) printed turns journal
 Comes Replay bytes (Ok plan) printed turns journal = IsTaken Replay plan (run_text Replay bytes plan journal) printed turns journal
 Comes (Run workers) bytes (Ok plan) printed turns journal = IsTaken (Run workers) plan (run_text (Run workers) bytes plan journal) printed turns journal
 Comes Trace bytes (Ok plan) printed turns journal = IsTaken Trace plan (run_text Trace bytes plan journal) printed turns journal
-Comes command bytes (Err refusal) printed turns journal = TakesNone (IsRefusal refusal) printed turns journal
+Comes (Rebuild workers) bytes (Ok plan) printed turns journal = RebuildComes (has_second_unique plan) workers bytes plan printed turns journal
+Comes command bytes (Err refusal) printed turns journal = TakesNone (IsRefusal (refusals.Plan refusal)) printed turns journal

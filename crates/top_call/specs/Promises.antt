@@ -1,5 +1,5 @@
 -- What the top call promises under each status.
-use Rattle.std.specs.Prelude.{◌≡◌, ℕ, ◌==◌, ◌≤◌, ◌<◌, true, false, List, [], length, Option, Some, None, Ok, Err}
+use Rattle.std.specs.Prelude.{◌≡◌, ℕ, ◌==◌, ◌≤◌, ◌<◌, true, false, if◌then◌else◌, List, [], length, Option, Some, None, Result, Ok, Err}
 use Rattle.std.specs.Io.KnownBytes.{Appends, Consumes}
 use Rattle.base_edges.specs.Edges.{Rose}
 use Rattle.base_edges.specs.Whole.{ReadsWhole, GivesPart}
@@ -24,11 +24,14 @@ use Rattle.top_words.specs.declared.command.Command.TheVariants as commands
 use Rattle.top_endings.specs.declared.command.PlanCommand.{PlanCommand}
 use Rattle.top_endings.specs.declared.command.PlanCommand.TheVariants as plans
 use Rattle.top_endings.specs.declared.printed.Printed.{Printed}
+use Rattle.top_endings.specs.declared.refusals.Refusal.{Refusal}
+use Rattle.top_endings.specs.declared.refusals.Refusal.TheVariants as refusals
 use Rattle.top_endings.specs.declared.status.Status.{Status}
 use Rattle.top_endings.specs.declared.status.Status.TheVariants.{Done, Usage, Refused, Reverted, ReadFault, WriteFault, NoMemory, TurnsSpent}
 use Rattle.top_endings.specs.declared.turn.Turn.{Turn}
 use Rattle.top_endings.specs.Checks.{IsSchemaText}
 use Rattle.top_endings.specs.Endings.{Taking, Giving, asked, reads_plan, status_number}
+use Rattle.top_endings.specs.Rebuilt.{has_second_unique}
 use Rattle.top_endings.specs.Texts.{refused_text, usage_text, read_fault_text}
 use Rattle.top_workload.specs.Workloads.{workload}
 use Rattle.top_call.specs.Comings.{ComesTo}
@@ -107,6 +110,7 @@ PrintsDone (Some commands.Replay) source sink turns journal = PrintsReport plans
 PrintsDone (Some (commands.Run workers)) source sink turns journal = PrintsReport (plans.Run workers) verdicts.Done source sink turns journal
 PrintsDone (Some (commands.Generate number)) source sink turns journal = PrintsWorkload number source sink turns journal
 PrintsDone (Some commands.Trace) source sink turns journal = PrintsReport plans.Trace verdicts.Done source sink turns journal
+PrintsDone (Some (commands.Rebuild workers)) source sink turns journal = PrintsReport (plans.Rebuild workers) verdicts.Done source sink turns journal
 
 -- Status 1: the words are no command; the usage is given, and nothing is taken.
 pub record PrintsUsage (words : List (List ℕ)) (source : Taking) (sink : Giving) (turns : List Turn) (journal : List Entry) : Type 0 where
@@ -115,13 +119,23 @@ pub record PrintsUsage (words : List (List ℕ)) (source : Taking) (sink : Givin
   pub takes_none : Consumes source.before source.after []
   pub given : Appends sink.before sink.after usage_text
 
+-- a rebuild refuses a plan whose altered schema has a second unique key
+abbrev pub refusal_by : Option Command → PlanData → Option Refusal
+refusal_by (Some (commands.Rebuild workers)) plan = if has_second_unique plan then Some refusals.SecondUnique else None
+refusal_by chosen plan = None
+
+-- *Refusal* of bytes that say this, by the command of a line: the plan's first, and last of all the command's own
+abbrev pub refusal_of : Result PlanData PlanRefusal → Option Command → Option Refusal
+refusal_of (Err refusal) chosen = Some (refusals.Plan refusal)
+refusal_of (Ok plan) chosen = refusal_by chosen plan
+
 -- Status 2: the first refusal of the bytes is given.
 pub record PrintsRefusal (words : List (List ℕ)) (source : Taking) (sink : Giving) (turns : List Turn) (journal : List Entry) : Type 0 where
   pub reads : reads_plan (command words) ≡ true
   pub bytes : List ℕ
   pub whole : ReadsWhole PLAN_LIMIT source.before source.after bytes
-  pub refusal : PlanRefusal
-  pub refused : read bytes ≡ Err refusal
+  pub refusal : Refusal
+  pub refused : refusal_of (read bytes) (command words) ≡ Some refusal
   pub given : Appends sink.before sink.after (refused_text refusal)
   pub untaken : IsUntaken turns journal
 

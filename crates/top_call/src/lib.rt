@@ -3,7 +3,9 @@
 //! which a report printed is replayed.
 #![tactic(auto)]
 
+pub mod marks;
 mod outcome;
+pub mod plan_rebuilds;
 pub mod plan_works;
 pub mod printed_orders;
 mod status;
@@ -13,6 +15,6 @@ pub mod whole_replays;
 pub mod workers;
 
 pub use outcome::Outcome;
-pub use top::{Ended, ghost_, outcome_without_workers};
+pub use top::{Ended, ghost_, outcome_without_waits};
 pub use top_endings::{PlanCommand, Printed, Status, Turn, Turns};
 pub use top_words::{Command, Line};

@@ -1,11 +1,16 @@
 //! What comes of a plan.
 
-ghost use Rattle.std.specs.Prelude.{◌≡◌, ◌≤◌, [], IfSome, IfOk};
+ghost use Rattle.std.specs.Prelude.{◌≡◌, ◌≢◌, ◌≤◌, ◌<◌, true, false, [], ◌∷◌, None, IfSome, IfOk};
+ghost use Rattle.server_model.specs.declared.outcome.Verdict.TheVariants as verdicts;
 ghost use Rattle.proof_plans.specs.ReadPlans.Laws.{WasRead};
+ghost use Rattle.run_rebuild.specs.ShardNumbers.{AreShards};
+ghost use Rattle.run_replay.specs.WholeReplay.Marks.{logged_at_mark};
 ghost use Rattle.top_endings.specs.declared.command.PlanCommand.TheVariants as plans;
-ghost use Rattle.top_call.specs.WholeReplays.Replays.{IsEnd};
-ghost use Rattle.top_call.specs.Outcomes.{IsRunPrinted, IsTaken, Takes, report_at, status_of, trace_at};
+ghost use Rattle.top_endings.specs.Rebuilt.{has_second_unique};
+ghost use Rattle.top_call.specs.WholeReplays.Replays.{IsEnd, IsSoundReplay};
+ghost use Rattle.top_call.specs.Outcomes.{IsRunPrinted, IsTaken, Takes, rebuild_at, report_at, status_of, trace_at};
 
+use crate::plan_rebuilds::rebuilt;
 use crate::plan_works::work_plan;
 use crate::status::status_of;
 use crate::turns::{turns_in, turns_of_workers};
@@ -63,7 +68,8 @@ fn reported<V: Serve>(
     end: &Option<End<V>>,
 ) -> Option<Printed>
     requires { IfSome end.now (λ end. IsEnd plan.now journal.now end.verdict (V.state end.server)) }
-    ensures { IfSome result (IsRunPrinted (report_at plan.now journal.now) plan.now journal.now) }
+    ensures report { IfSome result (IsRunPrinted (report_at plan.now journal.now) plan.now journal.now) }
+    ensures none { end.now ≡ None → result ≡ None }
 {
     let end = end.as_ref()?;
     let tables = end.server.tables();
@@ -97,6 +103,7 @@ fn traced<V: Serve>(
 fn replayed(alloc: Global, plan: &Plan) -> Result<(Left<FinalServer>, Turns), AllocError>
     requires { WasRead plan.now }
     ensures takes { IfOk result (λ replayed. Takes plans.Replay plan.now replayed.1 replayed.0.journal) }
+    ensures logged { IfOk result (λ replayed. replayed.0.logged ≡ logged_at_mark plan.now (plan.now.table ∷ []) replayed.0.journal) }
     ensures end { IfOk result (λ replayed. IfSome replayed.0.end (λ end. IsEnd plan.now replayed.0.journal end.verdict end.server.state)) }
 {
     // The room for the turns is made before the first, so that none that was taken is thrown away.
@@ -134,6 +141,114 @@ pub(crate) fn plan_traced(
         printed: traced(alloc, plan_text, plan, &left.journal, &left.end),
         turns,
         journal: left.journal,
+    })
+}
+
+/// Whether a run ended with the RENAME done.
+fn is_done<V: Serve>(end: &Option<End<V>>) -> bool
+    ensures done { result ≡ true → IfSome end.now (λ end. end.verdict ≡ verdicts.Done) }
+    ensures undone { result ≡ false → IfSome end.now (λ end. end.verdict ≢ verdicts.Done) }
+{
+    match end {
+        Some(end) => matches!(end.verdict, Verdict::Done),
+        None => false,
+    }
+}
+
+/// The report of a run that ended, and its journal.
+fn reported_after<V: Serve>(alloc: Global, plan: &Plan, left: Left<V>) -> (Option<Printed>, Journal)
+    requires end { IfSome left.end (λ end. IsEnd plan.now left.journal end.verdict (V.state end.server)) }
+    requires undone { IfSome left.end (λ end. end.verdict ≢ verdicts.Done) }
+    ensures printed { IfSome result.0 (IsRunPrinted (rebuild_at plan.now left.journal) plan.now left.journal) }
+    ensures journal { result.1 ≡ left.journal }
+{
+    let printed = reported(alloc, plan, &left.journal, &left.end);
+    (printed, left.journal)
+}
+
+/// The table that is made anew from the log of a run in which the RENAME was done, and its journal.
+#[tactic(auto, using(crate::proofs::Rebuilt::rested_end, crate::proofs::Rebuilt::after_mark, crate::proofs::Rebuilt::done_printed))]
+fn rebuilt_after<V: Serve, R: Threads + Sync, G: Gate + Sync>(
+    rt: &R,
+    alloc: Global,
+    plan: &Plan,
+    left: Left<V>,
+    workers: u32,
+    gate: &G,
+) -> (Option<Printed>, Journal)
+    requires workers { AreShards workers }
+    requires read { WasRead plan.now }
+    requires few { plan.now.options.turn_limit < u32.MAX }
+    requires replay { IsSoundReplay plan.now left.journal }
+    requires logged { left.logged ≡ logged_at_mark plan.now (plan.now.table ∷ []) left.journal }
+    requires end { IfSome left.end (λ end. IsEnd plan.now left.journal end.verdict (V.state end.server)) }
+    requires done { IfSome left.end (λ end. end.verdict ≡ verdicts.Done) }
+    ensures printed { IfSome result.0 (IsRunPrinted (rebuild_at plan.now left.journal) plan.now left.journal) }
+    ensures journal { result.1 ≡ left.journal }
+{
+    let Left {
+        journal,
+        logged,
+        end,
+    } = left;
+    match end {
+        Some(end) => {
+            let printed = rebuilt(rt, alloc, plan, end.server, logged, workers, gate);
+            (printed, journal)
+        }
+        None => (None, journal),
+    }
+}
+
+/// What is printed of a run that ended, and its journal: where the RENAME was done, the table that is made anew from the log; else the
+/// report.
+fn rebuilt_or_reported<V: Serve, R: Threads + Sync, G: Gate + Sync>(
+    rt: &R,
+    alloc: Global,
+    plan: &Plan,
+    left: Left<V>,
+    workers: u32,
+    gate: &G,
+) -> (Option<Printed>, Journal)
+    requires workers { AreShards workers }
+    requires read { WasRead plan.now }
+    requires few { plan.now.options.turn_limit < u32.MAX }
+    requires replay { IsSoundReplay plan.now left.journal }
+    requires logged { left.logged ≡ logged_at_mark plan.now (plan.now.table ∷ []) left.journal }
+    requires end { IfSome left.end (λ end. IsEnd plan.now left.journal end.verdict (V.state end.server)) }
+    ensures printed { IfSome result.0 (IsRunPrinted (rebuild_at plan.now left.journal) plan.now left.journal) }
+    ensures journal { result.1 ≡ left.journal }
+{
+    if is_done(&left.end) {
+        rebuilt_after(rt, alloc, plan, left, workers, gate)
+    } else {
+        reported_after(alloc, plan, left)
+    }
+}
+
+/// The same as of a replay, with the table that is made anew in place of the report, where the RENAME was done.
+pub(crate) fn plan_rebuilt<R: Threads + Sync, G: Gate + Sync>(
+    rt: &R,
+    alloc: Global,
+    plan: &Plan,
+    workers: u32,
+    gate: &G,
+) -> Result<Outcome, AllocError>
+    requires workers { AreShards workers }
+    requires read { WasRead plan.now }
+    requires single { has_second_unique plan.now ≡ false }
+    ensures { IfOk result (λ outcome. IsTaken (plans.Rebuild workers) plan.now (rebuild_at plan.now outcome.journal) outcome.printed outcome.turns outcome.journal) }
+{
+    // A turn makes one session at most, and one more reads the log: else no number would be left for it.
+    if plan.options().turn_limit == u32::MAX {
+        return Err(AllocError);
+    }
+    let (left, turns) = replayed(alloc, plan)?;
+    let (printed, journal) = rebuilt_or_reported(rt, alloc, plan, left, workers, gate);
+    Ok(Outcome {
+        printed,
+        turns,
+        journal,
     })
 }
 

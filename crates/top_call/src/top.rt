@@ -1,10 +1,10 @@
 //! The top call: all that the program does.
 
-ghost use Rattle.std.specs.Prelude.{◌≡◌, ◌≤◌, ◌==◌, ℕ, true, false, [], length, Some, None, IfOk, IfErr};
+ghost use Rattle.std.specs.Prelude.{◌≡◌, ◌≤◌, ◌==◌, ℕ, true, false, [], length, Some, None, IfSome, IfOk, IfErr};
 ghost use Rattle.std.specs.Str.{is_utf8};
 ghost use Rattle.std.specs.Io.KnownBytes.{Consumes};
 ghost use Rattle.top_words.specs.Commands.{command};
-ghost use Rattle.top_words.specs.declared.command.Command.TheVariants.{Check, Generate, Replay, Run, Trace};
+ghost use Rattle.top_words.specs.declared.command.Command.TheVariants.{Check, Generate, Rebuild, Replay, Run, Trace};
 ghost use Rattle.top_endings.specs.declared.command.PlanCommand.TheVariants as plans;
 ghost use Rattle.server_model.specs.declared.outcome.Verdict.TheVariants as verdicts;
 ghost use Rattle.proof_plans.specs.ReadPlans.Laws.{WasRead};
@@ -13,7 +13,7 @@ ghost use Rattle.top_call.specs.Comings.{ComesTo, Does, HasNoPlan, IsAccepted, T
 ghost use Rattle.top_call.specs.Promises.{Ends, RunsBy, PrintsReport, PrintsSchema, PrintsWorkload, PrintsRevert, PrintsUnfinished, PrintsRefusal, PrintsUsage, PrintsReadFault, PrintsPrefix, PrintsNone};
 ghost use Rattle.top_call.specs.TopLaws.{Laws};
 
-use crate::outcome::{Outcome, plan_replayed, plan_traced, plan_worked, untaken};
+use crate::outcome::{Outcome, plan_rebuilt, plan_replayed, plan_traced, plan_worked, untaken};
 use base_edges::{Gate, ReadFault, Sink, Source, read_whole};
 use law_journals::completion::{quiet_runs_are_done, smooth_runs_are_done};
 use law_journals::machines::verdicts_tell_the_alter;
@@ -26,7 +26,8 @@ use std::alloc::Global;
 use std::sync::Wait;
 use std::thread::Threads;
 use top_endings::{
-    Turns, give, plan_checked, read_fault_shown, refused, usage_shown, workload_shown,
+    Refusal, Turns, give, has_second_unique, plan_checked, read_fault_shown, refused, usage_shown,
+    workload_shown,
 };
 use top_words::{Command, Line};
 
@@ -72,7 +73,10 @@ fn accepted_plan<S: Source>(alloc: Global, source: &mut S) -> Result<Accepted, O
     match read_whole(alloc, source, PLAN_LIMIT) {
         Ok(bytes) => match read_accepted_plan(alloc, bytes.as_slice()) {
             Ok(plan) => Ok(Accepted { bytes, plan }),
-            Err(PlanFault::Refused(refusal)) => Err(untaken(alloc, refused(alloc, refusal))),
+            Err(PlanFault::Refused(refusal)) => Err(untaken(
+                alloc,
+                refused(alloc, Refusal::Plan(refusal)),
+            )),
             Err(PlanFault::Memory) => Err(untaken(alloc, None)),
         },
         Err(ReadFault::Source) => Err(untaken(alloc, read_fault_shown(alloc))),
@@ -125,6 +129,31 @@ fn outcome_of_trace<S: Source>(alloc: Global, source: &mut S) -> Outcome
     }
 }
 
+/// What a source comes to under a rebuild by `workers` shards.
+#[tactic(auto, using(crate::proofs::Comings::nothing_reported, crate::proofs::Comings::rebuild_reported, crate::proofs::Comings::second_unique_reported))]
+fn outcome_of_rebuild<R: Threads + Sync, S: Source, G: Gate + Sync>(
+    rt: &R,
+    alloc: Global,
+    workers: u32,
+    source: &mut S,
+    gate: &G,
+) -> Outcome
+    requires { HasWorkers (Rebuild workers) }
+    ensures comes { TellsPlan (plans.Rebuild workers) (took S.left S.faults source.old source.new) result.printed result.turns result.journal }
+    ensures never_falls { S.faults source.old ≤ S.faults source.new }
+{
+    match accepted_plan(alloc, source) {
+        Ok(accepted) if has_second_unique(&accepted.plan) => {
+            untaken(alloc, refused(alloc, Refusal::SecondUnique))
+        }
+        Ok(accepted) => match plan_rebuilt(rt, alloc, &accepted.plan, workers, gate) {
+            Ok(outcome) => outcome,
+            Err(_) => untaken(alloc, None),
+        },
+        Err(outcome) => outcome,
+    }
+}
+
 /// What a source comes to under a run by `workers` workers.
 #[tactic(auto, using(crate::proofs::Comings::nothing_reported, crate::proofs::Comings::run_reported))]
 fn outcome_of_run<R: Threads + Wait + Sync, S: Source, G: Gate + Sync>(
@@ -148,12 +177,15 @@ fn outcome_of_run<R: Threads + Wait + Sync, S: Source, G: Gate + Sync>(
 }
 
 /// What the words and the source come to, where the words are this command or none; of `run` the number of workers.
-#[tactic(auto, using(crate::proofs::Comings::check_comes, crate::proofs::Comings::replay_comes, crate::proofs::Comings::trace_comes, crate::proofs::Comings::faulty_comes, crate::proofs::Comings::workload_comes))]
-fn outcome_of_command<S: Source>(
+#[tactic(auto, using(crate::proofs::Comings::check_comes, crate::proofs::Comings::replay_comes, crate::proofs::Comings::trace_comes, crate::proofs::Comings::rebuild_comes, crate::proofs::Comings::faulty_comes, crate::proofs::Comings::workload_comes))]
+fn outcome_of_command<R: Threads + Sync, S: Source, G: Gate + Sync>(
+    rt: &R,
     alloc: Global,
     chosen: Option<Command>,
     source: &mut S,
+    gate: &G,
 ) -> Result<Outcome, u32>
+    requires { IfSome chosen HasWorkers }
     ensures comes { IfOk result (λ outcome. ComesTo chosen (took S.left S.faults source.old source.new) outcome.printed outcome.turns outcome.journal) }
     ensures workers { IfErr result (λ workers. chosen ≡ Some (Run workers)) }
     ensures unmoved { IfErr result (λ workers. source.new ≡ source.old) }
@@ -164,6 +196,9 @@ fn outcome_of_command<S: Source>(
         Some(Command::Replay) => Ok(outcome_of_replay(alloc, source)),
         Some(Command::Run(workers)) => Err(workers),
         Some(Command::Trace) => Ok(outcome_of_trace(alloc, source)),
+        Some(Command::Rebuild(workers)) => {
+            Ok(outcome_of_rebuild(rt, alloc, workers, source, gate))
+        }
         Some(Command::Generate(number)) => Ok(untaken(alloc, workload_shown(alloc, number))),
         None => Ok(untaken(alloc, usage_shown(alloc))),
     }
@@ -171,12 +206,14 @@ fn outcome_of_command<S: Source>(
 
 /// What the words and the source come to, for each command but `run`; where the words ask for a run, `Err` has the number of its
 /// workers, and the source isn't asked. `ghost_` does all but runs through this call, which has no bound by which it might wait:
-/// so it returns.
+/// so it returns. The threads of `rebuild` are joined, each with the one that began it; none can wait for another.
 #[tactic(auto, using(crate::proofs::Comings::nothing_comes))]
-pub fn outcome_without_workers<S: Source>(
+pub fn outcome_without_waits<R: Threads + Sync, S: Source, G: Gate + Sync>(
+    rt: &R,
     alloc: Global,
     line: &Line,
     source: &mut S,
+    gate: &G,
 ) -> Result<Outcome, u32>
     ensures comes { IfOk result (λ outcome. ComesTo (command line.now) (took S.left S.faults source.old source.new) outcome.printed outcome.turns outcome.journal) }
     ensures workers { IfErr result (λ workers. command line.now ≡ Some (Run workers)) }
@@ -184,7 +221,7 @@ pub fn outcome_without_workers<S: Source>(
     ensures never_falls { S.faults source.old ≤ S.faults source.new }
 {
     match line.command(alloc) {
-        Ok(chosen) => outcome_of_command(alloc, chosen, source),
+        Ok(chosen) => outcome_of_command(rt, alloc, chosen, source, gate),
         Err(_) => Ok(untaken(alloc, None)),
     }
 }
@@ -201,7 +238,7 @@ fn outcome_of_line<R: Threads + Wait + Sync, S: Source, G: Gate + Sync>(
     ensures comes { ComesTo (command line.now) (took S.left S.faults source.old source.new) result.printed result.turns result.journal }
     ensures never_falls { S.faults source.old ≤ S.faults source.new }
 {
-    match outcome_without_workers(alloc, line, source) {
+    match outcome_without_waits(rt, alloc, line, source, gate) {
         Ok(outcome) => outcome,
         Err(workers) => outcome_of_run(rt, alloc, workers, source, gate),
     }
@@ -264,9 +301,10 @@ fn ending<R: Threads + Wait + Sync, S: Source, K: Sink, G: Gate + Sync>(
 ///
 /// The commands are `check`, which prints the schema that the plan's ALTER leaves; `replay`, which runs the plan on one thread
 /// and prints the report; `run`, by which worker threads do so, 4 where their number isn't said; `generate`, which prints
-/// the plan of a number and reads nothing; and `trace`, which runs the plan as `replay` does, and prints the plan and each turn. The gate is told before and after each turn of a worker's, and never while one is
-/// held. Workers wait for each other's turns; every other command goes through `outcome_without_workers`, which waits for
-/// nothing.
+/// the plan of a number and reads nothing; `trace`, which runs the plan as `replay` does, and prints the plan and each turn; and
+/// `rebuild`, which runs it so too, and prints the table that threads make anew from the log. The gate is told before and after
+/// each turn of a worker's, and never while one is held; and before and after each shard of a rebuild. Workers wait for each other's
+/// turns; every other command goes through `outcome_without_waits`, which waits for nothing.
 pub fn ghost_<R: Threads + Wait + Sync, S: Source, K: Sink, G: Gate + Sync>(
     rt: &R,
     alloc: Global,
@@ -289,6 +327,7 @@ pub fn ghost_<R: Threads + Wait + Sync, S: Source, K: Sink, G: Gate + Sync>(
     ensures checked { result.status ≡ 0 → command line.now ≡ Some Check → PrintsSchema (took S.left S.faults source.old source.new) (gave K.held K.faults sink.old sink.new) result.turns result.journal }
     ensures generated { (number : ℕ) → result.status ≡ 0 → command line.now ≡ Some (Generate number) → PrintsWorkload number (took S.left S.faults source.old source.new) (gave K.held K.faults sink.old sink.new) result.turns result.journal }
     ensures traced { result.status ≡ 0 → command line.now ≡ Some Trace → PrintsReport plans.Trace verdicts.Done (took S.left S.faults source.old source.new) (gave K.held K.faults sink.old sink.new) result.turns result.journal }
+    ensures rebuilt { (workers : ℕ) → result.status ≡ 0 → command line.now ≡ Some (Rebuild workers) → PrintsReport (plans.Rebuild workers) verdicts.Done (took S.left S.faults source.old source.new) (gave K.held K.faults sink.old sink.new) result.turns result.journal }
     ensures usage { result.status ≡ 1 → PrintsUsage line.now (took S.left S.faults source.old source.new) (gave K.held K.faults sink.old sink.new) result.turns result.journal }
     ensures usage_at_faulty_words { command line.now ≡ None → IsUsageOrLost result.status }
     ensures refused { result.status ≡ 2 → PrintsRefusal line.now (took S.left S.faults source.old source.new) (gave K.held K.faults sink.old sink.new) result.turns result.journal }

@@ -4,7 +4,7 @@ use Rattle.std.specs.Io.KnownBytes.{Appends, Consumes}
 use Rattle.base_edges.specs.Edges.{Rose}
 use Rattle.base_edges.specs.Whole.{GivesPart}
 use Rattle.top_words.specs.declared.command.Command.{Command}
-use Rattle.top_words.specs.declared.command.Command.TheVariants.{Check, Replay, Run, Trace}
+use Rattle.top_words.specs.declared.command.Command.TheVariants.{Check, Replay, Run, Trace, Rebuild}
 use Rattle.top_endings.specs.declared.command.PlanCommand.{PlanCommand}
 use Rattle.top_endings.specs.declared.command.PlanCommand.TheVariants as plans
 use Rattle.top_endings.specs.declared.printed.Printed.{Printed}
@@ -89,10 +89,12 @@ asked plans.Check = Check
 asked plans.Replay = Replay
 asked (plans.Run workers) = Run workers
 asked plans.Trace = Trace
+asked (plans.Rebuild workers) = Rebuild workers
 
--- a run has 1 to 16 workers
+-- a run and a rebuild have 1 to 16 workers
 abbrev pub HasWorkers : Command → Type 0
 HasWorkers (Run workers) = (1 ≤ workers) × (workers ≤ 16)
+HasWorkers (Rebuild workers) = (1 ≤ workers) × (workers ≤ 16)
 HasWorkers chosen = Unit {0}
 
 -- the words are a command that reads a plan
@@ -101,6 +103,7 @@ reads_plan (Some Check) = true
 reads_plan (Some Replay) = true
 reads_plan (Some (Run workers)) = true
 reads_plan (Some Trace) = true
+reads_plan (Some (Rebuild workers)) = true
 reads_plan chosen = false
 
 -- the number is 1, 5 or 6

@@ -6,6 +6,8 @@ use Rattle.plan_reader.specs.declared.fault.Place.TheVariants.{Nowhere, Table, R
 use Rattle.plan_reader.specs.declared.fault.PlanRefusal.{PlanRefusal}
 use Rattle.plan_reader.specs.Refusals.{refusal_code, refusal_place}
 use Rattle.top_endings.specs.declared.printed.Printed.{Printed}
+use Rattle.top_endings.specs.declared.refusals.Refusal.{Refusal}
+use Rattle.top_endings.specs.declared.refusals.Refusal.TheVariants.{Plan, SecondUnique}
 use Rattle.top_endings.specs.declared.status.Status.TheVariants as statuses
 
 -- where a refusal is: ` table 1 row 5`
@@ -18,18 +20,23 @@ place_text (Operator line) = codes " operator line " ++ decimal line
 place_text (Fault fault) = codes " fault " ++ decimal fault
 place_text (TurnWord word) = codes " turn word " ++ decimal word
 
--- a refusal's number, name and place: `refused 14 no_clustered_key table 1`
-unfoldable pub refused_text : PlanRefusal → List ℕ
-refused_text refusal = codes "refused " ++ decimal (refusal_code refusal).0 ++ codes " " ++ (refusal_code refusal).1 ++ place_text (refusal_place refusal) ++ codes "\n"
+-- the number, name and place of a refusal of the plan: `refused 14 no_clustered_key table 1`
+unfoldable pub plan_refused_text : PlanRefusal → List ℕ
+plan_refused_text refusal = codes "refused " ++ decimal (refusal_code refusal).0 ++ codes " " ++ (refusal_code refusal).1 ++ place_text (refusal_place refusal) ++ codes "\n"
+
+-- a refusal's number, name and place
+abbrev pub refused_text : Refusal → List ℕ
+refused_text (Plan refusal) = plan_refused_text refusal
+refused_text SecondUnique = codes "refused 62 second_unique\n"
 
 -- the refusal of bytes, printed
-pub record IsRefusal (refusal : PlanRefusal) (printed : Printed) : Type 0 where
+pub record IsRefusal (refusal : Refusal) (printed : Printed) : Type 0 where
   pub status_is : printed.status ≡ statuses.Refused
   pub text_is : printed.text ≡ refused_text refusal
 
 -- what faulty words get
 abbrev pub usage_text : List ℕ
-usage_text = codes "usage: check | replay | run [--workers N] | generate N | trace\n"
+usage_text = codes "usage: check | replay | run [--workers N] | generate N | trace | rebuild [--workers N]\n"
 
 -- what is printed where the source failed
 abbrev pub read_fault_text : List ℕ

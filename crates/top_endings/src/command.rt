@@ -11,4 +11,6 @@ pub enum PlanCommand {
     Run(u32),
     /// `trace`: it is run on one thread, and printed turn by turn.
     Trace,
+    /// `rebuild`: it is run on one thread, and its table is made anew from the log by this many threads, 1 to 16.
+    Rebuild(u32),
 }

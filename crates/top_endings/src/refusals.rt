@@ -2,13 +2,22 @@
 
 ghost use Rattle.std.specs.Prelude.{◌≡◌, ◌++◌, IfSome, OnOk};
 ghost use Rattle.std.specs.Fmt.{decimal};
-ghost use Rattle.top_endings.specs.Texts.{place_text, refused_text, IsRefusal};
+ghost use Rattle.top_endings.specs.Texts.{place_text, plan_refused_text, refused_text, IsRefusal};
 
 use crate::printed::Printed;
 use crate::status::Status;
 use base_values::Text;
 use plan_reader::{Place, PlanRefusal};
 use std::alloc::{AllocError, Global};
+
+/// Why a command refuses a source's bytes.
+#[derive(Clone, Copy)]
+pub enum Refusal {
+    /// They are no accepted plan.
+    Plan(PlanRefusal),
+    /// 62: the plan's altered schema has a second unique key. Only `rebuild` refuses it.
+    SecondUnique,
+}
 
 /// Adds a word and a number.
 fn push_numbered(into: &mut Text, word: &str, number: u32) -> Result<(), AllocError>
@@ -40,10 +49,10 @@ fn push_place(into: &mut Text, place: Place) -> Result<(), AllocError>
     }
 }
 
-/// Adds a refusal's number, name and place.
-#[tactic(auto, unfolding(crate::specs::Texts::refused_text))]
-fn push_refusal(into: &mut Text, refusal: PlanRefusal) -> Result<(), AllocError>
-    ensures { OnOk result (into.new ≡ into.old ++ refused_text refusal) }
+/// Adds the number, name and place of a refusal of the plan.
+#[tactic(auto, unfolding(crate::specs::Texts::plan_refused_text))]
+fn push_plan_refusal(into: &mut Text, refusal: PlanRefusal) -> Result<(), AllocError>
+    ensures { OnOk result (into.new ≡ into.old ++ plan_refused_text refusal) }
 {
     let (number, name) = refusal.code();
     into.push_str("refused ")?;
@@ -54,8 +63,18 @@ fn push_refusal(into: &mut Text, refusal: PlanRefusal) -> Result<(), AllocError>
     into.push_str("\n")
 }
 
+/// Adds a refusal's number, name and place.
+fn push_refusal(into: &mut Text, refusal: Refusal) -> Result<(), AllocError>
+    ensures { OnOk result (into.new ≡ into.old ++ refused_text refusal) }
+{
+    match refusal {
+        Refusal::Plan(refusal) => push_plan_refusal(into, refusal),
+        Refusal::SecondUnique => into.push_str("refused 62 second_unique\n"),
+    }
+}
+
 /// What is printed of a refusal.
-pub fn refused(alloc: Global, refusal: PlanRefusal) -> Option<Printed>
+pub fn refused(alloc: Global, refusal: Refusal) -> Option<Printed>
     ensures { IfSome result (IsRefusal refusal) }
 {
     let mut text = Text::new(alloc);

@@ -8,9 +8,9 @@ use Rattle.std.specs.Str.{bytes_eq}
 use Rattle.clap.specs.Words.{Text, subcommand_of, takes}
 use Rattle.clap.proofs.OnLiterals.{clap_on_literals}
 use Rattle.top_words.specs.declared.command.Command.{Command}
-use Rattle.top_words.specs.declared.command.Command.TheVariants.{Check, Replay, Run, Generate, Trace}
+use Rattle.top_words.specs.declared.command.Command.TheVariants.{Check, Replay, Run, Generate, Trace, Rebuild}
 use Rattle.top_words.specs.Numbers.{number_of, workers_of, up_to_16}
-use Rattle.top_words.specs.Commands.{attached_number, command, generate_of, numbered_command, option_command, plain_command, run_by}
+use Rattle.top_words.specs.Commands.{attached_number, command, generate_of, numbered_command, option_command, plain_command, rebuild_by, run_by}
 use Rattle.top_words.specs.Matches.{program, chosen, is_escape}
 use Rattle.top_words.proofs.Digits.{number_begins, of_each_digit}
 
@@ -38,6 +38,14 @@ trace_taken : IsTaken (codes "trace" ∷ []) (Some Trace)
 unfolding clap_on_literals
 trace_taken = record { taken = refl; tells = refl; plain = refl }
 
+rebuild_taken : IsTaken (codes "rebuild" ∷ []) (Some (Rebuild 4))
+unfolding clap_on_literals
+rebuild_taken = record { taken = refl; tells = refl; plain = refl }
+
+attached_rebuild_taken : (number : Text) → IsTaken (codes "rebuild" ∷ (codes "--workers=" ++ number) ∷ []) (rebuild_by number)
+unfolding clap_on_literals
+attached_rebuild_taken number = record { taken = refl; tells = refl; plain = refl }
+
 attached_taken : (number : Text) → IsTaken (codes "run" ∷ (codes "--workers=" ++ number) ∷ []) (run_by number)
 unfolding clap_on_literals
 attached_taken number = record { taken = refl; tells = refl; plain = refl }
@@ -47,6 +55,9 @@ GeneratesBy digit = (digits : Text) → IsTaken (codes "generate" ∷ (digit ∷
 
 abbrev RunsBy : ℕ → Type 0
 RunsBy digit = (digits : Text) → IsTaken (codes "run" ∷ codes "--workers" ∷ (digit ∷ digits) ∷ []) (run_by (digit ∷ digits))
+
+abbrev RebuildsBy : ℕ → Type 0
+RebuildsBy digit = (digits : Text) → IsTaken (codes "rebuild" ∷ codes "--workers" ∷ (digit ∷ digits) ∷ []) (rebuild_by (digit ∷ digits))
 
 generate_taken : (digit : ℕ) → is_ascii_digit digit ≡ true → GeneratesBy digit
 unfolding clap_on_literals
@@ -65,6 +76,20 @@ generate_taken = of_each_digit GeneratesBy
 run_by_taken : (digit : ℕ) → is_ascii_digit digit ≡ true → RunsBy digit
 unfolding clap_on_literals
 run_by_taken = of_each_digit RunsBy
+    (λ digits. record { taken = refl; tells = refl; plain = refl })
+    (λ digits. record { taken = refl; tells = refl; plain = refl })
+    (λ digits. record { taken = refl; tells = refl; plain = refl })
+    (λ digits. record { taken = refl; tells = refl; plain = refl })
+    (λ digits. record { taken = refl; tells = refl; plain = refl })
+    (λ digits. record { taken = refl; tells = refl; plain = refl })
+    (λ digits. record { taken = refl; tells = refl; plain = refl })
+    (λ digits. record { taken = refl; tells = refl; plain = refl })
+    (λ digits. record { taken = refl; tells = refl; plain = refl })
+    (λ digits. record { taken = refl; tells = refl; plain = refl })
+
+rebuild_by_taken : (digit : ℕ) → is_ascii_digit digit ≡ true → RebuildsBy digit
+unfolding clap_on_literals
+rebuild_by_taken = of_each_digit RebuildsBy
     (λ digits. record { taken = refl; tells = refl; plain = refl })
     (λ digits. record { taken = refl; tells = refl; plain = refl })
     (λ digits. record { taken = refl; tells = refl; plain = refl })
@@ -95,7 +120,9 @@ plain_taken name c = named (λ name. plain_command name ≡ Some c → IsTaken (
     (λ is. subst (IsTaken (codes "run" ∷ [])) is run_taken)
     (λ n2. named (λ name. plain_command name ≡ Some c → IsTaken (name ∷ []) (Some c)) name (codes "trace")
     (λ is. subst (IsTaken (codes "trace" ∷ [])) is trace_taken)
-    (λ n3 is. let none : plain_command name ≡ None = rw (n0, n1, n2, n3) refl in absurd (cc (sym none ∙ is))))))
+    (λ n3. named (λ name. plain_command name ≡ Some c → IsTaken (name ∷ []) (Some c)) name (codes "rebuild")
+    (λ is. subst (IsTaken (codes "rebuild" ∷ [])) is rebuild_taken)
+    (λ n4 is. let none : plain_command name ≡ None = rw (n0, n1, n2, n3, n4) refl in absurd (cc (sym none ∙ is)))))))
 
 some_mapped : {A B : Type 0} (f : A → B) (o : Option A) (y : B) → option_map f o ≡ Some y → (x : A) × (o ≡ Some x)
 some_mapped f None y is = absurd (cc)
@@ -120,6 +147,14 @@ runs_by word c is =
     subst (λ (o : Option Command). IsTaken (codes "run" ∷ codes "--workers" ∷ word ∷ []) o) is
     (subst (λ (text : Text). IsTaken (codes "run" ∷ codes "--workers" ∷ text ∷ []) (run_by text)) (sym begins.is) (run_by_taken begins.digit begins.its begins.digits))
 
+rebuilds_by : (word : Text) (c : Command) → rebuild_by word ≡ Some c → IsTaken (codes "rebuild" ∷ codes "--workers" ∷ word ∷ []) (Some c)
+rebuilds_by word c is =
+    let workers = some_mapped Rebuild (workers_of word) c is in
+    let number = some_then up_to_16 (number_of word) workers.0 workers.1 in
+    let begins = number_begins word number.0 number.1 in
+    subst (λ (o : Option Command). IsTaken (codes "rebuild" ∷ codes "--workers" ∷ word ∷ []) o) is
+    (subst (λ (text : Text). IsTaken (codes "rebuild" ∷ codes "--workers" ∷ text ∷ []) (rebuild_by text)) (sym begins.is) (rebuild_by_taken begins.digit begins.its begins.digits))
+
 attached_front : (word : Text) (b : Bool) → bytes_eq (take 10 word) (codes "--workers=") ≡ b → (c : Command) → option_and_then run_by (cond b (Some (drop 10 word)) None) ≡ Some c → IsTaken (codes "run" ∷ word ∷ []) (Some c)
 attached_front word true at c is =
     let front : word ≡ codes "--workers=" ++ drop 10 word = sym (take-append-drop 10 word) ∙ ap (λ (t : Text). t ++ drop 10 word) ((bytes_eq-Decides (take 10 word) (codes "--workers=")).0 at) in
@@ -130,19 +165,35 @@ attached_front word false at c is = absurd (cc)
 runs_attached : (word : Text) (c : Command) → option_and_then run_by (attached_number word) ≡ Some c → IsTaken (codes "run" ∷ word ∷ []) (Some c)
 runs_attached word c is = attached_front word (bytes_eq (take 10 word) (codes "--workers=")) refl c is
 
+rebuild_front : (word : Text) (b : Bool) → bytes_eq (take 10 word) (codes "--workers=") ≡ b → (c : Command) → option_and_then rebuild_by (cond b (Some (drop 10 word)) None) ≡ Some c → IsTaken (codes "rebuild" ∷ word ∷ []) (Some c)
+rebuild_front word true at c is =
+    let front : word ≡ codes "--workers=" ++ drop 10 word = sym (take-append-drop 10 word) ∙ ap (λ (t : Text). t ++ drop 10 word) ((bytes_eq-Decides (take 10 word) (codes "--workers=")).0 at) in
+    subst (λ (t : Text). IsTaken (codes "rebuild" ∷ t ∷ []) (Some c)) (sym front)
+    (subst (λ (o : Option Command). IsTaken (codes "rebuild" ∷ (codes "--workers=" ++ drop 10 word) ∷ []) o) is (attached_rebuild_taken (drop 10 word)))
+rebuild_front word false at c is = absurd (cc)
+
+rebuilds_attached : (word : Text) (c : Command) → option_and_then rebuild_by (attached_number word) ≡ Some c → IsTaken (codes "rebuild" ∷ word ∷ []) (Some c)
+rebuilds_attached word c is = rebuild_front word (bytes_eq (take 10 word) (codes "--workers=")) refl c is
+
 numbered_taken : (name word : Text) (c : Command) → numbered_command name word ≡ Some c → IsTaken (name ∷ word ∷ []) (Some c)
 numbered_taken name word c = named (λ name. numbered_command name word ≡ Some c → IsTaken (name ∷ word ∷ []) (Some c)) name (codes "generate")
     (λ is. generates word c is)
     (λ n0. named (λ name. numbered_command name word ≡ Some c → IsTaken (name ∷ word ∷ []) (Some c)) name (codes "run")
     (λ is. runs_attached word c is)
-    (λ n1 is. let none : numbered_command name word ≡ None = rw (n0, n1) refl in absurd (cc (sym none ∙ is))))
+    (λ n1. named (λ name. numbered_command name word ≡ Some c → IsTaken (name ∷ word ∷ []) (Some c)) name (codes "rebuild")
+    (λ is. rebuilds_attached word c is)
+    (λ n2 is. let none : numbered_command name word ≡ None = rw (n0, n1, n2) refl in absurd (cc (sym none ∙ is)))))
 
 option_taken : (name option word : Text) (c : Command) → option_command name option word ≡ Some c → IsTaken (name ∷ option ∷ word ∷ []) (Some c)
 option_taken name option word c = named (λ name. option_command name option word ≡ Some c → IsTaken (name ∷ option ∷ word ∷ []) (Some c)) name (codes "run")
     (named (λ option. option_command (codes "run") option word ≡ Some c → IsTaken (codes "run" ∷ option ∷ word ∷ []) (Some c)) option (codes "--workers")
     (λ is. runs_by word c is)
     (λ n1 is. let none : option_command (codes "run") option word ≡ None = rw n1 refl in absurd (cc (sym none ∙ is))))
-    (λ n0 is. let none : option_command name option word ≡ None = rw n0 refl in absurd (cc (sym none ∙ is)))
+    (λ n0. named (λ name. option_command name option word ≡ Some c → IsTaken (name ∷ option ∷ word ∷ []) (Some c)) name (codes "rebuild")
+    (named (λ option. option_command (codes "rebuild") option word ≡ Some c → IsTaken (codes "rebuild" ∷ option ∷ word ∷ []) (Some c)) option (codes "--workers")
+    (λ is. rebuilds_by word c is)
+    (λ n1 is. let none : option_command (codes "rebuild") option word ≡ None = rw n1 refl in absurd (cc (sym none ∙ is))))
+    (λ n1 is. let none : option_command name option word ≡ None = rw (n0, n1) refl in absurd (cc (sym none ∙ is))))
 
 -- clap takes the words of each command, and its matches tell that command
 pub form_taken : (words : List Text) (c : Command) → command words ≡ Some c → IsTaken words (Some c)

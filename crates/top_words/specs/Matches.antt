@@ -4,15 +4,16 @@ use Rattle.std.specs.Str.{bytes_eq}
 use Rattle.clap.specs.Words.{App, Row, Rule, Text, first_of, new_app, new_rule}
 use Rattle.clap.specs.Simple.{on_top, with_rule, with_subcommand}
 use Rattle.top_words.specs.declared.command.Command.{Command}
-use Rattle.top_words.specs.declared.command.Command.TheVariants.{Check, Replay, Run, Trace}
-use Rattle.top_words.specs.Commands.{generate_of, run_by}
+use Rattle.top_words.specs.declared.command.Command.TheVariants.{Check, Replay, Run, Trace, Rebuild}
+use Rattle.top_words.specs.Commands.{generate_of, rebuild_by, run_by}
 
 -- one level of subcommands, and no binary's name among the words
 abbrev pub workers_rule : Rule
 workers_rule = record (new_rule (codes "workers")) { long = Some (codes "workers") }
 
-abbrev pub run_app : App
-run_app = with_rule (new_app (codes "run")) workers_rule
+-- `run` and `rebuild`, whose number comes after `--workers`
+abbrev pub workers_app : Text → App
+workers_app name = with_rule (new_app name) workers_rule
 
 abbrev pub generate_app : App
 generate_app = with_rule (new_app (codes "generate")) (new_rule (codes "number"))
@@ -23,13 +24,20 @@ bare_app = on_top (λ s. record s { no_binary_name = true }) (new_app (codes "gh
 abbrev pub program : App
 program =
     with_subcommand
-    (with_subcommand (with_subcommand (with_subcommand (with_subcommand bare_app (new_app (codes "check")).top) (new_app (codes "replay")).top) run_app.top) generate_app.top)
-    (new_app (codes "trace")).top
+    (with_subcommand
+    (with_subcommand (with_subcommand (with_subcommand (with_subcommand bare_app (new_app (codes "check")).top) (new_app (codes "replay")).top) (workers_app (codes "run")).top) generate_app.top)
+    (new_app (codes "trace")).top)
+    (workers_app (codes "rebuild")).top
 
 -- a run has 4 workers where no number was given
 abbrev pub run_chosen : Option Text → Option Command
 run_chosen None = Some (Run 4)
 run_chosen (Some number) = run_by number
+
+-- a rebuild has 4 shards where no number was given
+abbrev pub rebuild_chosen : Option Text → Option Command
+rebuild_chosen None = Some (Rebuild 4)
+rebuild_chosen (Some number) = rebuild_by number
 
 -- the command of a subcommand's name and of the numbers that were given
 abbrev pub command_chosen : Text → Option Text → Option Text → Option Command
@@ -39,6 +47,7 @@ command_chosen name workers number =
     else if bytes_eq name (codes "run") then run_chosen workers
     else if bytes_eq name (codes "generate") then option_and_then generate_of number
     else if bytes_eq name (codes "trace") then Some Trace
+    else if bytes_eq name (codes "rebuild") then rebuild_chosen workers
     else None
 
 -- the command that the matches of a subcommand tell

@@ -13,4 +13,6 @@ pub enum Command {
     Generate(u64),
     /// `trace`: a plan's run, on one thread, turn by turn.
     Trace,
+    /// `rebuild`: a plan's run, on one thread, and its table made anew from the log by this many threads, 1 to 16.
+    Rebuild(u32),
 }

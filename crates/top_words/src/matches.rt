@@ -3,30 +3,30 @@
 ghost use Rattle.std.specs.Prelude.{◌≡◌, false, IfOk, option_map};
 ghost use Rattle.clap.specs.Words.{app_of, subcommand_rows_of};
 ghost use Rattle.clap.specs.declared.builder.command.Command.TheViews.{out-Command};
-ghost use Rattle.top_words.specs.Matches.{bare_app, command_chosen, generate_app, program, run_app, run_chosen, chosen};
-ghost use Rattle.top_words.specs.Commands.{generate_of, run_by};
+ghost use Rattle.top_words.specs.Matches.{bare_app, command_chosen, generate_app, program, rebuild_chosen, run_chosen, workers_app, chosen};
+ghost use Rattle.top_words.specs.Commands.{generate_of, rebuild_by, run_by};
 
 use crate::command::Command;
 use crate::numbers::{number_of, workers_of};
 use clap::{Arg, ArgMatches, Command as Parser};
 use std::alloc::{AllocError, Global};
 
-/// The name under which a run's number is given.
+/// The name under which a number of workers is given.
 const WORKERS: &str = "workers";
 
 /// The name under which a plan's number is given.
 const NUMBER: &str = "number";
 
-/// How many workers a run has where nothing is said.
+/// How many workers a run and a rebuild have where nothing is said.
 const USUAL_WORKERS: u32 = 4;
 
-/// `run`, whose number comes after `--workers`.
-fn run_parser<'a>(alloc: Global) -> Result<Parser<'a>, AllocError>
-    ensures app { IfOk result (λ parser. app_of parser ≡ run_app) }
+/// A command whose number comes after `--workers`: `run` and `rebuild`.
+fn workers_parser<'a>(alloc: Global, name: &'a str) -> Result<Parser<'a>, AllocError>
+    ensures app { IfOk result (λ parser. app_of parser ≡ workers_app name.now) }
     ensures local { IfOk result (λ parser. (out-Command parser).has_globals ≡ false) }
 {
     let workers = Arg::new(alloc, WORKERS).long(WORKERS);
-    Parser::new(alloc, "run").arg(workers)
+    Parser::new(alloc, name).arg(workers)
 }
 
 /// `generate`, whose number is alone.
@@ -52,9 +52,10 @@ pub(crate) fn program<'a>(alloc: Global) -> Result<Parser<'a>, AllocError>
     bare_parser(alloc)
         .subcommand(Parser::new(alloc, "check"))?
         .subcommand(Parser::new(alloc, "replay"))?
-        .subcommand(run_parser(alloc)?)?
+        .subcommand(workers_parser(alloc, "run")?)?
         .subcommand(generate_parser(alloc)?)?
-        .subcommand(Parser::new(alloc, "trace"))
+        .subcommand(Parser::new(alloc, "trace"))?
+        .subcommand(workers_parser(alloc, "rebuild")?)
 }
 
 fn run_by(number: &str) -> Option<Command>
@@ -69,6 +70,21 @@ fn run_chosen(number: Option<&str>) -> Option<Command>
     match number {
         None => Some(Command::Run(USUAL_WORKERS)),
         Some(number) => run_by(number),
+    }
+}
+
+fn rebuild_by(number: &str) -> Option<Command>
+    ensures { result ≡ rebuild_by number.now }
+{
+    Some(Command::Rebuild(workers_of(number)?))
+}
+
+fn rebuild_chosen(number: Option<&str>) -> Option<Command>
+    ensures { result ≡ rebuild_chosen (option_map (λ text. text.now) number.entry) }
+{
+    match number {
+        None => Some(Command::Rebuild(USUAL_WORKERS)),
+        Some(number) => rebuild_by(number),
     }
 }
 
@@ -91,6 +107,8 @@ fn command_chosen(name: &str, workers: Option<&str>, number: Option<&str>) -> Op
         generate_of(number?)
     } else if name == "trace" {
         Some(Command::Trace)
+    } else if name == "rebuild" {
+        rebuild_chosen(workers)
     } else {
         None
     }

@@ -141,6 +141,8 @@ module _ (before : RunView) (actor : Actor) (after : RunView) (old : OrderPlace)
     replaying = subst (λ (r : RunView). IsReplaying r place) (sym after_is) replaying;
     plan = ap (λ (r : RunView). r.plan) after_is;
     count = ap (λ (r : RunView). length r.journal) after_is ∙ length-append before.journal (next_entry before.journal (state_at before.plan before.journal) takes.turn ∷ []);
+    entry = next_entry before.journal (state_at before.plan before.journal) takes.turn;
+    journal = ap (λ (r : RunView). r.journal) after_is;
   }
 
   -- by a loss between calls

@@ -1,5 +1,5 @@
 -- *Replaying*: a run whose turns so far are a replay's, with what is left of the order. (This project's rule.)
-use Rattle.std.specs.Prelude.{◌≡◌, ℕ, ◌+◌, true, false, List, [], length, None}
+use Rattle.std.specs.Prelude.{◌≡◌, ℕ, ◌+◌, true, false, List, [], ◌∷◌, ◌++◌, length, None}
 use Rattle.server_model.specs.declared.entry.Entry.{Entry}
 use Rattle.plan_data.specs.PlanData.{PlanData}
 use Rattle.tool_program.specs.JournalWords.Journals.{opening, state_at}
@@ -37,6 +37,8 @@ pub record GoesOn (before after : RunView) (place : OrderPlace) : Type 0 where
   pub replaying : IsReplaying after place
   pub plan : after.plan ≡ before.plan
   pub count : length after.journal ≡ length before.journal + 1
+  pub entry : Entry
+  pub journal : after.journal ≡ before.journal ++ entry ∷ []
 
 -- *Passes*: what the turn that comes next answers, and what it leaves
 abbrev pub Passes : RunView → Stepped → RunView → OrderPlace → Type 0

@@ -6,12 +6,14 @@ ghost use Rattle.tool_program.specs.JournalWords.KeptPlans.{cut_due};
 ghost use Rattle.tool_program.specs.Orders.{next_actor, IsReplay};
 ghost use Rattle.run_turns.specs.Runs.{is_over, Stops};
 ghost use Rattle.run_replay.specs.declared.whole_replay.replays.Replayed.TheVariants as replayed;
+ghost use Rattle.run_replay.specs.WholeReplay.Marks.{counted, logged_at_mark};
 ghost use Rattle.run_replay.specs.WholeReplay.Replays.{IsFresh, IsReplaying, Passes, IsStalled};
 
 use crate::whole_replay::choice::choose;
 use crate::whole_replay::passes::actor_count;
 use crate::whole_replay::place::OrderPlace;
 use base_script::Actor;
+use base_values::Names;
 use run_turns::{Run, Stepped};
 use server_api::Serve;
 
@@ -24,6 +26,24 @@ pub enum Replayed {
     Stalled,
     /// There was no memory for a turn.
     NoMemory,
+}
+
+/// How a replay went.
+#[derive(Clone, Copy)]
+pub struct ReplayOutcome {
+    /// What became of it.
+    pub replayed: Replayed,
+    /// How many events of the tables that were asked for the log had when the RENAME was done; none where it wasn't.
+    pub logged: Option<u64>,
+}
+
+impl ReplayOutcome {
+    /// A replay that went so.
+    fn new(replayed: Replayed, logged: Option<u64>) -> ReplayOutcome
+        ensures { result ≡ record { replayed = replayed; logged = logged } }
+    {
+        ReplayOutcome { replayed, logged }
+    }
 }
 
 /// Takes the turn that comes next: a loss between calls where one is due, which uses up no word and no place; else the next
@@ -53,18 +73,31 @@ fn pass<V: Serve>(run: &mut Run<'_, V>, place: &mut OrderPlace) -> Stepped
     }
 }
 
-/// Takes the turns of the plan's replay until its run is over, or nobody is ready. Where there is no memory for a turn, those
-/// before it stay.
-#[tactic(auto, using(crate::proofs::WholeReplay::GoingOn::begins, crate::proofs::WholeReplay::GoingOn::is_replay, crate::proofs::WholeReplay::GoingOn::still_replay, crate::proofs::WholeReplay::GoingOn::it_stops, crate::proofs::WholeReplay::GoingOn::still_stops))]
-pub fn replay<V: Serve>(run: &mut Run<'_, V>) -> Replayed
+/// How many events of these tables the log has when the RENAME is done: counted after the turn that did it.
+fn counted<V: Serve>(run: &Run<'_, V>, tables: &Names, logged: Option<u64>) -> Option<u64>
+    ensures { result ≡ counted run.now.plan run.now.journal run.now.server tables.now logged }
+{
+    match logged {
+        Some(count) => Some(count),
+        None if run.is_altered() => Some(run.server().unread(0, tables)),
+        None => None,
+    }
+}
+
+/// Takes the turns of the plan's replay until its run is over, or nobody is ready, and counts the events of these tables at the
+/// RENAME. Where there is no memory for a turn, those before it stay.
+#[tactic(auto, using(crate::proofs::WholeReplay::GoingOn::begins, crate::proofs::WholeReplay::GoingOn::is_replay, crate::proofs::WholeReplay::GoingOn::still_replay, crate::proofs::WholeReplay::GoingOn::it_stops, crate::proofs::WholeReplay::GoingOn::still_stops, crate::proofs::WholeReplay::Marking::goes_on_counted, crate::proofs::WholeReplay::Marking::still_counted))]
+pub fn replay<V: Serve>(run: &mut Run<'_, V>, tables: &Names) -> ReplayOutcome
     requires { IsFresh run.old }
     ensures plan { run.new.plan ≡ run.old.plan }
     ensures replay { IsReplay run.new.plan run.new.journal }
     ensures stops { Stops run.new.plan run.new.journal }
-    ensures over { result ≡ replayed.Over → is_over run.new.plan run.new.journal ≡ true }
-    ensures stalled { result ≡ replayed.Stalled → IsStalled run.new.plan run.new.journal }
-    ensures server { result ≢ replayed.NoMemory → run.new.server ≡ state_at run.new.plan run.new.journal }
+    ensures over { result.replayed ≡ replayed.Over → is_over run.new.plan run.new.journal ≡ true }
+    ensures stalled { result.replayed ≡ replayed.Stalled → IsStalled run.new.plan run.new.journal }
+    ensures server { result.replayed ≢ replayed.NoMemory → run.new.server ≡ state_at run.new.plan run.new.journal }
+    ensures logged { result.logged ≡ logged_at_mark run.new.plan tables.now run.new.journal }
 {
+    let mut logged = None;
     let mut place = OrderPlace {
         run: 0,
         used: 0,
@@ -73,11 +106,11 @@ pub fn replay<V: Serve>(run: &mut Run<'_, V>) -> Replayed
     let limit = run.plan().options().turn_limit;
     for _turn in 0..limit {
         match pass(run, &mut place) {
-            Stepped::Took => {}
-            Stepped::Over => return Replayed::Over,
-            Stepped::Idle => return Replayed::Stalled,
-            Stepped::NoMemory => return Replayed::NoMemory,
+            Stepped::Took => logged = counted(run, tables, logged),
+            Stepped::Over => return ReplayOutcome::new(Replayed::Over, logged),
+            Stepped::Idle => return ReplayOutcome::new(Replayed::Stalled, logged),
+            Stepped::NoMemory => return ReplayOutcome::new(Replayed::NoMemory, logged),
         }
     }
-    Replayed::Over
+    ReplayOutcome::new(Replayed::Over, logged)
 }

@@ -1,5 +1,5 @@
 -- The replay of a plan that was read.
-use Rattle.std.proofs.Common.{◌≡◌, ◌≤◌, ◌≢◌, nat_le, Bool, true, false, ◌||◌, List, [], ◌∷◌, length, cond, Option, Some, None, IfSome, refl, sym, subst, ◌∙◌}
+use Rattle.std.proofs.Common.{◌≡◌, ℕ, ◌≤◌, ◌≢◌, nat_le, Bool, true, false, ◌||◌, List, [], ◌∷◌, length, cond, Option, Some, None, IfSome, refl, sym, ap, subst, ◌∙◌}
 use Rattle.std.specs.List.{list_any}
 use Rattle.base_script.specs.declared.actor.Actor.{Actor}
 use Rattle.server_model.specs.declared.entry.Entry.{Entry}
@@ -15,6 +15,7 @@ use Rattle.tool_program.specs.Replay.{OneReplay}
 use Rattle.proof_plans.specs.ReadPlans.Laws.{WasRead}
 use Rattle.proof_plans.specs.Laws.{AcceptedRunsGoOn}
 use Rattle.run_turns.specs.Runs.{RunView, is_over, Stops}
+use Rattle.run_replay.specs.WholeReplay.Marks.{logged_at_mark}
 use Rattle.run_replay.specs.WholeReplay.Replays.{IsStalled}
 use Rattle.run_replay.specs.declared.whole_replay.replays.Replayed.{Replayed}
 use Rattle.run_replay.specs.declared.whole_replay.replays.Replayed.TheVariants as replayed
@@ -80,6 +81,11 @@ over_after goes plan journal replayed.NoMemory was replay sessions memory over s
 pub sound_replay_of : KeptRunsAreSound → OneReplay → (plan : PlanData) (run : RunView) (journal : List Entry) → run.plan ≡ plan → journal ≡ run.journal → WasRead plan → IsReplay run.plan run.journal → KeepsSessions run.journal → length run.journal ≤ run.plan.options.turn_limit → Stops run.plan run.journal → IsSoundReplay plan journal
 sound_replay_of sound one plan run journal plan_is journal_is was replay sessions bound stops =
     subst (IsSoundReplay plan) (sym journal_is) (subst (λ (p : PlanData). IsSoundReplay p run.journal) plan_is (sound_replay sound one run.plan run.journal (subst WasRead (sym plan_is) was) replay sessions bound stops))
+
+-- so is what was counted at the mark
+pub logged_of : (plan : PlanData) (run : RunView) (journal : List Entry) (tables : List (List ℕ)) (logged : Option ℕ) → run.plan ≡ plan → journal ≡ run.journal → tables ≡ plan.table ∷ [] → logged ≡ logged_at_mark run.plan tables run.journal → logged ≡ logged_at_mark plan (plan.table ∷ []) journal
+logged_of plan run journal tables logged plan_is journal_is tables_are is =
+    is ∙ ap (λ (p : PlanData). logged_at_mark p tables run.journal) plan_is ∙ ap (λ (t : List (List ℕ)). logged_at_mark plan t run.journal) tables_are ∙ ap (logged_at_mark plan (plan.table ∷ [])) (sym journal_is)
 
 pub end_of : AcceptedRunsGoOn → (plan : PlanData) (run : RunView) (journal : List Entry) (answer : Replayed) (verdict : Verdict) (server : State) → run.plan ≡ plan → journal ≡ run.journal → WasRead plan → IsReplay run.plan run.journal → KeepsSessions run.journal → answer ≢ replayed.NoMemory → (answer ≡ replayed.Over → is_over run.plan run.journal ≡ true) → (answer ≡ replayed.Stalled → IsStalled run.plan run.journal)
     → verdict ≡ verdict_of run.plan run.journal → server ≡ run.server → (answer ≢ replayed.NoMemory → run.server ≡ state_at run.plan run.journal) → IsEnd plan journal verdict server

@@ -1,13 +1,15 @@
 //! The replay of a plan.
 
-ghost use Rattle.std.specs.Prelude.{◌≡◌, ◌≢◌, is_some, Some, IfSome, IfOk};
+ghost use Rattle.std.specs.Prelude.{◌≡◌, ◌≢◌, [], ◌∷◌, is_some, Some, IfSome, IfOk};
 ghost use Rattle.tool_program.specs.JournalWords.Journals.{opening};
 ghost use Rattle.tool_program.specs.Verdicts.{verdict_of};
 ghost use Rattle.proof_plans.specs.ReadPlans.Laws.{WasRead};
+ghost use Rattle.run_replay.specs.WholeReplay.Marks.{logged_at_mark};
 ghost use Rattle.run_replay.specs.declared.whole_replay.replays.Replayed.TheVariants as answers;
 ghost use Rattle.top_call.specs.WholeReplays.Replays.{IsSoundReplay, IsEnd};
 
 use crate::whole_replays::laws::kept_runs_are_sound;
+use base_values::{Duplicate, Names, Sequence};
 use law_journals::plans::read_plans_are_runnable;
 use law_journals::runs::accepted_runs_go_on;
 use plan_data::Plan;
@@ -32,6 +34,8 @@ pub struct End<V: Serve> {
 pub struct Left<V: Serve> {
     /// The turns that were taken.
     pub journal: Journal,
+    /// How many events of the migrated table the log had when the RENAME was done; none where it wasn't.
+    pub logged: Option<u64>,
     /// How it ended; none where memory ran out before.
     pub end: Option<End<V>>,
 }
@@ -58,26 +62,36 @@ pub fn end_with<V: Serve>(verdict: Option<Verdict>, server: V) -> Option<End<V>>
     }
 }
 
+/// The migrated table's name alone.
+fn migrated_in(alloc: Global, plan: &Plan) -> Result<Names, AllocError>
+    ensures { IfOk result (λ names. names ≡ plan.now.table ∷ []) }
+{
+    Ok(Sequence::from_vec(vec![in alloc; plan.table().copy()?]?))
+}
+
 /// Replays a plan that was read, on a server at its opening: its turns are taken in their order until the run is over. Where there
 /// is no memory for a turn, those before it are left.
 pub fn replay_plan<V: Serve>(alloc: Global, plan: &Plan, server: V) -> Result<Left<V>, AllocError>
     requires read { WasRead plan.now }
     requires server { V.state server ≡ opening plan.now }
     ensures replay { IfOk result (λ left. IsSoundReplay plan.now left.journal) }
+    ensures logged { IfOk result (λ left. left.logged ≡ logged_at_mark plan.now (plan.now.table ∷ []) left.journal) }
     ensures end { IfOk result (λ left. IfSome left.end (λ end. IsEnd plan.now left.journal end.verdict (V.state end.server))) }
 {
     kept_runs_are_sound();
     accepted_runs_go_on();
     read_plans_are_runnable();
     replays_agree();
+    let migrated = migrated_in(alloc, plan)?;
     let mut run = Run::open(alloc, plan, server)?;
-    let replayed = replay(&mut run);
-    let verdict = verdict_after(alloc, &run, replayed);
+    let replayed = replay(&mut run, &migrated);
+    let verdict = verdict_after(alloc, &run, replayed.replayed);
     // For the prover: `journal` says that each turn is in its actor's session.
     let _in_sessions = run.journal();
     let (server, journal) = run.stop();
     Ok(Left {
         journal,
+        logged: replayed.logged,
         end: end_with(verdict, server),
     })
 }

@@ -1,5 +1,5 @@
 use Rattle.std.proofs.Common.{Some}
-use Rattle.top_words.specs.declared.command.Command.TheVariants.{Check, Generate, Replay, Run, Trace}
+use Rattle.top_words.specs.declared.command.Command.TheVariants.{Check, Generate, Rebuild, Replay, Run, Trace}
 use Rattle.top_endings.specs.declared.status.Status.TheVariants.{Usage, Refused, Reverted, ReadFault, WriteFault, NoMemory, TurnsSpent}
 use Rattle.top_call.proofs.Faulty.{faulty_words}
 use Rattle.top_call.proofs.Numbers.{under, under_done}
@@ -19,6 +19,9 @@ returns-clause-generated g c = λ number. under_done (Some (Generate number)) c.
 
 pub returns-clause-traced : goal.returns-clause-traced
 returns-clause-traced g c = under_done (Some Trace) c.args.line.now _ _ c.ending.result.turns c.ending.result.journal c.ending.result.status c.ending.ensures.ends
+
+pub returns-clause-rebuilt : goal.returns-clause-rebuilt
+returns-clause-rebuilt g c = λ workers. under_done (Some (Rebuild workers)) c.args.line.now _ _ c.ending.result.turns c.ending.result.journal c.ending.result.status c.ending.ensures.ends
 
 pub returns-clause-usage : goal.returns-clause-usage
 returns-clause-usage g c = under Usage c.args.line.now _ _ c.ending.result.turns c.ending.result.journal c.ending.result.status c.ending.ensures.ends

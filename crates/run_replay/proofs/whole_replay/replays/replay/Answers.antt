@@ -2,6 +2,7 @@ use Rattle.std.proofs.Common.{◌≡◌, ◌≤◌, length, refl, sym, ap, ◌�
 use Rattle.plan_data.specs.declared.options.Options.{Options}
 use Rattle.plan_data.specs.PlanData.{PlanData}
 use Rattle.run_replay.proofs.WholeReplay.GoingOn.{begins, full_over}
+use Rattle.run_replay.proofs.WholeReplay.Marking.{begins_uncounted, goes_on_counted}
 use Rattle.run_replay.proofs.whole_replay.replays.replay.Goals as goal
 
 pub loop-turn-init : goal.loop-turn-init
@@ -9,6 +10,15 @@ loop-turn-init g c = record {
   replaying = begins c.args.run.now c.actor_count.result c.requires c.actor_count.ensures;
   plan = refl;
   count = omega arith;
+  marked = begins_uncounted c.args.run.now c.args.tables.now c.requires;
+}
+
+pub loop-turn-preserved : goal.loop-turn-preserved
+loop-turn-preserved g c = record {
+  replaying = c.in-Took.ensures.replaying;
+  plan = c.in-Took.ensures.plan ∙ c.loop-turn.invariant.plan;
+  count = omega (arith, c.in-Took.ensures.count, c.loop-turn.invariant.count);
+  marked = goes_on_counted c.loop-turn.run c.pass.new.run c.pass.new.place c.args.tables.now c.loop-turn.logged c.counted-logged.result c.in-Took.ensures c.loop-turn.invariant.marked c.counted-logged.ensures;
 }
 
 pub returns-clause-over : goal.returns-clause-over

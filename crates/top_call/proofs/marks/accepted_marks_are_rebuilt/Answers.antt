@@ -1,5 +1,5 @@
 use Rattle.law_rebuild.proofs.Marked.{marks_rebuilt}
-use Rattle.law_rebuild.proofs.marks.accepted_marks_are_rebuilt.Goals as goal
+use Rattle.top_call.proofs.marks.accepted_marks_are_rebuilt.Goals as goal
 
 pub returns : goal.returns
 returns c = marks_rebuilt (record {

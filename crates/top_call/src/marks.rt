@@ -1,6 +1,6 @@
-//! The table right after the RENAME, and the log from then on. Each function's contract is the law.
+//! That the migrated table right after the RENAME is the rebuilt one: the function's contract is the law.
 
-ghost use Rattle.law_rebuild.specs.Laws.{AcceptedMarksAreRebuilt, LogsGrow};
+ghost use Rattle.law_rebuild.specs.Laws.{AcceptedMarksAreRebuilt};
 
 use law_journals::cut_over::journals_are_turned;
 use law_journals::plans::{read_plans_are_runnable, read_plans_are_serial};
@@ -21,9 +21,3 @@ pub fn accepted_marks_are_rebuilt()
     read_plans_are_runnable();
     read_plans_are_serial();
 }
-
-/// What the turns of a journal logged stays when more turns are taken: so an event that is logged before the RENAME is still read
-/// after the run.
-pub fn logs_grow()
-    ensures { LogsGrow }
-{}

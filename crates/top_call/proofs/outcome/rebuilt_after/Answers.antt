@@ -1,0 +1,11 @@
+use Rattle.top_call.proofs.Rebuilt.{done_some, rested_some}
+use Rattle.top_call.proofs.outcome.rebuilt_after.Goals as goal
+
+pub rebuilt-printed-requires-clause-rested : goal.rebuilt-printed-requires-clause-rested
+rebuilt-printed-requires-clause-rested g c κs within =
+    rested_some (λ end. end.verdict) (λ end. g.V.Serve.state end.server) c.args.plan.now c.args.left.journal c.args.left.end c.in-Some.end c.in-Some.is c.requires.replay c.requires.few c.requires.end
+
+pub returns-in-Some-clause-printed : goal.returns-in-Some-clause-printed
+returns-in-Some-clause-printed g c =
+    done_some (λ end. end.verdict) (λ end. g.V.Serve.state end.server) c.args.plan.now c.args.left.journal c.args.left.logged c.args.left.end c.in-Some.end c.rebuilt-printed.result c.in-Some.is c.requires.read c.requires.replay c.requires.logged c.requires.end c.requires.done
+    c.rebuilt-printed.ensures
