@@ -58,7 +58,11 @@ fn plan_at(alloc: Global, document: &Table) -> Result<Plan, PlanFault>
     let opening = opening_of(alloc, &table, &keys)?;
     let clients = clients_of(alloc, &table, keys.texts.clients.as_slice())?;
     let orders = orders_of(alloc, clients.len() as u32, &keys.texts)?;
+<<<<<<< landed
     if !is_built(&keys, &table, &opening.tables) {
+=======
+    if keys.later {
+>>>>>>> carried
         return Err(PlanFault::Refused(PlanRefusal::NotBuilt));
     }
     let parts = PlanParts {

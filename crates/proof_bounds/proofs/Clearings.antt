@@ -264,6 +264,8 @@ gives_lost requests.LogEnd = refl
 gives_lost (requests.ReadLog position limit tables) = refl
 gives_lost requests.ShowTables = refl
 gives_lost requests.ShowWaiting = refl
+gives_lost (requests.ShowCounter table) = refl
+gives_lost (requests.SetCounter table least) = refl
 
 left_some : (asked : Asked) (answer : Answer) (session : ℕ) → is_command asked ≡ false → (answer ≡ answers.Lost → ⊥) → is_some (session_left asked answer session) ≡ true
 left_some (Command word) answer session called heard = absurd (true≢false called)

@@ -4,6 +4,10 @@
 
 mod calls;
 mod commits;
+<<<<<<< landed
+=======
+mod counter_requests;
+>>>>>>> carried
 mod counters;
 mod definitions;
 mod drawn_answers;

@@ -44,7 +44,7 @@ use Rattle.proof_journals.proofs.Machine.Seated.{IsServed, state_more}
 abbrev pub keeps_table : List ℕ → Request → Bool
 keeps_table name (requests.Create schema) = not (bytes_eq schema.name name)
 keeps_table name (requests.Drop dropped) = not (bytes_eq name dropped)
-keeps_table name (requests.Rename pairs) = false
+keeps_table name (requests.Rename pairs) = not (list_any (bytes_eq name) (pair_names pairs))
 keeps_table name request = true
 
 -- it makes, drops and renames no table
@@ -72,6 +72,8 @@ quiet_keeps name requests.LogEnd is = refl
 quiet_keeps name (requests.ReadLog position limit tables) is = refl
 quiet_keeps name requests.ShowTables is = refl
 quiet_keeps name requests.ShowWaiting is = refl
+quiet_keeps name (requests.ShowCounter table) is = refl
+quiet_keeps name (requests.SetCounter table least) is = refl
 
 -- EVENTS
 
@@ -105,6 +107,10 @@ dropped_keeps : (name dropped_name : List ℕ) (state : State) (number : ℕ) �
 dropped_keeps name dropped_name state number off false = refl
 dropped_keeps name dropped_name state number off true = ap (option_map (λ table. table.schema)) ((drop_moves dropped_name state.tables).others name (rw off refl))
 
+renamed_keeps : (name : List ℕ) (pairs : List Pair) (state : State) (number : ℕ) (renamed : Result Database NotRenamed) → rename_tables pairs state.tables ≡ renamed → list_any (bytes_eq name) (pair_names pairs) ≡ false → Same name state (does (defined (renamed_or renamed)) state number)
+renamed_keeps name pairs state number (Ok tables) is off = ap (option_map (λ table. table.schema)) ((rename_moves pairs state.tables tables is).others name off)
+renamed_keeps name pairs state number (Err reason) is off = refl
+
 within_same : (name : List ℕ) (state : State) (number : ℕ) (request : Request) → keeps_table name request ≡ true → Same name state (does (effect_within (is_in_transaction (session_of number state.sessions)) (view number state) state request) state number)
 within_same name state number requests.Begin keeps = refl
 within_same name state number requests.Commit keeps = schema_events name state.tables (writes_of (session_of number state.sessions) ++ [])
@@ -125,11 +131,13 @@ within_same name state number (requests.LockTables names) keeps = at (all_exist 
 within_same name state number requests.Unlock keeps = refl
 within_same name state number (requests.Create schema) keeps = created_keeps name schema state number (not-true (bytes_eq schema.name name) keeps) (has_table schema.name state.tables)
 within_same name state number (requests.Drop dropped_name) keeps = dropped_keeps name dropped_name state number (not-true (bytes_eq name dropped_name) keeps) (has_table dropped_name state.tables)
-within_same name state number (requests.Rename pairs) keeps = absurd (false≢true keeps)
+within_same name state number (requests.Rename pairs) keeps = renamed_keeps name pairs state number (rename_tables pairs state.tables) refl (not-true (list_any (bytes_eq name) (pair_names pairs)) keeps)
 within_same name state number requests.LogEnd keeps = refl
 within_same name state number (requests.ReadLog position limit tables) keeps = refl
 within_same name state number requests.ShowTables keeps = refl
 within_same name state number requests.ShowWaiting keeps = refl
+within_same name state number (requests.ShowCounter table) keeps = refl
+within_same name state number (requests.SetCounter table least) keeps = refl
 
 did_same : (name : List ℕ) (state : State) (number : ℕ) (request : Request) → keeps_table name request ≡ true → Same name state (did state number request)
 unfolding did

@@ -133,6 +133,7 @@ pub fn names_blocker(
         }
         Request::Create(schema) => { blocker_of_exclusive(sessions, waiting, number, &schema.name) }
         Request::Drop(table) => blocker_of_exclusive(sessions, waiting, number, table),
+        Request::SetCounter { table, .. } => blocker_of_exclusive(sessions, waiting, number, table),
         Request::Rename(pairs) => blocker_of_pairs(sessions, waiting, number, pairs.as_slice()),
         _ => None,
     }
