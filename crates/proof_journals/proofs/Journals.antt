@@ -35,11 +35,7 @@ use Rattle.proof_journals.proofs.Turning.{Turned, turned_still, tool_rests}
 use Rattle.proof_journals.proofs.Answering.{AtWork, own_fits, rests_with, lost_faces, word_timed_out, word_undone, session_lost}
 use Rattle.proof_journals.proofs.Tooling.{ToolWork, final, tool_stays, tool_forgets, tool_counts}
 use Rattle.proof_journals.proofs.Serves.{IsFree, granted, done_one, asks_numbered, drawn_word, undrawn_waits, undrawn_over, client_done, client_lost, lost_line_outcome, tool_done}
-<<<<<<< landed
-use Rattle.server_model.specs.declared.request.Request.TheVariants.{BeginSpan, ChunkEnd, CopyRow, Create, Drop, Ends, LockTables, LogEnd, ReadLog, Rename, ShowTables, ShowWaiting, Unlock}
-=======
 use Rattle.server_model.specs.declared.request.Request.TheVariants.{BeginSpan, ChunkEnd, CopyRow, Create, Drop, Ends, LockTables, LogEnd, ReadLog, Rename, SetCounter, ShowCounter, ShowTables, ShowWaiting, Unlock}
->>>>>>> carried
 use Rattle.server_model.specs.declared.request.Request.{Request}
 use Rattle.std.specs.Prelude.{is_some}
 use Rattle.server_model.specs.States.{connected, State, is_in_transaction, opened, polls_of, session_of, waiting_of, with_session}

@@ -25,11 +25,7 @@ use Rattle.base_values.specs.declared.span.Span.{Span}
 use Rattle.server_model.specs.Effects.{is_outside, effect_unless, effect_within, of_table, begins, defined, locks_if, all_exist, created, dropped, renamed_or}
 use Rattle.server_model.specs.Listings.{events_read}
 use Rattle.server_model.specs.PlainServer.{does, done, did, serves}
-<<<<<<< landed
-use Rattle.server_model.specs.States.{State, session_of, is_in_transaction, is_of_tool, view}
-=======
 use Rattle.server_model.specs.States.{State, session_of, is_in_transaction, is_of_tool, next_of, view}
->>>>>>> carried
 use Rattle.table_store.specs.Databases.{Database, TableRows, find_table, has_table, rename_tables}
 use Rattle.plan_data.specs.PlanData.{PlanData}
 use Rattle.tool_program.specs.JournalWords.Journals.{opens, state_at}

@@ -1,13 +1,8 @@
 -- What a turn of a session does to names that are held, to requests that wait, to the log and to the tables that stand.
 use Rattle.server_model.specs.declared.counter.Counter.{Counter}
 use Rattle.server_model.specs.PlainServer.{recounted}
-<<<<<<< landed
-use Rattle.server_model.specs.Drawing.{filled}
-use Rattle.server_model.proofs.Filling.{filled_exclusive}
-=======
 use Rattle.server_model.specs.Drawing.{filled, filled_for}
 use Rattle.server_model.proofs.Filling.{filled_case}
->>>>>>> carried
 use Rattle.server_model.specs.States.{is_of_tool}
 use Rattle.std.proofs.Common.{◌≡◌, ◌⊎◌, ℕ, ◌+◌, Bool, true, false, not, ◌&&◌, ◌||◌, List, [], ◌∷◌, ◌++◌, map, filter, cond, Option, Some, None, Result, Ok, Err, refl, sym, ap, ◌∙◌, subst, inl, inr, arith}
 use Rattle.std.specs.Prelude.{◌==◌}
@@ -403,12 +398,6 @@ effect_does before w number false busy seen (CopyRow from into columns key) own 
   at false = does_commits false before w number (operation_result seen (copy_operation seen from into columns key)).events
       (all_both (λ event. MayWrite before number event.table) (writes_of (session_of number before.sessions)) (operation_result seen (copy_operation seen from into columns key)).events own (said_all (λ name. MayWrite before number name) seen (copy_operation seen from into columns key) (inr one)))
 
-<<<<<<< landed
-done_does : (before : State) (w : List Waiting) (number : ℕ) (request : Request) → OwnWrites before number → blocker before number (need before number request) ≡ None → Does (is_exclusive request) before number (done (at_wait before w) number request).after
-unfolding did
-done_does before w number request own free =
-    subst (λ (takes : Bool). Does takes before number (done (at_wait before w) number request).after) (filled_exclusive (is_of_tool (session_of number before.sessions)) before.tables before.counters request)
-=======
 filled_takes : (tool : Bool) (tables : Database) (counters : List Counter) (request : Request) → takes_names (filled_for tool tables counters request) ≡ takes_names request
 filled_takes = filled_case (λ asked full. takes_names full ≡ takes_names asked) (λ r. refl) (λ statement n. refl)
 
@@ -416,7 +405,6 @@ done_does : (before : State) (w : List Waiting) (number : ℕ) (request : Reques
 unfolding did
 done_does before w number request own free =
     subst (λ (takes : Bool). Does takes before number (done (at_wait before w) number request).after) (filled_takes (is_of_tool (session_of number before.sessions)) before.tables before.counters request)
->>>>>>> carried
     (effect_does before w number (is_outside (session_of number before.sessions) (filled before number request)) (is_in_transaction (session_of number before.sessions)) (view number before) (filled before number request) own
     (none_of (blocker_of_names (held_at before) (waiters_at before) number (need before number request).exclusive (need before number request).names) (blocker_of_set (locks_held before.sessions) number (need before number request).locks) free).0)
 
@@ -590,11 +578,7 @@ entries_are_turns limits scene journal entry run =
     let covered = (held.holds.kept.fine number).covered in
     let own : OwnWrites now number = own_writes now number state.tables
     (subst (λ (f : Face). EventsCovered f.hold.names f.hold.locks state.tables f.hold.writes) (sym (faces_opened nothing tool number number state)) covered) in
-<<<<<<< landed
-    rw (state_more (opened limits scene.opening) journal entry) (from_opened (asks_exclusive (about now number entry.asked)) nothing tool state number (after_entry state entry) (turn_recounted (asks_exclusive (about now number entry.asked)) number now (leaves entry.side now number entry.asked) _ (turn_of entry.side now number entry.asked own)))
-=======
     rw (state_more (opened limits scene.opening) journal entry) (from_opened (asks_names (about now number entry.asked)) nothing tool state number (after_entry state entry) (turn_recounted (asks_names (about now number entry.asked)) number now (leaves entry.side now number entry.asked) _ (turn_of entry.side now number entry.asked own)))
->>>>>>> carried
 
 -- the others' faces stay
 pub entry_faces : (limits : Limits) (scene : Scene) (journal : List Entry) (entry : Entry) → JournalHolds limits scene journal → (n : ℕ) → (n == entry.session) ≡ false → face_of (after_entry (scene_state limits scene journal) entry).sessions n ≡ face_of (scene_state limits scene journal).sessions n
