@@ -117,36 +117,11 @@ filled_looks = filled_case (λ asked full. is_look asked ≡ true → full ≡ a
 -- ... and moves no counter.
 counted_looks : (state : State) (number : ℕ) (request : Request) (answer : Answer) → is_look request ≡ true → counted state number (Some request) answer ≡ state.counters
 unfolding counted
-counted_looks state number (requests.Ends table) answer look = refl
-counted_looks state number (requests.ChunkEnd table low top size) answer look = refl
-counted_looks state number requests.LogEnd answer look = refl
-counted_looks state number (requests.ReadLog position limit tables) answer look = refl
-counted_looks state number requests.ShowTables answer look = refl
-counted_looks state number requests.ShowWaiting answer look = refl
-counted_looks state number (requests.ShowCounter table) answer look = refl
-counted_looks state number requests.Begin answer look = absurd (false≢true look)
-counted_looks state number requests.Commit answer look = absurd (false≢true look)
-counted_looks state number requests.Rollback answer look = absurd (false≢true look)
 counted_looks state number (requests.Do statement) answer look = absurd (false≢true look)
-counted_looks state number (requests.BeginSpan table span size) answer look = absurd (false≢true look)
-counted_looks state number (requests.CopyRow from into columns key) answer look = absurd (false≢true look)
-counted_looks state number (requests.LockTables names) answer look = absurd (false≢true look)
-counted_looks state number requests.Unlock answer look = absurd (false≢true look)
 counted_looks state number (requests.Create schema) answer look = absurd (false≢true look)
 counted_looks state number (requests.Drop name) answer look = absurd (false≢true look)
 counted_looks state number (requests.Rename pairs) answer look = absurd (false≢true look)
 counted_looks state number (requests.SetCounter table least) answer look = absurd (false≢true look)
-
-filled_looks : (tool : Bool) (tables : Database) (counters : List Counter) (request : Request) → is_look request ≡ true → filled_for tool tables counters request ≡ request
-filled_looks = filled_case (λ asked full. is_look asked ≡ true → full ≡ asked) (λ r look. refl) (λ statement n look. absurd (false≢true look))
-
--- ... and moves no counter.
-counted_looks : (state : State) (number : ℕ) (request : Request) (answer : Answer) → is_look request ≡ true → counted state number (Some request) answer ≡ state.counters
-unfolding counted
-counted_looks state number (requests.Do statement) answer look = absurd (false≢true look)
-counted_looks state number (requests.Create schema) answer look = absurd (false≢true look)
-counted_looks state number (requests.Drop name) answer look = absurd (false≢true look)
-counted_looks state number (requests.Rename pairs) answer look = absurd (false≢true look)
 counted_looks state number request answer look = refl
 
 done_looks : (state : State) (number : ℕ) (request : Request) → is_look request ≡ true → (done state number request).after ≡ state

@@ -1,12 +1,7 @@
 -- How counters move by a request that is done, as code says it.
-<<<<<<< landed
 use Rattle.std.proofs.Common.{◌≡◌, ℕ, Bool, true, false, List, [], ◌++◌, cond, Option, Some, None, refl, sym, ap, ◌∙◌}
 use Rattle.std.specs.Prelude.{◌==◌, is_some}
 use Rattle.std.proofs.lemmas.Bool.{true≢false}
-=======
-use Rattle.std.proofs.Common.{◌≡◌, ℕ, Bool, true, false, List, [], ◌∷◌, ◌++◌, cond, Option, Some, None, refl, sym, ap, ◌∙◌}
-use Rattle.std.specs.Prelude.{◌==◌}
->>>>>>> carried
 use Rattle.table_store.specs.Databases.{TableRows, Database, find_table}
 use Rattle.table_store.specs.declared.renames.Pair.{Pair}
 use Rattle.base_values.specs.declared.gho_schema.schema.Schema.{Schema}
@@ -21,7 +16,6 @@ use Rattle.server_model.specs.Counting.{after_drawn, counted, counts, counts_if,
 use Rattle.server_model.specs.Drawing.{numbered, offered}
 use Rattle.server_model.specs.Effects.{is_outside}
 use Rattle.server_model.specs.Operations.{table_of}
-<<<<<<< landed
 use Rattle.server_model.specs.States.{State, after_value, counter_of, counters_from, counters_renamed, counters_without, is_of_tool, session_of}
 use Rattle.server_model.proofs.LockedRows.Counters.{found_named}
 use Rattle.server_model.proofs.Raising.{raised_zero}
@@ -34,35 +28,17 @@ given_none (answers.Ok count) = at (count == 0) 0 where
   at : (b : Bool) (n : ℕ) → cond b n n ≡ n
   at true n = refl
   at false n = refl
-=======
-use Rattle.server_model.specs.States.{State, after_value, counter_of, counters_from, counters_renamed, counters_without, session_of}
-use Rattle.server_model.proofs.LockedRows.Counters.{found_named}
-use Rattle.server_model.proofs.Raising.{raised_zero}
-use Rattle.server_sessions.specs.LiveSessions.CounterMoves.{after_given}
-
--- what is given, by its number
-given_none : (answer : Answer) → given_by answer None ≡ 0
-given_none (answers.Ok count) = at (count == 0) where
-  at : (b : Bool) → cond b 0 0 ≡ 0
-  at true = refl
-  at false = refl
->>>>>>> carried
 given_none answer = refl
 
 given_same : (schema : Schema) (place : Option ℕ) (statement : Statement) (drawn : Option ℕ) (given : ℕ) (answer : Answer) → given ≡ after_value (gives_in schema place (numbered drawn statement)) → after_given answer given ≡ given_by answer (gives_in schema place (numbered (drawn_if (is_answered answer) drawn) statement))
 given_same schema place statement drawn given (answers.Ok count) is = ap (λ (n : ℕ). cond (count == 0) 0 n) is
 given_same schema place statement drawn given answer is = refl
 
-<<<<<<< landed
 pub none_drawn : (answered : Bool) → drawn_if answered None ≡ None
-=======
-none_drawn : (answered : Bool) → drawn_if answered None ≡ None
->>>>>>> carried
 none_drawn true = refl
 none_drawn false = refl
 
 -- a table without an AUTO_INCREMENT column
-<<<<<<< landed
 stays_plain : (place : Option ℕ) (drawn : Option ℕ) (table : TableRows) (statement : Statement) (answer : Answer) (counters : List Counter) → place ≡ auto_place table.schema → is_some place ≡ false → is_some drawn ≡ false → counters ≡ counts (Some table) (drawn_if (is_answered answer) drawn) statement answer counters
 stays_plain None None table statement answer counters is plain none =
     rw (none_drawn (is_answered answer), ← is, given_none answer) (sym (ap (counters_from table.schema.name 0) (raised_zero table.schema.name counters) ∙ raised_zero table.schema.name counters))
@@ -71,15 +47,6 @@ stays_plain None (Some number) table statement answer counters is plain none = a
 
 pub stays_without : (found : Option TableRows) (table : TableRows) (statement : Statement) (answer : Answer) (counters : List Counter) (drawn : Option ℕ) → found ≡ Some table → is_some (auto_place table.schema) ≡ false → is_some drawn ≡ false → counters ≡ counts found (drawn_if (is_answered answer) drawn) statement answer counters
 stays_without found table statement answer counters drawn is plain none = rw is (stays_plain (auto_place table.schema) drawn table statement answer counters refl plain none)
-=======
-stays_plain : (table : TableRows) (statement : Statement) (answer : Answer) (counters : List Counter) → auto_place table.schema ≡ None → counts (Some table) None statement answer counters ≡ counters
-stays_plain table statement answer counters plain =
-    rw (plain, given_none answer) (ap (counters_from table.schema.name 0) (raised_zero table.schema.name counters) ∙ raised_zero table.schema.name counters)
-
-pub stays_without : (found : Option TableRows) (table : TableRows) (statement : Statement) (answer : Answer) (counters : List Counter) (drawn : Option ℕ) → found ≡ Some table → auto_place table.schema ≡ None → drawn ≡ None → counters ≡ counts found (drawn_if (is_answered answer) drawn) statement answer counters
-stays_without found table statement answer counters drawn is plain none =
-    rw (is, none, none_drawn (is_answered answer)) (sym (stays_plain table statement answer counters plain))
->>>>>>> carried
 
 pub stays_missing : (found : Option TableRows) (statement : Statement) (answer : Answer) (counters : List Counter) (drawn : Option ℕ) → found ≡ None → counters ≡ counts found (drawn_if (is_answered answer) drawn) statement answer counters
 stays_missing found statement answer counters drawn is = rw is refl
@@ -92,12 +59,6 @@ raises tables name table statement answer counters drawn given named found is =
     rw (found, same) (ap (λ (n : ℕ). counters_from table.schema.name n (counters_from table.schema.name (after_drawn (drawn_if (is_answered answer) drawn)) counters)) (given_same table.schema (auto_place table.schema) statement drawn given answer is))
 
 -- a statement, by whether its table is one that its session locked
-<<<<<<< landed
-=======
-pub drawn_inside : (outside : Bool) (offer drawn : Option ℕ) → drawn ≡ offered_inside outside offer → (answered : Bool) → drawn_if answered drawn ≡ drawn_if answered (offered_inside outside offer)
-drawn_inside outside offer drawn is answered = ap (drawn_if answered) is
-
->>>>>>> carried
 pub statement_counted : (state : State) (number : ℕ) (statement : Statement) (drawn : Option ℕ) (answer : Answer) → drawn ≡ offered_inside (is_outside (session_of number state.sessions) (requests.Do statement)) (offered state number statement)
     → counts (find_table (table_of statement) state.tables) (drawn_if (is_answered answer) drawn) statement answer state.counters ≡ counted state number (Some (requests.Do statement)) answer
 unfolding counted
@@ -119,17 +80,22 @@ dropped_counted state number name answer after is = defined_counters answer afte
 pub renamed_counted : (state : State) (number : ℕ) (pairs : List Pair) (answer : Answer) (after : List Counter) → after ≡ counters_renamed pairs state.counters → counts_if answer (λ before. after) state.counters ≡ counted state number (Some (requests.Rename pairs)) answer
 unfolding counted
 renamed_counted state number pairs answer after is = defined_counters answer after (counters_renamed pairs) state.counters is
-<<<<<<< landed
+
+-- a counter that is set
+pub set_counted : (state : State) (number : ℕ) (table : List ℕ) (least : ℕ) (answer : Answer) → counts_if answer (counters_from table least) state.counters ≡ counted state number (Some (requests.SetCounter table least)) answer
+unfolding counted
+set_counted state number table least answer = refl
 
 -- any other request moves none
 pub others_stay : (state : State) (number : ℕ) (request : Request) (answer : Answer) → ((statement : Statement) → request ≡ requests.Do statement → ⊥) → ((schema : Schema) → request ≡ requests.Create schema → ⊥) → ((name : List ℕ) → request ≡ requests.Drop name → ⊥) → ((pairs : List Pair) → request ≡ requests.Rename pairs → ⊥)
-    → state.counters ≡ counted state number (Some request) answer
+    → ((table : List ℕ) (least : ℕ) → request ≡ requests.SetCounter table least → ⊥) → state.counters ≡ counted state number (Some request) answer
 unfolding counted
-others_stay state number (requests.Do statement) answer does creates drops renames = absurd (does statement refl)
-others_stay state number (requests.Create schema) answer does creates drops renames = absurd (creates schema refl)
-others_stay state number (requests.Drop name) answer does creates drops renames = absurd (drops name refl)
-others_stay state number (requests.Rename pairs) answer does creates drops renames = absurd (renames pairs refl)
-others_stay state number request answer does creates drops renames = refl
+others_stay state number (requests.Do statement) answer does creates drops renames sets = absurd (does statement refl)
+others_stay state number (requests.Create schema) answer does creates drops renames sets = absurd (creates schema refl)
+others_stay state number (requests.Drop name) answer does creates drops renames sets = absurd (drops name refl)
+others_stay state number (requests.Rename pairs) answer does creates drops renames sets = absurd (renames pairs refl)
+others_stay state number (requests.SetCounter table least) answer does creates drops renames sets = absurd (sets table least refl)
+others_stay state number request answer does creates drops renames sets = refl
 
 -- WHAT IS DRAWN
 
@@ -150,5 +116,3 @@ none_missing state number statement outside drawn is none =
 pub others_draw : (state : State) (number : ℕ) (request : Request) (answer : Answer) → ((statement : Statement) → request ≡ requests.Do statement → ⊥) → None ≡ drawn_by state number (Some request) answer
 others_draw state number (requests.Do statement) answer other = absurd (other statement refl)
 others_draw state number request answer other = sym (none_drawn (is_answered answer))
-=======
->>>>>>> carried

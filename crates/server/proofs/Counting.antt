@@ -1,50 +1,31 @@
 -- Counters, where a request waits or is done.
-<<<<<<< landed
 use Rattle.std.proofs.Common.{◌≡◌, ◌≢◌, ℕ, ◌+◌, Bool, true, false, List, [], ◌∷◌, ◌++◌, Option, Some, None, Result, Ok, Err, IfOk, OnOk, refl, sym, ap, ◌∙◌}
 use Rattle.table_store.specs.Databases.{TableRows, Database, find_table}
 use Rattle.base_script.specs.declared.actor.Side.{Side}
 use Rattle.base_script.specs.declared.actor.Side.TheVariants.{Before, After}
-=======
-use Rattle.std.proofs.Common.{◌≡◌, ◌≢◌, ℕ, ◌+◌, Bool, true, false, List, [], ◌∷◌, ◌++◌, Option, Some, None, Result, Ok, Err, IfOk, OnOk, refl, ap, ◌∙◌}
-use Rattle.table_store.specs.Databases.{TableRows, Database, find_table}
->>>>>>> carried
 use Rattle.base_script.specs.declared.statement.Statement.{Statement}
 use Rattle.server_model.specs.declared.answer.Answer.{Answer}
 use Rattle.server_model.specs.declared.answer.Answer.TheVariants as answers
 use Rattle.server_model.specs.declared.counter.Counter.{Counter}
-<<<<<<< landed
 use Rattle.server_model.specs.declared.entry.Asked.{Asked}
-=======
->>>>>>> carried
 use Rattle.server_model.specs.declared.entry.Asked.TheVariants.{Call, Poll}
 use Rattle.server_model.specs.declared.request.Request.{Request}
 use Rattle.server_model.specs.declared.request.Request.TheVariants as requests
 use Rattle.server_model.specs.declared.session.Waiting.{Waiting}
 use Rattle.server_model.specs.Blockers.{blocker, need}
-<<<<<<< landed
 use Rattle.server_model.specs.Conditions.{LosesWell}
 use Rattle.server_model.specs.Counting.{counted, counts, drawn_by}
 use Rattle.server_model.specs.Drawing.{filled}
 use Rattle.server_model.specs.Effects.{Effect, Rests, Grows, Writes, Forgets, Moves, Locks, Unlocks, effect}
 use Rattle.server_model.specs.Answers.{ok}
 use Rattle.server_model.specs.PlainServer.{Served, asks_for, commits, counting, did, does, done, forgets, is_over, loses, number_drawn, polled_over, polls, recounted, request_waiting, serves, serving, state_left, unlocking, without_waiting}
-=======
-use Rattle.server_model.specs.Counting.{counted, counts, drawn_by}
-use Rattle.server_model.specs.Drawing.{filled}
-use Rattle.server_model.specs.Effects.{Effect, Rests, Grows, Writes, Forgets, Moves, Locks, Unlocks, effect}
-use Rattle.server_model.specs.PlainServer.{asks_for, commits, counting, did, does, done, forgets, is_over, number_drawn, polled_over, polls, recounted, state_left, unlocking, without_waiting}
->>>>>>> carried
 use Rattle.server_model.specs.Operations.{table_of}
 use Rattle.server_model.specs.States.{State, counters_from, names_in, polls_of, session_of, waiting_of, with_session}
 use Rattle.server_sessions.specs.declared.live_sessions.counter_moves.CounterMove.{CounterMove}
 use Rattle.server_sessions.specs.LiveSessions.CounterMoves.{moved}
 use Rattle.server_model.proofs.Raising.{raised_zero}
 use Rattle.server.specs.declared.drawn_answers.DrawnAnswer.{DrawnAnswer}
-<<<<<<< landed
 use Rattle.server.specs.Parts.{before_loss, state_of}
-=======
-use Rattle.server.specs.Parts.{state_of}
->>>>>>> carried
 use Rattle.server.proofs.Requests.{calls_commit, calls_done, calls_rollback, calls_unlock, calls_wait, polls_blocked, polls_done}
 
 -- WHERE A REQUEST WAITS, NO COUNTER MOVES
@@ -75,24 +56,16 @@ counted_timed state number waited (Some (requests.Rename pairs)) = refl
 counted_timed state number waited (Some other) = refl
 counted_timed state number waited None = refl
 
-<<<<<<< landed
 -- what a turn leaves, by what it serves
 left_by : (state : State) (number : ℕ) (asked : Asked) (served : Served) → serves state number asked ≡ served → state_left None state number asked ≡ recounted (counted state number (asks_for state number asked) served.answer) served.after
 left_by state number asked served is = ap (λ (s : Served). recounted (counted state number (asks_for state number asked) s.answer) s.after) is
 
-=======
->>>>>>> carried
 -- a call that waits
 pub left_waits : (state : State) (number by : ℕ) (request : Request) → blocker state number (need state number request) ≡ Some by
     → state_left None state number (Call request) ≡ record state { waiting = state.waiting ++ record { session = number; request = request } ∷ []; sessions = with_session number (counting 0) state.sessions }
 left_waits state number by request blocked =
-<<<<<<< landed
     let after : State = record state { waiting = state.waiting ++ record { session = number; request = request } ∷ []; sessions = with_session number (counting 0) state.sessions } in
     left_by state number (Call request) (serving (answers.Waits by) after) (calls_wait state number by request blocked) ∙ ap (λ (counters : List Counter). recounted counters after) (counted_waits state number by (Some request))
-=======
-    rw (calls_wait state number by request blocked)
-    (ap (λ (counters : List Counter). recounted counters (record state { waiting = state.waiting ++ record { session = number; request = request } ∷ []; sessions = with_session number (counting 0) state.sessions })) (counted_waits state number by (Some request)))
->>>>>>> carried
 
 pub drawn_waits : (state : State) (number by : ℕ) (request : Request) → blocker state number (need state number request) ≡ Some by → number_drawn None state number (Call request) ≡ None
 drawn_waits state number by request blocked = rw (calls_wait state number by request blocked) refl
@@ -108,11 +81,7 @@ over_drawn false state number by asks = refl
 
 pub left_blocked : (state : State) (number by : ℕ) (one : Waiting) → waiting_of number state.waiting ≡ Some one → blocker state number (need state number one.request) ≡ Some by → state_left None state number Poll ≡ (polled_over (is_over state number) by state number).after
 left_blocked state number by one waits blocked =
-<<<<<<< landed
     left_by state number Poll (polled_over (is_over state number) by state number) (polls_blocked state number by one waits blocked) ∙ over_left (is_over state number) state number by (asks_for state number Poll)
-=======
-    rw (polls_blocked state number by one waits blocked) (over_left (is_over state number) state number by (asks_for state number Poll))
->>>>>>> carried
 
 pub drawn_blocked : (state : State) (number by : ℕ) (one : Waiting) → waiting_of number state.waiting ≡ Some one → blocker state number (need state number one.request) ≡ Some by → number_drawn None state number Poll ≡ None
 drawn_blocked state number by one waits blocked =
@@ -151,13 +120,9 @@ moved_so tables after all_sessions later new number request full counter_move an
 pub call_left : {E : Type 0} (state new : State) (number : ℕ) (request : Request) → blocker state number (need state number request) ≡ None → (result : Result DrawnAnswer E) → IfOk result (λ one. one.answer ≡ (done state number request).answer)
     → IfOk result (λ one. new ≡ recounted (counted state number (Some request) one.answer) (done state number request).after) → OnOk result (new ≡ state_left None state number (Call request))
 call_left state new number request free (Ok one) answered after =
-<<<<<<< landed
     after
     ∙ (ap (λ (a : Answer). recounted (counted state number (Some request) a) (done state number request).after) answered
     ∙ sym (left_by state number (Call request) (done state number request) (calls_done state number request free)))
-=======
-    rw (calls_done state number request free) (after ∙ ap (λ (a : Answer). recounted (counted state number (Some request) a) (done state number request).after) answered)
->>>>>>> carried
 call_left state new number request free (Err fault) answered after = tt
 
 pub call_drawn : {E : Type 0} (state : State) (number : ℕ) (request : Request) → blocker state number (need state number request) ≡ None → (result : Result DrawnAnswer E) → IfOk result (λ one. one.answer ≡ (done state number request).answer)
@@ -169,15 +134,11 @@ call_drawn state number request free (Err fault) answered drawn = tt
 pub poll_left : {E : Type 0} (state new : State) (number : ℕ) (one : Waiting) → waiting_of number state.waiting ≡ Some one → names_in one.request ≢ [] → blocker state number (need state number one.request) ≡ None → (result : Result DrawnAnswer E) → IfOk result (λ served. served.answer ≡ (done state number one.request).answer)
     → IfOk result (λ served. new ≡ without_waiting number (recounted (counted state number (Some one.request) served.answer) (done state number one.request).after)) → OnOk result (new ≡ state_left None state number Poll)
 poll_left state new number one waits some free (Ok served) answered after =
-<<<<<<< landed
     let finished : Served = done state number one.request in
     after
     ∙ (ap (λ (a : Answer). without_waiting number (recounted (counted state number (Some one.request) a) finished.after)) answered
     ∙ (ap (λ (asks : Option Request). recounted (counted state number asks finished.answer) (without_waiting number finished.after)) (sym (ap request_waiting waits))
     ∙ sym (left_by state number Poll (serving finished.answer (without_waiting number finished.after)) (polls_done state number one waits some free))))
-=======
-    rw (polls_done state number one waits some free, waits) (after ∙ ap (λ (a : Answer). without_waiting number (recounted (counted state number (Some one.request) a) (done state number one.request).after)) answered)
->>>>>>> carried
 poll_left state new number one waits some free (Err fault) answered after = tt
 
 pub poll_drawn : {E : Type 0} (state : State) (number : ℕ) (one : Waiting) → waiting_of number state.waiting ≡ Some one → names_in one.request ≢ [] → blocker state number (need state number one.request) ≡ None → (result : Result DrawnAnswer E) → IfOk result (λ served. served.answer ≡ (done state number one.request).answer)
@@ -190,7 +151,6 @@ pub poll_answer : {E : Type 0} (state : State) (number : ℕ) (one : Waiting) �
 poll_answer state number one waits some free (Ok served) answered = rw (polls_done state number one waits some free) answered
 poll_answer state number one waits some free (Err fault) answered = tt
 
-<<<<<<< landed
 -- a loss, after what is done before it
 pub left_lost : (side : Option Side) (state : State) (number : ℕ) (asked : Asked) → LosesWell state number side asked → loses number (before_loss side state number asked) ≡ state_left side state number asked
 unfolding counted loses
@@ -202,34 +162,20 @@ left_lost (Some After) state number asked well = refl
 pub left_commit : (state : State) (number : ℕ) → state_left None state number (Call requests.Commit) ≡ commits number [] state
 unfolding counted
 left_commit state number = left_by state number (Call requests.Commit) (serving ok (commits number [] state)) (calls_commit state number)
-=======
--- COMMIT, ROLLBACK and UNLOCK TABLES
-pub left_commit : (state : State) (number : ℕ) → state_left None state number (Call requests.Commit) ≡ commits number [] state
-unfolding counted
-left_commit state number = rw (calls_commit state number) refl
->>>>>>> carried
 
 pub drawn_commit : (state : State) (number : ℕ) → number_drawn None state number (Call requests.Commit) ≡ None
 drawn_commit state number = rw (calls_commit state number) refl
 
 pub left_rollback : (state : State) (number : ℕ) → state_left None state number (Call requests.Rollback) ≡ forgets number state
 unfolding counted
-<<<<<<< landed
 left_rollback state number = left_by state number (Call requests.Rollback) (serving ok (forgets number state)) (calls_rollback state number)
-=======
-left_rollback state number = rw (calls_rollback state number) refl
->>>>>>> carried
 
 pub drawn_rollback : (state : State) (number : ℕ) → number_drawn None state number (Call requests.Rollback) ≡ None
 drawn_rollback state number = rw (calls_rollback state number) refl
 
 pub left_unlock : (state : State) (number : ℕ) → state_left None state number (Call requests.Unlock) ≡ record state { sessions = with_session number unlocking state.sessions }
 unfolding counted
-<<<<<<< landed
 left_unlock state number = left_by state number (Call requests.Unlock) (serving ok (record state { sessions = with_session number unlocking state.sessions })) (calls_unlock state number)
-=======
-left_unlock state number = rw (calls_unlock state number) refl
->>>>>>> carried
 
 pub drawn_unlock : (state : State) (number : ℕ) → number_drawn None state number (Call requests.Unlock) ≡ None
 drawn_unlock state number = rw (calls_unlock state number) refl

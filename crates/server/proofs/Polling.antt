@@ -1,9 +1,5 @@
 -- Calls that wait, and polls.
-<<<<<<< landed
 use Rattle.std.proofs.Common.{◌≡◌, ◌≢◌, ℕ, Bool, true, false, List, [], Option, Some, None, refl, sym, ap, ◌∙◌, subst}
-=======
-use Rattle.std.proofs.Common.{◌≡◌, ◌≢◌, ℕ, Bool, true, false, List, [], Option, Some, None, Result, Ok, Err, OnOk, OnErr, refl, sym, ap, ◌∙◌, subst}
->>>>>>> carried
 use Rattle.std.proofs.lemmas.Option.{same_Some}
 use Rattle.base_values.specs.declared.event.RowEvent.{RowEvent}
 use Rattle.server_locks.specs.declared.row_locks.lock.Lock.{Lock}
@@ -22,10 +18,6 @@ use Rattle.server_model.specs.Blockers.{blocker, need, need_within, row_locks_of
 use Rattle.server_model.specs.PlainServer.{polled_over}
 use Rattle.server_model.specs.declared.counter.Counter.{Counter}
 use Rattle.server_model.specs.States.{State, holds_tables, is_exclusive, is_in_transaction, is_of_tool, names_in, session_of, view, waiting_of}
-<<<<<<< landed
-=======
-use Rattle.proof_journals.specs.ServerFacts.Invariants.{IsServing}
->>>>>>> carried
 use Rattle.proof_journals.proofs.ServerFacts.Calls.{comes_of, names_of}
 use Rattle.server.specs.Parts.{needed, state_of, GoTogether, HaveWritten, MayDo}
 use Rattle.server.proofs.Steps.{seen_so}

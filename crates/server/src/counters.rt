@@ -1,14 +1,8 @@
 //! How counters move by a request that is done.
 
-<<<<<<< landed
 ghost use Rattle.std.specs.Prelude.{◌≡◌, Some, None, IfOk};
 ghost use Rattle.server_model.specs.declared.answer.Answer.{Answer};
 ghost use Rattle.server_model.specs.Counting.{counted, counts, drawn_by, drawn_if, is_answered, offered_inside};
-=======
-ghost use Rattle.std.specs.Prelude.{◌≡◌, Some, IfOk};
-ghost use Rattle.server_model.specs.declared.answer.Answer.{Answer};
-ghost use Rattle.server_model.specs.Counting.{counted, counts, drawn_by, drawn_if, is_answered};
->>>>>>> carried
 ghost use Rattle.server_model.specs.Operations.{table_of};
 ghost use Rattle.table_store.specs.Databases.{find_table};
 ghost use Rattle.server_sessions.specs.LiveSessions.CounterMoves.{drawn_in_move, moved};
@@ -23,7 +17,6 @@ use server_transaction::server_data::Data;
 use server_transaction::table_of;
 use std::alloc::AllocError;
 
-<<<<<<< landed
 /// The number that a statement draws where it is answered; none where the session may not use its table (LOCK TABLES).
 fn offered_inside(outside: bool, offer: Option<u64>) -> Option<u64>
     ensures { result ≡ offered_inside outside offer }
@@ -31,8 +24,6 @@ fn offered_inside(outside: bool, offer: Option<u64>) -> Option<u64>
     if outside { None } else { offer }
 }
 
-=======
->>>>>>> carried
 /// How counters move by a statement that draws this number where it is answered.
 fn statement_move<'a, D: Data>(
     store: &D,
@@ -40,13 +31,9 @@ fn statement_move<'a, D: Data>(
     statement: &'a Statement,
     drawn: Option<u64>,
 ) -> Result<CounterMove<'a>, AllocError>
-<<<<<<< landed
     requires { find_table (table_of statement.now) (D.committed store.now) ≡ None → drawn ≡ None }
     ensures counters { IfOk result (λ counter_move. (answer : Answer) → moved counter_move answer all_sessions.now.counters ≡ counts (find_table (table_of statement.now) (D.committed store.now)) (drawn_if (is_answered answer) drawn) statement.now answer all_sessions.now.counters) }
     ensures drawn { IfOk result (λ counter_move. (answer : Answer) → drawn_in_move counter_move answer ≡ drawn_if (is_answered answer) drawn) }
-=======
-    ensures { IfOk result (λ counter_move. (answer : Answer) → moved counter_move answer all_sessions.now.counters ≡ counts (find_table (table_of statement.now) (D.committed store.now)) (drawn_if (is_answered answer) drawn) statement.now answer all_sessions.now.counters) }
->>>>>>> carried
 {
     let name = table_of(statement);
     let Some(table) = store.tables().find(name) else {
@@ -77,27 +64,16 @@ pub fn counter_move<'a, D: Data>(
 {
     match request {
         Request::Do(statement) => {
-<<<<<<< landed
             let drawn = offered_inside(all_sessions.is_outside(session, request), offer);
-=======
-            let drawn = if all_sessions.is_outside(session, request) {
-                None
-            } else {
-                offer
-            };
->>>>>>> carried
             statement_move(store, all_sessions, statement, drawn)
         }
         Request::Create(schema) => Ok(CounterMove::Become(all_sessions.counters_with(schema)?)),
         Request::Drop(name) => Ok(CounterMove::Become(all_sessions.counters_without(name)?)),
         Request::Rename(pairs) => Ok(CounterMove::Become(all_sessions.counters_renamed(pairs)?)),
-<<<<<<< landed
-=======
         Request::SetCounter { table, number } => Ok(CounterMove::Set {
             table,
             number: *number,
         }),
->>>>>>> carried
         _ => Ok(CounterMove::Stay),
     }
 }

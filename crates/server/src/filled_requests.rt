@@ -82,15 +82,10 @@ fn offered<D: Data>(
     let Some(table) = store.tables().find(table_of(statement)) else {
         return Ok(None);
     };
-<<<<<<< landed
     let schema = table.schema();
     let would_draw = draws(all_sessions.allocator(), schema, statement)?;
     if would_draw {
         Ok(all_sessions.next_number(&schema.name))
-=======
-    if draws(all_sessions.allocator(), table.schema(), statement)? {
-        Ok(all_sessions.next_number(&table.schema().name))
->>>>>>> carried
     } else {
         Ok(None)
     }

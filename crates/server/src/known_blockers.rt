@@ -18,14 +18,9 @@ pub struct KnownBlocker {
 }
 
 /// The least sessions that block requests that wait, as polls found them since anything last changed that a blocker depends on.
-<<<<<<< landed
 /// So a poll between which and the last one nothing changed is refused again without looking. A blocker depends on the
 /// counters too: an INSERT needs the lock on the number that it would draw. No counter moves where a request waits. Contracts
 /// see a list.
-=======
-/// So a poll between which and the last one nothing changed is refused again without looking. A blocker depends on the counters too:
-/// an INSERT needs the lock on the number that it would draw. No counter moves where a request waits. Contracts see a list.
->>>>>>> carried
 #[derive(Drop)]
 pub struct KnownBlockers {
     known: Vec<KnownBlocker>,

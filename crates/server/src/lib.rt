@@ -4,10 +4,7 @@
 
 mod calls;
 mod commits;
-<<<<<<< landed
-=======
 mod counter_requests;
->>>>>>> carried
 mod counters;
 mod definitions;
 mod drawn_answers;

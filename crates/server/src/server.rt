@@ -39,13 +39,8 @@ impl<D: Data> Model for Server<D> {
 }
 
 impl<D: Data> Server<D> {
-<<<<<<< landed
     /// The server at its start, over data to which no transaction wrote yet, with the counters of its tables. A wait may be
     /// polled once at least. How many events are unread is known at once of the tables that are watched.
-=======
-    /// The server at its start, over data to which no transaction wrote yet, with the counters of its tables. A wait may be polled once at least. How many
-    /// events are unread is known at once of the tables that are watched.
->>>>>>> carried
     pub fn open(
         alloc: Global,
         store: D,

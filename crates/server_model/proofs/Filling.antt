@@ -37,11 +37,8 @@ filled_case P same numbers tool tables counters requests.LogEnd = same requests.
 filled_case P same numbers tool tables counters (requests.ReadLog position limit names) = same (requests.ReadLog position limit names)
 filled_case P same numbers tool tables counters requests.ShowTables = same requests.ShowTables
 filled_case P same numbers tool tables counters requests.ShowWaiting = same requests.ShowWaiting
-<<<<<<< landed
-=======
 filled_case P same numbers tool tables counters (requests.ShowCounter table) = same (requests.ShowCounter table)
 filled_case P same numbers tool tables counters (requests.SetCounter table number) = same (requests.SetCounter table number)
->>>>>>> carried
 
 pub filled_exclusive : (tool : Bool) (tables : Database) (counters : List Counter) (request : Request) → is_exclusive (filled_for tool tables counters request) ≡ is_exclusive request
 filled_exclusive tool tables counters request = filled_case (λ asked full. is_exclusive full ≡ is_exclusive asked) (λ r. refl) (λ s n. refl) tool tables counters request
@@ -66,11 +63,8 @@ filled_tool tables counters requests.LogEnd = refl
 filled_tool tables counters (requests.ReadLog position limit names) = refl
 filled_tool tables counters requests.ShowTables = refl
 filled_tool tables counters requests.ShowWaiting = refl
-<<<<<<< landed
-=======
 filled_tool tables counters (requests.ShowCounter table) = refl
 filled_tool tables counters (requests.SetCounter table number) = refl
->>>>>>> carried
 
 -- what needs its names exclusively is filled as it is
 pub filled_taking : (tool : Bool) (tables : Database) (counters : List Counter) (request : Request) → is_exclusive request ≡ true → filled_for tool tables counters request ≡ request

@@ -66,11 +66,7 @@ unfolding entry_on opens_if
 command_still state turn command none = ap (λ (side : Option Side). state_left side (opens_if (is_command turn.asked) (not (is_client turn.actor)) 0 state) 0 turn.asked) none ∙ by turn.asked command
   where
     by : (asked : Asked) → is_command asked ≡ true → state_left None (opens_if (is_command asked) (not (is_client turn.actor)) 0 state) 0 asked ≡ state
-<<<<<<< landed
     by (Command word) is = sym (command_left state 0 word)
-=======
-    by (Command word) is = refl
->>>>>>> carried
     by (Call request) is = absurd (false≢true is)
     by Poll is = absurd (false≢true is)
     by Cut is = absurd (false≢true is)

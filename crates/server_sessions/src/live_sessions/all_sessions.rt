@@ -322,15 +322,12 @@ impl Sessions {
                 }
                 None
             }
-<<<<<<< landed
-=======
             CounterMove::Set { table, number } => {
                 if let Answer::Ok(_) = answer {
                     raise(&mut self.counters, table, number);
                 }
                 None
             }
->>>>>>> carried
         }
     }
 

@@ -23,8 +23,6 @@ pub enum CounterMove<'a> {
     },
     /// By a definition of tables: they are these once it is done.
     Become(Vec<Counter>),
-<<<<<<< landed
-=======
     /// The counter of the table of this name is no less than this number, once it is set.
     Set {
         /// The table's name.
@@ -32,7 +30,6 @@ pub enum CounterMove<'a> {
         /// The number.
         number: u64,
     },
->>>>>>> carried
 }
 
 /// Whether the statement was answered, and didn't wait in vain.

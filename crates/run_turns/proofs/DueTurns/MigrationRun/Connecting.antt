@@ -5,11 +5,8 @@ use Rattle.std.specs.Option.{option_map}
 use Rattle.std.proofs.lemmas.Bool.{false≢true}
 use Rattle.base_script.specs.declared.actor.Actor.{Actor}
 use Rattle.base_script.specs.declared.operator.OperatorWord.{OperatorWord}
-<<<<<<< landed
 use Rattle.base_script.specs.declared.actor.Side.{Side}
 use Rattle.server_model.specs.declared.entry.Asked.{Asked}
-=======
->>>>>>> carried
 use Rattle.server_model.specs.declared.entry.Asked.TheVariants.{Command, Cut}
 use Rattle.server_model.specs.Entries.{is_client}
 use Rattle.server_model.specs.declared.session.Session.{Session}
@@ -106,10 +103,7 @@ cut_left state number = refl
 pub command_left : (state : State) (number : ℕ) (word : OperatorWord) → state ≡ state_left None state number (Command word)
 unfolding counted
 command_left state number word = refl
-<<<<<<< landed
 
 pub commanded_left : (state : State) (number : ℕ) (side : Option Side) (asked : Asked) (word : OperatorWord) → side ≡ None → asked ≡ Command word → state ≡ state_left side state number asked
 commanded_left state number side asked word none asks =
     command_left state number word ∙ ap (λ (a : Asked). state_left None state number a) (sym asks) ∙ ap (λ (s : Option Side). state_left s state number asked) (sym none)
-=======
->>>>>>> carried

@@ -53,7 +53,7 @@ fn lost(side: Option<Side>, inner: Option<Answer>, draw: Option<u64>) -> Heard
 }
 
 /// Asks in the session, which may be lost in the turn. Where there is no memory, the server is as before.
-#[tactic(auto, using(crate::proofs::DueTurns::MigrationRun::Costs::unless_free, crate::proofs::DueTurns::MigrationRun::Costs::unless_lost, crate::proofs::DueTurns::MigrationRun::Connecting::command_left))]
+#[tactic(auto, using(crate::proofs::DueTurns::MigrationRun::Costs::unless_free, crate::proofs::DueTurns::MigrationRun::Costs::unless_lost))]
 pub fn ask<V: Serve>(
     server: &mut V,
     session: u32,

@@ -20,7 +20,6 @@ do_filled-requires-clause-may g c =
     let none : blocker c.args.all_sessions.now c.args.session (needed c.request-full.result.now c.in_ok-locks.locks) ≡ None = sym (rw c.as_slice.ensures at c.blocker.ensures) ∙ c.in-None.is in
     may_call (g.D.Data.committed c.args.store.now) (g.D.Data.written c.args.store.now) c.args.all_sessions.now c.args.session c.args.request.now c.request-full.result.now c.in_ok-locks.locks (c.request-full.ensures ∙ c.in_ok-filling.ensures.filled.filled) c.requires.together.have c.requires.may
     c.in_ok-locks.ensures.locks none
-<<<<<<< landed
 
 pub returns-clause-answer : goal.returns-clause-answer
 returns-clause-answer g c =
@@ -30,25 +29,11 @@ returns-clause-answer g c =
     full_blocker (g.D.Data.committed c.args.store.now) (g.D.Data.written c.args.store.now) c.args.all_sessions.now c.args.session c.args.request.now c.request-full.result.now c.in_ok-locks.locks None (c.request-full.ensures ∙ c.in_ok-filling.ensures.filled.filled) c.requires.together.have
     c.in_ok-locks.ensures.locks none in
     rw (calls_done state c.args.session c.args.request.now free) c.do_filled.ensures.answer
-=======
->>>>>>> carried
 
 pub returns-clause-drawn : goal.returns-clause-drawn
 returns-clause-drawn g c =
     let state : State = state_of (g.D.Data.committed c.args.store.now) c.args.all_sessions.now in
     let none : blocker c.args.all_sessions.now c.args.session (needed c.request-full.result.now c.in_ok-locks.locks) ≡ None = sym (rw c.as_slice.ensures at c.blocker.ensures) ∙ c.in-None.is in
-<<<<<<< landed
-=======
-    let free : blocker state c.args.session (need state c.args.session c.args.request.now) ≡ None =
-    full_blocker (g.D.Data.committed c.args.store.now) (g.D.Data.written c.args.store.now) c.args.all_sessions.now c.args.session c.args.request.now c.request-full.result.now c.in_ok-locks.locks None (c.request-full.ensures ∙ c.in_ok-filling.ensures.filled.filled) c.requires.together.have
-    c.in_ok-locks.ensures.locks none in
-    rw (calls_done state c.args.session c.args.request.now free) c.do_filled.ensures.answer
-
-pub returns-in-None-clause-drawn : goal.returns-in-None-clause-drawn
-returns-in-None-clause-drawn g c =
-    let state : State = state_of (g.D.Data.committed c.args.store.now) c.args.all_sessions.now in
-    let none : blocker c.args.all_sessions.now c.args.session (needed c.request-full.result.now c.in_ok-locks.locks) ≡ None = sym (rw c.as_slice.ensures at c.blocker.ensures) ∙ c.in-None.is in
->>>>>>> carried
     let free : blocker state c.args.session (need state c.args.session c.args.request.now) ≡ None =
     full_blocker (g.D.Data.committed c.args.store.now) (g.D.Data.written c.args.store.now) c.args.all_sessions.now c.args.session c.args.request.now c.request-full.result.now c.in_ok-locks.locks None (c.request-full.ensures ∙ c.in_ok-filling.ensures.filled.filled) c.requires.together.have
     c.in_ok-locks.ensures.locks none in
@@ -62,7 +47,6 @@ returns-clause-ok g c =
     full_blocker (g.D.Data.committed c.args.store.now) (g.D.Data.written c.args.store.now) c.args.all_sessions.now c.args.session c.args.request.now c.request-full.result.now c.in_ok-locks.locks None (c.request-full.ensures ∙ c.in_ok-filling.ensures.filled.filled) c.requires.together.have
     c.in_ok-locks.ensures.locks none in
     call_left state (state_of (g.D.Data.committed c.do_filled.new.store) c.do_filled.new.all_sessions) c.args.session c.args.request.now free c.do_filled.result c.do_filled.ensures.answer c.do_filled.ensures.ok
-<<<<<<< landed
 
 pub returns-in-Some-clause-answer : goal.returns-in-Some-clause-answer
 returns-in-Some-clause-answer g c =
@@ -72,25 +56,11 @@ returns-in-Some-clause-answer g c =
     full_blocker (g.D.Data.committed c.args.store.now) (g.D.Data.written c.args.store.now) c.args.all_sessions.now c.args.session c.args.request.now c.request-full.result.now c.in_ok-locks.locks (Some c.in-Some.by) (c.request-full.ensures ∙ c.in_ok-filling.ensures.filled.filled) c.requires.together.have
     c.in_ok-locks.ensures.locks some in
     c.undrawn.ensures.answer ∙ sym (ap (λ (served : Served). served.answer) (calls_wait state c.args.session c.in-Some.by c.args.request.now blocked))
-=======
->>>>>>> carried
 
 pub returns-in-Some-clause-drawn : goal.returns-in-Some-clause-drawn
 returns-in-Some-clause-drawn g c =
     let state : State = state_of (g.D.Data.committed c.args.store.now) c.args.all_sessions.now in
     let some : blocker c.args.all_sessions.now c.args.session (needed c.request-full.result.now c.in_ok-locks.locks) ≡ Some c.in-Some.by = sym (rw c.as_slice.ensures at c.blocker.ensures) ∙ c.in-Some.is in
-<<<<<<< landed
-=======
-    let blocked : blocker state c.args.session (need state c.args.session c.args.request.now) ≡ Some c.in-Some.by =
-    full_blocker (g.D.Data.committed c.args.store.now) (g.D.Data.written c.args.store.now) c.args.all_sessions.now c.args.session c.args.request.now c.request-full.result.now c.in_ok-locks.locks (Some c.in-Some.by) (c.request-full.ensures ∙ c.in_ok-filling.ensures.filled.filled) c.requires.together.have
-    c.in_ok-locks.ensures.locks some in
-    c.undrawn.ensures.answer ∙ sym (ap (λ (served : Served). served.answer) (calls_wait state c.args.session c.in-Some.by c.args.request.now blocked))
-
-pub returns-in_ok-wait-in-Some-clause-drawn : goal.returns-in_ok-wait-in-Some-clause-drawn
-returns-in_ok-wait-in-Some-clause-drawn g c =
-    let state : State = state_of (g.D.Data.committed c.args.store.now) c.args.all_sessions.now in
-    let some : blocker c.args.all_sessions.now c.args.session (needed c.request-full.result.now c.in_ok-locks.locks) ≡ Some c.in-Some.by = sym (rw c.as_slice.ensures at c.blocker.ensures) ∙ c.in-Some.is in
->>>>>>> carried
     let blocked : blocker state c.args.session (need state c.args.session c.args.request.now) ≡ Some c.in-Some.by =
     full_blocker (g.D.Data.committed c.args.store.now) (g.D.Data.written c.args.store.now) c.args.all_sessions.now c.args.session c.args.request.now c.request-full.result.now c.in_ok-locks.locks (Some c.in-Some.by) (c.request-full.ensures ∙ c.in_ok-filling.ensures.filled.filled) c.requires.together.have
     c.in_ok-locks.ensures.locks some in

@@ -1,8 +1,4 @@
-<<<<<<< landed
 use Rattle.std.proofs.Common.{◌≡◌, ap, ◌∙◌}
-=======
-use Rattle.std.proofs.Common.{◌≡◌, sym, ap, ◌∙◌}
->>>>>>> carried
 use Rattle.server_model.specs.declared.request.Request.{Request}
 use Rattle.server_model.specs.Drawing.{filled}
 use Rattle.server_model.specs.PlainServer.{did}
@@ -25,9 +21,5 @@ returns-clause-drawn g c = c.move_counters-drawn.ensures.drawn ∙ c.in_ok-count
 
 pub returns-clause-ok : goal.returns-clause-ok
 returns-clause-ok g c =
-<<<<<<< landed
     moved_so (g.D.Data.committed c.args.store.now) (g.D.Data.committed c.do_request.new.store) c.args.all_sessions.now c.do_request.new.all_sessions c.move_counters-drawn.new.self c.args.session c.args.request.now c.request-full.result.now c.in_ok-counter_move.counter_move c.in_ok-answer.answer
-=======
-    moved_so (g.D.Data.committed c.args.store.now) (g.D.Data.committed c.do_request-answer.new.store) c.args.all_sessions.now c.do_request-answer.new.all_sessions c.move_counters-drawn.new.self c.args.session c.args.request.now c.request-full.result.now c.in_ok-counter_move.counter_move c.in_ok-answer.answer
->>>>>>> carried
     (c.request-full.ensures ∙ c.requires.filled.filled) c.in_ok-answer.ensures.answer c.in_ok-answer.ensures.ok c.in_ok-counter_move.ensures.counters c.move_counters-drawn.ensures.counters

@@ -7,13 +7,8 @@ use Rattle.server_model.specs.States.{State, waiting_of}
 use Rattle.server.specs.Parts.{needed, state_of}
 use Rattle.server.proofs.Blocked.{blocked_by, noted_so}
 use Rattle.server.proofs.Counting.{drawn_blocked, left_blocked, poll_answer, poll_drawn, poll_left}
-<<<<<<< landed
 use Rattle.server.proofs.Requests.{freely_blocked, polls_blocked}
 use Rattle.server.proofs.Polling.{formed_so, full_blocker, full_formed, may_poll, some_names}
-=======
-use Rattle.server.proofs.Requests.{freely_blocked, freely_exclusive, polls_blocked}
-use Rattle.server.proofs.Polling.{formed_so, full_blocker, full_exclusive, full_formed, may_poll, some_names}
->>>>>>> carried
 use Rattle.server.proofs.calls.poll_unknown.Goals as goal
 
 pub locks_of-requires : goal.locks_of-requires
@@ -49,11 +44,7 @@ returns-in-Some-blocker-clause-answer g c =
     let some : blocker c.args.all_sessions.now c.args.session (needed c.request-full.result.now c.in_ok-locks.locks) ≡ Some c.in-Some-blocker.by = sym (rw c.as_slice.ensures at c.blocker.ensures) ∙ c.in-Some-blocker.is in
     let blocked : blocker state c.args.session (need state c.args.session c.in-Some.waiting.now.request) ≡ Some c.in-Some-blocker.by =
     full_blocker (g.D.Data.committed c.args.store.now) (g.D.Data.written c.args.store.now) c.args.all_sessions.now c.args.session c.in-Some.waiting.now.request c.request-full.result.now c.in_ok-locks.locks (Some c.in-Some-blocker.by) (c.request-full.ensures ∙ c.in_ok-filling.ensures.filled.filled) c.requires.together.have c.in_ok-locks.ensures.locks some in
-<<<<<<< landed
     c.undrawn-in-Some-blocker.ensures.answer ∙ (c.stay_blocked.ensures.answer ∙ sym (ap (λ (served : Served). served.answer) (polls_blocked state c.args.session c.in-Some-blocker.by c.in-Some.waiting.now waits blocked)))
-=======
-    c.undrawn.ensures.answer ∙ (c.stay_blocked.ensures.answer ∙ sym (ap (λ (served : Served). served.answer) (polls_blocked state c.args.session c.in-Some-blocker.by c.in-Some.waiting.now waits blocked)))
->>>>>>> carried
 
 pub returns-in-Some-blocker-clause-drawn : goal.returns-in-Some-blocker-clause-drawn
 returns-in-Some-blocker-clause-drawn g c =
@@ -62,11 +53,7 @@ returns-in-Some-blocker-clause-drawn g c =
     let some : blocker c.args.all_sessions.now c.args.session (needed c.request-full.result.now c.in_ok-locks.locks) ≡ Some c.in-Some-blocker.by = sym (rw c.as_slice.ensures at c.blocker.ensures) ∙ c.in-Some-blocker.is in
     let blocked : blocker state c.args.session (need state c.args.session c.in-Some.waiting.now.request) ≡ Some c.in-Some-blocker.by =
     full_blocker (g.D.Data.committed c.args.store.now) (g.D.Data.written c.args.store.now) c.args.all_sessions.now c.args.session c.in-Some.waiting.now.request c.request-full.result.now c.in_ok-locks.locks (Some c.in-Some-blocker.by) (c.request-full.ensures ∙ c.in_ok-filling.ensures.filled.filled) c.requires.together.have c.in_ok-locks.ensures.locks some in
-<<<<<<< landed
     c.undrawn-in-Some-blocker.ensures.drawn ∙ sym (drawn_blocked state c.args.session c.in-Some-blocker.by c.in-Some.waiting.now waits blocked)
-=======
-    c.undrawn.ensures.drawn ∙ sym (drawn_blocked state c.args.session c.in-Some-blocker.by c.in-Some.waiting.now waits blocked)
->>>>>>> carried
 
 pub returns-in-Some-blocker-clause-ok : goal.returns-in-Some-blocker-clause-ok
 returns-in-Some-blocker-clause-ok g c =
@@ -76,7 +63,6 @@ returns-in-Some-blocker-clause-ok g c =
     let blocked : blocker state c.args.session (need state c.args.session c.in-Some.waiting.now.request) ≡ Some c.in-Some-blocker.by =
     full_blocker (g.D.Data.committed c.args.store.now) (g.D.Data.written c.args.store.now) c.args.all_sessions.now c.args.session c.in-Some.waiting.now.request c.request-full.result.now c.in_ok-locks.locks (Some c.in-Some-blocker.by) (c.request-full.ensures ∙ c.in_ok-filling.ensures.filled.filled) c.requires.together.have c.in_ok-locks.ensures.locks some in
     c.stay_blocked.ensures.after ∙ sym (left_blocked state c.args.session c.in-Some-blocker.by c.in-Some.waiting.now waits blocked)
-<<<<<<< landed
 
 pub returns-clause-answer : goal.returns-clause-answer
 returns-clause-answer g c =
@@ -87,27 +73,12 @@ returns-clause-answer g c =
     full_blocker (g.D.Data.committed c.args.store.now) (g.D.Data.written c.args.store.now) c.args.all_sessions.now c.args.session c.in-Some.waiting.now.request c.request-full.result.now c.in_ok-locks.locks None (c.request-full.ensures ∙ c.in_ok-filling.ensures.filled.filled) c.requires.together.have c.in_ok-locks.ensures.locks none in
     let named = some_names (g.D.Data.committed c.args.store.now) (g.D.Data.written c.args.store.now) c.args.all_sessions.now c.args.session c.in-Some.waiting.now c.requires.together waits in
     poll_answer state c.args.session c.in-Some.waiting.now waits named free c.do_waiting.result (rw c.in_ok-request-in-None.ensures at c.do_waiting.ensures.answer)
-=======
->>>>>>> carried
 
 pub returns-clause-drawn : goal.returns-clause-drawn
 returns-clause-drawn g c =
     let state : State = state_of (g.D.Data.committed c.args.store.now) c.args.all_sessions.now in
     let waits : waiting_of c.args.session c.args.all_sessions.now.waiting ≡ Some c.in-Some.waiting.now = sym c.in-Some.ensures in
     let none : blocker c.args.all_sessions.now c.args.session (needed c.request-full.result.now c.in_ok-locks.locks) ≡ None = sym (rw c.as_slice.ensures at c.blocker.ensures) ∙ c.in-None.is in
-<<<<<<< landed
-=======
-    let free : blocker state c.args.session (need state c.args.session c.in-Some.waiting.now.request) ≡ None =
-    full_blocker (g.D.Data.committed c.args.store.now) (g.D.Data.written c.args.store.now) c.args.all_sessions.now c.args.session c.in-Some.waiting.now.request c.request-full.result.now c.in_ok-locks.locks None (c.request-full.ensures ∙ c.in_ok-filling.ensures.filled.filled) c.requires.together.have c.in_ok-locks.ensures.locks none in
-    let named = some_names (g.D.Data.committed c.args.store.now) (g.D.Data.written c.args.store.now) c.args.all_sessions.now c.args.session c.in-Some.waiting.now c.requires.together waits in
-    poll_answer state c.args.session c.in-Some.waiting.now waits named free c.do_waiting.result (rw c.in_ok-request-in-None.ensures at c.do_waiting.ensures.answer)
-
-pub returns-in_ok-request-in-None-clause-drawn : goal.returns-in_ok-request-in-None-clause-drawn
-returns-in_ok-request-in-None-clause-drawn g c =
-    let state : State = state_of (g.D.Data.committed c.args.store.now) c.args.all_sessions.now in
-    let waits : waiting_of c.args.session c.args.all_sessions.now.waiting ≡ Some c.in-Some.waiting.now = sym c.in-Some.ensures in
-    let none : blocker c.args.all_sessions.now c.args.session (needed c.request-full.result.now c.in_ok-locks.locks) ≡ None = sym (rw c.as_slice.ensures at c.blocker.ensures) ∙ c.in-None.is in
->>>>>>> carried
     let free : blocker state c.args.session (need state c.args.session c.in-Some.waiting.now.request) ≡ None =
     full_blocker (g.D.Data.committed c.args.store.now) (g.D.Data.written c.args.store.now) c.args.all_sessions.now c.args.session c.in-Some.waiting.now.request c.request-full.result.now c.in_ok-locks.locks None (c.request-full.ensures ∙ c.in_ok-filling.ensures.filled.filled) c.requires.together.have c.in_ok-locks.ensures.locks none in
     let named = some_names (g.D.Data.committed c.args.store.now) (g.D.Data.written c.args.store.now) c.args.all_sessions.now c.args.session c.in-Some.waiting.now c.requires.together waits in

@@ -10,20 +10,12 @@ use Rattle.server.proofs.calls.serve_call.Goals as goal
 pub returns-in-Commit-clause-answer : goal.returns-in-Commit-clause-answer
 returns-in-Commit-clause-answer g c =
     let state : State = state_of (g.D.Data.committed c.args.store.now) c.args.all_sessions.now in
-<<<<<<< landed
     rw c.in-Commit.is (c.undrawn.ensures.answer ∙ sym (ap (λ (served : Served). served.answer) (calls_commit state c.args.session)))
-=======
-    rw c.in-Commit.is (c.undrawn-in-Commit.ensures.answer ∙ sym (ap (λ (served : Served). served.answer) (calls_commit state c.args.session)))
->>>>>>> carried
 
 pub returns-in-Commit-clause-drawn : goal.returns-in-Commit-clause-drawn
 returns-in-Commit-clause-drawn g c =
     let state : State = state_of (g.D.Data.committed c.args.store.now) c.args.all_sessions.now in
-<<<<<<< landed
     rw c.in-Commit.is (c.undrawn.ensures.drawn ∙ sym (drawn_commit state c.args.session))
-=======
-    rw c.in-Commit.is (c.undrawn-in-Commit.ensures.drawn ∙ sym (drawn_commit state c.args.session))
->>>>>>> carried
 
 pub returns-in-Commit-clause-ok : goal.returns-in-Commit-clause-ok
 returns-in-Commit-clause-ok g c =
