@@ -152,11 +152,6 @@ module _ (table : List ℕ) where
   did_spared state number request none is =
       does_spared (effect state number request) state number (effect_unlocks (is_outside (session_of number state.sessions) request) (is_in_transaction (session_of number state.sessions)) (view number state) state request none) is
 
-  did_spared : (state : State) (number : ℕ) (request : Request) → is_lock request ≡ false → IsSpared table state → IsSpared table (did state number request).after
-  unfolding did
-  did_spared state number request none is =
-      does_spared (effect state number request) state number (effect_unlocks (is_outside (session_of number state.sessions) request) (is_in_transaction (session_of number state.sessions)) (view number state) state request none) is
-
   done_spared : (state : State) (number : ℕ) (request : Request) → is_lock request ≡ false → IsSpared table state → IsSpared table (done state number request).after
   done_spared state number request none is =
       filled_case (λ asked full. is_lock asked ≡ false → IsSpared table (did state number full).after) (λ r off. did_spared state number r off is) (λ statement n off. did_spared state number (requests.Do (numbered n statement)) off is)
