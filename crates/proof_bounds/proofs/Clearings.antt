@@ -27,7 +27,7 @@ use Rattle.tool_program.specs.declared.cutover_core.cutover.Clearing.TheVariants
 use Rattle.tool_program.specs.declared.cutover_core.cutover.CutOver.{CutOver}
 use Rattle.tool_program.specs.declared.cutover_core.cutover.Phase.{Phase}
 use Rattle.tool_program.specs.declared.cutover_core.cutover.Phase.TheVariants.{Resting, Attempting, Ending, Finishing, Finished}
-use Rattle.tool_program.specs.declared.cutover_core.cutover.Stage.TheVariants.{Guarding, Locking, Hinting, Draining, Drained, Showing, Dropping, Unlocking, Exchanging}
+use Rattle.tool_program.specs.declared.cutover_core.cutover.Stage.TheVariants.{Guarding, Locking, Hinting, ReadingCounter, SettingCounter, Draining, Drained, Showing, Dropping, Unlocking, Exchanging}
 use Rattle.tool_program.specs.declared.cutover_core.cutover.Role.{Role}
 use Rattle.tool_program.specs.declared.cutover_core.cutover.Role.TheVariants.{Inspector, Locker, Renamer}
 use Rattle.tool_program.specs.ChunkCopier.Copiers as copiers
@@ -89,6 +89,8 @@ ended_same Resting = refl
 ended_same (Attempting Guarding) = refl
 ended_same (Attempting Locking) = refl
 ended_same (Attempting Hinting) = refl
+ended_same (Attempting (ReadingCounter drain)) = refl
+ended_same (Attempting (SettingCounter number drain)) = refl
 ended_same (Attempting (Draining turns)) = refl
 ended_same (Attempting Drained) = refl
 ended_same (Attempting Showing) = refl

@@ -37,7 +37,9 @@ use Rattle.tool_program.specs.declared.cutover_core.cutover.Phase.{Phase}
 use Rattle.tool_program.specs.declared.cutover_core.cutover.Phase.TheVariants.{Resting, Attempting, Ending, Finishing, Finished}
 use Rattle.tool_program.specs.declared.cutover_core.cutover.Role.TheVariants.{Inspector, Locker, Renamer}
 use Rattle.tool_program.specs.declared.cutover_core.cutover.Stage.{Stage}
-use Rattle.tool_program.specs.declared.cutover_core.cutover.Stage.TheVariants.{Guarding, Locking, Hinting, Draining, Drained, Showing, Dropping, Unlocking, Exchanging}
+use Rattle.tool_program.specs.declared.cutover_core.cutover.Stage.TheVariants.{Guarding, Locking, Hinting, ReadingCounter, SettingCounter, Draining, Drained, Showing, Dropping, Unlocking, Exchanging}
+use Rattle.tool_program.specs.declared.cutover_core.cutover.Drain.{Drain}
+use Rattle.tool_program.specs.declared.cutover_core.cutover.Drain.TheVariants.{Turns, Passed}
 use Rattle.tool_program.specs.CutoverCore.Attempts as attempts
 use Rattle.tool_program.specs.CutoverCore.Attempts.{exchange, clears, first_name, is_clear, is_free, has_name, has_sentry, without_first}
 use Rattle.tool_program.specs.CutoverCore.CutOvers as cutovers
@@ -81,6 +83,8 @@ use Rattle.proof_bounds.specs.AttemptTurns.Attempts.{IsNotRefused}
 abbrev pub needs_sentry : Phase → Bool
 needs_sentry (Attempting Locking) = true
 needs_sentry (Attempting Hinting) = true
+needs_sentry (Attempting (ReadingCounter drain)) = true
+needs_sentry (Attempting (SettingCounter number drain)) = true
 needs_sentry (Attempting (Draining turns)) = true
 needs_sentry (Attempting Drained) = true
 needs_sentry (Attempting Showing) = true
@@ -110,6 +114,8 @@ ended_needs (Finishing cleared) need = need
 ended_needs Finished need = need
 
 drained_needs : (cutover : CutOver) (hint : ℕ) (phase : Phase) → Needs phase (drained cutover hint phase)
+drained_needs cutover hint (Attempting (ReadingCounter drain)) need = refl
+drained_needs cutover hint (Attempting (SettingCounter number drain)) need = refl
 drained_needs cutover hint (Attempting (Draining turns)) need = refl
 drained_needs cutover hint (Attempting stage) need = need
 drained_needs cutover hint Resting need = need
@@ -121,10 +127,12 @@ ends_or : (b : Bool) (old new : Stage) → Needs (Attempting old) (Attempting ne
 ends_or true old new needs need = absurd (false≢true need)
 ends_or false old new needs need = needs need
 
-inspector_needs : (stage : Stage) (answer : Answer) → Needs (Attempting stage) (Attempting (inspector_stage stage answer))
-inspector_needs Hinting answer need = refl
-inspector_needs Showing answer need = refl
-inspector_needs stage answer need = need
+inspector_needs : (counter : Bool) (stage : Stage) (answer : Answer) → Needs (Attempting stage) (Attempting (inspector_stage counter stage answer))
+inspector_needs counter Hinting answer need = refl
+inspector_needs counter (ReadingCounter drain) answer need = refl
+inspector_needs counter (SettingCounter number drain) answer need = refl
+inspector_needs counter Showing answer need = refl
+inspector_needs counter stage answer need = need
 
 locker_needs : (stage : Stage) (answer : Answer) → (stage ≡ Guarding → ⊥) → Needs (Attempting stage) (Attempting (locker_stage stage answer))
 locker_needs Guarding answer off need = absurd (off refl)
