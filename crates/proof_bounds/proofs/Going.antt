@@ -120,7 +120,7 @@ pub record IsGoing (plan : PlanData) (journal : List Entry) : Type 0 where
 -- PHASES
 
 -- the new table's counter is set next, or waits to be
-abbrev is_setting : Phase → Bool
+abbrev pub is_setting : Phase → Bool
 is_setting (Attempting (SettingCounter number drain)) = true
 is_setting phase = false
 
@@ -309,10 +309,10 @@ module _ (plan : PlanData) (runs : IsRunnable plan) (journal : List Entry) (entr
   insp_unlocked same = ap (λ (a : Actor). (has a).locked) same ∙ (insp_stands now.tool.tool_phase refl).1
 
   -- what it waits with, in each phase
-  insp_waits : (tool_phase : ToolPhase) → now.tool.tool_phase ≡ tool_phase → WaitsFor plan (has Insp).waits tool_phase
+  pub insp_waits : (tool_phase : ToolPhase) → now.tool.tool_phase ≡ tool_phase → WaitsFor plan (has Insp).waits tool_phase
   insp_waits tool_phase eq = subst (WaitsFor plan (has Insp).waits) eq is.waits
 
-  setup_rests : (setup : Setup) (tries : List ℕ) → now.tool.tool_phase ≡ SettingUp setup tries → (request : Request) → (has Insp).waits ≡ Some request → ⊥
+  pub setup_rests : (setup : Setup) (tries : List ℕ) → now.tool.tool_phase ≡ SettingUp setup tries → (request : Request) → (has Insp).waits ≡ Some request → ⊥
   setup_rests setup tries eq = insp_waits (SettingUp setup tries) eq
 
   -- it calls, where it can't wait
@@ -1007,23 +1007,23 @@ module _ (plan : PlanData) (runs : IsRunnable plan) (journal : List Entry) (entr
   uncut_so : is_cut entry.asked ≡ false → entry.asked ≡ Cut → ⊥
   uncut_so uncut cut = true≢false (sym (ap is_cut cut) ∙ uncut)
 
-  abbrev Waits : Kept
+  abbrev pub Waits : Kept
   Waits = λ b tool_phase. WaitsFor plan (now_has Insp).waits tool_phase
 
-  waits_back : (b : Bool) (tool_phase : ToolPhase) → Waits b tool_phase → Waits true (stopped tool_phase)
+  pub waits_back : (b : Bool) (tool_phase : ToolPhase) → Waits b tool_phase → Waits true (stopped tool_phase)
   unfolding reverted
   waits_back b (SettingUp setup tries) one = one
   waits_back b (Migrating work) one = λ request some. (sets_ended plan work.cutover.phase request (one request some).0, (one request some).1)
 
-  waits_drain : (b : Bool) (work : Work) (tries : List ℕ) → Waits b (Migrating work) → Waits b (Migrating (record work { cutover = applier_turn work.applier.hint work.cutover; attempt_tries = tries }))
+  pub waits_drain : (b : Bool) (work : Work) (tries : List ℕ) → Waits b (Migrating work) → Waits b (Migrating (record work { cutover = applier_turn work.applier.hint work.cutover; attempt_tries = tries }))
   unfolding applier_turn
   waits_drain b work tries one = λ request some. (sets_drained plan work.cutover work.applier.hint work.cutover.phase request (one request some).0, (one request some).1)
 
   -- in others' turns it waits as before
-  differ_waits : same_actor entry.actor Insp ≡ false → (tool_phase : ToolPhase) → now.tool.tool_phase ≡ tool_phase → WaitsFor plan (now_has Insp).waits tool_phase
+  pub differ_waits : same_actor entry.actor Insp ≡ false → (tool_phase : ToolPhase) → now.tool.tool_phase ≡ tool_phase → WaitsFor plan (now_has Insp).waits tool_phase
   differ_waits differ tool_phase eq = subst (λ (s : Standing). WaitsFor plan s.waits tool_phase) (sym (others_stand plan journal entry known served Insp differ)) (insp_waits tool_phase eq)
 
-  beside_waits : (a : Actor) → entry.actor ≡ a → same_actor a Insp ≡ false → (tool_phase : ToolPhase) → now.tool.tool_phase ≡ tool_phase → WaitsFor plan (now_has Insp).waits tool_phase
+  pub beside_waits : (a : Actor) → entry.actor ≡ a → same_actor a Insp ≡ false → (tool_phase : ToolPhase) → now.tool.tool_phase ≡ tool_phase → WaitsFor plan (now_has Insp).waits tool_phase
   beside_waits a same differ tool_phase eq = differ_waits (ap (λ (x : Actor). same_actor x Insp) same ∙ differ) tool_phase eq
 
   waits_unfit : (work : Work) → Waits false (Migrating work) → UnfitKeeps Waits work
@@ -1036,17 +1036,17 @@ module _ (plan : PlanData) (runs : IsRunnable plan) (journal : List Entry) (entr
   waits_applied answer work one = record { reverting = λ reverting. one; unfit = λ going place number unfit. waits_unfit work one; took = λ going fits tries. one }
 
   -- the locker's turn, and the renamer's
-  waits_locked : (work : Work) → entry.actor ≡ Lock → now.tool.tool_phase ≡ Migrating work → (answer : Answer) (tries : List ℕ) → Waits false (Migrating (record work { cutover = cutovers.took Locker work.cutover answer; attempt_tries = tries }))
+  pub waits_locked : (work : Work) → entry.actor ≡ Lock → now.tool.tool_phase ≡ Migrating work → (answer : Answer) (tries : List ℕ) → Waits false (Migrating (record work { cutover = cutovers.took Locker work.cutover answer; attempt_tries = tries }))
   unfolding cutovers.took
   waits_locked work same eq answer tries = λ request some. let one = beside_waits Lock same refl (Migrating work) eq request some in (sets_locked plan work.cutover.phase answer request one.0, one.1)
 
-  waits_renamed : (work : Work) → entry.actor ≡ Ren → now.tool.tool_phase ≡ Migrating work → Asking plan journal Ren entry.asked → (tries : List ℕ) → Waits false (Migrating (record work { cutover = cutovers.took Renamer work.cutover entry.answer; attempt_tries = tries }))
+  pub waits_renamed : (work : Work) → entry.actor ≡ Ren → now.tool.tool_phase ≡ Migrating work → Asking plan journal Ren entry.asked → (tries : List ℕ) → Waits false (Migrating (record work { cutover = cutovers.took Renamer work.cutover entry.answer; attempt_tries = tries }))
   waits_renamed work same eq asks tries = λ request some. absurd (never request (beside_waits Ren same refl (Migrating work) eq request some) (asks_at plan journal entry is.standing run work eq asks)) where
     never : (request : Request) → SetsCounter plan work.cutover.phase request × (work.cutover.renamer_waits ≡ false) → AsksAt work.cutover.phase work.cutover.renamer_waits → ⊥
     never request one (inl drained_so) = subst (λ (p : Phase). SetsCounter plan p request) drained_so one.0
     never request one (inr on) = true≢false (sym on ∙ one.1)
 
-  waits_unrenamed : (work : Work) → entry.actor ≡ Ren → now.tool.tool_phase ≡ Migrating work → (tries : List ℕ) → Waits false (Migrating (record work { cutover = cutovers.took Renamer work.cutover answers.Lost; attempt_tries = tries }))
+  pub waits_unrenamed : (work : Work) → entry.actor ≡ Ren → now.tool.tool_phase ≡ Migrating work → (tries : List ℕ) → Waits false (Migrating (record work { cutover = cutovers.took Renamer work.cutover answers.Lost; attempt_tries = tries }))
   unfolding cutovers.took
   waits_unrenamed work same eq tries = λ request some. let one = beside_waits Ren same refl (Migrating work) eq request some in (sets_failed plan work.cutover.phase request one.0, refl)
 
@@ -1062,7 +1062,7 @@ module _ (plan : PlanData) (runs : IsRunnable plan) (journal : List Entry) (entr
         at_side None no_side = after_done (following request entry.answer (has entry.actor)) (done_so no_side)
         at_side (Some side) some = ap (λ (a : Answer). (answered request a (has entry.actor)).waits) (own_missed plan journal entry known served side some)
 
-  setup_idle : (setup : Setup) (tries : List ℕ) → now.tool.tool_phase ≡ SettingUp setup tries → entry.actor ≡ Insp → Asking plan journal Insp entry.asked → (now_has Insp).waits ≡ None
+  pub setup_idle : (setup : Setup) (tries : List ℕ) → now.tool.tool_phase ≡ SettingUp setup tries → entry.actor ≡ Insp → Asking plan journal Insp entry.asked → (now_has Insp).waits ≡ None
   setup_idle setup tries eq same asks =
       setup_called setup tries eq same ((now_has Insp).waits ≡ None) asks
       (λ request called going call. done_rests same request called (λ no_side. setup_done setup refl (setup_answer setup tries eq same setup refl request called call no_side))) where
@@ -1083,7 +1083,7 @@ module _ (plan : PlanData) (runs : IsRunnable plan) (journal : List Entry) (entr
   }
 
   -- the request that waits is the one that it has asked
-  waited_is : entry.actor ≡ Insp → (request : Request) → IsAbout request (has entry.actor) entry.asked → (waiting : Request) → (now_has Insp).waits ≡ Some waiting → (other : ℕ) × ((entry.answer ≡ answers.Waits other) × (request ≡ waiting))
+  pub waited_is : entry.actor ≡ Insp → (request : Request) → IsAbout request (has entry.actor) entry.asked → (waiting : Request) → (now_has Insp).waits ≡ Some waiting → (other : ℕ) × ((entry.answer ≡ answers.Waits other) × (request ≡ waiting))
   waited_is same request about waiting some = by (following request entry.answer (has entry.actor)) where
     now_waits : (answered request entry.answer (has entry.actor)).waits ≡ Some waiting
     now_waits = sym (ap (λ (s : Standing). s.waits) (own_stands plan journal entry known served request about)) ∙ ap (λ (a : Actor). (now_has a).waits) same ∙ some
@@ -1110,6 +1110,10 @@ module _ (plan : PlanData) (runs : IsRunnable plan) (journal : List Entry) (entr
     )
     called_sets phase in_phase request asks call other waits = absurd (subst IsDone waits (insp_done work eq same phase in_phase refl request asks (heard_wait other waits) call))
 
+    -- whatever else it calls has an answer
+    pub called_idle : (phase : Phase) → work.cutover.phase ≡ phase → is_setting phase ≡ false → (request : Request) → entry.asked ≡ Call request → attempts.inspector_call work.cutover phase ≡ Some request → (now_has Insp).waits ≡ None
+    called_idle phase in_phase unset request asks call = done_rests same request asks (λ no_side. insp_done work eq same phase in_phase unset request asks no_side call)
+
     goes_on : (request : Request) → SetsCounter plan work.cutover.phase request × (work.cutover.renamer_waits ≡ false) → (other : ℕ) → entry.answer ≡ answers.Waits other → (waiting : Request) → request ≡ waiting
         → SetsCounter plan (inspector_phase work.cutover work.cutover.phase entry.answer) waiting × (work.cutover.renamer_waits ≡ false)
     goes_on request one other waits waiting is_it = (
@@ -1117,7 +1121,7 @@ module _ (plan : PlanData) (runs : IsRunnable plan) (journal : List Entry) (entr
       one.1,
     )
 
-    inspected_waits : Asking plan journal Insp entry.asked → (tries : List ℕ) → Waits false (Migrating (record work { cutover = cutovers.took Inspector work.cutover entry.answer; attempt_tries = tries }))
+    pub inspected_waits : Asking plan journal Insp entry.asked → (tries : List ℕ) → Waits false (Migrating (record work { cutover = cutovers.took Inspector work.cutover entry.answer; attempt_tries = tries }))
     unfolding cutovers.took
     inspected_waits (calls_so request called idle call) tries = λ waiting some.
         let was = waited_is same request (insp_about same request called) waiting some in
@@ -1144,7 +1148,7 @@ module _ (plan : PlanData) (runs : IsRunnable plan) (journal : List Entry) (entr
   waits_heard (Client c) same gives (Migrating work) eq = beside_waits (Client c) same refl (Migrating work) eq
 
   -- a loss between calls
-  gone_waits : entry.asked ≡ Cut → entry.actor ≡ Insp → (now_has Insp).waits ≡ None
+  pub gone_waits : entry.asked ≡ Cut → entry.actor ≡ Insp → (now_has Insp).waits ≡ None
   gone_waits cut same = ap (λ (a : Actor). (now_has a).waits) (sym same) ∙ ap (λ (s : Standing). s.waits) (own_lost plan journal entry known served cut)
 
   waits_lost : entry.asked ≡ Cut → (actor : Actor) → entry.actor ≡ actor → (tool_phase : ToolPhase) → now.tool.tool_phase ≡ tool_phase → AnswerKeeps plan Waits answers.Lost tool actor tool_phase
