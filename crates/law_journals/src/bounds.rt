@@ -8,7 +8,7 @@ ghost use Rattle.proof_bounds.specs.Laws.{PartsMakeJournals, LossesStrikeOnce, O
 ghost use Rattle.proof_bounds.specs.Rows.{RowsAreFew, KeysAreThose};
 ghost use Rattle.proof_bounds.specs.Setups.{SetupTurnsAreFew};
 ghost use Rattle.proof_bounds.specs.Tries.{TriesAreFew};
-ghost use Rattle.proof_bounds.specs.Waits.{InspectorsNeverWait};
+ghost use Rattle.proof_migration.specs.InspectorWaits.{InspectorsNeverWait};
 ghost use Rattle.proof_bounds.specs.TaskTurns.Batches.{BatchTurnsAreFew};
 ghost use Rattle.proof_bounds.specs.TaskTurns.Chunks.{ChunkTurnsAreFew, NoChunksYet};
 ghost use Rattle.proof_bounds.specs.TaskTurns.Totals.{BatchesAlwaysGoOn, ChunksAlwaysGoOn};

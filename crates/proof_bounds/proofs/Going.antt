@@ -97,7 +97,7 @@ use Rattle.proof_migration.proofs.ToolPhase.ToolPhaseTurns.{Kept, UnfitKeeps, Co
 use Rattle.proof_migration.proofs.ToolPhase.Unaltered.Away.{log_is_tool, ghost_is_tool}
 use Rattle.proof_bounds.specs.Clearings.{phase_left, ClearingGoes}
 use Rattle.proof_bounds.specs.Setups.{names_left, setup_left, SetupGoes}
-use Rattle.proof_bounds.specs.Waits.{SetsCounter, IsSettingCounter, InspectorsWaitToSet}
+use Rattle.proof_migration.specs.InspectorWaits.{SetsCounter, IsSettingCounter, InspectorsWaitToSet}
 use Rattle.proof_bounds.proofs.FreeNames.{IsAway, away_forbidden, away_free, free_name, at_once, drops_ok, creates_ok, ends_ok}
 use Rattle.proof_bounds.proofs.Inspecting.{WaitsFor, none_waits, none_for, sets_ended, sets_failed, sets_drained, sets_locked, sets_waits}
 use Rattle.proof_bounds.proofs.Holders.{along_of, each_kept, IsHeldWell, held_well_more, held_well_begins, old_not_log}
@@ -342,6 +342,19 @@ module _ (plan : PlanData) (runs : IsRunnable plan) (journal : List Entry) (entr
 
   insp_about : entry.actor ≡ Insp → (request : Request) → entry.asked ≡ Call request → IsAbout request (has entry.actor) entry.asked
   insp_about same request asks = about_own plan journal entry is.standing run Insp request same (is_called asks (insp_idle same request asks))
+
+  -- polled at an attempt's end, the request that sets the counter lists no tables
+  pub polled_ends : (cutover : CutOver) (number : ℕ) (request : Request) → IsAbout request (has entry.actor) entry.asked → request ≡ requests.SetCounter (ghost_name plan.table) number → cutovers.ending_after cutover Looking entry.answer ≡ Ending Looking
+  polled_ends cutover number request about sets = at_side entry.side refl where
+    by : (answer : Answer) → serves_to (requests.SetCounter (ghost_name plan.table) number) answer ≡ true → cutovers.ending_after cutover Looking answer ≡ Ending Looking
+    by (answers.Tables listing) serves = absurd (false≢true serves)
+    by answers.Lost serves = refl
+    by (answers.TimedOut waited) serves = refl
+    by answer serves = refl
+
+    at_side : (side : Option Side) → entry.side ≡ side → cutovers.ending_after cutover Looking entry.answer ≡ Ending Looking
+    at_side None none = by entry.answer (subst (λ (r : Request). serves_to r entry.answer ≡ true) sets (own_heard plan journal entry known served request about none))
+    at_side (Some side) some = ap (λ (a : Answer). cutovers.ending_after cutover Looking a) (own_missed plan journal entry known served side some)
 
   operator_free : has Op ≡ free
   operator_free = ap (standing_in (state_at plan journal)) (together_owned plan journal kept.faithful kept.follows).owned.operator
@@ -706,21 +719,9 @@ module _ (plan : PlanData) (runs : IsRunnable plan) (journal : List Entry) (entr
       insp_becomes Finished in_phase request asks call = absurd cc
 
       -- the request that sets the counter is polled
-      ending_polled : (number : ℕ) (request : Request) → IsAbout request (has entry.actor) entry.asked → request ≡ requests.SetCounter (ghost_name plan.table) number → Becomes (cutovers.ending_after work.cutover Looking entry.answer)
-      ending_polled number request about sets = at_side entry.side refl where
-        by : (answer : Answer) → serves_to (requests.SetCounter (ghost_name plan.table) number) answer ≡ true → Becomes (cutovers.ending_after work.cutover Looking answer)
-        by (answers.Tables listing) serves = absurd (false≢true serves)
-        by answers.Lost serves = undone (Ending Looking) refl
-        by (answers.TimedOut waited) serves = undone (Ending Looking) refl
-        by answer serves = undone (Ending Looking) refl
-
-        at_side : (side : Option Side) → entry.side ≡ side → Becomes (cutovers.ending_after work.cutover Looking entry.answer)
-        at_side None none = by entry.answer (subst (λ (r : Request). serves_to r entry.answer ≡ true) sets (own_heard plan journal entry known served request about none))
-        at_side (Some side) some = subst (λ (a : Answer). Becomes (cutovers.ending_after work.cutover Looking a)) (sym (own_missed plan journal entry known served side some)) (undone (Ending Looking) refl)
-
       polled_becomes : (phase : Phase) (request : Request) → IsAbout request (has entry.actor) entry.asked → SetsCounter plan phase request → Becomes (inspector_phase work.cutover phase entry.answer)
       polled_becomes (Attempting (SettingCounter number drain)) request about sets = attempt_becomes (is_bad entry.answer) (cutovers.inspector_stage work.cutover.has_counter (SettingCounter number drain) entry.answer)
-      polled_becomes (Ending Looking) request about sets = ending_polled sets.0 request about sets.1
+      polled_becomes (Ending Looking) request about sets = subst Becomes (sym (polled_ends work.cutover sets.0 request about sets.1)) (undone (Ending Looking) refl)
       polled_becomes phase request about sets = absurd sets
 
       insp_turn : Asking plan journal Insp entry.asked → (tries : List ℕ) → New (is_reverting now.tool.reason) (Migrating (record work { cutover = cutovers.took Inspector work.cutover entry.answer; attempt_tries = tries }))

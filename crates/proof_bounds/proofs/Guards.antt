@@ -50,7 +50,7 @@ use Rattle.proof_migration.proofs.Attempt.Standing.{ToolPhaseAt}
 use Rattle.proof_migration.proofs.Program.Turns.Follows.{kept_front, kept_run}
 use Rattle.proof_migration.proofs.ToolPhase.Owners.{together_owned}
 use Rattle.proof_migration.proofs.ToolPhase.ToolPhaseTurns.{Kept, UnfitKeeps, CopyKeeps, ApplyKeeps, SetupKeeps, AnswerKeeps, ResizeKeeps, turn_kept, gives_asked}
-use Rattle.proof_bounds.specs.Waits.{SetsCounter}
+use Rattle.proof_migration.specs.InspectorWaits.{SetsCounter}
 use Rattle.proof_bounds.specs.Guards.{IsMade, IsGuarded, WaitsForNoSentry, HasSentryAtOnce, SentriesAreMadeAtOnce}
 use Rattle.proof_bounds.proofs.FreeNames.{IsAway, away_forbidden, away_free, free_name, at_once}
 use Rattle.proof_bounds.proofs.Going.{IsGoing, all_going, insp_free, insp_rests}

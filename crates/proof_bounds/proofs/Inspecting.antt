@@ -1,8 +1,10 @@
 -- What the inspector waits with, from one phase of the cut-over to the next.
-use Rattle.std.proofs.Common.{◌≡◌, ℕ, ◌+◌, Bool, true, false, cond, Option, Some, None, refl, sym, ◌∙◌}
+use Rattle.std.proofs.Common.{◌≡◌, ℕ, ◌+◌, Bool, true, false, cond, Option, Some, None, refl, sym, ◌∙◌, subst}
+use Rattle.base_values.specs.ToolNames.{ghost_name}
 use Rattle.server_model.specs.declared.answer.Answer.{Answer}
 use Rattle.server_model.specs.declared.answer.Answer.TheVariants as answers
 use Rattle.server_model.specs.declared.request.Request.{Request}
+use Rattle.server_model.specs.declared.request.Request.TheVariants as requests
 use Rattle.plan_data.specs.PlanData.{PlanData}
 use Rattle.tool_program.specs.declared.cutover_core.cutover.Clearing.TheVariants.{Looking}
 use Rattle.tool_program.specs.declared.cutover_core.cutover.CutOver.{CutOver}
@@ -13,7 +15,7 @@ use Rattle.tool_program.specs.declared.cutover_core.cutover.Stage.TheVariants.{S
 use Rattle.tool_program.specs.CutoverCore.CutOvers.{is_bad, ended, failed, drained, inspector_phase, locker_phase}
 use Rattle.tool_program.specs.Tools.{ToolPhase, SettingUp, Migrating}
 use Rattle.proof_journals.proofs.Machine.CuttingOver.{drain_cases}
-use Rattle.proof_bounds.specs.Waits.{SetsCounter}
+use Rattle.proof_migration.specs.InspectorWaits.{SetsCounter, IsSettingCounter}
 
 -- where it waits, so it does, and no RENAME waits meanwhile
 abbrev pub WaitsWith : PlanData → Option Request → Phase → Bool → Type 0
@@ -35,6 +37,15 @@ none_for plan waits (SettingUp setup tries) none = λ request some. no request (
 none_for plan waits (Migrating work) none = λ request some. absurd (no request (sym none ∙ some)) where
   no : (request : Request) → None ≡ Some request → ⊥
   no request same = cc
+
+-- what holds of each request that sets the counter
+pub setting_is : (plan : PlanData) (P : Request → Type 0) → ((number : ℕ) → P (requests.SetCounter (ghost_name plan.table) number)) → (tool_phase : ToolPhase) (request : Request) → IsSettingCounter plan tool_phase request → P request
+setting_is plan P each (SettingUp setup tries) request sets = absurd sets
+setting_is plan P each (Migrating work) request sets = by work.cutover.phase sets where
+  by : (phase : Phase) → SetsCounter plan phase request → P request
+  by (Attempting (SettingCounter number drain)) sets = subst P (sym sets) (each number)
+  by (Ending Looking) sets = subst P (sym sets.1) (each sets.0)
+  by phase sets = absurd sets
 
 -- FROM PHASE TO PHASE
 

@@ -61,13 +61,13 @@ use Rattle.proof_migration.proofs.Program.Turns.Follows.{kept_front, kept_run}
 use Rattle.proof_migration.proofs.ToolPhase.Owners.{commands_operator}
 use Rattle.proof_migration.proofs.ToolPhase.ToolPhaseTurns.{Kept, UnfitKeeps, CopyKeeps, ApplyKeeps, SetupKeeps, AnswerKeeps, ResizeKeeps, turn_kept, gives_asked}
 use Rattle.proof_bounds.specs.Guards.{HasSentryAtOnce}
-use Rattle.proof_bounds.specs.Waits.{SetsCounter}
+use Rattle.proof_migration.specs.InspectorWaits.{SetsCounter}
 use Rattle.proof_bounds.specs.Laws.{MayWait}
 use Rattle.proof_bounds.specs.Parts.{Part, OfClearing, OfChunks, OfBatches, OfAttempts, rolls_back, work_part, is_again, ending_part, phase_part, part_by, part_of, same_part, turns_of_part}
 use Rattle.proof_bounds.specs.Terms.{term_of}
 use Rattle.proof_bounds.proofs.Attempts.{attempts_few}
 use Rattle.proof_bounds.proofs.Counting.{count_yes, count_no, count_none}
-use Rattle.proof_bounds.proofs.Going.{IsGoing, ToolPhaseFits, is_setting, all_going, insp_free, insp_rests, insp_waits, insp_idle, setup_rests, setup_idle, waits_back, waits_drain, beside_waits, differ_waits, waits_locked, waits_renamed, waits_unrenamed, waited_is, called_idle, inspected_waits, gone_waits}
+use Rattle.proof_bounds.proofs.Going.{IsGoing, ToolPhaseFits, is_setting, all_going, insp_free, insp_rests, insp_waits, insp_idle, setup_rests, setup_idle, waits_back, waits_drain, beside_waits, differ_waits, waits_locked, waits_renamed, waits_unrenamed, waited_is, polled_ends, called_idle, inspected_waits, gone_waits}
 use Rattle.proof_bounds.proofs.Inspecting.{WaitsWith, WaitsFor, none_waits, none_for}
 use Rattle.proof_bounds.proofs.Guards.{sentries_made}
 use Rattle.proof_bounds.proofs.Holders.{each_kept}
@@ -677,8 +677,8 @@ module _ (plan : PlanData) (may : MayWait plan) (runs : IsRunnable plan) (journa
                   split x n i k less = omega (arith, less)
 
       -- the request that waits is polled at the attempt's end
-      ends_on : is_command entry.asked ≡ false → is_cut entry.asked ≡ false → (request : Request) → entry.asked ≡ Poll → (has Insp).waits ≡ Some request → serves_to requests.ShowTables entry.answer ≡ false → phase ≡ Ending Looking → Next (inspector_phase work.cutover phase entry.answer)
-      ends_on called uncut request polled some unlisted at_phase =
+      ends_on : is_command entry.asked ≡ false → is_cut entry.asked ≡ false → (request : Request) → entry.asked ≡ Poll → (has Insp).waits ≡ Some request → (number : ℕ) → request ≡ requests.SetCounter (ghost_name plan.table) number → phase ≡ Ending Looking → Next (inspector_phase work.cutover phase entry.answer)
+      ends_on called uncut request polled some number sets at_phase =
           subst (λ (p : Phase). Next (inspector_phase work.cutover p entry.answer)) (sym at_phase)
           (rw (own_waited called uncut)
           (poll_join (turns_at plan journal) (turns_at plan more) (all_left w c (live_at more) hold renames (inspects_at plan more) (inspector_phase work.cutover (Ending Looking) entry.answer)) (attempt_left w c (live_at journal) hold renames (Ending Looking)) (inspect_left w (inspects_at plan journal) (Ending Looking)) (1 + w)
@@ -696,13 +696,6 @@ module _ (plan : PlanData) (may : MayWait plan) (runs : IsRunnable plan) (journa
               by (Some n) there = refl
               by None gone = none_some request (standing_in (state_at plan journal) None).waits refl (ap (λ (o : Option ℕ). (standing_in (state_at plan journal) o).waits) (sym gone) ∙ some)
 
-            -- the attempt's end stays as it is
-            still : (answer : Answer) → serves_to requests.ShowTables answer ≡ false → cutovers.ending_after work.cutover Looking answer ≡ Ending Looking
-            still answers.Lost other = refl
-            still (answers.TimedOut waited) other = refl
-            still (answers.Tables tables) other = absurd (true≢false other)
-            still answer other = refl
-
             waits_or : (answer : Answer) → ((other : ℕ) → answer ≡ answers.Waits other → ⊥) ⊎ ((other : ℕ) × (answer ≡ answers.Waits other))
             waits_or (answers.Waits other) = inr (other, refl)
             waits_or answer = inl (λ other same_one. let no : answer ≡ answers.Waits other = same_one in cc)
@@ -714,17 +707,10 @@ module _ (plan : PlanData) (may : MayWait plan) (runs : IsRunnable plan) (journa
                 ≤ attempt_left w c (live_at journal) hold renames (Ending Looking) + (1 + w) + waits_after entry.answer (waited_by plan journal Insp)
             pays =
                 let one = polls_pay w c (live_at journal) hold renames (live_at more) (inspects_at plan more) entry.answer (waited_by plan journal Insp) (insp_short plan journal is.counted going) (waits_or entry.answer) rests in
-                rw (still entry.answer unlisted, lives)
+                rw (polled_ends plan runs journal entry kept run going work.cutover number request about sets, lives)
                 (split (attempt_left w c (live_at more) hold renames (Ending Looking)) (inspect_left w (inspects_at plan more) (Ending Looking)) (waited_by plan journal Insp) (attempt_left w c true hold renames (Ending Looking) + (1 + w) + waits_after entry.answer (waited_by plan journal Insp)) one) where
                   split : (x n i k : ℕ) → 1 + x + n + i ≤ k → 1 + (x + n) + i ≤ k
                   split x n i k less = omega (arith, less)
-
-      -- what it polls is served as the counter's request is
-      unlisted : (request : Request) (number : ℕ) → request ≡ requests.SetCounter (ghost_name plan.table) number → IsAbout request (has entry.actor) entry.asked → serves_to requests.ShowTables entry.answer ≡ false
-      unlisted request number sets about = heard_or (λ (a : Answer). serves_to requests.ShowTables a ≡ false) (λ none. by entry.answer (subst (λ (r : Request). serves_to r entry.answer ≡ true) sets (own_heard plan journal entry known served request about none))) (λ side some. refl) where
-        by : (answer : Answer) → serves_to (requests.SetCounter (ghost_name plan.table) number) answer ≡ true → serves_to requests.ShowTables answer ≡ false
-        by (answers.Tables tables) serves_so = absurd (false≢true serves_so)
-        by answer serves_so = refl
 
       -- by the phase
       called_on : is_command entry.asked ≡ false → is_cut entry.asked ≡ false → (one : Phase) → phase ≡ one → (request : Request) → entry.asked ≡ Call request → attempts.inspector_call work.cutover phase ≡ Some request → Next (inspector_phase work.cutover phase entry.answer)
@@ -734,7 +720,7 @@ module _ (plan : PlanData) (may : MayWait plan) (runs : IsRunnable plan) (journa
       polled_on : is_command entry.asked ≡ false → is_cut entry.asked ≡ false → (one : Phase) → phase ≡ one → (request : Request) → entry.asked ≡ Poll → (has Insp).waits ≡ Some request → SetsCounter plan one request → Next (inspector_phase work.cutover phase entry.answer)
       polled_on called uncut (Attempting (SettingCounter number drain)) at_phase request polled some sets = sets_on called uncut number drain at_phase
       polled_on called uncut (Ending Looking) at_phase request polled some sets =
-          ends_on called uncut request polled some (unlisted request sets.0 sets.1 (about_own plan journal entry going.standing run Insp request same (is_polled polled some))) at_phase
+          ends_on called uncut request polled some sets.0 sets.1 at_phase
       polled_on called uncut one at_phase request polled some sets = absurd sets
 
       insp_turn : is_command entry.asked ≡ false → is_cut entry.asked ≡ false → Asking plan journal Insp entry.asked → (tries : List ℕ) → New (is_reverting now.tool.reason) (Migrating (record work { cutover = cutovers.took Inspector work.cutover entry.answer; attempt_tries = tries }))
