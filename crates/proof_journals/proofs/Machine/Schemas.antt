@@ -2,7 +2,8 @@
 use Rattle.server_model.proofs.Filling.{filled_case}
 use Rattle.server_model.specs.States.{is_of_tool}
 use Rattle.server_model.specs.Drawing.{numbered}
-use Rattle.std.proofs.Common.{◌≡◌, ℕ, Bool, true, false, not, List, [], ◌∷◌, ◌++◌, cond, Option, Some, None, refl, sym, ap, ◌∙◌, subst}
+use Rattle.std.proofs.Common.{◌≡◌, ℕ, Bool, true, false, not, List, [], ◌∷◌, ◌++◌, cond, Option, Some, None, Result, Ok, Err, refl, sym, ap, ◌∙◌, subst}
+use Rattle.std.specs.List.{list_any}
 use Rattle.std.specs.Option.{option_map}
 use Rattle.std.specs.Str.{bytes_eq}
 use Rattle.std.proofs.lemmas.Bool.{not-true, true≢false, false≢true}
@@ -10,7 +11,9 @@ use Rattle.base_values.specs.declared.event.RowEvent.{RowEvent}
 use Rattle.base_values.specs.declared.event.Change.{Change}
 use Rattle.base_values.specs.declared.gho_schema.schema.Schema.{Schema}
 use Rattle.base_values.specs.declared.mysql_errors.TheConstants.{ER_TABLE_EXISTS_ERROR, ER_TABLE_NOT_LOCKED}
-use Rattle.table_store.specs.Databases.{TableRows, Database, find_table, has_table, is_named, with_change}
+use Rattle.table_store.specs.Databases.{TableRows, Database, find_table, has_table, is_named, rename_tables, with_change}
+use Rattle.table_store.specs.declared.renames.NotRenamed.{NotRenamed}
+use Rattle.table_store.specs.declared.renames.Pair.{Pair}
 use Rattle.base_script.specs.declared.actor.Side.{Side}
 use Rattle.base_script.specs.declared.actor.Side.TheVariants.{Before, After}
 use Rattle.server_model.specs.declared.answer.Answer.TheVariants as answers
@@ -24,16 +27,16 @@ use Rattle.server_model.specs.declared.session.Waiting.{Waiting}
 use Rattle.server_model.specs.declared.work.StatementResult.{StatementResult}
 use Rattle.server_model.specs.Entries.{is_client, is_command}
 use Rattle.server_model.specs.Operations.{statement_result, operation_result, copy_operation, after_events, change_table}
-use Rattle.server_model.specs.States.{State, session_of, is_in_transaction, view, waiting_of, writes_of}
+use Rattle.server_model.specs.States.{State, session_of, is_in_transaction, pair_names, view, waiting_of, writes_of}
 use Rattle.server_model.specs.Blockers.{need, need_within, blocker}
-use Rattle.server_model.specs.Effects.{result_effect, begins, all_exist, locks_if, created, dropped, defined, effect_within, effect_unless, is_outside}
+use Rattle.server_model.specs.Effects.{result_effect, begins, all_exist, locks_if, created, dropped, renamed_or, defined, effect_within, effect_unless, is_outside}
 use Rattle.server_model.specs.PlainServer.{Served, does, done, did, called_unless, calls, is_over, polled_over, polled_unless, polled_of, polls, loses, leaves, serves, without_waiting}
 use Rattle.plan_data.specs.PlanData.{PlanData}
 use Rattle.tool_program.specs.JournalWords.Journals.{opens, state_at, may_lose}
 use Rattle.proof_journals.specs.Scenes.{Stored}
 use Rattle.proof_journals.specs.Turns.{request_of}
 use Rattle.proof_journals.proofs.Journals.{stored_opened, opened_waits}
-use Rattle.proof_journals.proofs.Moves.{after_other, drop_moves}
+use Rattle.proof_journals.proofs.Moves.{after_other, drop_moves, rename_moves}
 use Rattle.server_model.proofs.LockedRows.Finding.{change_if, found_after}
 use Rattle.server_model.proofs.LockedRows.Tests.{same_bytes, nor_left, nor_right}
 use Rattle.proof_journals.specs.Machine.MigrationTables.{schema_of}
