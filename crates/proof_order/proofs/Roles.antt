@@ -27,12 +27,13 @@ use Rattle.tool_program.specs.declared.cutover_core.cutover.Stage.TheVariants.{L
 use Rattle.tool_program.specs.declared.cutover_core.cutover.Drain.{Drain}
 use Rattle.tool_program.specs.declared.cutover_core.cutover.Drain.TheVariants.{Turns, Passed}
 use Rattle.tool_program.specs.CutoverCore.Attempts.{exchange, is_free, clears, inspector_call, is_clear, without_first, first_name, has_name, has_sentry}
-use Rattle.tool_program.specs.CutoverCore.CutOvers.{is_bad, is_wait, is_resting, attempts_after, failed, ended, drained, hold_of_guard, hold_of_lock, hold_under, hold_after, locker_phase, locker_stage, inspector_phase, inspector_stage, ending_after, finishing_after, waits_phase, renamer_phase, finishing, left_at_end, seen, shows_wait}
+use Rattle.tool_program.specs.CutoverCore.CutOvers.{is_bad, is_wait, is_resting, attempts_after, failed, ended, hinted, drain_of, drained, drains_to, hold_of_guard, hold_of_lock, hold_under, hold_after, locker_phase, locker_stage, inspector_phase, inspector_stage, ending_after, finishing_after, waits_phase, renamer_phase, finishing, left_at_end, seen, shows_wait}
 use Rattle.proof_journals.specs.Machine.Machines.{PhaseHolds, both_names, held, renaming}
 use Rattle.proof_journals.specs.Machine.Standings.{IsAbout, is_called, is_polled, answers_to}
 use Rattle.proof_journals.proofs.Machine.Asking.{some_request}
-use Rattle.proof_journals.proofs.Machine.CuttingOver.{LockerAsks}
+use Rattle.proof_journals.proofs.Machine.CuttingOver.{LockerAsks, drain_cases}
 use Rattle.proof_journals.proofs.Machine.Fitting.{IsPrompt}
+use Rattle.proof_migration.specs.InspectorWaits.{SetsCounter}
 use Rattle.proof_order.specs.CutOverOrder.{holds_so, waits_so, begun_after, call_after, has_session, Shown, shown_after, renamed_after, listed_after, renaming_after}
 use Rattle.proof_order.proofs.Words.{Words, words_after}
 use Rattle.proof_order.proofs.Phases.{PhaseOrder, is_held, and_left, fails, locked_order, begun_order, rests_unheld, called_order, renamed_order, seen_order, listed_order, dropped_order}
@@ -94,12 +95,10 @@ ended_done (Finishing clearing) hold waits renamed done = done
 ended_done Finished hold waits renamed done = done
 
 pub drained_done : (cutover : CutOver) (hint : ℕ) (phase : Phase) (hold : Hold) (waits renamed : Bool) → DoneAt phase hold waits renamed → DoneAt (drained cutover hint phase) hold waits renamed
-drained_done cutover hint (Attempting (Draining turns)) hold waits renamed done = by (hint == cutover.attempts) (Rattle.std.specs.Prelude.nat_le cutover.drain_limit (turns + 1)) where
-  by : (a b : Bool) → DoneAt (cond a (Attempting Drained) (cond b (Ending Looking) (Attempting (Draining (turns + 1))))) hold waits renamed
-  by true b = tt
-  by false true = tt
-  by false false = tt
-drained_done cutover hint (Attempting stage) hold waits renamed done = tt
+drained_done cutover hint (Attempting stage) hold waits renamed done = by (drain_of stage) where
+  by : (drain : Option Drain) → DoneAt (drains_to cutover hint stage drain) hold waits renamed
+  by (Some (Turns turns)) = drain_cases (λ (p : Phase). DoneAt p hold waits renamed) cutover hint turns stage (λ same. tt) tt tt
+  by drain = tt
 drained_done cutover hint Resting hold waits renamed done = tt
 drained_done cutover hint (Ending clearing) hold waits renamed done = tt
 drained_done cutover hint (Finishing clearing) hold waits renamed done = done
@@ -623,11 +622,18 @@ module _ (plan : PlanData) (cutover : CutOver) (own : cutover.table ≡ plan.tab
   inspector_order Finished request call fits shows old = absurd cc
 
   -- the request that sets the counter is polled
-  pub polled_order : (phase : Phase) (request : Request) → SetsCounter plan phase request → cutovers.ending_after cutover Looking answer ≡ Ending Looking → InspectorOld phase → InspectorNew Poll phase
-  polled_order (Attempting (SettingCounter number drain)) request sets still old = setting Poll number drain old
-  polled_order (Ending Looking) request sets still old =
+  polled_ends : (table : List ℕ) (number : ℕ) (one : Answer) → answers_to (requests.SetCounter table number) one ≡ true → ending_after cutover Looking one ≡ Ending Looking
+  polled_ends table number answers.Lost fits = refl
+  polled_ends table number (answers.TimedOut waited) fits = refl
+  polled_ends table number (answers.Tables tables) fits = absurd (false≢true fits)
+  polled_ends table number one fits = refl
+
+  pub polled_order : (phase : Phase) (request : Request) → SetsCounter plan phase request → answers_to request answer ≡ true → InspectorOld phase → InspectorNew Poll phase
+  polled_order (Attempting (SettingCounter number drain)) request sets fits old = setting Poll number drain old
+  polled_order (Ending Looking) request sets fits old =
+      let still : ending_after cutover Looking answer ≡ Ending Looking = polled_ends (ghost_name plan.table) sets.0 answer (ap (λ (r : Request). answers_to r answer) (sym sets.1) ∙ fits) in
       makes Poll (Ending Looking) (subst (Is Poll answer) (sym still) (record { counted = tt; passes = tt; shows = tt; holds = fewer Poll answer (Ending Looking) old; drops = tt })) (subst IsDone (sym still) tt) old
-  polled_order phase request sets still old = absurd sets
+  polled_order phase request sets fits old = absurd sets
 
 -- its session is lost between calls
 pub inspector_lost_order : (plan : PlanData) (cutover : CutOver) (told : Words) (live : Option ℕ) (applier : Applier) (session : ℕ) → OrderedAt plan told live cutover.attempts cutover.hold cutover.renamer_waits cutover.is_asked cutover.drops_old cutover.phase applier

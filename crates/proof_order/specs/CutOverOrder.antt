@@ -17,7 +17,7 @@ use Rattle.server_model.specs.Entries.{same_actor, request_in}
 use Rattle.server_model.specs.declared.answer.Answer.{Answer}
 use Rattle.server_model.specs.declared.answer.Answer.TheVariants as answers
 use Rattle.server_model.specs.declared.entry.Asked.{Asked}
-use Rattle.server_model.specs.declared.entry.Asked.TheVariants.{Call}
+use Rattle.server_model.specs.declared.entry.Asked.TheVariants.{Call, Cut}
 use Rattle.server_model.specs.declared.entry.Entry.{Entry}
 use Rattle.server_model.specs.declared.listing.ShownWaiter.{ShownWaiter}
 use Rattle.server_model.specs.declared.listing.TableName.{TableName}
@@ -46,6 +46,15 @@ answer_after actor other answer last = if same_actor other actor then Some answe
 -- *Last answer*: what the actor was answered last, by the turns so far.
 unfoldable pub last_answer : Actor → List Entry → Option Answer
 last_answer actor journal = fold (λ last entry. answer_after actor entry.actor entry.answer last) None journal
+
+-- a loss between calls is the answer to no call
+abbrev pub reply_after : Actor → Actor → Asked → Answer → Option Answer → Option Answer
+reply_after actor other Cut answer last = last
+reply_after actor other asked answer last = answer_after actor other answer last
+
+-- *Last reply*: what the actor was answered last when it called or polled, by the turns so far.
+unfoldable pub last_reply : Actor → List Entry → Option Answer
+last_reply actor journal = fold (λ last entry. reply_after actor entry.actor entry.asked entry.answer last) None journal
 
 -- who was answered so last waits
 abbrev pub waits_so : Option Answer → Bool
@@ -170,7 +179,7 @@ set_so table call answer = false
 
 -- the inspector set the new table's counter, and called nothing since
 abbrev pub is_carried : PlanData → List Entry → Bool
-is_carried plan before = set_so (ghost_name plan.table) (last_call Insp before) (last_answer Insp before)
+is_carried plan before = set_so (ghost_name plan.table) (last_call Insp before) (last_reply Insp before)
 
 -- WHAT IS ASKED OF A CALL
 
@@ -209,7 +218,7 @@ clears_well before actor request = true
 abbrev pub counts_well : PlanData → List Entry → Actor → Request → Bool
 counts_well plan before Insp (requests.ShowCounter name) = bytes_eq name plan.table && is_locked before
 counts_well plan before Insp (requests.SetCounter name number) =
-    bytes_eq name (ghost_name plan.table) && shown_so plan.table number (last_call Insp before) (last_answer Insp before) && is_locked before
+    bytes_eq name (ghost_name plan.table) && shown_so plan.table number (last_call Insp before) (last_reply Insp before) && is_locked before
 counts_well plan before actor (requests.ShowCounter name) = false
 counts_well plan before actor (requests.SetCounter name number) = false
 counts_well plan before actor request = true

@@ -1,7 +1,5 @@
 -- The sentry exists from its CREATE to its DROP, so neither LOCK TABLES nor the DROP is refused.
 use Rattle.std.proofs.Common.{◌≡◌, ◌⊎◌, ℕ, ◌+◌, Bool, true, false, cond, not, ◌&&◌, ◌||◌, List, [], ◌∷◌, ◌++◌, Option, Some, None, refl, sym, ap, ◌∙◌, subst, inl, inr}
-use Rattle.std.specs.Option.{option_map}
-use Rattle.std.specs.Prelude.{is_some, unwrap_or}
 use Rattle.std.specs.Str.{bytes_eq}
 use Rattle.std.proofs.Math.Bool.{or-true}
 use Rattle.std.proofs.lemmas.Bool.{true≢false, false≢true, or_right}
@@ -11,7 +9,7 @@ use Rattle.base_script.specs.declared.actor.Side.{Side}
 use Rattle.base_script.specs.declared.operator.OperatorWord.{OperatorWord}
 use Rattle.base_script.specs.declared.operator.OperatorWord.TheVariants.{ChunkSize}
 use Rattle.base_values.specs.ToolNames.{ghost_name, log_name, old_name}
-use Rattle.table_store.specs.Databases.{TableRows, Database, find_table, has_table}
+use Rattle.table_store.specs.Databases.{Database, has_table}
 use Rattle.server_model.specs.declared.answer.Answer.{Answer}
 use Rattle.server_model.specs.declared.answer.Answer.TheVariants as answers
 use Rattle.server_model.specs.declared.entry.Asked.TheVariants.{Call, Command, Cut}
@@ -21,13 +19,13 @@ use Rattle.server_model.specs.declared.request.Request.{Request}
 use Rattle.server_model.specs.declared.request.Request.TheVariants as requests
 use Rattle.server_model.specs.declared.session.Session.{Session}
 use Rattle.server_model.specs.Answers.{ok}
-use Rattle.server_model.specs.Effects.{Effect, Rests, of_table, all_exist, locks_if, dropped, defined, effect_unless, is_beyond, is_outside}
+use Rattle.server_model.specs.Effects.{all_exist, locks_if, dropped, defined, effect_unless, is_beyond, is_outside}
 use Rattle.server_model.specs.Entries.{same_actor, is_command}
 use Rattle.server_model.specs.Listings.{tables_shown}
 use Rattle.server_model.specs.PlainServer.{does, done, did}
-use Rattle.server_model.specs.States.{State, session_of, is_in_transaction, next_of, tables_named, view}
+use Rattle.server_model.specs.States.{State, session_of, is_in_transaction, tables_named, view}
 use Rattle.plan_data.specs.PlanData.{PlanData, old_schema}
-use Rattle.proof_journals.specs.Machine.MigrationTables.{schema_of, ghost_schema}
+use Rattle.proof_journals.specs.Machine.MigrationTables.{ghost_schema}
 use Rattle.tool_changelog.specs.ToolTables.{sentry_comment, sentry_schema}
 use Rattle.tool_program.specs.JournalWords.Journals.{may_lose, opens, state_at}
 use Rattle.tool_program.specs.declared.cutover_core.cutover.Clearing.{Clearing as Cleared}
@@ -56,13 +54,14 @@ use Rattle.proof_journals.specs.Plans.{IsSerialPlan}
 use Rattle.proof_journals.specs.Run.Kept.{IsKept}
 use Rattle.proof_journals.specs.Machine.Machines.{ToolPhaseStands, WorkStands, PhaseHolds, both_names, held, renaming}
 use Rattle.proof_journals.specs.Machine.Runnable.{IsRunnable}
-use Rattle.proof_journals.specs.Machine.Standings.{Standing, standing_in, standing_of, serves_to, IsAbout, is_called, is_polled}
+use Rattle.proof_journals.specs.Machine.Standings.{Standing, standing_in, standing_of, answers_to, serves_to, IsAbout, is_called, is_polled}
 use Rattle.proof_journals.proofs.Machine.Asking.{some_request}
 use Rattle.proof_journals.proofs.Machine.CuttingOver.{LockerAsks}
 use Rattle.proof_journals.proofs.Machine.Journals.{IsRun, IsTogether, Asking, calls_so, polls_so, asking, lock_about, ren_about}
 use Rattle.proof_journals.proofs.Machine.Schemas.{is_quiet}
-use Rattle.proof_journals.proofs.Machine.Seated.{IsKnown, IsServed, IsOpen, is_open, own_heard, own_missed}
+use Rattle.proof_journals.proofs.Machine.Seated.{IsKnown, IsServed, IsOpen, is_open, own_fits, own_heard, own_missed}
 use Rattle.proof_journals.proofs.Machine.Tabling.{may_define, quiet_stay}
+use Rattle.proof_migration.proofs.Attempt.Counting.{IsUnrefused, shows_unrefused, sets_unrefused}
 use Rattle.proof_migration.proofs.Attempt.InspectorAnswers.{listed_is}
 use Rattle.proof_migration.proofs.Attempt.Leaving.{AllStay, CreateLeaves, DropLeaves, ExchangeLeaves, stands_has, has_is, create_left, drop_left, exchange_left}
 use Rattle.proof_migration.proofs.Attempt.LockerAnswers.{heard_leaves}
@@ -184,27 +183,6 @@ locks_done t found number inside old sentry =
     (subst (λ (b : Bool). IsNotRefused (does (locks_if b (both_names t)) found number).answer) (sym both) tt) where
       both : all_exist (both_names t) found.tables ≡ true
       both = rw (old, sentry) refl
-
--- the counter is shown, and set, where the table stands
-abbrev pub IsUnrefused : Answer → Type 0
-IsUnrefused (answers.Refused number column) = ⊥
-IsUnrefused answer = Unit {0}
-
-pub shows_done : (name : List ℕ) (found : State) (number : ℕ) → is_outside (session_of number found.sessions) (requests.ShowCounter name) ≡ false → is_some (schema_of name found.tables) ≡ true → IsUnrefused (done found number (requests.ShowCounter name)).answer
-unfolding did
-shows_done name found number inside there =
-    subst (λ (b : Bool). IsUnrefused (does (effect_unless b (is_in_transaction (session_of number found.sessions)) (view number found) found (requests.ShowCounter name)) found number).answer) (sym inside) (by (find_table name found.tables) there) where
-      by : (table : Option TableRows) → is_some (option_map (λ (t : TableRows). t.schema) table) ≡ true → IsUnrefused (does (Rests (of_table table (λ t. answers.At (unwrap_or (next_of name found.counters) 0)))) found number).answer
-      by (Some t) there = tt
-      by None gone = absurd (false≢true gone)
-
-pub sets_done : (name : List ℕ) (least : ℕ) (found : State) (number : ℕ) → is_outside (session_of number found.sessions) (requests.SetCounter name least) ≡ false → is_some (schema_of name found.tables) ≡ true → IsNotRefused (done found number (requests.SetCounter name least)).answer
-unfolding did
-sets_done name least found number inside there =
-    subst (λ (b : Bool). IsNotRefused (does (effect_unless b (is_in_transaction (session_of number found.sessions)) (view number found) found (requests.SetCounter name least)) found number).answer) (sym inside) (by (find_table name found.tables) there) where
-      by : (table : Option TableRows) → is_some (option_map (λ (t : TableRows). t.schema) table) ≡ true → IsNotRefused (does (Rests (of_table table (λ t. ok))) found number).answer
-      by (Some t) there = tt
-      by None gone = absurd (false≢true gone)
 
 drops_done : (name : List ℕ) (found : State) (number : ℕ) → is_outside (session_of number found.sessions) (requests.Drop name) ≡ false → has_table name found.tables ≡ true → IsNotRefused (done found number (requests.Drop name)).answer
 unfolding did
@@ -598,21 +576,22 @@ module _ (plan : PlanData) (runs : IsRunnable plan) (journal : List Entry) (entr
       guards = subst (TablesAt plan before) at_phase at.tables
 
       unrefused : IsUnrefused entry.answer
-      unrefused =
-          own_answer IsUnrefused (record { waits = λ by. tt; timed = λ waited. tt; lost = tt }) plan journal entry known served (requests.ShowCounter plan.table) about
-          (λ found is_found. shows_done plan.table found entry.session
-          (outside_is (requests.ShowCounter plan.table) called found is_found ∙ ap (λ (names : List (List ℕ)). is_beyond names (plan.table ∷ [])) (insp_unlocked plan runs journal entry kept run going same))
-          (sym (has_is plan.table found.tables) ∙ ap (has_table plan.table) (found_tables found is_found) ∙ stands_has plan.table before (old_schema plan) guards.stand.old))
+      unrefused = shows_unrefused plan journal entry known served called (insp_unlocked plan runs journal entry kept run going same) plan.table (old_schema plan) guards.stand.old about
 
     -- *The counter is set*
+    set_of : (name : List ℕ) (least : ℕ) (answer : Answer) → IsUnrefused answer → answers_to (requests.SetCounter name least) answer ≡ true → IsNotRefused answer
+    set_of name least (answers.Ok count) unrefused fits_so = tt
+    set_of name least (answers.Waits by) unrefused fits_so = tt
+    set_of name least (answers.TimedOut waited) unrefused fits_so = tt
+    set_of name least answers.Lost unrefused fits_so = tt
+    set_of name least (answers.Refused number column) unrefused fits_so = absurd unrefused
+    set_of name least answer unrefused fits_so = absurd (false≢true fits_so)
+
     pub sets_go : is_command entry.asked ≡ false → (number : ℕ) (drain : Drain) → phase ≡ Attempting (SettingCounter number drain) → entry.actor ≡ Insp → About (requests.SetCounter (ghost_name plan.table) number) → IsNotRefused entry.answer
     sets_go called number drain at_phase same about =
-        own_answer IsNotRefused undone plan journal entry known served (requests.SetCounter (ghost_name plan.table) number) about
-        (λ found is_found. sets_done (ghost_name plan.table) number found entry.session
-        (outside_is (requests.SetCounter (ghost_name plan.table) number) called found is_found ∙ ap (λ (names : List (List ℕ)). is_beyond names (ghost_name plan.table ∷ [])) (insp_unlocked plan runs journal entry kept run going same))
-        (sym (has_is (ghost_name plan.table) found.tables) ∙ ap (has_table (ghost_name plan.table)) (found_tables found is_found) ∙ stands_has (ghost_name plan.table) before (ghost_schema plan) guards.stand.ghost)) where
-          guards : GuardedTables plan before
-          guards = subst (TablesAt plan before) at_phase at.tables
+        set_of (ghost_name plan.table) number entry.answer
+        (sets_unrefused plan journal entry known served called (insp_unlocked plan runs journal entry kept run going same) (ghost_name plan.table) number (ghost_schema plan) (subst (TablesAt plan before) at_phase at.tables).stand.ghost about)
+        (own_fits plan journal entry known served (requests.SetCounter (ghost_name plan.table) number) about)
 
   -- EVERY ACTOR
 
