@@ -1,13 +1,23 @@
-//! What holds of the plans of which an audit is asked: a function that does nothing, whose contract is the law.
+//! What holds of the plans and the traces of which an audit is asked: functions that do nothing, whose contracts are the laws.
 #![tactic(auto)]
 
-ghost use Rattle.law_audit.specs.Laws.{AlterablePlansAlterTables};
+ghost use Rattle.law_audit.specs.Laws.{AlterablePlansAlterTables, ReadTracesMayBeAudited};
 
 use base_values::laws::stored_values_store_again;
+use law_journals::plans::{read_plans_are_serial, read_plans_are_worded};
 
 /// The ALTER of an alterable plan makes tables of tables, as `run_auditor::audit` asks.
 pub fn alterable_plans_alter_tables()
     ensures { AlterablePlansAlterTables }
 {
     stored_values_store_again();
+}
+
+/// A trace that was read, and its plan, have all that `run_auditor::audit` asks.
+pub fn read_traces_may_be_audited()
+    ensures { ReadTracesMayBeAudited }
+{
+    alterable_plans_alter_tables();
+    read_plans_are_serial();
+    read_plans_are_worded();
 }

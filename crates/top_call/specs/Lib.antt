@@ -1,3 +1,4 @@
+pub mod Audits
 pub mod Comings
 pub mod Outcomes
 pub mod PrintedOrders

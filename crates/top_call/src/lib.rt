@@ -3,6 +3,7 @@
 //! which a report printed is replayed.
 #![tactic(auto)]
 
+mod audits;
 pub mod marks;
 mod outcome;
 pub mod plan_rebuilds;
