@@ -1,1 +1,3 @@
 pub mod AlteringPlans
+pub mod ReadTraces
+pub mod ReadTurns
