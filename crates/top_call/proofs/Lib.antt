@@ -1,3 +1,4 @@
+mod Audits
 mod Comings
 mod Endings
 mod Faulty
