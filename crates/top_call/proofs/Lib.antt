@@ -1,3 +1,4 @@
+mod AlteringPlans
 mod Comings
 mod Endings
 mod Faulty
@@ -5,6 +6,8 @@ mod Headline
 mod LogReads
 mod MarkedRuns
 mod Numbers
+mod ReadTraces
+mod ReadTurns
 mod Rebuilt
 mod RestedServers
 mod Taken
