@@ -7,8 +7,8 @@ ghost use Rattle.top_endings.specs.Audits.{IsAnswer};
 ghost use Rattle.top_call.specs.ReadTraces.{MayBeAudited};
 ghost use Rattle.top_call.specs.Audits.{IsAuditPrinted};
 
-use base_values::Fault;
 use crate::read_traces::read_traces_may_be_audited;
+use base_values::Fault;
 use plan_data::Plan;
 use run_audit::Trace;
 use run_auditor::audit;
