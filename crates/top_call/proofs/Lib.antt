@@ -1,3 +1,4 @@
+mod AlteringPlans
 mod Audits
 mod Comings
 mod Endings
@@ -6,6 +7,8 @@ mod Headline
 mod LogReads
 mod MarkedRuns
 mod Numbers
+mod ReadTraces
+mod ReadTurns
 mod Rebuilt
 mod RestedServers
 mod Taken

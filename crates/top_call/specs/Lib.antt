@@ -3,6 +3,7 @@ pub mod Comings
 pub mod Outcomes
 pub mod PrintedOrders
 pub mod Promises
+pub mod ReadTraces
 pub mod Rebuilds
 pub mod RestedServers
 pub mod TopLaws

@@ -4,11 +4,11 @@ ghost use Rattle.std.specs.Prelude.{IfSome};
 ghost use Rattle.run_audit.specs.Audits.{audited};
 ghost use Rattle.top_trace_reader.specs.Traces.{read_trace};
 ghost use Rattle.top_endings.specs.Audits.{IsAnswer};
-ghost use Rattle.law_audit.specs.Laws.{MayBeAudited};
+ghost use Rattle.top_call.specs.ReadTraces.{MayBeAudited};
 ghost use Rattle.top_call.specs.Audits.{IsAuditPrinted};
 
+use crate::read_traces::read_traces_may_be_audited;
 use base_values::Fault;
-use law_audit::read_traces_may_be_audited;
 use plan_data::Plan;
 use run_audit::Trace;
 use run_auditor::audit;

@@ -9,6 +9,7 @@ mod outcome;
 pub mod plan_rebuilds;
 pub mod plan_works;
 pub mod printed_orders;
+pub mod read_traces;
 mod status;
 mod top;
 mod turns;

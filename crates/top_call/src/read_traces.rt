@@ -1,10 +1,8 @@
 //! What holds of the plans and the traces of which an audit is asked: functions that do nothing, whose contracts are the laws.
-#![tactic(auto)]
 
-ghost use Rattle.law_audit.specs.Laws.{AlterablePlansAlterTables, ReadTracesMayBeAudited};
+ghost use Rattle.top_call.specs.ReadTraces.{AlterablePlansAlterTables, ReadTracesMayBeAudited};
 
 use base_values::laws::stored_values_store_again;
-use law_journals::plans::{read_plans_are_serial, read_plans_are_worded};
 
 /// The ALTER of an alterable plan makes tables of tables, as `run_auditor::audit` asks.
 pub fn alterable_plans_alter_tables()
@@ -18,6 +16,4 @@ pub fn read_traces_may_be_audited()
     ensures { ReadTracesMayBeAudited }
 {
     alterable_plans_alter_tables();
-    read_plans_are_serial();
-    read_plans_are_worded();
 }

@@ -30,8 +30,8 @@ use Rattle.top_trace_reader.specs.Refusals.{of_lines, of_plan, or_no_journal}
 use Rattle.top_trace_reader.specs.Traces.{read_parts, read_trace}
 use Rattle.top_trace_reader.specs.Turns.{turn_in}
 use Rattle.top_trace_reader.specs.Verdicts.{verdict_in}
-use Rattle.law_audit.specs.Laws.{AlterablePlansAlterTables, ReadTracesMayBeAudited}
-use Rattle.law_audit.proofs.ReadTurns.{known_turn}
+use Rattle.top_call.specs.ReadTraces.{AlterablePlansAlterTables, ReadTracesMayBeAudited}
+use Rattle.top_call.proofs.ReadTurns.{known_turn}
 
 -- ---- line by line
 

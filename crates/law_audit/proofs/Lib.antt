@@ -1,3 +1,0 @@
-pub mod AlteringPlans
-pub mod ReadTraces
-pub mod ReadTurns
