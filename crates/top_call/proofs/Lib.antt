@@ -1,5 +1,4 @@
 mod AlteringPlans
-mod Audits
 mod Comings
 mod Endings
 mod Faulty
@@ -12,6 +11,7 @@ mod ReadTurns
 mod Rebuilt
 mod RestedServers
 mod Taken
+mod TraceBytes
 mod Unread
 mod Words
 mod Worked
