@@ -1,5 +1,5 @@
 -- The ALTER of an alterable plan makes tables of tables.
-use Rattle.std.proofs.Common.{◌≡◌, List, Option, Some, None, Result, Ok, Err, refl, sym, ap, ◌∙◌, subst}
+use Rattle.std.proofs.Common.{◌≡◌, List, Option, Some, None, Result, Ok, Err, refl, subst}
 use Rattle.std.specs.Option.{option_map}
 use Rattle.std.specs.Result.{result_ok}
 use Rattle.base_values.specs.declared.value.Value.{Value}
@@ -12,9 +12,7 @@ use Rattle.sql_change.specs.AlteredSchema.{altered}
 use Rattle.sql_change.specs.declared.code.AlterCode.{AlterCode}
 use Rattle.table_store.specs.Databases.{TableRows, find_table}
 use Rattle.plan_data.specs.PlanData.{PlanData}
-use Rattle.server_model.specs.LockedRows.Coverage.{IsWellFormedTable}
-use Rattle.tool_program.specs.JournalWords.AlteredTables.{Altered, altered_table, imaged, plan_altered_table}
-use Rattle.proof_journals.specs.Machine.MigrationTables.{schema_of}
+use Rattle.tool_program.specs.JournalWords.AlteredTables.{Altered, altered_table, imaged}
 use Rattle.proof_journals.proofs.ValidTables.{valid_table}
 use Rattle.proof_migration.specs.ToolPhase.Runnable.{IsAlterable, IsWorded}
 use Rattle.proof_schemas.proofs.Alters.ConvertedRowTables.{altered_tables_are}

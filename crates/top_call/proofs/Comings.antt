@@ -21,7 +21,7 @@ use Rattle.top_endings.specs.declared.printed.Printed.{Printed}
 use Rattle.top_endings.specs.declared.refusals.Refusal.TheVariants as refusals
 use Rattle.top_endings.specs.declared.status.Status.TheVariants as statuses
 use Rattle.top_endings.specs.declared.turn.Turn.{Turn}
-use Rattle.top_endings.specs.Endings.{Taking, IsWorkload, IsUsage, IsReadFault}
+use Rattle.top_endings.specs.Endings.{Taking, IsUsage, IsReadFault}
 use Rattle.top_endings.specs.Checks.{IsSchema}
 use Rattle.top_endings.specs.Rebuilt.{has_second_unique}
 use Rattle.top_endings.specs.Texts.{IsRefusal, usage_text, read_fault_text}

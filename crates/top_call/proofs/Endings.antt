@@ -11,7 +11,7 @@ use Rattle.plan_reader.specs.declared.limits.TheConstants.{PLAN_LIMIT}
 use Rattle.plan_reader.specs.Plans.{read}
 use Rattle.run_audit.specs.declared.trace.Audit as audits
 use Rattle.run_audit.specs.declared.trace.Audit.TheVariants as answers
-use Rattle.run_audit.specs.declared.trace.Trace.{Trace}
+use Rattle.run_audit.specs.declared.trace.Trace as traces
 use Rattle.run_audit.specs.Audits.{audited}
 use Rattle.tool_program.specs.Verdicts.{verdict_of}
 use Rattle.top_trace_reader.specs.declared.fault.TraceRefusal.{TraceRefusal}
@@ -190,7 +190,7 @@ module _ (words : List (List ℕ)) (source : Taking) (sink : Giving) (turns : Li
 
   -- a trace that was read, under `audit`
   module _ (printed : Printed) (was : IsTraceRead source (Some printed) turns journal) (is : command words ≡ Some Audit) (given : Gave printed) where
-    module _ (plan : PlanData) (trace : Trace) (said : read_trace was.bytes ≡ Ok (plan, trace)) (shows : IsAnswer (audited plan trace) printed) where
+    module _ (plan : PlanData) (trace : traces.Trace) (said : read_trace was.bytes ≡ Ok (plan, trace)) (shows : IsAnswer (audited plan trace) printed) where
       answer_given : (answer : audits.Audit) → audited plan trace ≡ answer → PrintsAnswer answer source sink turns journal
       answer_given answer same = record {
         bytes = was.bytes;
@@ -204,7 +204,7 @@ module _ (words : List (List ℕ)) (source : Taking) (sink : Giving) (turns : Li
       }
 
       no_under : (answer : audits.Audit) → audited plan trace ≡ answer → answer ≢ answers.Yes → printed.status ≡ statuses.No → Under printed.status
-      no_under answer same no status = subst Under (sym status) (record { command_is = is; answer = answer; no = no; prints = answer_given answer same })
+      no_under answer same not_yes status = subst Under (sym status) (record { command_is = is; answer = answer; no = not_yes; prints = answer_given answer same })
 
       answer_under : (answer : audits.Audit) → audited plan trace ≡ answer → Under printed.status
       answer_under answers.Yes same = done_under (Some Audit) printed is (shows.status_is ∙ ap answer_status same) (answer_given answers.Yes same)
@@ -224,7 +224,7 @@ module _ (words : List (List ℕ)) (source : Taking) (sink : Giving) (turns : Li
           untaken = was.comes.untaken;
         })
 
-    judged_under : (said : Result (PlanData × Trace) TraceRefusal) → read_trace was.bytes ≡ said → IsAuditPrinted said printed → Under printed.status
+    judged_under : (said : Result (PlanData × traces.Trace) TraceRefusal) → read_trace was.bytes ≡ said → IsAuditPrinted said printed → Under printed.status
     judged_under (Ok (plan, trace)) said shows = answer_under plan trace said shows (audited plan trace) refl
     judged_under (Err refusal) said shows = untraced_under refusal said shows
 

@@ -1,8 +1,8 @@
 -- A trace that is read has turns of its plan's actors alone, and its plan is one that is read.
-use Rattle.std.proofs.Common.{◌≡◌, ℕ, ◌+◌, ◌-◌, ◌==◌, nat_lt, Bool, true, false, if◌then◌else◌, List, [], ◌∷◌, ◌++◌, length, Option, Some, None, Result, Ok, Err, refl, sym, ap, ◌∙◌, subst}
+use Rattle.std.proofs.Common.{◌≡◌, ℕ, ◌+◌, ◌-◌, ◌==◌, nat_lt, Bool, true, false, if◌then◌else◌, List, [], ◌∷◌, ◌++◌, length, Option, Some, None, Result, Ok, Err, refl, ap, ◌∙◌, subst}
 use Rattle.std.specs.Option.{option_map}
 use Rattle.std.specs.List.{AllByRecursion}
-use Rattle.std.specs.Str.{IsUtf8, is_utf8}
+use Rattle.std.specs.Str.{is_utf8}
 use Rattle.std.proofs.lemmas.Option.{same_Some}
 use Rattle.base_values.specs.declared.value.Value.{Value}
 use Rattle.base_values.specs.SchemaRules.Results.{◌>>=◌}
@@ -11,7 +11,7 @@ use Rattle.base_values.proofs.SchemaRules.Steps.{bind_ok, ok_is}
 use Rattle.plan_data.specs.PlanData.{PlanData}
 use Rattle.plan_reader.specs.declared.fault.PlanRefusal.{PlanRefusal}
 use Rattle.plan_reader.specs.Plans.{read}
-use Rattle.proof_plans.specs.ReadPlans.Laws.{ReadPlansAreAlterable, ReadPlansAreWorded, WasRead}
+use Rattle.proof_plans.specs.ReadPlans.Laws.{ReadPlansAreAlterable, ReadPlansAreWorded}
 use Rattle.server_model.specs.declared.outcome.Verdict.{Verdict}
 use Rattle.run_audit.specs.declared.line.TraceLine.{TraceLine}
 use Rattle.run_audit.specs.declared.trace.Trace.{Trace}
@@ -91,12 +91,12 @@ module _ (plan : PlanData) where
   text_known : (reading : Reading) (line : List ℕ) (next : Reading) → HasKnown reading → after_text clients reading line ≡ Some next → HasKnown next
   unfolding after_text
   text_known (Turns lines) line next all is = turns_known lines line next all is
-  text_known (RowsOf turn) line next all = by (row_in line) where
+  text_known (RowsOf turn) line next all is = by (row_in line) is where
     by : (row : Option (List Value)) → option_map (after_row turn) row ≡ Some next → HasKnown next
     by None is = absurd cc
     by (Some row) is = next_known (after_row turn row) next (rows_known turn.lines turn.line (turn.rows ++ row ∷ []) (turn.left - 1) all.0 all.1) is
   text_known (Tables left) line next all is = left_known left line next all is
-  text_known (Named trace) line next all = by (length line == 0) where
+  text_known (Named trace) line next all is = by (length line == 0) is where
     by : (b : Bool) → (if b then Some (Whole trace) else None) ≡ Some next → HasKnown next
     by true is = next_known (Whole trace) next all is
     by false is = absurd cc

@@ -1,7 +1,7 @@
 -- A turn that is read is of an actor that the plan has.
-use Rattle.std.proofs.Common.{◌≡◌, ◌≤◌, ◌<◌, ℕ, ◌*◌, ◌+◌, ◌-◌, ◌==◌, ◌^◌, min, nat_lt, Bool, true, false, not, ◌&&◌, if◌then◌else◌, codes, List, [], ◌∷◌, length, is_some, Option, Some, None, refl, sym, ap, ◌∙◌, subst, arith}
+use Rattle.std.proofs.Common.{◌≡◌, ◌≤◌, ℕ, ◌*◌, ◌+◌, ◌-◌, ◌==◌, ◌^◌, min, Bool, true, false, not, ◌&&◌, if◌then◌else◌, codes, List, [], ◌∷◌, length, Option, Some, None, refl, subst, arith}
 use Rattle.std.specs.Option.{option_map}
-use Rattle.std.specs.List.{list_all, slice_get}
+use Rattle.std.specs.List.{list_all}
 use Rattle.std.specs.Int.{IsInRange}
 use Rattle.std.specs.Char.{digit_value, is_ascii_digit}
 use Rattle.std.specs.Str.{bytes_eq}
@@ -44,7 +44,7 @@ in_digits digit is = (grind (arith, nat_tests, is), grind (arith, nat_tests, is)
 -- a number is from 1 on
 from_one : (word : List ℕ) (number : ℕ) → number_of word ≡ Some number → 1 ≤ number
 from_one [] number is = absurd cc
-from_one (digit ∷ digits) number = by (digit == 48) (is_ascii_digit digit) (list_all is_ascii_digit digits) refl refl where
+from_one (digit ∷ digits) number is = by (digit == 48) (is_ascii_digit digit) (list_all is_ascii_digit digits) refl refl is where
   value : ℕ
   value = digits_value 10 (digit ∷ digits)
 
@@ -67,7 +67,7 @@ IsNumbered actor = Unit {0}
 
 client_numbered : (word : List ℕ) (actor : Actor) → client_of word ≡ Some actor → IsNumbered actor
 client_numbered [] actor is = absurd cc
-client_numbered (letter ∷ number) actor = by (letter == 99) where
+client_numbered (letter ∷ number) actor is = by (letter == 99) is where
   by : (b : Bool) → (if b then option_map Client (number_of number) else None) ≡ Some actor → IsNumbered actor
   by true is = let found = mapped_some Client (number_of number) actor is in subst IsNumbered found.2 (from_one number found.0 found.1)
   by false is = absurd cc
@@ -91,10 +91,10 @@ actor_numbered word actor = by (bytes_eq word (codes "op")) (bytes_eq word (code
 
 module _ (plan : PlanData) where
   client_known : (number : ℕ) → 1 ≤ number → is_among (length plan.clients) (Client number) ≡ true → is_of_plan plan (Client number) ≡ true
-  client_known zero some few = absurd (omega (arith, some))
-  client_known (suc number) some few =
-      let within : number < length plan.clients = grind (arith, nat_tests, few) in
-      let found = slice_get-within-some plan.clients number within in rw found.1 refl
+  client_known number some few =
+      let later : (number == 0) ≡ false = grind (arith, nat_tests, some) in
+      let most : number ≤ length plan.clients = grind (arith, nat_tests, few) in
+      let found = slice_get-within-some plan.clients (number - 1) (omega (arith, some, most)) in rw (later, found.1) refl
 
   known_of : (actor : Actor) → IsNumbered actor → is_among (length plan.clients) actor ≡ true → is_of_plan plan actor ≡ true
   known_of (Client number) some few = client_known number some few
@@ -125,7 +125,7 @@ module _ (plan : PlanData) where
   known_turn turn [] read is = absurd cc
   known_turn turn (number ∷ []) read is = absurd cc
   known_turn turn (number ∷ actor ∷ []) read is = absurd cc
-  known_turn turn (number ∷ actor ∷ asked ∷ answer) read = by (is_number turn (words.number_of number)) where
+  known_turn turn (number ∷ actor ∷ asked ∷ answer) read is = by (is_number turn (words.number_of number)) is where
     by : (b : Bool) → (if b then turn_of (length plan.clients) actor asked answer else None) ≡ Some read → is_of_plan plan read.line.actor ≡ true
     by true is = turn_known actor asked answer read is
     by false is = absurd cc
