@@ -1,4 +1,5 @@
 mod AlteringPlans
+mod Audits
 mod Comings
 mod Endings
 mod Faulty

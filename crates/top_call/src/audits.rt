@@ -28,6 +28,7 @@ fn answered(alloc: Global, plan: &Plan, trace: &Trace) -> Option<Printed>
 }
 
 /// What is printed of the bytes of a trace.
+#[tactic(auto, using(crate::proofs::Audits::answer_printed, crate::proofs::Audits::refusal_printed))]
 pub(crate) fn trace_audited(alloc: Global, bytes: &[u8]) -> Option<Printed>
     ensures { IfSome result (IsAuditPrinted (read_trace bytes.now)) }
 {
