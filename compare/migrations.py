@@ -485,12 +485,19 @@ def other_number(rehearsal):
     rehearsal.told = next_but_one
 
 
+def other_blockers(rehearsal):
+    """In place of those for whom a session waits all others."""
+    blockers = rehearsal.blockers
+    rehearsal.blockers = lambda talk: {it for it, other in rehearsal.talks.items() if other is not talk} - blockers(talk)
+
+
 FAULTS = {
     "another DEFAULT in the new table": another_default,
     "an applier without DELETE": no_removal,
     "LOCK TABLES without the table": no_lock,
     "two rows in the answer to the hint": other_answer,
     "another number where a client draws one": other_number,
+    "a wait for other sessions": other_blockers,
 }
 
 
