@@ -9,7 +9,7 @@ from faults import Fault, Search, nearest, short, words_of
 from sql import closing
 
 CREATE_WORDS = (10, 11)
-# An AUTO_INCREMENT that no number can be given out of, and one that the program can't migrate.
+# An AUTO_INCREMENT that no number can be given out of, and what the program doesn't do yet.
 NUMBERS_GIVEN, NOT_BUILT = 32, 60
 ALTER_WORDS = (20, 25, 26, 29, 31)
 LINE_WORDS = (40, 41, 42)
@@ -630,26 +630,15 @@ class Explanation:
         return None
 
     def not_built(self, plan):
-        """What the program reads, but can't do yet: where the table to be migrated gives out numbers, and options of later versions."""
+        """What the program reads, but can't do yet: options of later versions."""
         refusal = self.asking.plan(plan)
         if refusal is None or refusal.code != NOT_BUILT:
             return plan
-        plan = self.without_counter(plan)
         for key, it in list(plan.get("options", {}).items()):
             if self.code(self.least(options={key: it})) == NOT_BUILT:
                 self.point(f"options, key {key}", value(it))
                 self.reason(NOT_BUILT, "this program doesn't do it yet: without it the plan is read")
                 plan = {**plan, "options": {name: other for name, other in plan["options"].items() if name != key}}
-        return plan
-
-    def without_counter(self, plan):
-        """The plan without AUTO_INCREMENT of the table to be migrated."""
-        for at, table in enumerate(plan["tables"]):
-            plain = {**table, "create": without_numbers(table["create"])}
-            if plain != table and self.code(self.least(table=plan["table"], tables=[table])) == NOT_BUILT:
-                self.point(f"table {at + 1}", next(item for item in self.columns(table["create"]) if without_numbers(item) != item))
-                self.reason(NOT_BUILT, "the table to be migrated gives out numbers: without `AUTO_INCREMENT`, here and in the ALTER, the plan is read")
-                return {**plan, "tables": [*plan["tables"][:at], plain, *plan["tables"][at + 1 :]], "alter": without_numbers(plan["alter"])}
         return plan
 
     def actors(self, plan):

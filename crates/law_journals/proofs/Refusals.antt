@@ -160,6 +160,8 @@ module _ (state : State) (number : ℕ) (outside : is_in_transaction (session_of
   within_unchanged busy is seen (requests.ReadLog position limit tables) refused = same
   within_unchanged busy is seen requests.ShowTables refused = same
   within_unchanged busy is seen requests.ShowWaiting refused = same
+  within_unchanged busy is seen (requests.ShowCounter table) refused = same
+  within_unchanged busy is seen (requests.SetCounter table least) refused = same
 
   did_unchanged : (request : Request) → IsRefused (did state number request).answer → Unchanged (did state number request).after
   unfolding did

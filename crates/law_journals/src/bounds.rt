@@ -8,7 +8,7 @@ ghost use Rattle.proof_bounds.specs.Laws.{PartsMakeJournals, LossesStrikeOnce, O
 ghost use Rattle.proof_bounds.specs.Rows.{RowsAreFew, KeysAreThose};
 ghost use Rattle.proof_bounds.specs.Setups.{SetupTurnsAreFew};
 ghost use Rattle.proof_bounds.specs.Tries.{TriesAreFew};
-ghost use Rattle.proof_bounds.specs.Waits.{InspectorsNeverWait};
+ghost use Rattle.proof_migration.specs.InspectorWaits.{InspectorsWaitToSet};
 ghost use Rattle.proof_bounds.specs.TaskTurns.Batches.{BatchTurnsAreFew};
 ghost use Rattle.proof_bounds.specs.TaskTurns.Chunks.{ChunkTurnsAreFew, NoChunksYet};
 ghost use Rattle.proof_bounds.specs.TaskTurns.Totals.{BatchesAlwaysGoOn, ChunksAlwaysGoOn};
@@ -66,9 +66,10 @@ pub fn tries_are_few()
     ensures { TriesAreFew }
 {}
 
-/// After every journal of a runnable plan that is kept, no request of the inspector's waits.
-pub fn inspectors_never_wait()
-    ensures { InspectorsNeverWait }
+/// After every journal of a runnable plan that is kept, no request of the inspector's waits but the one that sets the new
+/// table's counter.
+pub fn inspectors_wait_to_set()
+    ensures { InspectorsWaitToSet }
 {}
 
 /// In every journal of a runnable plan that is kept no CREATE of a sentry waits: while no attempt is under way, nobody but

@@ -4,7 +4,7 @@
 ghost use Rattle.law_journals.specs.Orders.{AcceptedRunsKeepOrder, AcceptedRunsCopyUnderLocks, AcceptedRunsApplyInserts};
 ghost use Rattle.proof_order.specs.Laws.{KeptJournalsKeepOrder, JournalsCopyUnderLocks, JournalsApplyInserts};
 
-use crate::bounds::inspectors_never_wait;
+use crate::bounds::inspectors_wait_to_set;
 use crate::plans::{read_plans_are_runnable, read_plans_are_serial};
 
 /// The locker drops the sentry only once the inspector was shown that the RENAME waits, and under LOCK TABLES; the renamer calls
@@ -14,7 +14,7 @@ use crate::plans::{read_plans_are_runnable, read_plans_are_serial};
 pub fn kept_journals_keep_order()
     ensures { KeptJournalsKeepOrder }
 {
-    inspectors_never_wait();
+    inspectors_wait_to_set();
 }
 
 /// The copier copies a row only by a key that was given with the share lock on the whole chunk, while that transaction is open.

@@ -1,9 +1,10 @@
 -- What a plan says, and what its ALTER makes of its table (MySQL's manual, "ALTER TABLE Statement").
-use Rattle.std.specs.Prelude.{ℕ, List, [], ◌∷◌, unwrap_or, Option, Some, None}
+use Rattle.std.specs.Prelude.{ℕ, Bool, List, [], ◌∷◌, is_some, unwrap_or, Option, Some, None}
 use Rattle.std.specs.List.{flat_map, repeat}
 use Rattle.std.specs.Option.{option_map}
 use Rattle.std.specs.Result.{result_ok}
 use Rattle.base_values.specs.declared.gho_schema.schema.Schema.{Schema}
+use Rattle.base_values.specs.GhoSchema.AutoIncrement.{auto_place}
 use Rattle.base_values.specs.declared.row_conversion.clause.Clause.{Clause}
 use Rattle.base_values.specs.declared.row_conversion.map.MapColumn.{MapColumn}
 use Rattle.sql_change.specs.AlteredSchema.{altered}
@@ -59,6 +60,10 @@ no_schema = record { name = []; columns = []; uniques = []; indexes = []; commen
 
 abbrev pub old_schema : PlanData → Schema
 old_schema plan = unwrap_or (option_map (λ table. table.schema) (find_table plan.table plan.tables)) no_schema
+
+-- the migrated table has an AUTO_INCREMENT column (no ALTER gives it one or takes it away)
+abbrev pub has_counter : PlanData → Bool
+has_counter plan = is_some (auto_place (old_schema plan))
 
 abbrev pub new_altered : PlanData → Altered
 new_altered plan = unwrap_or (altered_by plan (old_schema plan)) (no_schema, [])

@@ -1,7 +1,6 @@
 //! A plan's whole document: what its bytes say, or why they are refused. In `plan_tables` its tables with their rows.
 #![tactic(auto)]
 
-mod built;
 mod clients;
 mod fault;
 mod limits;

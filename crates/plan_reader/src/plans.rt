@@ -16,7 +16,6 @@ ghost use Rattle.plan_reader.specs.Refusals.{of_keys, or_refused};
 ghost use Rattle.base_values.specs.Faults.{Answers};
 ghost use Rattle.plan_reader.specs.declared.fault.PlanRefusal.TheVariants.{NotToml};
 
-use crate::built::is_built;
 use crate::clients::clients_of;
 use crate::fault::{PlanFault, PlanRefusal};
 use crate::limits::PLAN_LIMIT;
@@ -58,7 +57,7 @@ fn plan_at(alloc: Global, document: &Table) -> Result<Plan, PlanFault>
     let opening = opening_of(alloc, &table, &keys)?;
     let clients = clients_of(alloc, &table, keys.texts.clients.as_slice())?;
     let orders = orders_of(alloc, clients.len() as u32, &keys.texts)?;
-    if !is_built(&keys, &table, &opening.tables) {
+    if keys.later {
         return Err(PlanFault::Refused(PlanRefusal::NotBuilt));
     }
     let parts = PlanParts {

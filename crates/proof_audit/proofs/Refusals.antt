@@ -114,6 +114,8 @@ within_keeps busy seen state number requests.LogEnd idle is = refl
 within_keeps busy seen state number (requests.ReadLog position limit tables) idle is = refl
 within_keeps busy seen state number requests.ShowTables idle is = refl
 within_keeps busy seen state number requests.ShowWaiting idle is = refl
+within_keeps busy seen state number (requests.ShowCounter table) idle is = refl
+within_keeps busy seen state number (requests.SetCounter table least) idle is = refl
 
 unless_keeps : (outside busy : Bool) (seen : Database) (state : State) (number : ℕ) (request : Request) → (busy ≡ false → writes_of (session_of number state.sessions) ≡ []) → IsRefusal (does (effect_unless outside busy seen state request) state number).answer
     → (does (effect_unless outside busy seen state request) state number).after.tables ≡ state.tables

@@ -1,7 +1,6 @@
 -- At most as many attempts are begun as the plan lets a task be tried: each that ends is a failed try, or all is reverted, and then no
 -- other begins.
-use Rattle.std.proofs.Common.{◌≡◌, ◌≤◌, ◌<◌, ◌⊎◌, ℕ, ◌+◌, ◌==◌, Bool, true, false, cond, not, ◌&&◌, List, [], ◌∷◌, ◌++◌, length, Some, None, refl, sym, ap, ◌∙◌, subst, inl, inr, arith}
-use Rattle.std.specs.Prelude.{nat_le}
+use Rattle.std.proofs.Common.{◌≡◌, ◌≤◌, ◌<◌, ◌⊎◌, ℕ, ◌+◌, ◌==◌, Bool, true, false, cond, not, ◌&&◌, List, [], ◌∷◌, ◌++◌, length, Option, Some, None, refl, sym, ap, ◌∙◌, subst, inl, inr, arith}
 use Rattle.std.proofs.lemmas.Bool.{true≢false, false≢true}
 use Rattle.std.proofs.lemmas.Bool.Decides.{nat_tests}
 use Rattle.std.proofs.lemmas.List.{length_push}
@@ -34,7 +33,9 @@ use Rattle.tool_program.specs.declared.cutover_core.cutover.Phase.{Phase}
 use Rattle.tool_program.specs.declared.cutover_core.cutover.Phase.TheVariants.{Resting, Attempting, Ending, Finishing, Finished}
 use Rattle.tool_program.specs.declared.cutover_core.cutover.Role.TheVariants.{Inspector, Locker, Renamer}
 use Rattle.tool_program.specs.declared.cutover_core.cutover.Stage.{Stage}
-use Rattle.tool_program.specs.declared.cutover_core.cutover.Stage.TheVariants.{Draining, Drained, Unlocking, Exchanging}
+use Rattle.tool_program.specs.declared.cutover_core.cutover.Stage.TheVariants.{Drained, Unlocking, Exchanging}
+use Rattle.tool_program.specs.declared.cutover_core.cutover.Drain.{Drain}
+use Rattle.tool_program.specs.declared.cutover_core.cutover.Drain.TheVariants.{Turns, Passed}
 use Rattle.tool_program.specs.CutoverCore.Attempts as attempts
 use Rattle.tool_program.specs.ChunkCopier.Copiers as copiers
 use Rattle.tool_program.specs.EventApplier.Appliers as appliers
@@ -47,6 +48,7 @@ use Rattle.tool_program.specs.Tools.{ToolPhase, SettingUp, Migrating, CopyUnfit,
 use Rattle.proof_journals.specs.Machine.Machines.{ToolPhaseStands, WorkStands, PhaseHolds, held}
 use Rattle.proof_journals.specs.Machine.Standings.{Standing, free, standing_in, standing_of}
 use Rattle.proof_journals.proofs.Machine.Asking.{unless_called}
+use Rattle.proof_journals.proofs.Machine.CuttingOver.{drain_cases}
 use Rattle.proof_journals.proofs.Machine.Journals.{IsRun, all_runs, IsTogether, together_more, together_begins, Asking, calls_so, polls_so, asking}
 use Rattle.proof_journals.proofs.Machine.Lifting.{first_some}
 use Rattle.proof_journals.proofs.Machine.Seated.{own_session}
@@ -106,7 +108,7 @@ ends_or true stage next unfailed undone = absurd (true≢false unfailed)
 ends_or false stage next unfailed undone = omega arith
 
 inspector_stays : (cutover : CutOver) (phase : Phase) (answer : Answer) → Stays phase (inspector_phase cutover phase answer)
-inspector_stays cutover (Attempting stage) answer unfailed undone = ends_or (is_bad answer) stage (cutovers.inspector_stage stage answer) unfailed undone
+inspector_stays cutover (Attempting stage) answer unfailed undone = ends_or (is_bad answer) stage (cutovers.inspector_stage cutover.has_counter stage answer) unfailed undone
 inspector_stays cutover Resting answer unfailed undone = omega arith
 inspector_stays cutover (Ending clearing) answer unfailed undone = omega arith
 inspector_stays cutover (Finishing clearing) answer unfailed undone = omega arith
@@ -135,12 +137,11 @@ renamer_stays (Finishing clearing) answer unfailed undone = omega arith
 renamer_stays Finished answer unfailed undone = omega arith
 
 drained_stays : (cutover : CutOver) (hint : ℕ) (phase : Phase) → Stays phase (drained cutover hint phase)
-drained_stays cutover hint (Attempting (Draining turns)) unfailed undone = by (hint == cutover.attempts) (nat_le cutover.drain_limit (turns + 1)) unfailed where
-  by : (a b : Bool) → is_failure (Attempting (Draining turns)) (cond a (Attempting Drained) (cond b (Ending Looking) (Attempting (Draining (turns + 1))))) ≡ false → 1 ≤ under_way (cond a (Attempting Drained) (cond b (Ending Looking) (Attempting (Draining (turns + 1)))))
-  by true b unfailed = omega arith
-  by false true unfailed = absurd (true≢false unfailed)
-  by false false unfailed = omega arith
-drained_stays cutover hint (Attempting stage) unfailed undone = omega arith
+drained_stays cutover hint (Attempting stage) unfailed undone = by (cutovers.drain_of stage) unfailed undone where
+  by : (drain : Option Drain) → Stays (Attempting stage) (cutovers.drains_to cutover hint stage drain)
+  by (Some (Turns turns)) =
+      drain_cases (Stays (Attempting stage)) cutover hint turns stage (λ same unfailed undone. omega arith) (λ unfailed undone. absurd (true≢false unfailed)) (λ unfailed undone. omega arith)
+  by drain = λ unfailed undone. omega arith
 drained_stays cutover hint Resting unfailed undone = omega arith
 drained_stays cutover hint (Ending clearing) unfailed undone = omega arith
 drained_stays cutover hint (Finishing clearing) unfailed undone = omega arith

@@ -27,7 +27,7 @@ use Rattle.tool_program.specs.declared.cutover_core.cutover.Clearing.TheVariants
 use Rattle.tool_program.specs.declared.cutover_core.cutover.CutOver.{CutOver}
 use Rattle.tool_program.specs.declared.cutover_core.cutover.Phase.{Phase}
 use Rattle.tool_program.specs.declared.cutover_core.cutover.Phase.TheVariants.{Resting, Attempting, Ending, Finishing, Finished}
-use Rattle.tool_program.specs.declared.cutover_core.cutover.Stage.TheVariants.{Guarding, Locking, Hinting, Draining, Drained, Showing, Dropping, Unlocking, Exchanging}
+use Rattle.tool_program.specs.declared.cutover_core.cutover.Stage.TheVariants.{Guarding, Locking, Hinting, ReadingCounter, SettingCounter, Draining, Drained, Showing, Dropping, Unlocking, Exchanging}
 use Rattle.tool_program.specs.declared.cutover_core.cutover.Role.{Role}
 use Rattle.tool_program.specs.declared.cutover_core.cutover.Role.TheVariants.{Inspector, Locker, Renamer}
 use Rattle.tool_program.specs.ChunkCopier.Copiers as copiers
@@ -89,6 +89,8 @@ ended_same Resting = refl
 ended_same (Attempting Guarding) = refl
 ended_same (Attempting Locking) = refl
 ended_same (Attempting Hinting) = refl
+ended_same (Attempting (ReadingCounter drain)) = refl
+ended_same (Attempting (SettingCounter number drain)) = refl
 ended_same (Attempting (Draining turns)) = refl
 ended_same (Attempting Drained) = refl
 ended_same (Attempting Showing) = refl
@@ -264,6 +266,8 @@ gives_lost requests.LogEnd = refl
 gives_lost (requests.ReadLog position limit tables) = refl
 gives_lost requests.ShowTables = refl
 gives_lost requests.ShowWaiting = refl
+gives_lost (requests.ShowCounter table) = refl
+gives_lost (requests.SetCounter table least) = refl
 
 left_some : (asked : Asked) (answer : Answer) (session : ℕ) → is_command asked ≡ false → (answer ≡ answers.Lost → ⊥) → is_some (session_left asked answer session) ≡ true
 left_some (Command word) answer session called heard = absurd (true≢false called)

@@ -1,11 +1,12 @@
--- The setup goes on, and so does what is done after the RENAME: the inspector never waits, and each of its calls there is done.
+-- The setup goes on, and so does what is done after the RENAME: the inspector waits with the request alone that sets the new table's
+-- counter, and each of its other calls is done.
 use Rattle.std.proofs.Common.{◌≡◌, ◌≢◌, ◌≤◌, ◌<◌, ℕ, ◌+◌, ◌==◌, Bool, true, false, cond, not, ◌||◌, List, [], ◌∷◌, ◌++◌, Option, Some, None, refl, sym, ap, ◌∙◌, subst, inl, inr, arith}
-use Rattle.std.specs.Prelude.{nat_le, is_some}
+use Rattle.std.specs.Prelude.{is_some}
 use Rattle.std.specs.List.{AllByRecursion, list_any}
 use Rattle.std.specs.Str.{bytes_eq}
 use Rattle.std.proofs.lemmas.Bool.{true≢false, false≢true, or_left, or_right, both_ways}
 use Rattle.std.proofs.lemmas.Bool.Decides.{nat_tests}
-use Rattle.std.proofs.lemmas.Option.{none-some}
+use Rattle.std.proofs.lemmas.Option.{none-some, same_Some}
 use Rattle.base_script.specs.declared.actor.Actor.{Actor}
 use Rattle.base_script.specs.declared.actor.Actor.TheVariants.{Op, Insp, Copy, Apply, Lock, Ren, Client}
 use Rattle.base_script.specs.declared.actor.Side.{Side}
@@ -44,11 +45,14 @@ use Rattle.tool_program.specs.declared.cutover_core.cutover.Leftovers.{Leftovers
 use Rattle.tool_program.specs.declared.cutover_core.cutover.Phase.{Phase}
 use Rattle.tool_program.specs.declared.cutover_core.cutover.Phase.TheVariants.{Resting, Attempting, Ending, Finishing, Finished}
 use Rattle.tool_program.specs.declared.cutover_core.cutover.Role.TheVariants.{Inspector, Locker, Renamer}
-use Rattle.tool_program.specs.declared.cutover_core.cutover.Stage.TheVariants.{Locking, Hinting, Draining, Drained, Showing, Dropping, Unlocking, Exchanging}
+use Rattle.tool_program.specs.declared.cutover_core.cutover.Stage.TheVariants.{Locking, Hinting, ReadingCounter, SettingCounter, Drained, Showing, Dropping, Unlocking, Exchanging}
+use Rattle.tool_program.specs.declared.cutover_core.cutover.Stage.{Stage}
+use Rattle.tool_program.specs.declared.cutover_core.cutover.Drain.{Drain}
+use Rattle.tool_program.specs.declared.cutover_core.cutover.Drain.TheVariants.{Turns, Passed}
 use Rattle.tool_program.specs.CutoverCore.Attempts as attempts
 use Rattle.tool_program.specs.CutoverCore.Attempts.{exchange, clears, first_name, without_first, has_name, has_sentry, is_clear, is_free}
 use Rattle.tool_program.specs.CutoverCore.CutOvers as cutovers
-use Rattle.tool_program.specs.CutoverCore.CutOvers.{is_bad, is_done, is_wait, begun, failed, waits_phase, finishing, left_at_end, sentry_alone, seen, inspector_phase, locker_phase, renamer_phase, hold_after, hold_of_guard, hold_of_lock, applier_turn, drained, ended, reverted}
+use Rattle.tool_program.specs.CutoverCore.CutOvers.{is_bad, is_done, is_wait, begun, failed, waits_phase, finishing, left_at_end, sentry_alone, seen, inspector_phase, locker_phase, renamer_phase, hold_after, hold_of_guard, hold_of_lock, applier_turn, drain_of, drained, drains_to, ended, reverted}
 use Rattle.tool_program.specs.Programs.{tool_call, tool_asks, given}
 use Rattle.tool_program.specs.Setups.{Setup, Listing, Clearing, MakingLog, MakingGhost, Marking, Reaching, Ready, clearing, listed, setup_call, setup_after}
 use Rattle.tool_program.specs.Tools.{Work, ToolPhase, SettingUp, Migrating, Tool, Moment, stopped, is_reverting, tool_phase_of, moment}
@@ -66,7 +70,7 @@ use Rattle.proof_journals.specs.Turns.{request_of, about}
 use Rattle.proof_journals.proofs.Actors.{same_actor_is, others_differ, Placed, Commands, GoesOn, Begins, placed}
 use Rattle.proof_journals.proofs.Journals.{opened_waits}
 use Rattle.proof_journals.proofs.Machine.Asking.{some_request}
-use Rattle.proof_journals.proofs.Machine.CuttingOver.{LockerAsks}
+use Rattle.proof_journals.proofs.Machine.CuttingOver.{LockerAsks, drain_cases}
 use Rattle.proof_journals.proofs.Machine.Fitting.{IsPrompt}
 use Rattle.proof_journals.proofs.Machine.Journals.{IsRun, IsTogether, Asking, calls_so, polls_so, asking, never_commands, lock_about, ren_about}
 use Rattle.proof_journals.proofs.Machine.Marks.{ghost_not_log, ghost_not_old}
@@ -93,8 +97,9 @@ use Rattle.proof_migration.proofs.ToolPhase.ToolPhaseTurns.{Kept, UnfitKeeps, Co
 use Rattle.proof_migration.proofs.ToolPhase.Unaltered.Away.{log_is_tool, ghost_is_tool}
 use Rattle.proof_bounds.specs.Clearings.{phase_left, ClearingGoes}
 use Rattle.proof_bounds.specs.Setups.{names_left, setup_left, SetupGoes}
-use Rattle.proof_bounds.specs.Waits.{InspectorsNeverWait}
+use Rattle.proof_migration.specs.InspectorWaits.{SetsCounter, IsSettingCounter, InspectorsWaitToSet}
 use Rattle.proof_bounds.proofs.FreeNames.{IsAway, away_forbidden, away_free, free_name, at_once, drops_ok, creates_ok, ends_ok}
+use Rattle.proof_bounds.proofs.Inspecting.{WaitsFor, none_waits, none_for, sets_ended, sets_failed, sets_drained, sets_locked, sets_waits}
 use Rattle.proof_bounds.proofs.Holders.{along_of, each_kept, IsHeldWell, held_well_more, held_well_begins, old_not_log}
 use Rattle.proof_bounds.proofs.Leftovers.{IsLeft, SetupFits, has_stays, setup_stay, clearing_fits, old_is_tool, first_is_tool, first_exists, listed_fewer, dropped_fewer, IsLeftAtEnd, ClearingFits, PhaseFits, RestsOrLocks, WorkFits, phase_stay, work_stay, undone_fits, ends_with, lists_end, end_is_old, end_exists, end_fewer, end_listed}
 use Rattle.proof_bounds.proofs.Unblocked.{IsFreeName}
@@ -105,14 +110,19 @@ abbrev pub ToolPhaseFits : PlanData → Database → ToolPhase → Type 0
 ToolPhaseFits plan tables (SettingUp setup tries) = SetupFits plan tables setup
 ToolPhaseFits plan tables (Migrating work) = WorkFits plan tables work.cutover.phase work.cutover.hold work.cutover.renamer_waits
 
--- the inspector doesn't wait, and what its next calls ask for can be done
+-- the inspector waits to set the counter alone, and what its next calls ask for can be done
 pub record IsGoing (plan : PlanData) (journal : List Entry) : Type 0 where
   pub standing : IsStanding plan journal
   pub names : IsHeldWell plan journal
-  pub idle : (standing_of plan journal Insp).waits ≡ None
+  pub waits : WaitsFor plan (standing_of plan journal Insp).waits (moment plan journal).tool.tool_phase
   pub fits : ToolPhaseFits plan (state_at plan journal).tables (moment plan journal).tool.tool_phase
 
 -- PHASES
+
+-- the new table's counter is set next, or waits to be
+abbrev pub is_setting : Phase → Bool
+is_setting (Attempting (SettingCounter number drain)) = true
+is_setting phase = false
 
 begun_undone : (answer : Answer) → is_done (begun answer) ≡ false
 begun_undone (answers.Ok count) = refl
@@ -183,12 +193,11 @@ ended_undone (Ending clearing) = refl
 ended_undone (Finishing clearing) = refl
 ended_undone Finished = refl
 
-drained_undone : (cutover : CutOver) (hint : ℕ) (turns : ℕ) → is_done (drained cutover hint (Attempting (Draining turns))) ≡ false
-drained_undone cutover hint turns = by (hint == cutover.attempts) (nat_le cutover.drain_limit (turns + 1)) where
-  by : (a b : Bool) → is_done (cond a (Attempting Drained) (cond b (Ending Looking) (Attempting (Draining (turns + 1))))) ≡ false
-  by true b = refl
-  by false true = refl
-  by false false = refl
+drained_undone : (cutover : CutOver) (hint : ℕ) (stage : Stage) → is_done (drained cutover hint (Attempting stage)) ≡ false
+drained_undone cutover hint stage = by (drain_of stage) where
+  by : (drain : Option Drain) → is_done (drains_to cutover hint stage drain) ≡ false
+  by (Some (Turns turns)) = drain_cases (λ (p : Phase). is_done p ≡ false) cutover hint turns stage (λ same. refl) refl refl
+  by drain = refl
 
 module _ (plan : PlanData) (tables : Database) (hold : Hold) (renames : Bool) where
   ended_fits : (phase : Phase) → WorkFits plan tables phase hold renames → WorkFits plan tables (ended phase) hold renames
@@ -199,9 +208,7 @@ module _ (plan : PlanData) (tables : Database) (hold : Hold) (renames : Bool) wh
   ended_fits Finished fits = fits
 
   drained_fits : (cutover : CutOver) (hint : ℕ) (phase : Phase) → WorkFits plan tables phase hold renames → WorkFits plan tables (drained cutover hint phase) hold renames
-  drained_fits cutover hint (Attempting (Draining turns)) fits =
-      undone_fits plan tables (drained cutover hint (Attempting (Draining turns))) hold renames (drained_undone cutover hint turns) fits.back
-  drained_fits cutover hint (Attempting stage) fits = fits
+  drained_fits cutover hint (Attempting stage) fits = undone_fits plan tables (drained cutover hint (Attempting stage)) hold renames (drained_undone cutover hint stage) fits.back
   drained_fits cutover hint Resting fits = fits
   drained_fits cutover hint (Ending clearing) fits = fits
   drained_fits cutover hint (Finishing clearing) fits = fits
@@ -290,21 +297,64 @@ module _ (plan : PlanData) (runs : IsRunnable plan) (journal : List Entry) (entr
   insp_stands (SettingUp setup tries) eq = ((setup_has setup tries eq).inspector.busy, (setup_has setup tries eq).inspector.locked)
   insp_stands (Migrating work) eq = ((work_has work eq).inspector.busy, (work_has work eq).inspector.locked)
 
-  pub insp_free : has Insp ≡ free
-  insp_free = same (has Insp) (insp_stands now.tool.tool_phase refl).0 (insp_stands now.tool.tool_phase refl).1 is.idle where
+  pub insp_free : (has Insp).waits ≡ None → has Insp ≡ free
+  insp_free idle = same (has Insp) (insp_stands now.tool.tool_phase refl).0 (insp_stands now.tool.tool_phase refl).1 idle where
     same : (one : Standing) → one.busy ≡ false → one.locked ≡ [] → one.waits ≡ None → one ≡ free
     same one busy locked waits = λ i. record { busy = busy i; locked = locked i; waits = waits i }
 
-  insp_unlocked : entry.actor ≡ Insp → (has entry.actor).locked ≡ []
-  insp_unlocked same = ap (λ (a : Actor). (has a).locked) same ∙ ap (λ (s : Standing). s.locked) insp_free
+  pub insp_rests : ((request : Request) → (has Insp).waits ≡ Some request → ⊥) → (has Insp).waits ≡ None
+  insp_rests never = none_waits (has Insp).waits never
 
-  -- it calls
-  insp_calls : (P : Type 0) → Asking plan journal Insp entry.asked → ((request : Request) → entry.asked ≡ Call request → tool_call plan now.server journal now.tool now.tool.tool_phase Insp ≡ Some request → P) → P
-  insp_calls P (calls_so request asks idle call) then = then request asks call
-  insp_calls P (polls_so request asks some) then = none_some request (has Insp).waits is.idle some
+  pub insp_unlocked : entry.actor ≡ Insp → (has entry.actor).locked ≡ []
+  insp_unlocked same = ap (λ (a : Actor). (has a).locked) same ∙ (insp_stands now.tool.tool_phase refl).1
+
+  -- what it waits with, in each phase
+  pub insp_waits : (tool_phase : ToolPhase) → now.tool.tool_phase ≡ tool_phase → WaitsFor plan (has Insp).waits tool_phase
+  insp_waits tool_phase eq = subst (WaitsFor plan (has Insp).waits) eq is.waits
+
+  pub setup_rests : (setup : Setup) (tries : List ℕ) → now.tool.tool_phase ≡ SettingUp setup tries → (request : Request) → (has Insp).waits ≡ Some request → ⊥
+  setup_rests setup tries eq = insp_waits (SettingUp setup tries) eq
+
+  -- it calls, where it can't wait
+  insp_calls : (P : Type 0) → ((request : Request) → (has Insp).waits ≡ Some request → ⊥) → Asking plan journal Insp entry.asked → ((request : Request) → entry.asked ≡ Call request → tool_call plan now.server journal now.tool now.tool.tool_phase Insp ≡ Some request → P) → P
+  insp_calls P never (calls_so request asks idle call) then = then request asks call
+  insp_calls P never (polls_so request asks some) then = absurd (never request some)
+
+  pub insp_given : entry.actor ≡ Insp → (entry.asked ≡ Cut → ⊥) → tool_asks plan journal (moment plan journal) Insp ≡ Some entry.asked
+  unfolding given
+  insp_given same uncut = subst (λ (a : Actor). given plan journal a ≡ Some entry.asked) same (gives_asked plan journal entry entry.asked run.followed.given refl uncut)
+
+  pub insp_asking : entry.actor ≡ Insp → (entry.asked ≡ Cut → ⊥) → Asking plan journal Insp entry.asked
+  insp_asking same uncut = asking plan journal Insp entry.asked together.server (insp_given same uncut)
+
+  -- where it calls, nothing waits
+  pub insp_idle : entry.actor ≡ Insp → (request : Request) → entry.asked ≡ Call request → (has Insp).waits ≡ None
+  insp_idle same request asks = by (insp_asking same (λ cut. no (sym asks ∙ cut))) where
+    no : Call request ≡ Cut → ⊥
+    no both = cc
+
+    no_poll : Poll ≡ Call request → ⊥
+    no_poll both = cc
+
+    by : Asking plan journal Insp entry.asked → (has Insp).waits ≡ None
+    by (calls_so other called idle call) = idle
+    by (polls_so other polled some) = absurd (no_poll (sym polled ∙ asks))
 
   insp_about : entry.actor ≡ Insp → (request : Request) → entry.asked ≡ Call request → IsAbout request (has entry.actor) entry.asked
-  insp_about same request asks = about_own plan journal entry is.standing run Insp request same (is_called asks is.idle)
+  insp_about same request asks = about_own plan journal entry is.standing run Insp request same (is_called asks (insp_idle same request asks))
+
+  -- polled at an attempt's end, the request that sets the counter lists no tables
+  pub polled_ends : (cutover : CutOver) (number : ℕ) (request : Request) → IsAbout request (has entry.actor) entry.asked → request ≡ requests.SetCounter (ghost_name plan.table) number → cutovers.ending_after cutover Looking entry.answer ≡ Ending Looking
+  polled_ends cutover number request about sets = at_side entry.side refl where
+    by : (answer : Answer) → serves_to (requests.SetCounter (ghost_name plan.table) number) answer ≡ true → cutovers.ending_after cutover Looking answer ≡ Ending Looking
+    by (answers.Tables listing) serves = absurd (false≢true serves)
+    by answers.Lost serves = refl
+    by (answers.TimedOut waited) serves = refl
+    by answer serves = refl
+
+    at_side : (side : Option Side) → entry.side ≡ side → cutovers.ending_after cutover Looking entry.answer ≡ Ending Looking
+    at_side None none = by entry.answer (subst (λ (r : Request). serves_to r entry.answer ≡ true) sets (own_heard plan journal entry known served request about none))
+    at_side (Some side) some = ap (λ (a : Answer). cutovers.ending_after cutover Looking a) (own_missed plan journal entry known served side some)
 
   operator_free : has Op ≡ free
   operator_free = ap (standing_in (state_at plan journal)) (together_owned plan journal kept.faithful kept.follows).owned.operator
@@ -447,7 +497,7 @@ module _ (plan : PlanData) (runs : IsRunnable plan) (journal : List Entry) (entr
 
     -- its call, while nothing is reverted
     setup_called : (P : Type 0) → Asking plan journal Insp entry.asked → ((request : Request) → entry.asked ≡ Call request → is_reverting now.tool.reason ≡ false → setup_call plan setup ≡ Some request → P) → P
-    setup_called P asks then = insp_calls P asks (λ request called call. by (is_reverting now.tool.reason) refl request called (ap (λ (c : ToolPhase). tool_call plan now.server journal now.tool c Insp) (sym eq) ∙ call)) where
+    setup_called P asks then = insp_calls P (setup_rests setup tries eq) asks (λ request called call. by (is_reverting now.tool.reason) refl request called (ap (λ (c : ToolPhase). tool_call plan now.server journal now.tool c Insp) (sym eq) ∙ call)) where
       by : (b : Bool) → is_reverting now.tool.reason ≡ b → (request : Request) → entry.asked ≡ Call request → cond b None (setup_call plan setup) ≡ Some request → P
       by true reverting request called call = absurd cc
       by false going request called call = then request called going call
@@ -545,22 +595,26 @@ module _ (plan : PlanData) (runs : IsRunnable plan) (journal : List Entry) (entr
       ending_ghost : (cleared : Cleared) → LeftAt (Ending cleared) → (left : Leftovers) → cleared ≡ Drops left → left.new_table ≡ false
       ending_ghost cleared alone left drops = ap (λ (l : Leftovers). l.new_table) (subst (λ (c : Cleared). LeftAt (Ending c)) drops alone)
 
-      insp_done : (phase : Phase) → work.cutover.phase ≡ phase → (request : Request) → entry.asked ≡ Call request → entry.side ≡ None → attempts.inspector_call work.cutover phase ≡ Some request → IsDone entry.answer
-      insp_done (Attempting Hinting) in_phase request asks no_side call =
+      -- each call but the one that sets the counter
+      insp_done : (phase : Phase) → work.cutover.phase ≡ phase → is_setting phase ≡ false → (request : Request) → entry.asked ≡ Call request → entry.side ≡ None → attempts.inspector_call work.cutover phase ≡ Some request → IsDone entry.answer
+      insp_done (Attempting Hinting) in_phase unset request asks no_side call =
           some_request (λ (r : Request). entry.asked ≡ Call r → IsDone entry.answer) (attempts.writes_hint work.cutover.table work.cutover.attempts) request call
           (λ asks. done_if (attempts.writes_hint work.cutover.table work.cutover.attempts) asks no_side
           (subst (λ (t : List ℕ). IsFreeName (opens entry (state_at plan journal)) entry.session (log_name t)) (sym (own_table work eq)) (log_free (ap is_command asks)), tt)) asks
-      insp_done (Attempting Showing) in_phase request asks no_side call = some_request (λ (r : Request). entry.asked ≡ Call r → IsDone entry.answer) requests.ShowWaiting request call (λ asks. done_if requests.ShowWaiting asks no_side tt) asks
-      insp_done (Attempting stage) in_phase request asks no_side call = absurd cc
-      insp_done (Ending cleared) in_phase request asks no_side call = by (is_free work.cutover.hold work.cutover.renamer_waits) refl call where
+      insp_done (Attempting (ReadingCounter drain)) in_phase unset request asks no_side call =
+          some_request (λ (r : Request). entry.asked ≡ Call r → IsDone entry.answer) (requests.ShowCounter work.cutover.table) request call (λ asks. done_if (requests.ShowCounter work.cutover.table) asks no_side tt) asks
+      insp_done (Attempting (SettingCounter number drain)) in_phase unset request asks no_side call = absurd (true≢false unset)
+      insp_done (Attempting Showing) in_phase unset request asks no_side call = some_request (λ (r : Request). entry.asked ≡ Call r → IsDone entry.answer) requests.ShowWaiting request call (λ asks. done_if requests.ShowWaiting asks no_side tt) asks
+      insp_done (Attempting stage) in_phase unset request asks no_side call = absurd cc
+      insp_done (Ending cleared) in_phase unset request asks no_side call = by (is_free work.cutover.hold work.cutover.renamer_waits) refl call where
         by : (b : Bool) → is_free work.cutover.hold work.cutover.renamer_waits ≡ b → cond b (clears work.cutover.table cleared) None ≡ Some request → IsDone entry.answer
         by true frees call =
             let parts = free_parts work.cutover.hold work.cutover.renamer_waits frees in clears_done parts.0 parts.1 cleared (ending_ghost cleared (subst LeftAt in_phase at.left)) request asks no_side call
         by false held call = absurd cc
-      insp_done (Finishing cleared) in_phase request asks no_side call =
+      insp_done (Finishing cleared) in_phase unset request asks no_side call =
           let parts = fits.done (ap is_done in_phase) in clears_done parts.0 parts.1 cleared (finishing_ghost cleared (subst (PhaseFits plan before) in_phase fits.left)) request asks no_side call
-      insp_done Finished in_phase request asks no_side call = absurd cc
-      insp_done Resting in_phase request asks no_side call = absurd cc
+      insp_done Finished in_phase unset request asks no_side call = absurd cc
+      insp_done Resting in_phase unset request asks no_side call = absurd cc
 
       insp_next : (request : Request) → tool_call plan now.server journal now.tool now.tool.tool_phase Insp ≡ Some request → attempts.inspector_call work.cutover work.cutover.phase ≡ Some request
       unfolding attempts.next
@@ -655,7 +709,7 @@ module _ (plan : PlanData) (runs : IsRunnable plan) (journal : List Entry) (entr
 
       insp_becomes : (phase : Phase) → work.cutover.phase ≡ phase → (request : Request) → entry.asked ≡ Call request → attempts.inspector_call work.cutover phase ≡ Some request → Becomes (inspector_phase work.cutover phase entry.answer)
       insp_becomes Resting in_phase request asks call = absurd cc
-      insp_becomes (Attempting stage) in_phase request asks call = attempt_becomes (is_bad entry.answer) (cutovers.inspector_stage stage entry.answer)
+      insp_becomes (Attempting stage) in_phase request asks call = attempt_becomes (is_bad entry.answer) (cutovers.inspector_stage work.cutover.has_counter stage entry.answer)
       insp_becomes (Ending cleared) in_phase request asks call = by (is_free work.cutover.hold work.cutover.renamer_waits) refl call where
         by : (b : Bool) → is_free work.cutover.hold work.cutover.renamer_waits ≡ b → cond b (clears work.cutover.table cleared) None ≡ Some request → Becomes (cutovers.ending_after work.cutover cleared entry.answer)
         by true frees call = let parts = free_parts work.cutover.hold work.cutover.renamer_waits frees in ending_becomes cleared request asks parts.0 parts.1 call entry.answer refl
@@ -664,9 +718,28 @@ module _ (plan : PlanData) (runs : IsRunnable plan) (journal : List Entry) (entr
       insp_becomes (Finishing (Drops left)) in_phase request asks call = finish_drops left in_phase request asks call
       insp_becomes Finished in_phase request asks call = absurd cc
 
+      -- the request that sets the counter is polled
+      polled_becomes : (phase : Phase) (request : Request) → IsAbout request (has entry.actor) entry.asked → SetsCounter plan phase request → Becomes (inspector_phase work.cutover phase entry.answer)
+      polled_becomes (Attempting (SettingCounter number drain)) request about sets = attempt_becomes (is_bad entry.answer) (cutovers.inspector_stage work.cutover.has_counter (SettingCounter number drain) entry.answer)
+      polled_becomes (Ending Looking) request about sets = subst Becomes (sym (polled_ends work.cutover sets.0 request about sets.1)) (undone (Ending Looking) refl)
+      polled_becomes phase request about sets = absurd sets
+
       insp_turn : Asking plan journal Insp entry.asked → (tries : List ℕ) → New (is_reverting now.tool.reason) (Migrating (record work { cutover = cutovers.took Inspector work.cutover entry.answer; attempt_tries = tries }))
       unfolding cutovers.took
-      insp_turn asks tries = insp_calls (Becomes (inspector_phase work.cutover work.cutover.phase entry.answer)) asks (λ request called call. insp_becomes work.cutover.phase refl request called (insp_next request call))
+      insp_turn (calls_so request called idle call) tries = insp_becomes work.cutover.phase refl request called (insp_next request call)
+      insp_turn (polls_so request polled some) tries =
+          polled_becomes work.cutover.phase request (about_own plan journal entry is.standing run Insp request same (is_polled polled some)) (insp_waits (Migrating work) eq request some).0
+
+      -- *Its session is lost* between calls, while it waits
+      insp_lost : AllStay before after → (tries : List ℕ) → New (is_reverting now.tool.reason) (Migrating (record work { cutover = cutovers.took Inspector work.cutover answers.Lost; attempt_tries = tries }))
+      unfolding cutovers.took
+      insp_lost stay tries = by work.cutover.phase refl where
+        by : (one : Phase) → work.cutover.phase ≡ one → Becomes (inspector_phase work.cutover one answers.Lost)
+        by Resting at_phase = undone Resting refl
+        by (Attempting stage) at_phase = undone (Ending Looking) refl
+        by (Ending cleared) at_phase = undone (Ending Looking) refl
+        by (Finishing cleared) at_phase = done_still (ap is_done at_phase) Looking tt
+        by Finished at_phase = work_stay plan before after stay Finished work.cutover.hold work.cutover.renamer_waits (subst (λ (p : Phase). WorkFits plan before p work.cutover.hold work.cutover.renamer_waits) at_phase fits)
 
     -- THE LOCKER
 
@@ -890,15 +963,15 @@ module _ (plan : PlanData) (runs : IsRunnable plan) (journal : List Entry) (entr
   cut_so : entry.asked ≡ Cut → (tool_phase : ToolPhase) → now.tool.tool_phase ≡ tool_phase → ToolPhaseFits plan after tool_phase
   cut_so cut tool_phase eq = still tool_phase eq (cut_stay plan journal entry is.standing run cut)
 
-  -- the inspector's session has no work
-  insp_idle : {A : Type 0} → entry.asked ≡ Cut → has_work now.server entry.session ≡ true → entry.actor ≡ Insp → A
-  insp_idle cut worked same =
+  -- where the inspector waits with nothing its session has no work
+  insp_unworked : {A : Type 0} → entry.asked ≡ Cut → has_work now.server entry.session ≡ true → entry.actor ≡ Insp → (has Insp).waits ≡ None → A
+  insp_unworked cut worked same idle =
       absurd (true≢false (sym worked ∙ ap (λ (s : State). has_work s entry.session) together.server
-      ∙ free_idle (state_at plan journal) entry.session (ap (standing_in (state_at plan journal)) (sym (own_session plan journal entry known served (ap is_cut cut))) ∙ ap has same ∙ insp_free)))
+      ∙ free_idle (state_at plan journal) entry.session (ap (standing_in (state_at plan journal)) (sym (own_session plan journal entry known served (ap is_cut cut))) ∙ ap has same ∙ insp_free idle)))
 
   lost_so : entry.asked ≡ Cut → has_work now.server entry.session ≡ true → (actor : Actor) → entry.actor ≡ actor → (tool_phase : ToolPhase) → now.tool.tool_phase ≡ tool_phase → AnswerKeeps plan New answers.Lost tool actor tool_phase
-  lost_so cut worked Insp same (SettingUp setup tries) eq = insp_idle cut worked same
-  lost_so cut worked Insp same (Migrating work) eq = insp_idle cut worked same
+  lost_so cut worked Insp same (SettingUp setup tries) eq = insp_unworked cut worked same (insp_rests (setup_rests setup tries eq))
+  lost_so cut worked Insp same (Migrating work) eq = insp_lost work eq same (cut_stay plan journal entry is.standing run cut)
   lost_so cut worked Copy same (SettingUp setup tries) eq = cut_so cut (SettingUp setup tries) eq
   lost_so cut worked Copy same (Migrating work) eq = copy_so answers.Lost work (cut_so cut (Migrating work) eq)
   lost_so cut worked Apply same (SettingUp setup tries) eq = cut_so cut (SettingUp setup tries) eq
@@ -930,72 +1003,207 @@ module _ (plan : PlanData) (runs : IsRunnable plan) (journal : List Entry) (entr
         heard = λ called commanded. heard_so entry.actor refl (gives_asked plan journal entry entry.asked run.followed.given refl called) called commanded now.tool.tool_phase refl;
       })
 
-  -- THE INSPECTOR DOESN'T WAIT
+  -- WHEN THE INSPECTOR WAITS
 
   uncut_so : is_cut entry.asked ≡ false → entry.asked ≡ Cut → ⊥
   uncut_so uncut cut = true≢false (sym (ap is_cut cut) ∙ uncut)
 
-  insp_given : entry.actor ≡ Insp → (entry.asked ≡ Cut → ⊥) → tool_asks plan journal (moment plan journal) Insp ≡ Some entry.asked
-  unfolding given
-  insp_given same uncut = subst (λ (a : Actor). given plan journal a ≡ Some entry.asked) same (gives_asked plan journal entry entry.asked run.followed.given refl uncut)
+  abbrev pub Waits : Kept
+  Waits = λ b tool_phase. WaitsFor plan (now_has Insp).waits tool_phase
 
-  insp_asking : entry.actor ≡ Insp → (entry.asked ≡ Cut → ⊥) → Asking plan journal Insp entry.asked
-  insp_asking same uncut = asking plan journal Insp entry.asked together.server (insp_given same uncut)
+  pub waits_back : (b : Bool) (tool_phase : ToolPhase) → Waits b tool_phase → Waits true (stopped tool_phase)
+  unfolding reverted
+  waits_back b (SettingUp setup tries) one = one
+  waits_back b (Migrating work) one = λ request some. (sets_ended plan work.cutover.phase request (one request some).0, (one request some).1)
 
-  -- each of its calls is answered at once
-  insp_at_once : entry.actor ≡ Insp → entry.side ≡ None → (request : Request) → entry.asked ≡ Call request → tool_call plan now.server journal now.tool now.tool.tool_phase Insp ≡ Some request → IsDone entry.answer
-  insp_at_once same no_side request asks call = by now.tool.tool_phase refl where
-    setup_done : (setup : Setup) (tries : List ℕ) (eq : now.tool.tool_phase ≡ SettingUp setup tries) (one : Setup) → setup ≡ one → SetupAnswer setup tries eq same one entry.answer → IsDone entry.answer
-    setup_done setup tries eq Listing here answer = subst IsDone (sym answer.1) tt
-    setup_done setup tries eq (Clearing left) here answer = subst IsDone (sym answer) tt
-    setup_done setup tries eq MakingLog here answer = subst IsDone (sym answer) tt
-    setup_done setup tries eq MakingGhost here answer = subst IsDone (sym answer) tt
-    setup_done setup tries eq Marking here answer = subst IsDone (sym answer.1) tt
-    setup_done setup tries eq (Reaching position) here answer = subst IsDone (sym answer.1) tt
-    setup_done setup tries eq (Ready position range) here answer = absurd answer
+  pub waits_drain : (b : Bool) (work : Work) (tries : List ℕ) → Waits b (Migrating work) → Waits b (Migrating (record work { cutover = applier_turn work.applier.hint work.cutover; attempt_tries = tries }))
+  unfolding applier_turn
+  waits_drain b work tries one = λ request some. (sets_drained plan work.cutover work.applier.hint work.cutover.phase request (one request some).0, (one request some).1)
 
-    by : (tool_phase : ToolPhase) → now.tool.tool_phase ≡ tool_phase → IsDone entry.answer
-    by (SettingUp setup tries) eq =
-        setup_called setup tries eq same (IsDone entry.answer) (calls_so request asks is.idle call)
-        (λ other called going setup_calls. setup_done setup tries eq setup refl (setup_answer setup tries eq same setup refl other called setup_calls no_side))
-    by (Migrating work) eq = insp_done work eq same work.cutover.phase refl request asks no_side (insp_next work eq same request call)
+  -- in others' turns it waits as before
+  pub differ_waits : same_actor entry.actor Insp ≡ false → (tool_phase : ToolPhase) → now.tool.tool_phase ≡ tool_phase → WaitsFor plan (now_has Insp).waits tool_phase
+  differ_waits differ tool_phase eq = subst (λ (s : Standing). WaitsFor plan s.waits tool_phase) (sym (others_stand plan journal entry known served Insp differ)) (insp_waits tool_phase eq)
 
-  idle_more : (now_has Insp).waits ≡ None
-  idle_more = by (same_actor entry.actor Insp) refl where
-    own : entry.actor ≡ Insp → (asked : Asked) → entry.asked ≡ asked → (now_has entry.actor).waits ≡ None
-    own same Cut cut = ap (λ (s : Standing). s.waits) (own_lost plan journal entry known served cut)
-    own same (Command word) asks = absurd (never_commands plan journal Insp word (insp_given same (λ cut. no (sym asks ∙ cut)) ∙ ap Some asks)) where
-      no : Command word ≡ Cut → ⊥
-      no both = cc
-    own same (Call request) asks = insp_calls ((now_has entry.actor).waits ≡ None) (insp_asking same (λ cut. no (sym asks ∙ cut))) (λ other called call. heard other called call) where
-      no : Call request ≡ Cut → ⊥
-      no both = cc
+  pub beside_waits : (a : Actor) → entry.actor ≡ a → same_actor a Insp ≡ false → (tool_phase : ToolPhase) → now.tool.tool_phase ≡ tool_phase → WaitsFor plan (now_has Insp).waits tool_phase
+  beside_waits a same differ tool_phase eq = differ_waits (ap (λ (x : Actor). same_actor x Insp) same ∙ differ) tool_phase eq
 
-      heard : (other : Request) → entry.asked ≡ Call other → tool_call plan now.server journal now.tool now.tool.tool_phase Insp ≡ Some other → (now_has entry.actor).waits ≡ None
-      heard other called call = ap (λ (s : Standing). s.waits) (own_stands plan journal entry known served other (insp_about same other called)) ∙ at_side entry.side refl where
-        after_done : Following other entry.answer (has entry.actor) → IsDone entry.answer → (answered other entry.answer (has entry.actor)).waits ≡ None
+  waits_unfit : (work : Work) → Waits false (Migrating work) → UnfitKeeps Waits work
+  waits_unfit work one = record { renamed = λ renamed. one; reverts = waits_back false (Migrating work) one }
+
+  waits_copied : (answer : Answer) (work : Work) → Waits false (Migrating work) → CopyKeeps Waits answer tool work
+  waits_copied answer work one = record { reverting = λ reverting. one; unfit = λ going place number unfit. waits_unfit work one; took = λ going fits tries. one }
+
+  waits_applied : (answer : Answer) (work : Work) → Waits false (Migrating work) → ApplyKeeps Waits answer tool work
+  waits_applied answer work one = record { reverting = λ reverting. one; unfit = λ going place number unfit. waits_unfit work one; took = λ going fits tries. one }
+
+  -- the locker's turn, and the renamer's
+  pub waits_locked : (work : Work) → entry.actor ≡ Lock → now.tool.tool_phase ≡ Migrating work → (answer : Answer) (tries : List ℕ) → Waits false (Migrating (record work { cutover = cutovers.took Locker work.cutover answer; attempt_tries = tries }))
+  unfolding cutovers.took
+  waits_locked work same eq answer tries = λ request some. let one = beside_waits Lock same refl (Migrating work) eq request some in (sets_locked plan work.cutover.phase answer request one.0, one.1)
+
+  pub waits_renamed : (work : Work) → entry.actor ≡ Ren → now.tool.tool_phase ≡ Migrating work → Asking plan journal Ren entry.asked → (tries : List ℕ) → Waits false (Migrating (record work { cutover = cutovers.took Renamer work.cutover entry.answer; attempt_tries = tries }))
+  waits_renamed work same eq asks tries = λ request some. absurd (never request (beside_waits Ren same refl (Migrating work) eq request some) (asks_at plan journal entry is.standing run work eq asks)) where
+    never : (request : Request) → SetsCounter plan work.cutover.phase request × (work.cutover.renamer_waits ≡ false) → AsksAt work.cutover.phase work.cutover.renamer_waits → ⊥
+    never request one (inl drained_so) = subst (λ (p : Phase). SetsCounter plan p request) drained_so one.0
+    never request one (inr on) = true≢false (sym on ∙ one.1)
+
+  pub waits_unrenamed : (work : Work) → entry.actor ≡ Ren → now.tool.tool_phase ≡ Migrating work → (tries : List ℕ) → Waits false (Migrating (record work { cutover = cutovers.took Renamer work.cutover answers.Lost; attempt_tries = tries }))
+  unfolding cutovers.took
+  waits_unrenamed work same eq tries = λ request some. let one = beside_waits Ren same refl (Migrating work) eq request some in (sets_failed plan work.cutover.phase request one.0, refl)
+
+  -- its own: what is done at once doesn't wait
+  done_rests : entry.actor ≡ Insp → (request : Request) → entry.asked ≡ Call request → (entry.side ≡ None → IsDone entry.answer) → (now_has Insp).waits ≡ None
+  done_rests same request asks done_so =
+      ap (λ (a : Actor). (now_has a).waits) (sym same) ∙ ap (λ (s : Standing). s.waits) (own_stands plan journal entry known served request (insp_about same request asks)) ∙ at_side entry.side refl where
+        after_done : Following request entry.answer (has entry.actor) → IsDone entry.answer → (answered request entry.answer (has entry.actor)).waits ≡ None
         after_done (rests none) done = none
-        after_done (waits_on by_whom waits) done = absurd (subst IsDone waits done)
+        after_done (waits_on other waits) done = absurd (subst IsDone waits done)
 
-        at_side : (side : Option Side) → entry.side ≡ side → (answered other entry.answer (has entry.actor)).waits ≡ None
-        at_side None no_side = after_done (following other entry.answer (has entry.actor)) (insp_at_once same no_side other called call)
-        at_side (Some side) some = ap (λ (a : Answer). (answered other a (has entry.actor)).waits) (own_missed plan journal entry known served side some)
-    own same Poll asks = insp_calls ((now_has entry.actor).waits ≡ None) (insp_asking same (λ cut. no (sym asks ∙ cut))) (λ other called call. absurd (not_poll other (sym asks ∙ called))) where
-      no : Poll ≡ Cut → ⊥
+        at_side : (side : Option Side) → entry.side ≡ side → (answered request entry.answer (has entry.actor)).waits ≡ None
+        at_side None no_side = after_done (following request entry.answer (has entry.actor)) (done_so no_side)
+        at_side (Some side) some = ap (λ (a : Answer). (answered request a (has entry.actor)).waits) (own_missed plan journal entry known served side some)
+
+  pub setup_idle : (setup : Setup) (tries : List ℕ) → now.tool.tool_phase ≡ SettingUp setup tries → entry.actor ≡ Insp → Asking plan journal Insp entry.asked → (now_has Insp).waits ≡ None
+  setup_idle setup tries eq same asks =
+      setup_called setup tries eq same ((now_has Insp).waits ≡ None) asks
+      (λ request called going call. done_rests same request called (λ no_side. setup_done setup refl (setup_answer setup tries eq same setup refl request called call no_side))) where
+        setup_done : (one : Setup) → setup ≡ one → SetupAnswer setup tries eq same one entry.answer → IsDone entry.answer
+        setup_done Listing here answer = subst IsDone (sym answer.1) tt
+        setup_done (Clearing left) here answer = subst IsDone (sym answer) tt
+        setup_done MakingLog here answer = subst IsDone (sym answer) tt
+        setup_done MakingGhost here answer = subst IsDone (sym answer) tt
+        setup_done Marking here answer = subst IsDone (sym answer.1) tt
+        setup_done (Reaching position) here answer = subst IsDone (sym answer.1) tt
+        setup_done (Ready position range) here answer = absurd answer
+
+  setup_waits : (answer : Answer) (setup : Setup) (tries : List ℕ) → (now_has Insp).waits ≡ None → SetupKeeps plan Waits answer tool setup tries
+  setup_waits answer setup tries idle = record {
+    reverting = λ reverting. none_for plan (now_has Insp).waits (SettingUp setup tries) idle;
+    again = λ going bad some. none_for plan (now_has Insp).waits (SettingUp Listing some) idle;
+    goes = λ going good. none_for plan (now_has Insp).waits (tool_phase_of plan tool.operator.size (setup_after plan.table setup answer) tries) idle;
+  }
+
+  -- the request that waits is the one that it has asked
+  pub waited_is : entry.actor ≡ Insp → (request : Request) → IsAbout request (has entry.actor) entry.asked → (waiting : Request) → (now_has Insp).waits ≡ Some waiting → (other : ℕ) × ((entry.answer ≡ answers.Waits other) × (request ≡ waiting))
+  waited_is same request about waiting some = by (following request entry.answer (has entry.actor)) where
+    now_waits : (answered request entry.answer (has entry.actor)).waits ≡ Some waiting
+    now_waits = sym (ap (λ (s : Standing). s.waits) (own_stands plan journal entry known served request about)) ∙ ap (λ (a : Actor). (now_has a).waits) same ∙ some
+
+    by : Following request entry.answer (has entry.actor) → (other : ℕ) × ((entry.answer ≡ answers.Waits other) × (request ≡ waiting))
+    by (rests none) = none_some waiting (answered request entry.answer (has entry.actor)).waits none now_waits
+    by (waits_on other waits) = (other, (waits, same_Some request waiting (sym (ap (λ (a : Answer). (answered request a (has entry.actor)).waits) waits) ∙ now_waits)))
+
+  module _ (work : Work) (eq : now.tool.tool_phase ≡ Migrating work) (same : entry.actor ≡ Insp) where
+    heard_wait : (other : ℕ) → entry.answer ≡ answers.Waits other → entry.side ≡ None
+    heard_wait other waits = by entry.side refl where
+      no : answers.Lost ≡ answers.Waits other → ⊥
       no both = cc
 
-      not_poll : (other : Request) → Poll ≡ Call other → ⊥
-      not_poll other both = cc
+      by : (side : Option Side) → entry.side ≡ side → entry.side ≡ None
+      by None none = none
+      by (Some side) some = absurd (no (sym (own_missed plan journal entry known served side some) ∙ waits))
 
-    by : (b : Bool) → same_actor entry.actor Insp ≡ b → (now_has Insp).waits ≡ None
-    by false differ = ap (λ (s : Standing). s.waits) (others_stand plan journal entry known served Insp differ) ∙ is.idle
-    by true same = let one : entry.actor ≡ Insp = same_actor_is entry.actor Insp same in ap (λ (a : Actor). (now_has a).waits) (sym one) ∙ own one entry.asked refl
+    -- of what it calls, the one that sets the counter may wait
+    called_sets : (phase : Phase) → work.cutover.phase ≡ phase → (request : Request) → entry.asked ≡ Call request → attempts.inspector_call work.cutover phase ≡ Some request → (other : ℕ) → entry.answer ≡ answers.Waits other → SetsCounter plan phase request × (work.cutover.renamer_waits ≡ false)
+    called_sets (Attempting (SettingCounter number drain)) in_phase request asks call other waits = (
+      some_request (λ (r : Request). r ≡ requests.SetCounter (ghost_name plan.table) number) (requests.SetCounter (ghost_name work.cutover.table) number) request call (ap (λ (t : List ℕ). requests.SetCounter (ghost_name t) number) (own_table work eq)),
+      subst (λ (p : Phase). RenamerAt p work.cutover.renamer_waits) in_phase (work_at work eq).renamer,
+    )
+    called_sets phase in_phase request asks call other waits = absurd (subst IsDone waits (insp_done work eq same phase in_phase refl request asks (heard_wait other waits) call))
+
+    -- whatever else it calls has an answer
+    pub called_idle : (phase : Phase) → work.cutover.phase ≡ phase → is_setting phase ≡ false → (request : Request) → entry.asked ≡ Call request → attempts.inspector_call work.cutover phase ≡ Some request → (now_has Insp).waits ≡ None
+    called_idle phase in_phase unset request asks call = done_rests same request asks (λ no_side. insp_done work eq same phase in_phase unset request asks no_side call)
+
+    goes_on : (request : Request) → SetsCounter plan work.cutover.phase request × (work.cutover.renamer_waits ≡ false) → (other : ℕ) → entry.answer ≡ answers.Waits other → (waiting : Request) → request ≡ waiting
+        → SetsCounter plan (inspector_phase work.cutover work.cutover.phase entry.answer) waiting × (work.cutover.renamer_waits ≡ false)
+    goes_on request one other waits waiting is_it = (
+      subst (λ (a : Answer). SetsCounter plan (inspector_phase work.cutover work.cutover.phase a) waiting) (sym waits) (subst (λ (r : Request). SetsCounter plan (inspector_phase work.cutover work.cutover.phase (answers.Waits other)) r) is_it (sets_waits plan work.cutover work.cutover.phase other request one.0)),
+      one.1,
+    )
+
+    pub inspected_waits : Asking plan journal Insp entry.asked → (tries : List ℕ) → Waits false (Migrating (record work { cutover = cutovers.took Inspector work.cutover entry.answer; attempt_tries = tries }))
+    unfolding cutovers.took
+    inspected_waits (calls_so request called idle call) tries = λ waiting some.
+        let was = waited_is same request (insp_about same request called) waiting some in
+        goes_on request (called_sets work.cutover.phase refl request called (insp_next work eq same request call) was.0 was.1.0) was.0 was.1.0 waiting was.1.1
+    inspected_waits (polls_so request polled waited) tries = λ waiting some.
+        let was = waited_is same request (about_own plan journal entry is.standing run Insp request same (is_polled polled waited)) waiting some in
+        goes_on request (insp_waits (Migrating work) eq request waited) was.0 was.1.0 waiting was.1.1
+
+  waits_heard : (actor : Actor) → entry.actor ≡ actor → given plan journal actor ≡ Some entry.asked → (tool_phase : ToolPhase) → now.tool.tool_phase ≡ tool_phase → AnswerKeeps plan Waits entry.answer tool actor tool_phase
+  unfolding given
+  waits_heard Insp same gives (SettingUp setup tries) eq = setup_waits entry.answer setup tries (setup_idle setup tries eq same (asking plan journal Insp entry.asked together.server gives))
+  waits_heard Insp same gives (Migrating work) eq = inspected_waits work eq same (asking plan journal Insp entry.asked together.server gives)
+  waits_heard Copy same gives (SettingUp setup tries) eq = beside_waits Copy same refl (SettingUp setup tries) eq
+  waits_heard Copy same gives (Migrating work) eq = waits_copied entry.answer work (beside_waits Copy same refl (Migrating work) eq)
+  waits_heard Apply same gives (SettingUp setup tries) eq = beside_waits Apply same refl (SettingUp setup tries) eq
+  waits_heard Apply same gives (Migrating work) eq = waits_applied entry.answer work (beside_waits Apply same refl (Migrating work) eq)
+  waits_heard Lock same gives (SettingUp setup tries) eq = beside_waits Lock same refl (SettingUp setup tries) eq
+  waits_heard Lock same gives (Migrating work) eq = waits_locked work same eq entry.answer
+  waits_heard Ren same gives (SettingUp setup tries) eq = beside_waits Ren same refl (SettingUp setup tries) eq
+  waits_heard Ren same gives (Migrating work) eq = waits_renamed work same eq (asking plan journal Ren entry.asked together.server gives)
+  waits_heard Op same gives (SettingUp setup tries) eq = beside_waits Op same refl (SettingUp setup tries) eq
+  waits_heard Op same gives (Migrating work) eq = beside_waits Op same refl (Migrating work) eq
+  waits_heard (Client c) same gives (SettingUp setup tries) eq = beside_waits (Client c) same refl (SettingUp setup tries) eq
+  waits_heard (Client c) same gives (Migrating work) eq = beside_waits (Client c) same refl (Migrating work) eq
+
+  -- a loss between calls
+  pub gone_waits : entry.asked ≡ Cut → entry.actor ≡ Insp → (now_has Insp).waits ≡ None
+  gone_waits cut same = ap (λ (a : Actor). (now_has a).waits) (sym same) ∙ ap (λ (s : Standing). s.waits) (own_lost plan journal entry known served cut)
+
+  waits_lost : entry.asked ≡ Cut → (actor : Actor) → entry.actor ≡ actor → (tool_phase : ToolPhase) → now.tool.tool_phase ≡ tool_phase → AnswerKeeps plan Waits answers.Lost tool actor tool_phase
+  waits_lost cut Insp same (SettingUp setup tries) eq = setup_waits answers.Lost setup tries (gone_waits cut same)
+  waits_lost cut Insp same (Migrating work) eq = λ tries. none_for plan (now_has Insp).waits (Migrating (record work { cutover = cutovers.took Inspector work.cutover answers.Lost; attempt_tries = tries })) (gone_waits cut same)
+  waits_lost cut Copy same (SettingUp setup tries) eq = beside_waits Copy same refl (SettingUp setup tries) eq
+  waits_lost cut Copy same (Migrating work) eq = waits_copied answers.Lost work (beside_waits Copy same refl (Migrating work) eq)
+  waits_lost cut Apply same (SettingUp setup tries) eq = beside_waits Apply same refl (SettingUp setup tries) eq
+  waits_lost cut Apply same (Migrating work) eq = waits_applied answers.Lost work (beside_waits Apply same refl (Migrating work) eq)
+  waits_lost cut Lock same (SettingUp setup tries) eq = beside_waits Lock same refl (SettingUp setup tries) eq
+  waits_lost cut Lock same (Migrating work) eq = waits_locked work same eq answers.Lost
+  waits_lost cut Ren same (SettingUp setup tries) eq = beside_waits Ren same refl (SettingUp setup tries) eq
+  waits_lost cut Ren same (Migrating work) eq = waits_unrenamed work same eq
+  waits_lost cut Op same (SettingUp setup tries) eq = beside_waits Op same refl (SettingUp setup tries) eq
+  waits_lost cut Op same (Migrating work) eq = beside_waits Op same refl (Migrating work) eq
+  waits_lost cut (Client c) same (SettingUp setup tries) eq = beside_waits (Client c) same refl (SettingUp setup tries) eq
+  waits_lost cut (Client c) same (Migrating work) eq = beside_waits (Client c) same refl (Migrating work) eq
+
+  waits_cut : entry.asked ≡ Cut → (tool_phase : ToolPhase) → now.tool.tool_phase ≡ tool_phase → WaitsFor plan (now_has Insp).waits tool_phase
+  waits_cut cut tool_phase eq = by (same_actor entry.actor Insp) refl where
+    by : (b : Bool) → same_actor entry.actor Insp ≡ b → WaitsFor plan (now_has Insp).waits tool_phase
+    by false differ = differ_waits differ tool_phase eq
+    by true same = none_for plan (now_has Insp).waits tool_phase (gone_waits cut (same_actor_is entry.actor Insp same))
+
+  -- the operator's commands
+  waits_commanded : (word : OperatorWord) → entry.asked ≡ Command word → (tool_phase : ToolPhase) → now.tool.tool_phase ≡ tool_phase → WaitsFor plan (now_has Insp).waits tool_phase
+  waits_commanded word asks tool_phase eq = by (same_actor entry.actor Insp) refl where
+    no : Command word ≡ Cut → ⊥
+    no both = cc
+
+    by : (b : Bool) → same_actor entry.actor Insp ≡ b → WaitsFor plan (now_has Insp).waits tool_phase
+    by false differ = differ_waits differ tool_phase eq
+    by true same = absurd (never_commands plan journal Insp word (insp_given (same_actor_is entry.actor Insp same) (λ cut. no (sym asks ∙ cut)) ∙ ap Some asks))
+
+  waits_resized : (size : ℕ) → entry.asked ≡ Command (ChunkSize size) → (tool_phase : ToolPhase) → now.tool.tool_phase ≡ tool_phase → ResizeKeeps Waits tool size tool_phase
+  waits_resized size asks (SettingUp setup tries) eq = waits_commanded (ChunkSize size) asks (SettingUp setup tries) eq
+  waits_resized size asks (Migrating work) eq = waits_commanded (ChunkSize size) asks (Migrating work) eq
+
+  waits_more : WaitsFor plan (now_has Insp).waits (moment plan more).tool.tool_phase
+  waits_more =
+      turn_kept plan Waits waits_back journal entry waits_drain
+      (record {
+        commanded = λ word asks unsized. waits_commanded word asks now.tool.tool_phase refl;
+        resized = λ size asks. waits_resized size asks now.tool.tool_phase refl;
+        idle = λ asks none. waits_cut asks now.tool.tool_phase refl;
+        lost = λ asks worked. waits_lost asks entry.actor refl now.tool.tool_phase refl;
+        heard = λ called commanded. waits_heard entry.actor refl (gives_asked plan journal entry entry.asked run.followed.given refl called) now.tool.tool_phase refl;
+      })
 
   going_more : IsSerialPlan plan → IsGoing plan more
   going_more serial = record {
     standing = standing_more plan journal entry is.standing run;
     names = held_well_more plan runs serial journal entry kept run is.names;
-    idle = idle_more;
+    waits = waits_more;
     fits = fits_more;
   }
 
@@ -1039,6 +1247,19 @@ module _ (plan : PlanData) (runs : IsRunnable plan) (journal : List Entry) (entr
   resting_calls : (work : Work) (request : Request) → work.cutover.phase ≡ Resting → attempts.inspector_call work.cutover work.cutover.phase ≡ Some request → ⊥
   resting_calls work request resting call = none-some request (ap (attempts.inspector_call work.cutover) (sym resting) ∙ call)
 
+  -- it waits with nothing after the RENAME, nor while no attempt is under way
+  done_never : (work : Work) → now.tool.tool_phase ≡ Migrating work → is_done work.cutover.phase ≡ true → (request : Request) → (has Insp).waits ≡ Some request → ⊥
+  done_never work eq done request some = by work.cutover.phase done (insp_waits (Migrating work) eq request some).0 where
+    by : (phase : Phase) → is_done phase ≡ true → SetsCounter plan phase request → ⊥
+    by (Attempting stage) done sets = false≢true done
+    by (Ending cleared) done sets = false≢true done
+    by Resting done sets = sets
+    by (Finishing cleared) done sets = sets
+    by Finished done sets = sets
+
+  resting_never : (work : Work) → now.tool.tool_phase ≡ Migrating work → work.cutover.phase ≡ Resting → (request : Request) → (has Insp).waits ≡ Some request → ⊥
+  resting_never work eq resting request some = subst (λ (p : Phase). SetsCounter plan p request) resting (insp_waits (Migrating work) eq request some).0
+
   ren_asking : entry.actor ≡ Ren → (entry.asked ≡ Cut → ⊥) → Asking plan journal Ren entry.asked
   unfolding given
   ren_asking same uncut = asking plan journal Ren entry.asked together.server (subst (λ (a : Actor). given plan journal a ≡ Some entry.asked) same (gives_asked plan journal entry entry.asked run.followed.given refl uncut))
@@ -1047,15 +1268,15 @@ module _ (plan : PlanData) (runs : IsRunnable plan) (journal : List Entry) (entr
   unfolding cutovers.took
   clearing_goes = record {
     on = λ work eq done same called uncut no_side.
-        insp_calls (phase_left (inspector_phase work.cutover work.cutover.phase entry.answer) < phase_left work.cutover.phase) (insp_asking same (uncut_so uncut))
+        insp_calls (phase_left (inspector_phase work.cutover work.cutover.phase entry.answer) < phase_left work.cutover.phase) (done_never work eq done) (insp_asking same (uncut_so uncut))
         (λ request asks call. finish_fewer work eq same no_side request asks work.cutover.phase refl done (insp_next work eq same request call));
     renamed = λ work eq done same called uncut. true≢false (sym done ∙ ren_undone work eq (asks_at plan journal entry is.standing run work eq (ren_asking same (uncut_so uncut))));
-    rests = λ work eq resting same called uncut. insp_calls ⊥ (insp_asking same (uncut_so uncut)) (λ request asks call. resting_calls work request resting (insp_next work eq same request call));
+    rests = λ work eq resting same called uncut. insp_calls ⊥ (resting_never work eq resting) (insp_asking same (uncut_so uncut)) (λ request asks call. resting_calls work request resting (insp_next work eq same request call));
   }
 
 going_begins : (plan : PlanData) → IsRunnable plan → IsGoing plan []
 unfolding live_session moment
-going_begins plan runs = record { standing = standing_along plan [] runs.fitting runs.stands tt; names = held_well_begins plan runs; idle = refl; fits = tt }
+going_begins plan runs = record { standing = standing_along plan [] runs.fitting runs.stands tt; names = held_well_begins plan runs; waits = none_for plan None (moment plan []).tool.tool_phase refl; fits = tt }
 
 pub all_going : (plan : PlanData) (journal : List Entry) → IsRunnable plan → IsSerialPlan plan → IsKept plan journal → IsGoing plan journal
 all_going plan journal runs serial kept =
@@ -1073,6 +1294,9 @@ clearings_go plan journal runs serial kept =
     along_of plan (ClearingGoes plan)
     (λ before entry one. clearing_goes plan runs before entry (kept_front plan before (entry ∷ []) one) (kept_run plan before entry one) (all_going plan before runs serial (kept_front plan before (entry ∷ []) one))) [] journal kept
 
--- *Inspectors never wait*
-pub never_waits : InspectorsNeverWait
-never_waits plan journal runs serial kept = (all_going plan journal runs serial kept).idle
+-- *Inspectors wait to set a counter*
+pub waits_to_set : InspectorsWaitToSet
+waits_to_set plan journal request runs serial kept some = by (moment plan journal).tool.tool_phase (all_going plan journal runs serial kept).waits where
+  by : (tool_phase : ToolPhase) → WaitsFor plan (standing_of plan journal Insp).waits tool_phase → IsSettingCounter plan tool_phase request
+  by (SettingUp setup tries) waits = waits request some
+  by (Migrating work) waits = (waits request some).0

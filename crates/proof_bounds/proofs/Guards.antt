@@ -1,6 +1,5 @@
 -- The sentry's CREATE is answered at once: while no attempt is under way nobody but the locker has its name.
 use Rattle.std.proofs.Common.{◌≡◌, ℕ, ◌+◌, ◌==◌, Bool, true, false, cond, not, ◌||◌, List, [], ◌∷◌, ◌++◌, Option, Some, None, refl, sym, ap, ◌∙◌, subst}
-use Rattle.std.specs.Prelude.{nat_le}
 use Rattle.std.specs.Str.{bytes_eq}
 use Rattle.std.proofs.lemmas.Bool.{true≢false, or_right}
 use Rattle.base_script.specs.declared.actor.Actor.{Actor}
@@ -27,10 +26,12 @@ use Rattle.tool_program.specs.declared.cutover_core.cutover.Phase.{Phase}
 use Rattle.tool_program.specs.declared.cutover_core.cutover.Phase.TheVariants.{Resting, Attempting, Ending, Finishing, Finished}
 use Rattle.tool_program.specs.declared.cutover_core.cutover.Role.TheVariants.{Inspector, Locker, Renamer}
 use Rattle.tool_program.specs.declared.cutover_core.cutover.Stage.{Stage}
-use Rattle.tool_program.specs.declared.cutover_core.cutover.Stage.TheVariants.{Guarding, Locking, Hinting, Draining, Drained, Showing, Dropping, Unlocking, Exchanging}
+use Rattle.tool_program.specs.declared.cutover_core.cutover.Stage.TheVariants.{Guarding, Locking, Hinting, ReadingCounter, SettingCounter, Draining, Drained, Showing, Dropping, Unlocking, Exchanging}
+use Rattle.tool_program.specs.declared.cutover_core.cutover.Drain.{Drain}
+use Rattle.tool_program.specs.declared.cutover_core.cutover.Drain.TheVariants.{Turns, Passed}
 use Rattle.tool_program.specs.CutoverCore.Attempts.{has_name, has_sentry, is_clear, without_first}
 use Rattle.tool_program.specs.CutoverCore.CutOvers as cutovers
-use Rattle.tool_program.specs.CutoverCore.CutOvers.{is_bad, begun, ended, failed, waits_phase, finishing, left_at_end, sentry_alone, drained, inspector_phase, locker_phase, renamer_phase, hold_after, hold_of_guard, hold_of_lock, applier_turn, reverted}
+use Rattle.tool_program.specs.CutoverCore.CutOvers.{is_bad, begun, ended, failed, waits_phase, finishing, left_at_end, sentry_alone, drain_of, drained, drains_to, with_drain, inspector_phase, locker_phase, renamer_phase, hold_after, hold_of_guard, hold_of_lock, applier_turn, reverted}
 use Rattle.tool_program.specs.Programs.{given}
 use Rattle.tool_program.specs.Setups.{Setup, Listing, Clearing, MakingLog, MakingGhost, Marking, Reaching, Ready, setup_after}
 use Rattle.tool_program.specs.Tools.{Work, ToolPhase, SettingUp, Migrating, Tool, Moment, stopped, is_reverting, tool_phase_of, moment}
@@ -40,7 +41,7 @@ use Rattle.proof_journals.specs.Machine.Machines.{ToolPhaseStands, WorkStands, P
 use Rattle.proof_journals.specs.Machine.Runnable.{IsRunnable}
 use Rattle.proof_journals.specs.Machine.Standings.{Standing, standing_in, standing_of, IsAbout, is_called, is_polled}
 use Rattle.proof_journals.specs.Run.Kept.{IsKept}
-use Rattle.proof_journals.proofs.Machine.CuttingOver.{LockerAsks}
+use Rattle.proof_journals.proofs.Machine.CuttingOver.{LockerAsks, drain_cases}
 use Rattle.proof_journals.proofs.Machine.Journals.{IsRun, IsTogether, Asking, asking, lock_about}
 use Rattle.proof_journals.proofs.Machine.Seated.{IsServed, own_missed}
 use Rattle.proof_journals.proofs.Waiting.{IsDone}
@@ -49,10 +50,12 @@ use Rattle.proof_migration.proofs.Attempt.Standing.{ToolPhaseAt}
 use Rattle.proof_migration.proofs.Program.Turns.Follows.{kept_front, kept_run}
 use Rattle.proof_migration.proofs.ToolPhase.Owners.{together_owned}
 use Rattle.proof_migration.proofs.ToolPhase.ToolPhaseTurns.{Kept, UnfitKeeps, CopyKeeps, ApplyKeeps, SetupKeeps, AnswerKeeps, ResizeKeeps, turn_kept, gives_asked}
+use Rattle.proof_migration.specs.InspectorWaits.{SetsCounter}
 use Rattle.proof_bounds.specs.Guards.{IsMade, IsGuarded, WaitsForNoSentry, HasSentryAtOnce, SentriesAreMadeAtOnce}
 use Rattle.proof_bounds.proofs.FreeNames.{IsAway, away_forbidden, away_free, free_name, at_once}
-use Rattle.proof_bounds.proofs.Going.{IsGoing, all_going, insp_free}
+use Rattle.proof_bounds.proofs.Going.{IsGoing, all_going, insp_free, insp_rests}
 use Rattle.proof_bounds.proofs.Holders.{each_kept}
+use Rattle.proof_bounds.proofs.Inspecting.{WaitsFor}
 use Rattle.proof_bounds.proofs.Leftovers.{old_is_tool}
 
 -- PHASES
@@ -70,13 +73,18 @@ ended_made (Ending clearing) made = tt
 ended_made (Finishing clearing) made = tt
 ended_made Finished made = tt
 
+drain_made : (stage : Stage) (drain : Drain) → IsMade stage → IsMade (with_drain stage drain)
+drain_made (ReadingCounter before) drain made = tt
+drain_made (SettingCounter number before) drain made = tt
+drain_made (Draining turns) (Turns more) made = tt
+drain_made (Draining turns) Passed made = tt
+drain_made stage drain made = made
+
 drained_made : (cutover : CutOver) (hint : ℕ) (phase : Phase) → IsGuarded phase → IsGuarded (drained cutover hint phase)
-drained_made cutover hint (Attempting (Draining turns)) made = by (hint == cutover.attempts) (nat_le cutover.drain_limit (turns + 1)) where
-  by : (a b : Bool) → IsGuarded (cond a (Attempting Drained) (cond b (Ending Looking) (Attempting (Draining (turns + 1)))))
-  by true b = tt
-  by false true = tt
-  by false false = tt
-drained_made cutover hint (Attempting stage) made = made
+drained_made cutover hint (Attempting stage) made = by (drain_of stage) where
+  by : (drain : Option Drain) → IsGuarded (drains_to cutover hint stage drain)
+  by (Some (Turns turns)) = drain_cases IsGuarded cutover hint turns stage (λ same. drain_made stage Passed made) tt (drain_made stage (Turns (turns + 1)) made)
+  by drain = made
 drained_made cutover hint Resting made = tt
 drained_made cutover hint (Ending clearing) made = tt
 drained_made cutover hint (Finishing clearing) made = tt
@@ -86,13 +94,19 @@ ends_or : (b : Bool) (next : Stage) → IsMade next → IsGuarded (cond b (Endin
 ends_or true next made = tt
 ends_or false next made = made
 
-inspector_made : (stage : Stage) (answer : Answer) → IsMade stage → IsMade (cutovers.inspector_stage stage answer)
-inspector_made Hinting (answers.Ok count) made = tt
-inspector_made Showing (answers.Waiting waiters) made = by (cutovers.shows_wait waiters) where
+inspector_made : (counter : Bool) (stage : Stage) (answer : Answer) → IsMade stage → IsMade (cutovers.inspector_stage counter stage answer)
+inspector_made counter Hinting (answers.Ok count) made = by counter where
+  by : (b : Bool) → IsMade (cutovers.hinted b)
+  by true = tt
+  by false = tt
+inspector_made counter (ReadingCounter drain) (answers.At number) made = tt
+inspector_made counter (SettingCounter number (Turns turns)) (answers.Ok count) made = tt
+inspector_made counter (SettingCounter number Passed) (answers.Ok count) made = tt
+inspector_made counter Showing (answers.Waiting waiters) made = by (cutovers.shows_wait waiters) where
   by : (b : Bool) → IsMade (cond b Dropping Showing)
   by true = tt
   by false = tt
-inspector_made stage answer made = made
+inspector_made counter stage answer made = made
 
 finishing_made : (left : Leftovers) → IsGuarded (finishing left)
 finishing_made left = by (is_clear left) where
@@ -122,7 +136,7 @@ finished_made cutover (Drops left) answer = tt
 
 inspected_made : (cutover : CutOver) (phase : Phase) (answer : Answer) → IsGuarded phase → IsGuarded (inspector_phase cutover phase answer)
 inspected_made cutover Resting answer made = tt
-inspected_made cutover (Attempting stage) answer made = ends_or (is_bad answer) (cutovers.inspector_stage stage answer) (inspector_made stage answer made)
+inspected_made cutover (Attempting stage) answer made = ends_or (is_bad answer) (cutovers.inspector_stage cutover.has_counter stage answer) (inspector_made cutover.has_counter stage answer made)
 inspected_made cutover (Ending cleared) answer made = ending_made cutover cleared answer
 inspected_made cutover (Finishing cleared) answer made = finished_made cutover cleared answer
 inspected_made cutover Finished answer made = tt
@@ -258,10 +272,14 @@ module _ (plan : PlanData) (runs : IsRunnable plan) (journal : List Entry) (entr
     old_forbidden : (bytes_eq (old_name plan.table) (log_name plan.table) || bytes_eq (old_name plan.table) (old_name plan.table)) ≡ true
     old_forbidden = or_right (bytes_eq (old_name plan.table) (log_name plan.table)) (bytes_eq (old_name plan.table) (old_name plan.table)) (same_bytes (old_name plan.table))
 
+    -- the inspector waits with nothing while no attempt is under way
+    insp_never : (request : Request) → (has Insp).waits ≡ Some request → ⊥
+    insp_never request some = subst (λ (p : Phase). SetsCounter plan p request) resting (subst (WaitsFor plan (has Insp).waits) eq is.waits request some).0
+
     away : (a : Actor) → same_actor a Lock ≡ false → IsAway plan journal is.names a (old_name plan.table)
     away (Client c) differ = away_forbidden plan journal is.names (Client c) (old_name plan.table) (old_is_tool plan.table)
     away Op differ = away_free plan journal is.names Op (old_name plan.table) (ap (standing_in (state_at plan journal)) (together_owned plan journal kept.faithful kept.follows).owned.operator)
-    away Insp differ = away_free plan journal is.names Insp (old_name plan.table) (insp_free plan runs journal entry kept run is)
+    away Insp differ = away_free plan journal is.names Insp (old_name plan.table) (insp_free plan runs journal entry kept run is (insp_rests plan runs journal entry kept run is insp_never))
     away Copy differ = away_forbidden plan journal is.names Copy (old_name plan.table) old_forbidden
     away Apply differ = away_forbidden plan journal is.names Apply (old_name plan.table) old_forbidden
     away Lock differ = absurd (true≢false differ)

@@ -140,6 +140,8 @@ module _ (P : List ℕ → Type 0) where
   locks_on seen (requests.ReadLog position limit tables) all = tt
   locks_on seen requests.ShowTables all = tt
   locks_on seen requests.ShowWaiting all = tt
+  locks_on seen (requests.ShowCounter table) all = tt
+  locks_on seen (requests.SetCounter table least) all = tt
 
   -- WHAT AN EFFECT LEAVES
 
@@ -220,6 +222,8 @@ module _ (P : List ℕ → Type 0) where
   effect_adds false busy seen state (requests.ReadLog position limit tables) all = tt
   effect_adds false busy seen state requests.ShowTables all = tt
   effect_adds false busy seen state requests.ShowWaiting all = tt
+  effect_adds false busy seen state (requests.ShowCounter table) all = tt
+  effect_adds false busy seen state (requests.SetCounter table least) all = tt
 
   done_within : (state : State) (number : ℕ) (request : Request) → AllNames (names_in request) → WithinIn (session_of number state.sessions) → WithinIn (session_of number (done state number request).after.sessions)
   unfolding did

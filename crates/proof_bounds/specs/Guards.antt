@@ -7,7 +7,7 @@ use Rattle.tool_program.specs.declared.cutover_core.cutover.Hold.TheVariants.{No
 use Rattle.tool_program.specs.declared.cutover_core.cutover.Phase.{Phase}
 use Rattle.tool_program.specs.declared.cutover_core.cutover.Phase.TheVariants.{Resting, Attempting, Ending, Finishing, Finished}
 use Rattle.tool_program.specs.declared.cutover_core.cutover.Stage.{Stage}
-use Rattle.tool_program.specs.declared.cutover_core.cutover.Stage.TheVariants.{Guarding, Locking, Hinting, Draining, Drained, Showing, Dropping, Unlocking, Exchanging}
+use Rattle.tool_program.specs.declared.cutover_core.cutover.Stage.TheVariants.{Guarding, Locking, Hinting, ReadingCounter, SettingCounter, Draining, Drained, Showing, Dropping, Unlocking, Exchanging}
 use Rattle.tool_program.specs.Tools.{Work, Migrating, moment}
 use Rattle.proof_journals.specs.Machine.Runnable.{IsRunnable}
 use Rattle.proof_journals.specs.Plans.{IsSerialPlan}
@@ -18,6 +18,8 @@ abbrev pub IsMade : Stage → Type 0
 IsMade Guarding = ⊥
 IsMade Locking = Unit {0}
 IsMade Hinting = Unit {0}
+IsMade (ReadingCounter drain) = Unit {0}
+IsMade (SettingCounter number drain) = Unit {0}
 IsMade (Draining turns) = Unit {0}
 IsMade Drained = Unit {0}
 IsMade Showing = Unit {0}

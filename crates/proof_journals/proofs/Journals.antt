@@ -35,7 +35,7 @@ use Rattle.proof_journals.proofs.Turning.{Turned, turned_still, tool_rests}
 use Rattle.proof_journals.proofs.Answering.{AtWork, own_fits, rests_with, lost_faces, word_timed_out, word_undone, session_lost}
 use Rattle.proof_journals.proofs.Tooling.{ToolWork, final, tool_stays, tool_forgets, tool_counts}
 use Rattle.proof_journals.proofs.Serves.{IsFree, granted, done_one, asks_numbered, drawn_word, undrawn_waits, undrawn_over, client_done, client_lost, lost_line_outcome, tool_done}
-use Rattle.server_model.specs.declared.request.Request.TheVariants.{BeginSpan, ChunkEnd, CopyRow, Create, Drop, Ends, LockTables, LogEnd, ReadLog, Rename, ShowTables, ShowWaiting, Unlock}
+use Rattle.server_model.specs.declared.request.Request.TheVariants.{BeginSpan, ChunkEnd, CopyRow, Create, Drop, Ends, LockTables, LogEnd, ReadLog, Rename, SetCounter, ShowCounter, ShowTables, ShowWaiting, Unlock}
 use Rattle.server_model.specs.declared.request.Request.{Request}
 use Rattle.std.specs.Prelude.{is_some}
 use Rattle.server_model.specs.States.{connected, State, is_in_transaction, opened, polls_of, session_of, waiting_of, with_session}
@@ -100,6 +100,8 @@ lost_before scene state sessions own number going past work (Some (Drop name)) m
 lost_before scene state sessions own number going past work (Some (Rename pairs)) missed none named busy is besides = absurd named
 lost_before scene state sessions own number going past work (Some ShowTables) missed none named busy is besides = absurd named
 lost_before scene state sessions own number going past work (Some ShowWaiting) missed none named busy is besides = absurd named
+lost_before scene state sessions own number going past work (Some (ShowCounter table)) missed none named busy is besides = absurd named
+lost_before scene state sessions own number going past work (Some (SetCounter table least)) missed none named busy is besides = absurd named
 lost_before scene state sessions own number going past work (Some LogEnd) missed none named busy is besides = absurd named
 lost_before scene state sessions own number going past work (Some (ReadLog position limit names)) missed none named busy is besides = absurd named
 lost_before scene state sessions own number going past work (Some (Ends table)) missed none named busy is besides = absurd named
@@ -188,6 +190,8 @@ word_of scene (Drop name) P asks f = absurd asks
 word_of scene (Rename pairs) P asks f = absurd asks
 word_of scene ShowTables P asks f = absurd asks
 word_of scene ShowWaiting P asks f = absurd asks
+word_of scene (ShowCounter table) P asks f = absurd asks
+word_of scene (SetCounter table least) P asks f = absurd asks
 word_of scene LogEnd P asks f = absurd asks
 word_of scene (ReadLog position limit names) P asks f = absurd asks
 word_of scene (Ends table) P asks f = absurd asks
@@ -563,6 +567,8 @@ plain_allowed limits scene before (entry ∷ journal) never plain =
       so (Some (Drop name)) = tt
       so (Some ShowTables) = tt
       so (Some ShowWaiting) = tt
+      so (Some (ShowCounter table)) = tt
+      so (Some (SetCounter table least)) = tt
       so (Some LogEnd) = tt
       so (Some (ReadLog position limit names)) = tt
       so (Some (Ends table)) = tt

@@ -108,6 +108,7 @@ never_falls state number (Some (requests.Rename pairs)) answer name leaves =
     if_counted (λ (c : List Counter). NoLess (next_of name state.counters) (next_of name c)) answer _ state.counters (less_itself (next_of name state.counters))
     (less_as (next_of name state.counters) _ (next_renamed name pairs state.counters leaves))
 never_falls state number (Some (requests.Do statement)) answer name leaves = counters_never_fall state number (Some (requests.Do statement)) answer name refl
+never_falls state number (Some (requests.SetCounter table least)) answer name leaves = counters_never_fall state number (Some (requests.SetCounter table least)) answer name refl
 never_falls state number (Some other) answer name leaves = less_itself (next_of name state.counters)
 
 -- A TURN

@@ -36,7 +36,7 @@ use Rattle.proof_journals.proofs.Moves.{Moved, create_moves, drop_moves, rename_
 use Rattle.proof_journals.proofs.Turning.{Turned}
 use Rattle.proof_journals.proofs.Answering.{AtWork, own_fits, word_answered, word_lost}
 use Rattle.proof_journals.proofs.Tooling.{ToolWork, own_fine, AreApart, final, quiet_fine, tool_goes_on, tool_commits, tool_stays, tool_locks_names, tool_unlocks_names, tool_redefines, tool_word, tool_do, tool_copies}
-use Rattle.server_model.specs.declared.request.Request.TheVariants.{BeginSpan, ChunkEnd, CopyRow, Create, Drop, Ends, LockTables, LogEnd, ReadLog, Rename, ShowTables, ShowWaiting, Unlock}
+use Rattle.server_model.specs.declared.request.Request.TheVariants.{BeginSpan, ChunkEnd, CopyRow, Create, Drop, Ends, LockTables, LogEnd, ReadLog, Rename, SetCounter, ShowCounter, ShowTables, ShowWaiting, Unlock}
 use Rattle.server_model.specs.declared.request.Request.{Request}
 use Rattle.server_model.specs.Answers.{refuses, ok}
 use Rattle.server_model.specs.declared.request.Request.TheVariants as requests
@@ -91,6 +91,8 @@ effect_one false busy seen state number (Drop name) one free = defined_one (drop
 effect_one false busy seen state number (Rename pairs) one free = defined_one (renamed_or (rename_tables pairs state.tables)) state number one
 effect_one false busy seen state number ShowTables one free = one
 effect_one false busy seen state number ShowWaiting one free = one
+effect_one false busy seen state number (ShowCounter table) one free = one
+effect_one false busy seen state number (SetCounter table least) one free = one
 effect_one false busy seen state number LogEnd one free = one
 effect_one false busy seen state number (ReadLog position limit names) one free = one
 effect_one false busy seen state number (Ends table) one free = one
@@ -343,6 +345,8 @@ within_left scene state number going past work lost (Drop name) mine asks so fre
 within_left scene state number going past work lost (Rename pairs) mine asks so free = rename_left scene state number going past work lost pairs mine asks free.names (takes_away scene.migrated pairs) so.0 refl (rename_tables pairs state.tables) refl so.1
 within_left scene state number going past work lost ShowTables mine asks so free = tool_stays scene state number going past work lost
 within_left scene state number going past work lost ShowWaiting mine asks so free = tool_stays scene state number going past work lost
+within_left scene state number going past work lost (ShowCounter table) mine asks so free = tool_stays scene state number going past work lost
+within_left scene state number going past work lost (SetCounter table least) mine asks so free = tool_stays scene state number going past work lost
 within_left scene state number going past work lost LogEnd mine asks so free = tool_stays scene state number going past work lost
 within_left scene state number going past work lost (ReadLog position limit names) mine asks so free = tool_stays scene state number going past work lost
 within_left scene state number going past work lost (Ends table) mine asks so free = tool_stays scene state number going past work lost

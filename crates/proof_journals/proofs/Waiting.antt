@@ -94,6 +94,8 @@ within_done state number requests.LogEnd = tt
 within_done state number (requests.ReadLog position limit tables) = tt
 within_done state number requests.ShowTables = tt
 within_done state number requests.ShowWaiting = tt
+within_done state number (requests.ShowCounter table) = table_done (find_table table state.tables) _ (λ t. tt)
+within_done state number (requests.SetCounter table least) = table_done (find_table table state.tables) _ (λ t. tt)
 
 pub done_answers : (state : State) (number : ℕ) (request : Request) → IsDone (done state number request).answer
 unfolding did

@@ -10,3 +10,4 @@ pub mod Standing
 pub mod Verdicts
 pub mod Causes
 pub mod Renamed
+pub mod Counting

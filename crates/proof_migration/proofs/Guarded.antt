@@ -23,7 +23,8 @@ use Rattle.tool_program.specs.declared.cutover_core.cutover.Hold.{Hold}
 use Rattle.tool_program.specs.declared.cutover_core.cutover.Hold.TheVariants.{Locks, Nothing, WaitsToGuard, WaitsToLock}
 use Rattle.tool_program.specs.declared.cutover_core.cutover.Phase.{Phase}
 use Rattle.tool_program.specs.declared.cutover_core.cutover.Phase.TheVariants.{Attempting, Ending, Finished, Finishing, Resting}
-use Rattle.tool_program.specs.declared.cutover_core.cutover.Stage.TheVariants.{Drained, Draining, Dropping, Exchanging, Guarding, Hinting, Locking, Showing, Unlocking}
+use Rattle.tool_program.specs.declared.cutover_core.cutover.Stage.TheVariants.{Drained, ReadingCounter, SettingCounter, Draining, Dropping, Exchanging, Guarding, Hinting, Locking, Showing, Unlocking}
+use Rattle.tool_program.specs.declared.cutover_core.cutover.Drain.TheVariants.{Passed}
 use Rattle.tool_program.specs.Programs.{given, tool_call}
 use Rattle.tool_program.specs.Tools.{Work, moment}
 use Rattle.proof_journals.proofs.Actors.{same_actor_is}
@@ -54,6 +55,8 @@ left_so table state copier applier cutover locker renamer (Attempting Guarding) 
 left_so table state copier applier cutover locker renamer (Attempting Locking) waits same fits guards = left_unasked fits.1 (λ no. no)
 left_so table state copier applier cutover locker renamer (Attempting Hinting) waits same fits guards = left_unasked fits.1 (λ no. no)
 left_so table state copier applier cutover locker renamer (Attempting (Draining turns)) waits same fits guards = left_unasked fits.1 (λ no. no)
+left_so table state copier applier cutover locker renamer (Attempting (ReadingCounter drain)) waits same fits guards = left_unasked fits.1 (λ no. no)
+left_so table state copier applier cutover locker renamer (Attempting (SettingCounter number drain)) waits same fits guards = left_unasked fits.1 (λ no. no)
 left_so table state copier applier cutover locker renamer (Attempting Drained) waits same fits guards = left_drained guards.drained tt
 left_so table state copier applier cutover locker renamer (Attempting Showing) waits same fits guards = left_drained guards.drained tt
 left_so table state copier applier cutover locker renamer (Attempting Dropping) waits same fits guards = left_drained guards.drained tt
@@ -82,6 +85,8 @@ gone_so table state copier applier cutover locker renamer (Attempting Guarding) 
 gone_so table state copier applier cutover locker renamer (Attempting Locking) ended waits fits guards sentry = absurd (true≢false fits.1)
 gone_so table state copier applier cutover locker renamer (Attempting Hinting) ended waits fits guards sentry = absurd (true≢false fits.1)
 gone_so table state copier applier cutover locker renamer (Attempting (Draining turns)) ended waits fits guards sentry = absurd (true≢false fits.1)
+gone_so table state copier applier cutover locker renamer (Attempting (ReadingCounter drain)) ended waits fits guards sentry = absurd (true≢false fits.1)
+gone_so table state copier applier cutover locker renamer (Attempting (SettingCounter number drain)) ended waits fits guards sentry = absurd (true≢false fits.1)
 gone_so table state copier applier cutover locker renamer (Attempting Drained) ended waits fits guards sentry = absurd (true≢false fits.1)
 gone_so table state copier applier cutover locker renamer (Attempting Showing) ended waits fits guards sentry = absurd (no ended) where
   no : Ending Looking ≡ Attempting Showing → ⊥

@@ -20,7 +20,8 @@ use Rattle.tool_program.specs.declared.cutover_core.cutover.Phase.{Phase}
 use Rattle.tool_program.specs.declared.cutover_core.cutover.Phase.TheVariants.{Attempting, Ending, Finished, Finishing, Resting}
 use Rattle.tool_program.specs.declared.cutover_core.cutover.Role.{Role}
 use Rattle.tool_program.specs.declared.cutover_core.cutover.Role.TheVariants.{Inspector, Locker, Renamer}
-use Rattle.tool_program.specs.declared.cutover_core.cutover.Stage.TheVariants.{Drained, Draining, Dropping, Exchanging, Guarding, Hinting, Locking, Showing, Unlocking}
+use Rattle.tool_program.specs.declared.cutover_core.cutover.Stage.TheVariants.{Drained, ReadingCounter, SettingCounter, Draining, Dropping, Exchanging, Guarding, Hinting, Locking, Showing, Unlocking}
+use Rattle.tool_program.specs.declared.cutover_core.cutover.Drain.TheVariants.{Turns, Passed}
 use Rattle.tool_program.specs.CutoverCore.CutOvers as cutovers
 use Rattle.tool_program.specs.declared.event_applier.applier.Applier.{Applier}
 use Rattle.tool_program.specs.declared.event_applier.applier.ApplyStep.{ApplyStep}
@@ -39,6 +40,8 @@ StandsAt position (Migrating work) = work.applier.position ≡ position
 -- no attempt's events are being drained
 abbrev pub IsUndrained : Phase → Type 0
 IsUndrained (Attempting (Draining turns)) = ⊥
+IsUndrained (Attempting (ReadingCounter (Turns turns))) = ⊥
+IsUndrained (Attempting (SettingCounter number (Turns turns))) = ⊥
 IsUndrained phase = Unit {0}
 
 module _ (plan : PlanData) (position : ℕ) where
@@ -90,7 +93,11 @@ undrained plan work tool none off = by work.cutover.phase none where
   by (Attempting Locking) none = off
   by (Attempting Hinting) none = off
   by (Attempting (Draining turns)) none = absurd none
+  by (Attempting (ReadingCounter (Turns turns))) none = absurd none
+  by (Attempting (SettingCounter number (Turns turns))) none = absurd none
   by (Attempting Drained) none = off
+  by (Attempting (ReadingCounter Passed)) none = off
+  by (Attempting (SettingCounter number Passed)) none = off
   by (Attempting Showing) none = off
   by (Attempting Dropping) none = off
   by (Attempting Unlocking) none = off

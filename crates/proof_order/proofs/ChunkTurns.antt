@@ -400,6 +400,8 @@ module _ (plan : PlanData) (journal : List Entry) (entry : Entry) (run : IsRun p
   inspector_kind requests.LogEnd kind = tt
   inspector_kind requests.ShowTables kind = tt
   inspector_kind requests.ShowWaiting kind = tt
+  inspector_kind (requests.ShowCounter table) kind = tt
+  inspector_kind (requests.SetCounter table least) kind = tt
   inspector_kind request kind = absurd (false≢true kind)
 
   applier_kind : (step : ApplyStep) (request : Request) → applier_asks step request ≡ true → Locked Apply request

@@ -2,7 +2,7 @@
 use Rattle.server_model.proofs.Filling.{filled_case}
 use Rattle.server_model.specs.Drawing.{numbered}
 use Rattle.std.proofs.Common.{◌≡◌, ◌⊎◌, ℕ, ◌+◌, ◌-◌, Bool, true, false, cond, List, [], ◌∷◌, ◌++◌, Option, Some, None, refl, sym, ap, ◌∙◌, subst, inl, inr}
-use Rattle.std.specs.Prelude.{Result, Ok, Err, take}
+use Rattle.std.specs.Prelude.{Result, Ok, Err, take, unwrap_or}
 use Rattle.std.proofs.lemmas.Bool.{true≢false, false≢true}
 use Rattle.base_values.specs.declared.value.Value.{Value}
 use Rattle.base_script.specs.declared.actor.Actor.{Actor}
@@ -10,6 +10,7 @@ use Rattle.base_script.specs.declared.actor.Actor.TheVariants.{Op, Insp, Copy, A
 use Rattle.base_script.specs.declared.actor.Side.{Side}
 use Rattle.server_model.specs.declared.answer.Answer.{Answer}
 use Rattle.server_model.specs.declared.answer.Answer.TheVariants as answers
+use Rattle.server_model.specs.Answers.{ok}
 use Rattle.server_model.specs.declared.entry.Asked.{Asked}
 use Rattle.server_model.specs.declared.entry.Asked.TheVariants.{Call, Poll, Command, Cut}
 use Rattle.server_model.specs.declared.entry.Entry.{Entry}
@@ -24,7 +25,7 @@ use Rattle.base_values.specs.declared.span.Span.{Span}
 use Rattle.server_model.specs.Effects.{is_outside, effect_unless, effect_within, of_table, begins, defined, locks_if, all_exist, created, dropped, renamed_or}
 use Rattle.server_model.specs.Listings.{events_read}
 use Rattle.server_model.specs.PlainServer.{does, done, did, serves}
-use Rattle.server_model.specs.States.{State, session_of, is_in_transaction, is_of_tool, view}
+use Rattle.server_model.specs.States.{State, session_of, is_in_transaction, is_of_tool, next_of, view}
 use Rattle.table_store.specs.Databases.{Database, TableRows, find_table, has_table, rename_tables}
 use Rattle.plan_data.specs.PlanData.{PlanData}
 use Rattle.tool_program.specs.JournalWords.Journals.{opens, state_at}
@@ -118,6 +119,14 @@ module _ (found : State) (number : ℕ) where
   within_fits busy seen (requests.ReadLog position limit tables) = tt
   within_fits busy seen requests.ShowTables = tt
   within_fits busy seen requests.ShowWaiting = tt
+  within_fits busy seen (requests.ShowCounter table) = by (find_table table found.tables) where
+    by : (one : Option TableRows) → PlaceFits (requests.ShowCounter table) (of_table one (λ t. answers.At (unwrap_or (next_of table found.counters) 0)))
+    by None = tt
+    by (Some one) = tt
+  within_fits busy seen (requests.SetCounter table least) = by (find_table table found.tables) where
+    by : (one : Option TableRows) → PlaceFits (requests.SetCounter table least) (of_table one (λ t. ok))
+    by None = tt
+    by (Some one) = tt
 
   did_fits : (request : Request) → PlaceFits request (did found number request).answer
   unfolding did

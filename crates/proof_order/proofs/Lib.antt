@@ -4,6 +4,7 @@ pub mod Hints
 pub mod Waits
 pub mod Roles
 pub mod Needs
+pub mod Counters
 pub mod Turns
 pub mod Orders
 pub mod Chunks

@@ -7,7 +7,7 @@ use Rattle.std.proofs.lemmas.Bool.{true≢false, false≢true}
 use Rattle.base_script.specs.declared.actor.Actor.{Actor}
 use Rattle.base_script.specs.declared.actor.Actor.TheVariants.{Op, Insp, Copy, Apply, Lock, Ren, Client}
 use Rattle.base_script.specs.declared.operator.OperatorWord.{OperatorWord}
-use Rattle.base_values.specs.ToolNames.{log_name, old_name}
+use Rattle.base_values.specs.ToolNames.{ghost_name, log_name, old_name}
 use Rattle.server_model.specs.Along.{Along, Along-keeps}
 use Rattle.server_model.specs.Entries.{request_in}
 use Rattle.server_model.specs.declared.entry.Asked.{Asked}
@@ -16,7 +16,7 @@ use Rattle.server_model.specs.declared.entry.Entry.{Entry}
 use Rattle.server_model.specs.declared.request.Request.{Request}
 use Rattle.server_model.specs.declared.request.Request.TheVariants as requests
 use Rattle.server_model.proofs.LockedRows.Tests.{same_bytes}
-use Rattle.plan_data.specs.PlanData.{PlanData}
+use Rattle.plan_data.specs.PlanData.{PlanData, has_counter}
 use Rattle.tool_changelog.specs.Hints.{hint_row}
 use Rattle.tool_program.specs.JournalWords.KeptPlans.{words_of}
 use Rattle.tool_program.specs.JournalWords.Sessions.{live_session}
@@ -29,7 +29,7 @@ use Rattle.tool_program.specs.declared.cutover_core.cutover.Hold.{Hold}
 use Rattle.tool_program.specs.declared.cutover_core.cutover.Hold.TheVariants.{Nothing, WaitsToGuard, WaitsToLock, Locks}
 use Rattle.tool_program.specs.declared.cutover_core.cutover.Phase.{Phase}
 use Rattle.tool_program.specs.declared.cutover_core.cutover.Phase.TheVariants.{Resting, Attempting, Ending, Finishing, Finished}
-use Rattle.tool_program.specs.declared.cutover_core.cutover.Stage.TheVariants.{Locking, Hinting, Drained, Showing, Dropping, Unlocking}
+use Rattle.tool_program.specs.declared.cutover_core.cutover.Stage.TheVariants.{Locking, Hinting, ReadingCounter, SettingCounter, Drained, Showing, Dropping, Unlocking}
 use Rattle.tool_program.specs.ChunkCopier.Copiers as copiers
 use Rattle.tool_program.specs.EventApplier.Appliers as appliers
 use Rattle.tool_program.specs.CutoverCore.Attempts as attempts
@@ -51,13 +51,15 @@ use Rattle.proof_journals.proofs.Machine.Calling.{reverting_or}
 use Rattle.proof_journals.proofs.Machine.CuttingOver.{LockerAsks}
 use Rattle.proof_journals.proofs.Machine.Journals.{IsRun, IsTogether, Asking, calls_so, polls_so, asking, lock_about, apply_about}
 use Rattle.proof_journals.proofs.Machine.Tabling.{back_quiet}
+use Rattle.proof_migration.specs.InspectorWaits.{InspectorsWaitToSet}
 use Rattle.proof_migration.proofs.Attempt.Standing.{IsStanding, all_standing}
 use Rattle.proof_migration.proofs.Program.Turns.Follows.{kept_front, kept_run}
-use Rattle.proof_order.specs.CutOverOrder.{holds_so, waits_so, last_call, last_answer, is_locked, is_at_rest, attempts_begun, rename_shown, is_renamed, tables_listed, is_renaming, hints_applied, IsOrderedCall, IsOrderedTurn, KeepsOrder}
+use Rattle.proof_order.specs.CutOverOrder.{holds_so, waits_so, last_call, last_answer, last_reply, shown_so, is_carried, is_locked, is_at_rest, attempts_begun, rename_shown, is_renamed, tables_listed, is_renaming, hints_applied, IsOrderedCall, IsOrderedTurn, KeepsOrder}
 use Rattle.proof_order.specs.Laws.{KeptJournalsKeepOrder}
 use Rattle.proof_order.proofs.Words.{Words, words}
 use Rattle.proof_order.proofs.Phases.{PassedAt, ShownAt, DropsAt, is_held, and_both, first_order}
 use Rattle.proof_order.proofs.Roles.{LockerTold, DoneAt}
+use Rattle.proof_order.proofs.Counters.{CountsAt, ToolPhaseCounts, IsCounting, counting_more, counting_begins}
 use Rattle.proof_order.proofs.Turns.{ToolPhaseOrdered, SetupOrdered, IsOrdered, ordered_more, ordered_begins}
 
 -- LEMMAS OF BOOLEANS
@@ -109,25 +111,25 @@ module _ (plan : PlanData) (journal : List Entry) where
   Ordered actor request = IsOrderedCall plan journal actor request
 
   copier_calls : (step : CopyStep) (request : Request) → copier_asks step request ≡ true → Ordered Copy request
-  copier_calls copying.Choosing (requests.ChunkEnd table low top size) kind = record { drops = refl; renames = refl; reads = refl; clears = refl; hints = tt }
-  copier_calls (copying.Spanning reported most) (requests.BeginSpan table span size) kind = record { drops = refl; renames = refl; reads = refl; clears = refl; hints = tt }
-  copier_calls (copying.Copying chunk copied) (requests.CopyRow from into columns key) kind = record { drops = refl; renames = refl; reads = refl; clears = refl; hints = tt }
-  copier_calls (copying.Committing chunk) requests.Commit kind = record { drops = refl; renames = refl; reads = refl; clears = refl; hints = tt }
+  copier_calls copying.Choosing (requests.ChunkEnd table low top size) kind = record { drops = refl; renames = refl; reads = refl; clears = refl; hints = tt; counts = refl }
+  copier_calls (copying.Spanning reported most) (requests.BeginSpan table span size) kind = record { drops = refl; renames = refl; reads = refl; clears = refl; hints = tt; counts = refl }
+  copier_calls (copying.Copying chunk copied) (requests.CopyRow from into columns key) kind = record { drops = refl; renames = refl; reads = refl; clears = refl; hints = tt; counts = refl }
+  copier_calls (copying.Committing chunk) requests.Commit kind = record { drops = refl; renames = refl; reads = refl; clears = refl; hints = tt; counts = refl }
   copier_calls step request kind = absurd (false≢true kind)
 
   -- the applier reads where no RENAME is under way
   applier_calls : (step : ApplyStep) (request : Request) → (appliers.is_reading step ≡ true → is_renaming plan journal ≡ true → ⊥) → applier_asks step request ≡ true → Ordered Apply request
-  applier_calls Reading (requests.ReadLog position limit tables) off kind = record { drops = refl; renames = refl; reads = not_true (is_renaming plan journal) (off refl); clears = refl; hints = tt }
-  applier_calls (Beginning batch) requests.Begin off kind = record { drops = refl; renames = refl; reads = refl; clears = refl; hints = tt }
-  applier_calls (Applying batch done part) (requests.Do statement) off kind = record { drops = refl; renames = refl; reads = refl; clears = refl; hints = tt }
-  applier_calls (Committing batch) requests.Commit off kind = record { drops = refl; renames = refl; reads = refl; clears = refl; hints = tt }
+  applier_calls Reading (requests.ReadLog position limit tables) off kind = record { drops = refl; renames = refl; reads = not_true (is_renaming plan journal) (off refl); clears = refl; hints = tt; counts = refl }
+  applier_calls (Beginning batch) requests.Begin off kind = record { drops = refl; renames = refl; reads = refl; clears = refl; hints = tt; counts = refl }
+  applier_calls (Applying batch done part) (requests.Do statement) off kind = record { drops = refl; renames = refl; reads = refl; clears = refl; hints = tt; counts = refl }
+  applier_calls (Committing batch) requests.Commit off kind = record { drops = refl; renames = refl; reads = refl; clears = refl; hints = tt; counts = refl }
   applier_calls step request off kind = absurd (false≢true kind)
 
   rolls_copier : (request : Request) → request ≡ requests.Rollback → Ordered Copy request
-  rolls_copier request is = subst (Ordered Copy) (sym is) (record { drops = refl; renames = refl; reads = refl; clears = refl; hints = tt })
+  rolls_copier request is = subst (Ordered Copy) (sym is) (record { drops = refl; renames = refl; reads = refl; clears = refl; hints = tt; counts = refl })
 
   rolls_applier : (request : Request) → request ≡ requests.Rollback → Ordered Apply request
-  rolls_applier request is = subst (Ordered Apply) (sym is) (record { drops = refl; renames = refl; reads = refl; clears = refl; hints = tt })
+  rolls_applier request is = subst (Ordered Apply) (sym is) (record { drops = refl; renames = refl; reads = refl; clears = refl; hints = tt; counts = refl })
 
   rest_is : holds_so (last_call Lock journal) (last_answer Lock journal) ≡ false → waits_so (last_answer Lock journal) ≡ false → waits_so (last_answer Ren journal) ≡ false → is_at_rest journal ≡ true
   rest_is one two three = three_off (holds_so (last_call Lock journal) (last_answer Lock journal)) (waits_so (last_answer Lock journal)) (waits_so (last_answer Ren journal)) one two three
@@ -139,7 +141,7 @@ module _ (plan : PlanData) (journal : List Entry) where
     rests = or_second (is_renamed journal) (is_at_rest journal) (rest_is at.locker.0 at.locker.1 at.renamer)
 
     by : (setup : Setup) → setup_call plan setup ≡ Some request → Ordered Insp request
-    by Listing call = some_request (Ordered Insp) requests.ShowTables request call (record { drops = refl; renames = refl; reads = refl; clears = rests; hints = tt })
+    by Listing call = some_request (Ordered Insp) requests.ShowTables request call (record { drops = refl; renames = refl; reads = refl; clears = rests; hints = tt; counts = refl })
     by (Clearing left) call =
         some_request (Ordered Insp) (requests.Drop (first_name plan.table left)) request call
         (record {
@@ -148,16 +150,17 @@ module _ (plan : PlanData) (journal : List Entry) where
           reads = refl;
           clears = rests;
           hints = tt;
+          counts = refl;
         })
-    by MakingLog call = some_request (Ordered Insp) _ request call (record { drops = refl; renames = refl; reads = refl; clears = refl; hints = tt })
-    by MakingGhost call = some_request (Ordered Insp) _ request call (record { drops = refl; renames = refl; reads = refl; clears = refl; hints = tt })
-    by Marking call = some_request (Ordered Insp) _ request call (record { drops = refl; renames = refl; reads = refl; clears = refl; hints = tt })
-    by (Reaching position) call = some_request (Ordered Insp) _ request call (record { drops = refl; renames = refl; reads = refl; clears = refl; hints = tt })
+    by MakingLog call = some_request (Ordered Insp) _ request call (record { drops = refl; renames = refl; reads = refl; clears = refl; hints = tt; counts = refl })
+    by MakingGhost call = some_request (Ordered Insp) _ request call (record { drops = refl; renames = refl; reads = refl; clears = refl; hints = tt; counts = refl })
+    by Marking call = some_request (Ordered Insp) _ request call (record { drops = refl; renames = refl; reads = refl; clears = refl; hints = tt; counts = refl })
+    by (Reaching position) call = some_request (Ordered Insp) _ request call (record { drops = refl; renames = refl; reads = refl; clears = refl; hints = tt; counts = refl })
     by (Ready position range) call = absurd cc
 
 -- ONE TURN
 
-module _ (plan : PlanData) (journal : List Entry) (entry : Entry) (run : IsRun plan journal entry) (standing : IsStanding plan journal) (is : IsOrdered plan journal) where
+module _ (plan : PlanData) (journal : List Entry) (entry : Entry) (run : IsRun plan journal entry) (standing : IsStanding plan journal) (counting : IsCounting plan journal) (is : IsOrdered plan journal) where
   abbrev now : Moment
   now = moment plan journal
 
@@ -184,6 +187,13 @@ module _ (plan : PlanData) (journal : List Entry) (entry : Entry) (run : IsRun p
 
   locked : (work : Work) → now.tool.tool_phase ≡ Migrating work → work.cutover.hold ≡ Locks → is_locked journal ≡ true
   locked work eq holds = subst (LockerTold told.call told.answer) holds (old_at (Migrating work) eq).locker
+
+  -- what the phase says of the counter
+  abbrev Counts : Phase → Type 0
+  Counts phase = CountsAt plan (has Insp).waits (last_call Insp journal) (last_reply Insp journal) phase
+
+  counts_at : (tool_phase : ToolPhase) → now.tool.tool_phase ≡ tool_phase → ToolPhaseCounts plan (has Insp).waits (last_call Insp journal) (last_reply Insp journal) tool_phase
+  counts_at tool_phase eq = subst (ToolPhaseCounts plan (has Insp).waits (last_call Insp journal) (last_reply Insp journal)) eq counting
 
   call_of : (actor : Actor) (request : Request) (tool_phase : ToolPhase) → now.tool.tool_phase ≡ tool_phase → tool_call plan now.server journal now.tool now.tool.tool_phase actor ≡ Some request → tool_call plan now.server journal now.tool tool_phase actor ≡ Some request
   call_of actor request tool_phase eq call = ap (λ (c : ToolPhase). tool_call plan now.server journal now.tool c actor) (sym eq) ∙ call
@@ -238,11 +248,11 @@ module _ (plan : PlanData) (journal : List Entry) (entry : Entry) (run : IsRun p
   -- THE LOCKER
 
   locker_call : (work : Work) → now.tool.tool_phase ≡ Migrating work → (hold : Hold) (phase : Phase) → work.cutover.hold ≡ hold → work.cutover.phase ≡ phase → (request : Request) → LockerAsks work.cutover.table hold phase request → IsOrderedCall plan journal Lock request
-  locker_call work eq Nothing Resting holds at request kind = subst (IsOrderedCall plan journal Lock) (sym kind) (record { drops = refl; renames = refl; reads = refl; clears = refl; hints = tt })
-  locker_call work eq Nothing (Attempting Locking) holds at request kind = subst (IsOrderedCall plan journal Lock) (sym kind) (record { drops = refl; renames = refl; reads = refl; clears = refl; hints = tt })
+  locker_call work eq Nothing Resting holds at request kind = subst (IsOrderedCall plan journal Lock) (sym kind) (record { drops = refl; renames = refl; reads = refl; clears = refl; hints = tt; counts = refl })
+  locker_call work eq Nothing (Attempting Locking) holds at request kind = subst (IsOrderedCall plan journal Lock) (sym kind) (record { drops = refl; renames = refl; reads = refl; clears = refl; hints = tt; counts = refl })
   locker_call work eq Nothing phase holds at request kind = absurd kind
-  locker_call work eq WaitsToGuard phase holds at request kind = subst (IsOrderedCall plan journal Lock) (sym kind) (record { drops = refl; renames = refl; reads = refl; clears = refl; hints = tt })
-  locker_call work eq WaitsToLock phase holds at request kind = subst (IsOrderedCall plan journal Lock) (sym kind) (record { drops = refl; renames = refl; reads = refl; clears = refl; hints = tt })
+  locker_call work eq WaitsToGuard phase holds at request kind = subst (IsOrderedCall plan journal Lock) (sym kind) (record { drops = refl; renames = refl; reads = refl; clears = refl; hints = tt; counts = refl })
+  locker_call work eq WaitsToLock phase holds at request kind = subst (IsOrderedCall plan journal Lock) (sym kind) (record { drops = refl; renames = refl; reads = refl; clears = refl; hints = tt; counts = refl })
   locker_call work eq Locks (Attempting Dropping) holds at request kind =
       subst (IsOrderedCall plan journal Lock) (sym kind)
       (record {
@@ -254,9 +264,10 @@ module _ (plan : PlanData) (journal : List Entry) (entry : Entry) (run : IsRun p
         reads = refl;
         clears = refl;
         hints = tt;
+        counts = refl;
       })
-  locker_call work eq Locks (Attempting Unlocking) holds at request kind = subst (IsOrderedCall plan journal Lock) (sym kind) (record { drops = refl; renames = refl; reads = refl; clears = refl; hints = tt })
-  locker_call work eq Locks (Ending clearing) holds at request kind = subst (IsOrderedCall plan journal Lock) (sym kind) (record { drops = refl; renames = refl; reads = refl; clears = refl; hints = tt })
+  locker_call work eq Locks (Attempting Unlocking) holds at request kind = subst (IsOrderedCall plan journal Lock) (sym kind) (record { drops = refl; renames = refl; reads = refl; clears = refl; hints = tt; counts = refl })
+  locker_call work eq Locks (Ending clearing) holds at request kind = subst (IsOrderedCall plan journal Lock) (sym kind) (record { drops = refl; renames = refl; reads = refl; clears = refl; hints = tt; counts = refl })
   locker_call work eq Locks phase holds at request kind = absurd kind
 
   locker_turn : (tool_phase : ToolPhase) → now.tool.tool_phase ≡ tool_phase → Asking plan journal Lock entry.asked → Turn Lock
@@ -283,11 +294,12 @@ module _ (plan : PlanData) (journal : List Entry) (entry : Entry) (run : IsRun p
         some_request (IsOrderedCall plan journal Ren) (exchange work.cutover.table) request call
         (record {
           drops = refl;
-          renames = and_both (list_any (λ attempt. attempt == attempts_begun journal) (hints_applied plan journal).passed) (is_locked journal) (subst (λ (n : ℕ). list_any (λ one. one == n) told.hints.passed ≡ true) (sym old.begun) passes)
-              (locked work eq (subst (λ (p : Phase). PhaseHolds p work.cutover.hold) at (work_has work eq).phase));
+          renames = and_both (list_any (λ attempt. attempt == attempts_begun journal) (hints_applied plan journal).passed) (is_locked journal && (not (has_counter plan) || is_carried plan journal)) (subst (λ (n : ℕ). list_any (λ one. one == n) told.hints.passed ≡ true) (sym old.begun) passes)
+              (and_both (is_locked journal) (not (has_counter plan) || is_carried plan journal) (locked work eq (subst (λ (p : Phase). PhaseHolds p work.cutover.hold) at (work_has work eq).phase)) (subst Counts at (counts_at (Migrating work) eq)));
           reads = refl;
           clears = refl;
           hints = tt;
+          counts = refl;
         })
     by (Attempting stage) at call = absurd cc
     by Resting at call = absurd cc
@@ -314,8 +326,8 @@ module _ (plan : PlanData) (journal : List Entry) (entry : Entry) (run : IsRun p
   done_so work eq (inl renamed) = Rattle.std.proofs.lemmas.Bool.or_left (is_renamed journal) (is_at_rest journal) renamed
   done_so work eq (inr none) = or_second (is_renamed journal) (is_at_rest journal) (rests_so work eq none.0 none.1)
 
-  inspector_calls : (work : Work) → now.tool.tool_phase ≡ Migrating work → (phase : Phase) → work.cutover.phase ≡ phase → (request : Request) → inspector_call work.cutover phase ≡ Some request → IsOrderedCall plan journal Insp request
-  inspector_calls work eq (Attempting Hinting) at request call =
+  inspector_calls : (work : Work) → now.tool.tool_phase ≡ Migrating work → (has Insp).waits ≡ None → (phase : Phase) → work.cutover.phase ≡ phase → (request : Request) → inspector_call work.cutover phase ≡ Some request → IsOrderedCall plan journal Insp request
+  inspector_calls work eq idle (Attempting Hinting) at request call =
       some_request (IsOrderedCall plan journal Insp) (writes_hint work.cutover.table work.cutover.attempts) request call
       (record {
         drops = refl;
@@ -327,17 +339,40 @@ module _ (plan : PlanData) (journal : List Entry) (entry : Entry) (run : IsRun p
           hint = ap hint_row (sym (old_at (Migrating work) eq).begun);
           locked = locked work eq (subst (λ (p : Phase). PhaseHolds p work.cutover.hold) at (work_has work eq).phase);
         };
+        counts = refl;
       })
-  inspector_calls work eq (Attempting Showing) at request call = some_request (IsOrderedCall plan journal Insp) requests.ShowWaiting request call (record { drops = refl; renames = refl; reads = refl; clears = refl; hints = tt })
-  inspector_calls work eq (Attempting stage) at request call = absurd cc
-  inspector_calls work eq (Ending Looking) at request call = by (is_free work.cutover.hold work.cutover.renamer_waits) refl call where
+  inspector_calls work eq idle (Attempting (ReadingCounter drain)) at request call =
+      some_request (IsOrderedCall plan journal Insp) (requests.ShowCounter work.cutover.table) request call
+      (record {
+        drops = refl;
+        renames = refl;
+        reads = refl;
+        clears = refl;
+        hints = tt;
+        counts = and_both (bytes_eq work.cutover.table plan.table) (is_locked journal) (ap (λ (t : List ℕ). bytes_eq t plan.table) (own_table work eq) ∙ same_bytes plan.table) (locked work eq (subst (λ (p : Phase). PhaseHolds p work.cutover.hold) at (work_has work eq).phase));
+      })
+  inspector_calls work eq idle (Attempting (SettingCounter number drain)) at request call =
+      some_request (IsOrderedCall plan journal Insp) (requests.SetCounter (ghost_name work.cutover.table) number) request call
+      (record {
+        drops = refl;
+        renames = refl;
+        reads = refl;
+        clears = refl;
+        hints = tt;
+        counts =
+            and_both (bytes_eq (ghost_name work.cutover.table) (ghost_name plan.table)) (shown_so plan.table number (last_call Insp journal) (last_reply Insp journal) && is_locked journal) (ap (λ (t : List ℕ). bytes_eq (ghost_name t) (ghost_name plan.table)) (own_table work eq) ∙ same_bytes (ghost_name plan.table))
+            (and_both (shown_so plan.table number (last_call Insp journal) (last_reply Insp journal)) (is_locked journal) ((subst Counts at (counts_at (Migrating work) eq)).shown idle) (locked work eq (subst (λ (p : Phase). PhaseHolds p work.cutover.hold) at (work_has work eq).phase)));
+      })
+  inspector_calls work eq idle (Attempting Showing) at request call = some_request (IsOrderedCall plan journal Insp) requests.ShowWaiting request call (record { drops = refl; renames = refl; reads = refl; clears = refl; hints = tt; counts = refl })
+  inspector_calls work eq idle (Attempting stage) at request call = absurd cc
+  inspector_calls work eq idle (Ending Looking) at request call = by (is_free work.cutover.hold work.cutover.renamer_waits) refl call where
     by : (b : Bool) → is_free work.cutover.hold work.cutover.renamer_waits ≡ b → cond b (clears work.cutover.table Looking) None ≡ Some request → IsOrderedCall plan journal Insp request
     by true free call =
         let both = free_both work.cutover.hold work.cutover.renamer_waits free in
         some_request (IsOrderedCall plan journal Insp) requests.ShowTables request call
-        (record { drops = refl; renames = refl; reads = refl; clears = or_second (is_renamed journal) (is_at_rest journal) (rests_so work eq both.0 both.1); hints = tt })
+        (record { drops = refl; renames = refl; reads = refl; clears = or_second (is_renamed journal) (is_at_rest journal) (rests_so work eq both.0 both.1); hints = tt; counts = refl })
     by false held call = absurd cc
-  inspector_calls work eq (Ending (Drops left)) at request call = by (is_free work.cutover.hold work.cutover.renamer_waits) refl call where
+  inspector_calls work eq idle (Ending (Drops left)) at request call = by (is_free work.cutover.hold work.cutover.renamer_waits) refl call where
     sentry : has_sentry plan.table (tables_listed journal) ≡ true
     sentry = subst (λ (p : Phase). DropsAt plan p told.listed) at (old_at (Migrating work) eq).phase_is.drops
 
@@ -351,12 +386,13 @@ module _ (plan : PlanData) (journal : List Entry) (entry : Entry) (run : IsRun p
           reads = refl;
           clears = or_second (is_renamed journal) (is_at_rest journal) (rests_so work eq both.0 both.1);
           hints = tt;
+          counts = refl;
         })
     by false held call = absurd cc
-  inspector_calls work eq (Finishing Looking) at request call =
+  inspector_calls work eq idle (Finishing Looking) at request call =
       some_request (IsOrderedCall plan journal Insp) requests.ShowTables request call
-      (record { drops = refl; renames = refl; reads = refl; clears = done_so work eq (subst (λ (p : Phase). DoneAt p work.cutover.hold work.cutover.renamer_waits told.renamed) at (old_at (Migrating work) eq).done); hints = tt })
-  inspector_calls work eq (Finishing (Drops left)) at request call =
+      (record { drops = refl; renames = refl; reads = refl; clears = done_so work eq (subst (λ (p : Phase). DoneAt p work.cutover.hold work.cutover.renamer_waits told.renamed) at (old_at (Migrating work) eq).done); hints = tt; counts = refl })
+  inspector_calls work eq idle (Finishing (Drops left)) at request call =
       some_request (IsOrderedCall plan journal Insp) (requests.Drop (first_name work.cutover.table left)) request call
       (record {
         drops = by (first_order work.cutover.table left left_so.0);
@@ -364,6 +400,7 @@ module _ (plan : PlanData) (journal : List Entry) (entry : Entry) (run : IsRun p
         reads = refl;
         clears = done_so work eq (subst (λ (p : Phase). DoneAt p work.cutover.hold work.cutover.renamer_waits told.renamed) at (old_at (Migrating work) eq).done);
         hints = tt;
+        counts = refl;
       }) where
         left_so : DropsAt plan (Finishing (Drops left)) told.listed
         left_so = subst (λ (p : Phase). DropsAt plan p told.listed) at (old_at (Migrating work) eq).phase_is.drops
@@ -375,13 +412,13 @@ module _ (plan : PlanData) (journal : List Entry) (entry : Entry) (run : IsRun p
             (ap (λ (t : List ℕ). bytes_eq (first_name work.cutover.table left) (old_name t)) (sym (own_table work eq)) ∙ other)
         by (inr old) =
             third_or (not (bytes_eq (first_name work.cutover.table left) (old_name plan.table))) (attempts_begun journal == 0) plan.options.ok_to_drop_table (has_sentry plan.table (tables_listed journal)) (left_so.1 old)
-  inspector_calls work eq Resting at request call = absurd cc
-  inspector_calls work eq Finished at request call = absurd cc
+  inspector_calls work eq idle Resting at request call = absurd cc
+  inspector_calls work eq idle Finished at request call = absurd cc
 
-  inspector_so : (request : Request) (tool_phase : ToolPhase) → now.tool.tool_phase ≡ tool_phase → tool_call plan now.server journal now.tool tool_phase Insp ≡ Some request → IsOrderedCall plan journal Insp request
+  inspector_so : (request : Request) → (has Insp).waits ≡ None → (tool_phase : ToolPhase) → now.tool.tool_phase ≡ tool_phase → tool_call plan now.server journal now.tool tool_phase Insp ≡ Some request → IsOrderedCall plan journal Insp request
   unfolding attempts.next
-  inspector_so request (SettingUp setup tries) eq call = setup_calls plan journal setup request (old_at (SettingUp setup tries) eq) (unless_called (is_reverting now.tool.reason) (setup_call plan setup) request call)
-  inspector_so request (Migrating work) eq call = inspector_calls work eq work.cutover.phase refl request call
+  inspector_so request idle (SettingUp setup tries) eq call = setup_calls plan journal setup request (old_at (SettingUp setup tries) eq) (unless_called (is_reverting now.tool.reason) (setup_call plan setup) request call)
+  inspector_so request idle (Migrating work) eq call = inspector_calls work eq idle work.cutover.phase refl request call
 
   -- EVERY ACTOR
 
@@ -391,7 +428,10 @@ module _ (plan : PlanData) (journal : List Entry) (entry : Entry) (run : IsRun p
 
   given_turn : (actor : Actor) → given plan journal actor ≡ Some entry.asked → Turn actor
   unfolding given
-  given_turn Insp gives = from_calls Insp tt (λ request asks call. inspector_so request now.tool.tool_phase refl call) (asking plan journal Insp entry.asked together.server gives)
+  given_turn Insp gives = by (asking plan journal Insp entry.asked together.server gives) where
+    by : Asking plan journal Insp entry.asked → Turn Insp
+    by (calls_so request asks idle call) = subst (λ (a : Asked). IsOrderedTurn plan journal Insp (request_in a)) (sym asks) (inspector_so request idle now.tool.tool_phase refl call)
+    by (polls_so request asks some) = subst (λ (a : Asked). IsOrderedTurn plan journal Insp (request_in a)) (sym asks) tt
   given_turn Copy gives = from_calls Copy tt (λ request asks call. copier_call request now.tool.tool_phase call) (asking plan journal Copy entry.asked together.server gives)
   given_turn Apply gives =
       let asks_so : Asking plan journal Apply entry.asked = asking plan journal Apply entry.asked together.server gives in from_calls Apply tt (λ request asks call. applier_call request now.tool.tool_phase refl asks asks_so call) asks_so
@@ -426,11 +466,8 @@ module _ (plan : PlanData) (journal : List Entry) (entry : Entry) (run : IsRun p
 
 -- WHOLE JOURNALS
 
--- the inspector never waits (which `proof_bounds` shows)
-abbrev pub InspectorNeverWaits : Type 0
-InspectorNeverWaits = (plan : PlanData) (journal : List Entry) → IsRunnable plan → IsSerialPlan plan → IsKept plan journal → (standing_of plan journal Insp).waits ≡ None
-
-module _ (never : InspectorNeverWaits) (plan : PlanData) (runs : IsRunnable plan) (serial : IsSerialPlan plan) where
+-- (`proof_bounds` shows with which request the inspector may wait)
+module _ (waits : InspectorsWaitToSet) (plan : PlanData) (runs : IsRunnable plan) (serial : IsSerialPlan plan) where
   standing_at : (journal : List Entry) → IsKept plan journal → IsStanding plan journal
   standing_at journal kept = all_standing plan journal runs.fitting runs.stands kept.faithful kept.follows
 
@@ -441,18 +478,27 @@ module _ (never : InspectorNeverWaits) (plan : PlanData) (runs : IsRunnable plan
       let later : IsKept plan ((before ++ first ∷ []) ++ entries) = subst (IsKept plan) (sym (Rattle.std.proofs.Common.append_assoc before (first ∷ []) entries)) kept in
       (kept_front plan (before ++ first ∷ []) entries later, fronts (before ++ first ∷ []) entries later)
 
-  more : (front : List Entry) (entry : Entry) → IsKept plan (front ++ entry ∷ []) → IsOrdered plan front → IsOrdered plan (front ++ entry ∷ [])
+  -- what is told after a kept journal
+  record IsTold (journal : List Entry) : Type 0 where
+    counting : IsCounting plan journal
+    ordered : IsOrdered plan journal
+
+  more : (front : List Entry) (entry : Entry) → IsKept plan (front ++ entry ∷ []) → IsTold front → IsTold (front ++ entry ∷ [])
   more front entry kept is =
       let front_kept : IsKept plan front = kept_front plan front (entry ∷ []) kept in
-      ordered_more plan front entry (kept_run plan front entry kept) (standing_at front front_kept) (never plan front runs serial front_kept) is
+      record {
+        counting = counting_more plan front entry (kept_run plan front entry kept) (standing_at front front_kept) (λ request some. waits plan front request runs serial front_kept some) is.counting;
+        ordered = ordered_more plan front entry (kept_run plan front entry kept) (standing_at front front_kept) (λ request some. waits plan front request runs serial front_kept some) is.ordered;
+      }
 
-  all_ordered : (journal : List Entry) → IsKept plan journal → IsOrdered plan journal
-  all_ordered journal kept = Along-keeps (λ front entry. IsKept plan (front ++ entry ∷ [])) (IsOrdered plan) more [] journal (fronts [] journal kept) (ordered_begins plan)
+  all_told : (journal : List Entry) → IsKept plan journal → IsTold journal
+  all_told journal kept = Along-keeps (λ front entry. IsKept plan (front ++ entry ∷ [])) IsTold more [] journal (fronts [] journal kept) (record { counting = counting_begins plan; ordered = ordered_begins plan })
 
   turn_at : (front : List Entry) (entry : Entry) → IsKept plan (front ++ entry ∷ []) → IsOrderedTurn plan front entry.actor (request_in entry.asked)
   turn_at front entry kept =
       let front_kept : IsKept plan front = kept_front plan front (entry ∷ []) kept in
-      ordered_turn plan front entry (kept_run plan front entry kept) (standing_at front front_kept) (all_ordered front front_kept)
+      let told = all_told front front_kept in
+      ordered_turn plan front entry (kept_run plan front entry kept) (standing_at front front_kept) told.counting told.ordered
 
   along : (before entries : List Entry) → Along (λ front entry. IsKept plan (front ++ entry ∷ [])) before entries → Along (λ front entry. IsOrderedTurn plan front entry.actor (request_in entry.asked)) before entries
   along before [] kept = tt
@@ -463,5 +509,5 @@ module _ (never : InspectorNeverWaits) (plan : PlanData) (runs : IsRunnable plan
   keeps journal kept = along [] journal (fronts [] journal kept)
 
 -- *Kept journals keep the order of the cut-over*
-pub orders_kept : InspectorNeverWaits → KeptJournalsKeepOrder
-orders_kept never plan journal runs serial kept = keeps never plan runs serial journal kept
+pub orders_kept : InspectorsWaitToSet → KeptJournalsKeepOrder
+orders_kept waits plan journal runs serial kept = keeps waits plan runs serial journal kept

@@ -1,6 +1,6 @@
 -- What each phase of the cut-over says of what the journal tells.
 use Rattle.std.proofs.Common.{◌≡◌, ◌⊎◌, ℕ, ◌+◌, ◌<◌, ◌==◌, Bool, true, false, cond, not, ◌&&◌, ◌||◌, List, ◌++◌, refl, sym, ap, ◌∙◌, inl, inr, arith}
-use Rattle.std.specs.Prelude.{codes, nat_le}
+use Rattle.std.specs.Prelude.{codes}
 use Rattle.std.specs.List.{list_any}
 use Rattle.std.specs.Str.{bytes_eq}
 use Rattle.std.proofs.lemmas.Bool.{true≢false, false≢true}
@@ -17,9 +17,11 @@ use Rattle.tool_program.specs.declared.cutover_core.cutover.Leftovers.{Leftovers
 use Rattle.tool_program.specs.declared.cutover_core.cutover.Phase.{Phase}
 use Rattle.tool_program.specs.declared.cutover_core.cutover.Phase.TheVariants.{Resting, Attempting, Ending, Finishing, Finished}
 use Rattle.tool_program.specs.declared.cutover_core.cutover.Stage.{Stage}
-use Rattle.tool_program.specs.declared.cutover_core.cutover.Stage.TheVariants.{Guarding, Locking, Hinting, Draining, Drained, Showing, Dropping, Unlocking, Exchanging}
+use Rattle.tool_program.specs.declared.cutover_core.cutover.Stage.TheVariants.{Guarding, Locking, Hinting, ReadingCounter, SettingCounter, Draining, Drained, Showing, Dropping, Unlocking, Exchanging}
+use Rattle.tool_program.specs.declared.cutover_core.cutover.Drain.TheVariants.{Turns, Passed}
 use Rattle.tool_program.specs.CutoverCore.Attempts.{is_clear, without_first, first_name, has_name, has_sentry}
 use Rattle.tool_program.specs.CutoverCore.CutOvers.{is_bad, is_done, stands, failed, ended, drained, locker_phase, locker_stage, waits_phase, renamer_phase, finishing, left_at_end, sentry_alone, seen}
+use Rattle.proof_journals.proofs.Machine.CuttingOver.{drain_cases}
 use Rattle.proof_journals.proofs.Machine.Marks.{ghost_not_old}
 
 -- WHAT A PHASE SAYS
@@ -29,9 +31,11 @@ abbrev pub CountedAt : Phase → ℕ → Type 0
 CountedAt (Attempting stage) attempts = 0 < attempts
 CountedAt phase attempts = Unit {0}
 
--- it is drained where the applier came past its hint row
+-- it is drained where the applier came past its hint row, also while the counter is carried
 abbrev pub PassedAt : Phase → ℕ → List ℕ → Type 0
 PassedAt (Attempting Drained) attempts passed = list_any (λ one. one == attempts) passed ≡ true
+PassedAt (Attempting (ReadingCounter Passed)) attempts passed = list_any (λ one. one == attempts) passed ≡ true
+PassedAt (Attempting (SettingCounter number Passed)) attempts passed = list_any (λ one. one == attempts) passed ≡ true
 PassedAt phase attempts passed = Unit {0}
 
 -- the sentry is dropped where the RENAME was shown
@@ -62,6 +66,10 @@ passes_more (Attempting Drained) attempts before after grows at = grows at
 passes_more (Attempting Guarding) attempts before after grows at = tt
 passes_more (Attempting Locking) attempts before after grows at = tt
 passes_more (Attempting Hinting) attempts before after grows at = tt
+passes_more (Attempting (ReadingCounter (Turns turns))) attempts before after grows at = tt
+passes_more (Attempting (SettingCounter number (Turns turns))) attempts before after grows at = tt
+passes_more (Attempting (ReadingCounter Passed)) attempts before after grows at = grows at
+passes_more (Attempting (SettingCounter number Passed)) attempts before after grows at = grows at
 passes_more (Attempting (Draining turns)) attempts before after grows at = tt
 passes_more (Attempting Showing) attempts before after grows at = tt
 passes_more (Attempting Dropping) attempts before after grows at = tt
@@ -97,6 +105,8 @@ module _ (plan : PlanData) (shown : Bool) (passed : List ℕ) (renaming : Bool) 
   ended_order (Attempting Guarding) at = fails Guarding at
   ended_order (Attempting Locking) at = fails Locking at
   ended_order (Attempting Hinting) at = fails Hinting at
+  ended_order (Attempting (ReadingCounter drain)) at = fails (ReadingCounter drain) at
+  ended_order (Attempting (SettingCounter number drain)) at = fails (SettingCounter number drain) at
   ended_order (Attempting (Draining turns)) at = fails (Draining turns) at
   ended_order (Attempting Drained) at = fails Drained at
   ended_order (Attempting Showing) at = fails Showing at
@@ -107,11 +117,17 @@ module _ (plan : PlanData) (shown : Bool) (passed : List ℕ) (renaming : Bool) 
   ended_order Finished at = at
 
   pub drained_order : (cutover : CutOver) (hint : ℕ) (phase : Phase) → cutover.attempts ≡ attempts → (0 < attempts → hint ≡ attempts → list_any (λ one. one == attempts) passed ≡ true) → At phase → At (drained cutover hint phase)
-  drained_order cutover hint (Attempting (Draining turns)) same here at = by (hint == cutover.attempts) (nat_le cutover.drain_limit (turns + 1)) refl where
-    by : (a b : Bool) → (hint == cutover.attempts) ≡ a → At (cond a (Attempting Drained) (cond b (Ending Looking) (Attempting (Draining (turns + 1)))))
-    by true b is = record { counted = at.counted; passes = here at.counted (Rattle.server_model.proofs.LockedRows.Tests.are_one hint cutover.attempts is ∙ same); shows = tt; holds = at.holds; drops = tt }
-    by false true is = fails (Draining turns) at
-    by false false is = record { counted = at.counted; passes = tt; shows = tt; holds = at.holds; drops = tt }
+  drained_order cutover hint (Attempting (Draining turns)) same here at =
+      drain_cases At cutover hint turns (Draining turns) (λ is. record { counted = at.counted; passes = here at.counted (is ∙ same); shows = tt; holds = at.holds; drops = tt }) (fails (Draining turns) at)
+      (record { counted = at.counted; passes = tt; shows = tt; holds = at.holds; drops = tt })
+  drained_order cutover hint (Attempting (ReadingCounter (Turns turns))) same here at =
+      drain_cases At cutover hint turns (ReadingCounter (Turns turns)) (λ is. record { counted = at.counted; passes = here at.counted (is ∙ same); shows = tt; holds = at.holds; drops = tt }) (fails (ReadingCounter (Turns turns)) at)
+      (record { counted = at.counted; passes = tt; shows = tt; holds = at.holds; drops = tt })
+  drained_order cutover hint (Attempting (SettingCounter number (Turns turns))) same here at =
+      drain_cases At cutover hint turns (SettingCounter number (Turns turns)) (λ is. record { counted = at.counted; passes = here at.counted (is ∙ same); shows = tt; holds = at.holds; drops = tt }) (fails (SettingCounter number (Turns turns)) at)
+      (record { counted = at.counted; passes = tt; shows = tt; holds = at.holds; drops = tt })
+  drained_order cutover hint (Attempting (ReadingCounter Passed)) same here at = at
+  drained_order cutover hint (Attempting (SettingCounter number Passed)) same here at = at
   drained_order cutover hint (Attempting Guarding) same here at = at
   drained_order cutover hint (Attempting Locking) same here at = at
   drained_order cutover hint (Attempting Hinting) same here at = at
@@ -191,6 +207,8 @@ module _ (plan : PlanData) (shown : Bool) (passed : List ℕ) (renaming : Bool) 
   waits_order (Attempting Guarding) at = at
   waits_order (Attempting Locking) at = at
   waits_order (Attempting Hinting) at = at
+  waits_order (Attempting (ReadingCounter drain)) at = at
+  waits_order (Attempting (SettingCounter number drain)) at = at
   waits_order (Attempting (Draining turns)) at = at
   waits_order (Attempting Showing) at = at
   waits_order (Attempting Dropping) at = at

@@ -23,14 +23,17 @@ use Rattle.tool_program.specs.declared.cutover_core.cutover.Leftovers.{Leftovers
 use Rattle.tool_program.specs.declared.cutover_core.cutover.Phase.{Phase}
 use Rattle.tool_program.specs.declared.cutover_core.cutover.Phase.TheVariants.{Resting, Attempting, Ending, Finishing, Finished}
 use Rattle.tool_program.specs.declared.cutover_core.cutover.Stage.{Stage}
-use Rattle.tool_program.specs.declared.cutover_core.cutover.Stage.TheVariants.{Locking, Hinting, Draining, Drained, Showing, Dropping, Unlocking, Exchanging}
+use Rattle.tool_program.specs.declared.cutover_core.cutover.Stage.TheVariants.{Locking, Hinting, ReadingCounter, SettingCounter, Drained, Showing, Dropping, Unlocking, Exchanging}
+use Rattle.tool_program.specs.declared.cutover_core.cutover.Drain.{Drain}
+use Rattle.tool_program.specs.declared.cutover_core.cutover.Drain.TheVariants.{Turns, Passed}
 use Rattle.tool_program.specs.CutoverCore.Attempts.{exchange, is_free, clears, inspector_call, is_clear, without_first, first_name, has_name, has_sentry}
-use Rattle.tool_program.specs.CutoverCore.CutOvers.{is_bad, is_wait, is_resting, attempts_after, failed, ended, drained, hold_of_guard, hold_of_lock, hold_under, hold_after, locker_phase, locker_stage, inspector_phase, inspector_stage, ending_after, finishing_after, waits_phase, renamer_phase, finishing, left_at_end, seen, shows_wait}
+use Rattle.tool_program.specs.CutoverCore.CutOvers.{is_bad, is_wait, is_resting, attempts_after, failed, ended, hinted, drain_of, drained, drains_to, hold_of_guard, hold_of_lock, hold_under, hold_after, locker_phase, locker_stage, inspector_phase, inspector_stage, ending_after, finishing_after, waits_phase, renamer_phase, finishing, left_at_end, seen, shows_wait}
 use Rattle.proof_journals.specs.Machine.Machines.{PhaseHolds, both_names, held, renaming}
 use Rattle.proof_journals.specs.Machine.Standings.{IsAbout, is_called, is_polled, answers_to}
 use Rattle.proof_journals.proofs.Machine.Asking.{some_request}
-use Rattle.proof_journals.proofs.Machine.CuttingOver.{LockerAsks}
+use Rattle.proof_journals.proofs.Machine.CuttingOver.{LockerAsks, drain_cases}
 use Rattle.proof_journals.proofs.Machine.Fitting.{IsPrompt}
+use Rattle.proof_migration.specs.InspectorWaits.{SetsCounter}
 use Rattle.proof_order.specs.CutOverOrder.{holds_so, waits_so, begun_after, call_after, has_session, Shown, shown_after, renamed_after, listed_after, renaming_after}
 use Rattle.proof_order.proofs.Words.{Words, words_after}
 use Rattle.proof_order.proofs.Phases.{PhaseOrder, is_held, and_left, fails, locked_order, begun_order, rests_unheld, called_order, renamed_order, seen_order, listed_order, dropped_order}
@@ -92,12 +95,10 @@ ended_done (Finishing clearing) hold waits renamed done = done
 ended_done Finished hold waits renamed done = done
 
 pub drained_done : (cutover : CutOver) (hint : ℕ) (phase : Phase) (hold : Hold) (waits renamed : Bool) → DoneAt phase hold waits renamed → DoneAt (drained cutover hint phase) hold waits renamed
-drained_done cutover hint (Attempting (Draining turns)) hold waits renamed done = by (hint == cutover.attempts) (Rattle.std.specs.Prelude.nat_le cutover.drain_limit (turns + 1)) where
-  by : (a b : Bool) → DoneAt (cond a (Attempting Drained) (cond b (Ending Looking) (Attempting (Draining (turns + 1))))) hold waits renamed
-  by true b = tt
-  by false true = tt
-  by false false = tt
-drained_done cutover hint (Attempting stage) hold waits renamed done = tt
+drained_done cutover hint (Attempting stage) hold waits renamed done = by (drain_of stage) where
+  by : (drain : Option Drain) → DoneAt (drains_to cutover hint stage drain) hold waits renamed
+  by (Some (Turns turns)) = drain_cases (λ (p : Phase). DoneAt p hold waits renamed) cutover hint turns stage (λ same. tt) tt tt
+  by drain = tt
 drained_done cutover hint Resting hold waits renamed done = tt
 drained_done cutover hint (Ending clearing) hold waits renamed done = tt
 drained_done cutover hint (Finishing clearing) hold waits renamed done = done
@@ -473,25 +474,44 @@ module _ (plan : PlanData) (cutover : CutOver) (own : cutover.table ≡ plan.tab
 
   -- IN AN ATTEMPT
 
-  attempt_goes : (asked : Asked) (stage : Stage) → Is asked answer (Attempting (inspector_stage stage answer)) → InspectorOld (Attempting stage) → InspectorNew asked (Attempting stage)
+  attempt_goes : (asked : Asked) (stage : Stage) → Is asked answer (Attempting (inspector_stage cutover.has_counter stage answer)) → InspectorOld (Attempting stage) → InspectorNew asked (Attempting stage)
   attempt_goes asked stage is old = makes asked (Attempting stage) (by (is_bad answer)) (done (is_bad answer)) old where
-    by : (b : Bool) → Is asked answer (cond b (Ending Looking) (Attempting (inspector_stage stage answer)))
+    by : (b : Bool) → Is asked answer (cond b (Ending Looking) (Attempting (inspector_stage cutover.has_counter stage answer)))
     by true = record { counted = tt; passes = tt; shows = tt; holds = fewer asked answer (Attempting stage) old; drops = tt }
     by false = is
 
-    done : (b : Bool) → IsDone (cond b (Ending Looking) (Attempting (inspector_stage stage answer)))
+    done : (b : Bool) → IsDone (cond b (Ending Looking) (Attempting (inspector_stage cutover.has_counter stage answer)))
     done true = tt
     done false = tt
 
   hinting : (asked : Asked) → InspectorOld (Attempting Hinting) → InspectorNew asked (Attempting Hinting)
   hinting asked old = attempt_goes asked Hinting (by answer) old where
-    by : (one : Answer) → Is asked one (Attempting (inspector_stage Hinting one))
-    by (answers.Ok count) = record { counted = old.phase_is.counted; passes = tt; shows = tt; holds = fewer asked (answers.Ok count) (Attempting Hinting) old; drops = tt }
+    by : (one : Answer) → Is asked one (Attempting (inspector_stage cutover.has_counter Hinting one))
+    by (answers.Ok count) = at cutover.has_counter where
+      at : (b : Bool) → Is asked (answers.Ok count) (Attempting (hinted b))
+      at true = record { counted = old.phase_is.counted; passes = tt; shows = tt; holds = fewer asked (answers.Ok count) (Attempting Hinting) old; drops = tt }
+      at false = record { counted = old.phase_is.counted; passes = tt; shows = tt; holds = fewer asked (answers.Ok count) (Attempting Hinting) old; drops = tt }
     by one = record { counted = old.phase_is.counted; passes = tt; shows = tt; holds = fewer asked one (Attempting Hinting) old; drops = tt }
+
+  reading : (asked : Asked) (drain : Drain) → InspectorOld (Attempting (ReadingCounter drain)) → InspectorNew asked (Attempting (ReadingCounter drain))
+  reading asked drain old = attempt_goes asked (ReadingCounter drain) (by drain old answer) old where
+    by : (drain : Drain) → InspectorOld (Attempting (ReadingCounter drain)) → (one : Answer) → Is asked one (Attempting (inspector_stage cutover.has_counter (ReadingCounter drain) one))
+    by (Turns turns) old (answers.At number) = record { counted = old.phase_is.counted; passes = tt; shows = tt; holds = fewer asked (answers.At number) (Attempting (ReadingCounter (Turns turns))) old; drops = tt }
+    by Passed old (answers.At number) = record { counted = old.phase_is.counted; passes = old.phase_is.passes; shows = tt; holds = fewer asked (answers.At number) (Attempting (ReadingCounter Passed)) old; drops = tt }
+    by (Turns turns) old one = record { counted = old.phase_is.counted; passes = tt; shows = tt; holds = fewer asked one (Attempting (ReadingCounter (Turns turns))) old; drops = tt }
+    by Passed old one = record { counted = old.phase_is.counted; passes = old.phase_is.passes; shows = tt; holds = fewer asked one (Attempting (ReadingCounter Passed)) old; drops = tt }
+
+  setting : (asked : Asked) (number : ℕ) (drain : Drain) → InspectorOld (Attempting (SettingCounter number drain)) → InspectorNew asked (Attempting (SettingCounter number drain))
+  setting asked number drain old = attempt_goes asked (SettingCounter number drain) (by drain old answer) old where
+    by : (drain : Drain) → InspectorOld (Attempting (SettingCounter number drain)) → (one : Answer) → Is asked one (Attempting (inspector_stage cutover.has_counter (SettingCounter number drain) one))
+    by (Turns turns) old (answers.Ok count) = record { counted = old.phase_is.counted; passes = tt; shows = tt; holds = fewer asked (answers.Ok count) (Attempting (SettingCounter number (Turns turns))) old; drops = tt }
+    by Passed old (answers.Ok count) = record { counted = old.phase_is.counted; passes = old.phase_is.passes; shows = tt; holds = fewer asked (answers.Ok count) (Attempting (SettingCounter number Passed)) old; drops = tt }
+    by (Turns turns) old one = record { counted = old.phase_is.counted; passes = tt; shows = tt; holds = fewer asked one (Attempting (SettingCounter number (Turns turns))) old; drops = tt }
+    by Passed old one = record { counted = old.phase_is.counted; passes = old.phase_is.passes; shows = tt; holds = fewer asked one (Attempting (SettingCounter number Passed)) old; drops = tt }
 
   showing : (asked : Asked) → ((waiters : List ShownWaiter) → answer ≡ answers.Waiting waiters → has_session told.shown.session waiters ≡ true) → InspectorOld (Attempting Showing) → InspectorNew asked (Attempting Showing)
   showing asked shows old = attempt_goes asked Showing (by answer refl) old where
-    by : (one : Answer) → answer ≡ one → Is asked one (Attempting (inspector_stage Showing one))
+    by : (one : Answer) → answer ≡ one → Is asked one (Attempting (inspector_stage cutover.has_counter Showing one))
     by (answers.Waiting waiters) same = at (shows_wait waiters) where
       at : (b : Bool) → Is asked (answers.Waiting waiters) (Attempting (cond b Dropping Showing))
       at true = record { counted = old.phase_is.counted; passes = tt; shows = or_right told.shown.shown (has_session told.shown.session waiters) (shows waiters same); holds = fewer asked (answers.Waiting waiters) (Attempting Showing) old; drops = tt }
@@ -579,6 +599,8 @@ module _ (plan : PlanData) (cutover : CutOver) (own : cutover.table ≡ plan.tab
   pub inspector_order : (phase : Phase) (request : Request) → inspector_call cutover phase ≡ Some request → answers_to request answer ≡ true → (phase ≡ Attempting Showing → request ≡ requests.ShowWaiting → (waiters : List ShownWaiter) → answer ≡ answers.Waiting waiters → has_session told.shown.session waiters ≡ true)
       → InspectorOld phase → InspectorNew (Call request) phase
   inspector_order (Attempting Hinting) request call fits shows old = hinting (Call request) old
+  inspector_order (Attempting (ReadingCounter drain)) request call fits shows old = reading (Call request) drain old
+  inspector_order (Attempting (SettingCounter number drain)) request call fits shows old = setting (Call request) number drain old
   inspector_order (Attempting Showing) request call fits shows old = showing (Call request) (shows refl (let same : request ≡ requests.ShowWaiting = cc in same)) old
   inspector_order (Attempting stage) request call fits shows old = absurd cc
   inspector_order (Ending Looking) request call fits shows old = at (is_free cutover.hold cutover.renamer_waits) refl call where
@@ -598,6 +620,20 @@ module _ (plan : PlanData) (cutover : CutOver) (own : cutover.table ≡ plan.tab
       some_request (λ r. InspectorNew (Call r) (Finishing (Drops left))) (requests.Drop (first_name cutover.table left)) request call (finishing_drops left (first_name cutover.table left) old)
   inspector_order Resting request call fits shows old = absurd cc
   inspector_order Finished request call fits shows old = absurd cc
+
+  -- the request that sets the counter is polled
+  polled_ends : (table : List ℕ) (number : ℕ) (one : Answer) → answers_to (requests.SetCounter table number) one ≡ true → ending_after cutover Looking one ≡ Ending Looking
+  polled_ends table number answers.Lost fits = refl
+  polled_ends table number (answers.TimedOut waited) fits = refl
+  polled_ends table number (answers.Tables tables) fits = absurd (false≢true fits)
+  polled_ends table number one fits = refl
+
+  pub polled_order : (phase : Phase) (request : Request) → SetsCounter plan phase request → answers_to request answer ≡ true → InspectorOld phase → InspectorNew Poll phase
+  polled_order (Attempting (SettingCounter number drain)) request sets fits old = setting Poll number drain old
+  polled_order (Ending Looking) request sets fits old =
+      let still : ending_after cutover Looking answer ≡ Ending Looking = polled_ends (ghost_name plan.table) sets.0 answer (ap (λ (r : Request). answers_to r answer) (sym sets.1) ∙ fits) in
+      makes Poll (Ending Looking) (subst (Is Poll answer) (sym still) (record { counted = tt; passes = tt; shows = tt; holds = fewer Poll answer (Ending Looking) old; drops = tt })) (subst IsDone (sym still) tt) old
+  polled_order phase request sets fits old = absurd sets
 
 -- its session is lost between calls
 pub inspector_lost_order : (plan : PlanData) (cutover : CutOver) (told : Words) (live : Option ℕ) (applier : Applier) (session : ℕ) → OrderedAt plan told live cutover.attempts cutover.hold cutover.renamer_waits cutover.is_asked cutover.drops_old cutover.phase applier

@@ -56,6 +56,7 @@ use Rattle.proof_journals.proofs.Machine.Journals.{IsRun, IsTogether, Asking, ca
 use Rattle.proof_journals.proofs.Machine.Seated.{IsKnown, IsServed, own_fits, own_given, own_missed, own_prompt, own_session}
 use Rattle.proof_journals.proofs.Machine.Tabling.{back_quiet, free_idle}
 use Rattle.proof_migration.proofs.Attempt.Stages.{RenamerAt, StandsAt}
+use Rattle.proof_migration.specs.InspectorWaits.{IsSettingCounter}
 use Rattle.proof_migration.proofs.Attempt.Standing.{IsStanding, ToolPhaseAt, no_asking}
 use Rattle.proof_migration.proofs.ToolPhase.Owners.{commands_operator}
 use Rattle.proof_migration.proofs.ToolPhase.ToolPhaseTurns.{Kept, UnfitKeeps, CopyKeeps, ApplyKeeps, SetupKeeps, AnswerKeeps, ResizeKeeps, turn_kept, gives_asked}
@@ -65,7 +66,7 @@ use Rattle.proof_order.proofs.Phases.{PhaseOrder, passes_more, ended_order, drai
 use Rattle.proof_order.proofs.Hints.{AppliedAt, AsksSo, calls_it, polls_it, took_applied, unfit_same, passed_more}
 use Rattle.proof_order.proofs.Needs.{NeedsNames, needs_more}
 use Rattle.proof_order.proofs.Waits.{ShownBy, show_called, shows_session}
-use Rattle.proof_order.proofs.Roles.{OrderedAt, LockerTold, lost_holds, ended_done, drained_done, locker_order, locker_lost_order, renamer_calls, renamer_polls, renamer_lost_order, renaming_off, inspector_order, inspector_lost_order}
+use Rattle.proof_order.proofs.Roles.{OrderedAt, LockerTold, lost_holds, ended_done, drained_done, locker_order, locker_lost_order, renamer_calls, renamer_polls, renamer_lost_order, renaming_off, inspector_order, polled_order, inspector_lost_order}
 
 -- WHAT IS SO
 
@@ -133,7 +134,7 @@ renamer_next cutover Finished request is = absurd cc
 
 -- ONE TURN
 
-module _ (plan : PlanData) (journal : List Entry) (entry : Entry) (run : IsRun plan journal entry) (standing : IsStanding plan journal) (idle : (standing_of plan journal Insp).waits ≡ None) (is : IsOrdered plan journal) where
+module _ (plan : PlanData) (journal : List Entry) (entry : Entry) (run : IsRun plan journal entry) (standing : IsStanding plan journal) (waits_so : (request : Request) → (standing_of plan journal Insp).waits ≡ Some request → IsSettingCounter plan (moment plan journal).tool.tool_phase request) (is : IsOrdered plan journal) where
   abbrev now : Moment
   now = moment plan journal
 
@@ -497,7 +498,9 @@ module _ (plan : PlanData) (journal : List Entry) (entry : Entry) (run : IsRun p
 
   inspector_turn : (work : Work) → now.tool.tool_phase ≡ Migrating work → entry.actor ≡ Insp → Asking plan journal Insp entry.asked → (tries : List ℕ) → New (is_reverting tool.reason) (Migrating (record work { cutover = cutovers.took Inspector work.cutover entry.answer; attempt_tries = tries }))
   unfolding cutovers.took attempts.next
-  inspector_turn work eq who (polls_so request asks some) tries = none_some request (has Insp).waits idle some
+  inspector_turn work eq who (polls_so request asks some) tries =
+      leaves Insp Poll entry.answer who asks refl refl (Migrating (record work { cutover = cutovers.took Inspector work.cutover entry.answer; attempt_tries = tries }))
+      (polled_order plan work.cutover (own_table work eq) told live work.applier entry.session entry.answer work.cutover.phase request (subst (λ (c : ToolPhase). IsSettingCounter plan c request) eq (waits_so request some)) (fits Insp request who (is_polled asks some)) (old_at (Migrating work) eq))
   inspector_turn work eq who (calls_so request asks none call) tries =
       leaves Insp (Call request) entry.answer who asks refl refl (Migrating (record work { cutover = cutovers.took Inspector work.cutover entry.answer; attempt_tries = tries }))
       (inspector_order plan work.cutover (own_table work eq) told live work.applier entry.session entry.answer work.cutover.phase request (ap (λ (c : ToolPhase). tool_call plan now.server journal now.tool c Insp) (sym eq) ∙ call) (fits Insp request who (is_called asks none))

@@ -1,6 +1,8 @@
 -- *The order of the cut-over*, read from the journal alone: who called what, and what was answered. The sentry is dropped once
--- the RENAME was seen to wait, under the lock; the RENAME is called once a hint row of its own attempt was applied; nothing is
--- read of the log from then on; and an attempt that failed is cleared up once nobody holds or waits. (gh-ost, "Cut-over".)
+-- the RENAME was seen to wait, under the lock; the RENAME is called once a hint row of its own attempt was applied, and once the new
+-- table's counter was set to what the old table's was shown to be under the lock, where it has one; nothing is read of the log from
+-- then on; and an attempt that failed is cleared up once nobody holds or waits. (gh-ost, "Cut-over"; the counter is this project's
+-- rule.)
 use Rattle.std.specs.Prelude.{◌≡◌, ℕ, ◌+◌, ◌==◌, Bool, true, false, ◌&&◌, ◌||◌, not, if◌then◌else◌, List, [], ◌∷◌, fold, Option, Some, None}
 use Rattle.std.specs.List.{list_any}
 use Rattle.std.specs.Str.{bytes_eq}
@@ -9,19 +11,19 @@ use Rattle.base_script.specs.declared.actor.Actor.TheVariants.{Insp, Apply, Lock
 use Rattle.base_script.specs.declared.statement.Statement.TheVariants as statements
 use Rattle.base_values.specs.declared.event.RowEvent.{RowEvent}
 use Rattle.base_values.specs.declared.value.Value.{Value}
-use Rattle.base_values.specs.ToolNames.{log_name, old_name}
+use Rattle.base_values.specs.ToolNames.{ghost_name, log_name, old_name}
 use Rattle.server_model.specs.Along.{Along}
 use Rattle.server_model.specs.Entries.{same_actor, request_in}
 use Rattle.server_model.specs.declared.answer.Answer.{Answer}
 use Rattle.server_model.specs.declared.answer.Answer.TheVariants as answers
 use Rattle.server_model.specs.declared.entry.Asked.{Asked}
-use Rattle.server_model.specs.declared.entry.Asked.TheVariants.{Call}
+use Rattle.server_model.specs.declared.entry.Asked.TheVariants.{Call, Cut}
 use Rattle.server_model.specs.declared.entry.Entry.{Entry}
 use Rattle.server_model.specs.declared.listing.ShownWaiter.{ShownWaiter}
 use Rattle.server_model.specs.declared.listing.TableName.{TableName}
 use Rattle.server_model.specs.declared.request.Request.{Request}
 use Rattle.server_model.specs.declared.request.Request.TheVariants as requests
-use Rattle.plan_data.specs.PlanData.{PlanData}
+use Rattle.plan_data.specs.PlanData.{PlanData, has_counter}
 use Rattle.tool_changelog.specs.Hints.{hint_row, last_hint}
 use Rattle.tool_program.specs.CutoverCore.Attempts.{has_sentry}
 
@@ -44,6 +46,15 @@ answer_after actor other answer last = if same_actor other actor then Some answe
 -- *Last answer*: what the actor was answered last, by the turns so far.
 unfoldable pub last_answer : Actor → List Entry → Option Answer
 last_answer actor journal = fold (λ last entry. answer_after actor entry.actor entry.answer last) None journal
+
+-- a loss between calls is the answer to no call
+abbrev pub reply_after : Actor → Actor → Asked → Answer → Option Answer → Option Answer
+reply_after actor other Cut answer last = last
+reply_after actor other asked answer last = answer_after actor other answer last
+
+-- *Last reply*: what the actor was answered last when it called or polled, by the turns so far.
+unfoldable pub last_reply : Actor → List Entry → Option Answer
+last_reply actor journal = fold (λ last entry. reply_after actor entry.actor entry.asked entry.answer last) None journal
 
 -- who was answered so last waits
 abbrev pub waits_so : Option Answer → Bool
@@ -154,6 +165,22 @@ hints_after plan actor asked answer hints = hints
 unfoldable pub hints_applied : PlanData → List Entry → Hints
 hints_applied plan journal = fold (λ hints entry. hints_after plan entry.actor entry.asked entry.answer hints) (record { passed = []; last = 0; read = 0 }) journal
 
+-- THE COUNTER
+
+-- who called this last, and was answered so, was shown that the table's counter is this number
+abbrev pub shown_so : List ℕ → ℕ → Option Request → Option Answer → Bool
+shown_so table number (Some (requests.ShowCounter name)) (Some (answers.At shown)) = bytes_eq name table && (shown == number)
+shown_so table number call answer = false
+
+-- who called this last, and was answered so, set the table's counter
+abbrev pub set_so : List ℕ → Option Request → Option Answer → Bool
+set_so table (Some (requests.SetCounter name number)) (Some (answers.Ok count)) = bytes_eq name table
+set_so table call answer = false
+
+-- the inspector set the new table's counter, and called nothing since
+abbrev pub is_carried : PlanData → List Entry → Bool
+is_carried plan before = set_so (ghost_name plan.table) (last_call Insp before) (last_reply Insp before)
+
 -- WHAT IS ASKED OF A CALL
 
 -- The locker drops the sentry alone, once the RENAME was seen to wait, and under the lock. In an attempt the inspector drops
@@ -166,9 +193,11 @@ drops_well plan before Insp (requests.Drop name) =
 drops_well plan before actor (requests.Drop name) = false
 drops_well plan before actor request = true
 
--- The renamer alone renames: under the lock, once the hint row of the attempt that was begun last was applied.
+-- The renamer alone renames: under the lock, once the hint row of the attempt that was begun last was applied, and where the table
+-- has a counter once the new table's is set.
 abbrev pub renames_well : PlanData → List Entry → Actor → Request → Bool
-renames_well plan before Ren (requests.Rename pairs) = list_any (λ attempt. attempt == attempts_begun before) (hints_applied plan before).passed && is_locked before
+renames_well plan before Ren (requests.Rename pairs) =
+    list_any (λ attempt. attempt == attempts_begun before) (hints_applied plan before).passed && is_locked before && (not (has_counter plan) || is_carried plan before)
 renames_well plan before actor (requests.Rename pairs) = false
 renames_well plan before actor request = true
 
@@ -183,6 +212,16 @@ abbrev pub clears_well : List Entry → Actor → Request → Bool
 clears_well before Insp requests.ShowTables = is_renamed before || is_at_rest before
 clears_well before Insp (requests.Drop name) = is_renamed before || is_at_rest before
 clears_well before actor request = true
+
+-- The inspector alone asks for a counter, and sets one: the old table's is shown to it under the lock, and at once it sets the new
+-- table's to that number.
+abbrev pub counts_well : PlanData → List Entry → Actor → Request → Bool
+counts_well plan before Insp (requests.ShowCounter name) = bytes_eq name plan.table && is_locked before
+counts_well plan before Insp (requests.SetCounter name number) =
+    bytes_eq name (ghost_name plan.table) && shown_so plan.table number (last_call Insp before) (last_reply Insp before) && is_locked before
+counts_well plan before actor (requests.ShowCounter name) = false
+counts_well plan before actor (requests.SetCounter name number) = false
+counts_well plan before actor request = true
 
 -- what the inspector writes is the hint row of the attempt that was begun last, under the lock
 pub record IsHint (plan : PlanData) (before : List Entry) (table : List ℕ) (row : List Value) : Type 0 where
@@ -201,6 +240,7 @@ pub record IsOrderedCall (plan : PlanData) (before : List Entry) (actor : Actor)
   pub reads : reads_well plan before actor request ≡ true
   pub clears : clears_well before actor request ≡ true
   pub hints : HintsWell plan before actor request
+  pub counts : counts_well plan before actor request ≡ true
 
 abbrev pub IsOrderedTurn : PlanData → List Entry → Actor → Option Request → Type 0
 IsOrderedTurn plan before (Client client) request = Unit {0}

@@ -8,5 +8,6 @@ pub mod Quiet
 pub mod Accepted
 pub mod Unblocked
 pub mod Prompt
+pub mod Uncarried
 pub mod Unwaited
 pub mod WaitsOver

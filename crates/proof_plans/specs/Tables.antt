@@ -6,7 +6,7 @@ use Rattle.std.specs.List.{list_all, list_any}
 use Rattle.std.specs.Str.{bytes_eq}
 use Rattle.table_store.specs.Databases.{TableRows, find_table, name_table}
 use Rattle.server_model.specs.Along.{Along}
-use Rattle.server_model.specs.States.{names_in}
+use Rattle.server_model.specs.States.{tables_named}
 use Rattle.server_model.specs.declared.answer.Answer.{Answer}
 use Rattle.server_model.specs.declared.answer.Answer.TheVariants as answers
 use Rattle.server_model.specs.declared.entry.Entry.{Entry}
@@ -24,7 +24,7 @@ is_missing reported = false
 
 -- the request names no table but this one
 abbrev pub names_alone : List ℕ → Request → Bool
-names_alone table request = list_all (bytes_eq table) (names_in request)
+names_alone table request = list_all (bytes_eq table) (tables_named request)
 
 abbrev pub IsFound : List ℕ → Option Request → Option Answer → Type 0
 IsFound table None reported = Unit {0}

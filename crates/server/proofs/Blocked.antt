@@ -97,6 +97,7 @@ within_looks busy seen state number requests.LogEnd look = refl
 within_looks busy seen state number (requests.ReadLog position limit tables) look = refl
 within_looks busy seen state number requests.ShowTables look = refl
 within_looks busy seen state number requests.ShowWaiting look = refl
+within_looks busy seen state number (requests.ShowCounter table) look = refl
 within_looks busy seen state number requests.Begin look = absurd (false≢true look)
 within_looks busy seen state number requests.Commit look = absurd (false≢true look)
 within_looks busy seen state number requests.Rollback look = absurd (false≢true look)
@@ -108,6 +109,7 @@ within_looks busy seen state number requests.Unlock look = absurd (false≢true 
 within_looks busy seen state number (requests.Create schema) look = absurd (false≢true look)
 within_looks busy seen state number (requests.Drop name) look = absurd (false≢true look)
 within_looks busy seen state number (requests.Rename pairs) look = absurd (false≢true look)
+within_looks busy seen state number (requests.SetCounter table least) look = absurd (false≢true look)
 
 filled_looks : (tool : Bool) (tables : Database) (counters : List Counter) (request : Request) → is_look request ≡ true → filled_for tool tables counters request ≡ request
 filled_looks = filled_case (λ asked full. is_look asked ≡ true → full ≡ asked) (λ r look. refl) (λ statement n look. absurd (false≢true look))
@@ -119,6 +121,7 @@ counted_looks state number (requests.Do statement) answer look = absurd (false�
 counted_looks state number (requests.Create schema) answer look = absurd (false≢true look)
 counted_looks state number (requests.Drop name) answer look = absurd (false≢true look)
 counted_looks state number (requests.Rename pairs) answer look = absurd (false≢true look)
+counted_looks state number (requests.SetCounter table least) answer look = absurd (false≢true look)
 counted_looks state number request answer look = refl
 
 done_looks : (state : State) (number : ℕ) (request : Request) → is_look request ≡ true → (done state number request).after ≡ state

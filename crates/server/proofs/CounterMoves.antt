@@ -81,15 +81,21 @@ pub renamed_counted : (state : State) (number : ℕ) (pairs : List Pair) (answer
 unfolding counted
 renamed_counted state number pairs answer after is = defined_counters answer after (counters_renamed pairs) state.counters is
 
+-- a counter that is set
+pub set_counted : (state : State) (number : ℕ) (table : List ℕ) (least : ℕ) (answer : Answer) → counts_if answer (counters_from table least) state.counters ≡ counted state number (Some (requests.SetCounter table least)) answer
+unfolding counted
+set_counted state number table least answer = refl
+
 -- any other request moves none
 pub others_stay : (state : State) (number : ℕ) (request : Request) (answer : Answer) → ((statement : Statement) → request ≡ requests.Do statement → ⊥) → ((schema : Schema) → request ≡ requests.Create schema → ⊥) → ((name : List ℕ) → request ≡ requests.Drop name → ⊥) → ((pairs : List Pair) → request ≡ requests.Rename pairs → ⊥)
-    → state.counters ≡ counted state number (Some request) answer
+    → ((table : List ℕ) (least : ℕ) → request ≡ requests.SetCounter table least → ⊥) → state.counters ≡ counted state number (Some request) answer
 unfolding counted
-others_stay state number (requests.Do statement) answer does creates drops renames = absurd (does statement refl)
-others_stay state number (requests.Create schema) answer does creates drops renames = absurd (creates schema refl)
-others_stay state number (requests.Drop name) answer does creates drops renames = absurd (drops name refl)
-others_stay state number (requests.Rename pairs) answer does creates drops renames = absurd (renames pairs refl)
-others_stay state number request answer does creates drops renames = refl
+others_stay state number (requests.Do statement) answer does creates drops renames sets = absurd (does statement refl)
+others_stay state number (requests.Create schema) answer does creates drops renames sets = absurd (creates schema refl)
+others_stay state number (requests.Drop name) answer does creates drops renames sets = absurd (drops name refl)
+others_stay state number (requests.Rename pairs) answer does creates drops renames sets = absurd (renames pairs refl)
+others_stay state number (requests.SetCounter table least) answer does creates drops renames sets = absurd (sets table least refl)
+others_stay state number request answer does creates drops renames sets = refl
 
 -- WHAT IS DRAWN
 

@@ -172,6 +172,8 @@ within_ended busy seen state number requests.LogEnd some = refl
 within_ended busy seen state number (requests.ReadLog position limit tables) some = refl
 within_ended busy seen state number requests.ShowTables some = refl
 within_ended busy seen state number requests.ShowWaiting some = absurd (some refl)
+within_ended busy seen state number (requests.ShowCounter table) some = refl
+within_ended busy seen state number (requests.SetCounter table least) some = refl
 
 effect_ended : (outside busy : Bool) (seen : Database) (state : State) (number : ℕ) (request : Request) → names_in request ≢ [] → effect_unless outside busy seen (without_waiting number state) request ≡ effect_unless outside busy seen state request
 effect_ended true busy seen state number request some = refl

@@ -49,6 +49,7 @@ is_look requests.LogEnd = true
 is_look (requests.ReadLog position limit tables) = true
 is_look requests.ShowTables = true
 is_look requests.ShowWaiting = true
+is_look (requests.ShowCounter table) = true
 is_look request = false
 
 -- what is done before the session is lost: what it asked, where it is lost after that

@@ -70,6 +70,10 @@ pub fn counter_move<'a, D: Data>(
         Request::Create(schema) => Ok(CounterMove::Become(all_sessions.counters_with(schema)?)),
         Request::Drop(name) => Ok(CounterMove::Become(all_sessions.counters_without(name)?)),
         Request::Rename(pairs) => Ok(CounterMove::Become(all_sessions.counters_renamed(pairs)?)),
+        Request::SetCounter { table, number } => Ok(CounterMove::Set {
+            table,
+            number: *number,
+        }),
         _ => Ok(CounterMove::Stay),
     }
 }

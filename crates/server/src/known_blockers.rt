@@ -99,7 +99,8 @@ fn is_look(request: &Request) -> bool
         | Request::LogEnd
         | Request::ReadLog { .. }
         | Request::ShowTables
-        | Request::ShowWaiting => true,
+        | Request::ShowWaiting
+        | Request::ShowCounter(_) => true,
         _ => false,
     }
 }

@@ -4,6 +4,7 @@
 
 mod calls;
 mod commits;
+mod counter_requests;
 mod counters;
 mod definitions;
 mod drawn_answers;

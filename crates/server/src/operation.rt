@@ -9,6 +9,7 @@ ghost use Rattle.server_model.specs.States.{is_in_transaction, session_of, view}
 ghost use Rattle.server.specs.Parts.{is_look, state_of, GoTogether, HaveWritten, MayDo};
 
 use crate::commits::{commit, roll_back};
+use crate::counter_requests::{counter_set, counter_shown};
 use crate::definitions::{create, drop_table, lock_tables, rename};
 use crate::results::{begin, begin_span, copy_row, statement};
 use base_values::mysql_errors::ER_TABLE_NOT_LOCKED;
@@ -48,6 +49,7 @@ fn look<D: Data>(
         } => all_sessions.read_log(*position, *limit, tables),
         Request::ShowTables => Ok(Answer::Tables(tables_shown(alloc, tables)?)),
         Request::ShowWaiting => Ok(Answer::Waiting(all_sessions.waits_shown()?)),
+        Request::ShowCounter(table) => Ok(counter_shown(tables, all_sessions, table)),
         _ => unreachable!(),
     }
 }
@@ -112,6 +114,7 @@ fn do_inside<D: Data>(
         Request::Create(schema) => create(store, schema),
         Request::Drop(name) => Ok(drop_table(store, name)),
         Request::Rename(pairs) => rename(store, pairs),
+        Request::SetCounter { table, .. } => Ok(counter_set(store.tables(), table)),
         _ => look(store, all_sessions, request),
     }
 }

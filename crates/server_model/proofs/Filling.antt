@@ -37,6 +37,8 @@ filled_case P same numbers tool tables counters requests.LogEnd = same requests.
 filled_case P same numbers tool tables counters (requests.ReadLog position limit names) = same (requests.ReadLog position limit names)
 filled_case P same numbers tool tables counters requests.ShowTables = same requests.ShowTables
 filled_case P same numbers tool tables counters requests.ShowWaiting = same requests.ShowWaiting
+filled_case P same numbers tool tables counters (requests.ShowCounter table) = same (requests.ShowCounter table)
+filled_case P same numbers tool tables counters (requests.SetCounter table number) = same (requests.SetCounter table number)
 
 pub filled_exclusive : (tool : Bool) (tables : Database) (counters : List Counter) (request : Request) → is_exclusive (filled_for tool tables counters request) ≡ is_exclusive request
 filled_exclusive tool tables counters request = filled_case (λ asked full. is_exclusive full ≡ is_exclusive asked) (λ r. refl) (λ s n. refl) tool tables counters request
@@ -61,6 +63,8 @@ filled_tool tables counters requests.LogEnd = refl
 filled_tool tables counters (requests.ReadLog position limit names) = refl
 filled_tool tables counters requests.ShowTables = refl
 filled_tool tables counters requests.ShowWaiting = refl
+filled_tool tables counters (requests.ShowCounter table) = refl
+filled_tool tables counters (requests.SetCounter table number) = refl
 
 -- what needs its names exclusively is filled as it is
 pub filled_taking : (tool : Bool) (tables : Database) (counters : List Counter) (request : Request) → is_exclusive request ≡ true → filled_for tool tables counters request ≡ request

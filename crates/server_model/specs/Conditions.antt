@@ -31,6 +31,7 @@ ComesWell busy locked (requests.BeginSpan table span size) = (busy ≡ false) ×
 ComesWell busy locked (requests.LockTables names) = (busy ≡ false) × (locked ≡ false)
 ComesWell busy locked (requests.Drop name) = busy ≡ false
 ComesWell busy locked (requests.Rename pairs) = busy ≡ false
+ComesWell busy locked (requests.SetCounter table number) = busy ≡ false
 ComesWell busy locked requests.Commit = busy ≡ true
 ComesWell busy locked requests.Rollback = busy ≡ true
 ComesWell busy locked (requests.CopyRow from into map key) = busy ≡ true

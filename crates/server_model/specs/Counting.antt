@@ -79,7 +79,8 @@ counts None drawn statement answer counters = counters
 counts (Some table) drawn statement answer counters =
     counters_from table.schema.name (given_by answer (gives_in table.schema (auto_place table.schema) (numbered drawn statement))) (counters_from table.schema.name (after_drawn drawn) counters)
 
--- a table that was made has a counter, one that was dropped has none, and a counter goes with its table
+-- a table that was made has a counter, one that was dropped has none, a counter goes with its table, and one that is set is no
+-- less than its number
 abbrev pub counts_if : Answer → (List Counter → List Counter) → List Counter → List Counter
 counts_if (answers.Ok count) change counters = change counters
 counts_if answer change counters = counters
@@ -91,4 +92,5 @@ counted state number (Some (requests.Do statement)) answer =
 counted state number (Some (requests.Create schema)) answer = counts_if answer (λ counters. counters ++ counter_of (record { schema = schema; rows = [] })) state.counters
 counted state number (Some (requests.Drop name)) answer = counts_if answer (counters_without name) state.counters
 counted state number (Some (requests.Rename pairs)) answer = counts_if answer (counters_renamed pairs) state.counters
+counted state number (Some (requests.SetCounter table least)) answer = counts_if answer (counters_from table least) state.counters
 counted state number asks answer = state.counters

@@ -1,7 +1,8 @@
 -- *Deed*: what a request does once its locks are granted. (MySQL's manual, "START TRANSACTION, COMMIT, and ROLLBACK
 -- Statements", "autocommit, Commit, and Rollback", "LOCK TABLES and UNLOCK TABLES Statements", "CREATE TABLE Statement",
--- "DROP TABLE Statement", "RENAME TABLE Statement"; the requests of the copy and of the log are this project's rule.)
-use Rattle.std.specs.Prelude.{ℕ, Bool, true, false, not, List, [], ◌∷◌, ◌++◌, length, Option, Some, None, Result, Ok, Err}
+-- "DROP TABLE Statement", "RENAME TABLE Statement", "ALTER TABLE Statement" for a counter that is set; the requests of the copy
+-- and of the log are this project's rule. Where a counter is set, `Counting` says how it moves.)
+use Rattle.std.specs.Prelude.{ℕ, Bool, true, false, not, List, [], ◌∷◌, ◌++◌, length, unwrap_or, Option, Some, None, Result, Ok, Err}
 use Rattle.std.specs.List.{list_any}
 use Rattle.std.specs.Str.{bytes_eq}
 use Rattle.base_values.specs.declared.span.Span.{Span}
@@ -21,7 +22,7 @@ use Rattle.server_model.specs.declared.need.Need.{Need}
 use Rattle.server_model.specs.Answers.{ok, refuses}
 use Rattle.server_model.specs.Operations.{statement_result, operation_result, copy_operation}
 use Rattle.server_model.specs.Chunks.{keys_of, ends_of, chunk_end, span_keys}
-use Rattle.server_model.specs.States.{State, session_of, is_in_transaction, view, locked_names, tables_named}
+use Rattle.server_model.specs.States.{State, session_of, is_in_transaction, view, locked_names, tables_named, next_of}
 use Rattle.server_model.specs.Blockers.{need_within}
 use Rattle.server_model.specs.Listings.{events_read, tables_shown, waits_shown}
 
@@ -105,6 +106,8 @@ effect_within busy seen state requests.LogEnd = Rests (answers.At (length state.
 effect_within busy seen state (requests.ReadLog position limit tables) = Rests (events_read position limit tables state.log)
 effect_within busy seen state requests.ShowTables = Rests (answers.Tables (tables_shown state.tables))
 effect_within busy seen state requests.ShowWaiting = Rests (answers.Waiting (waits_shown state))
+effect_within busy seen state (requests.ShowCounter table) = Rests (of_table (find_table table state.tables) (λ t. answers.At (unwrap_or (next_of table state.counters) 0)))
+effect_within busy seen state (requests.SetCounter table number) = Rests (of_table (find_table table state.tables) (λ t. ok))
 
 -- The session holds LOCK TABLES and the request names a table that it hasn't locked (MySQL's manual, "LOCK TABLES and
 -- UNLOCK TABLES Statements").

@@ -191,11 +191,13 @@ names_in (requests.LockTables names) = names
 names_in (requests.Create schema) = schema.name ∷ []
 names_in (requests.Drop name) = name ∷ []
 names_in (requests.Rename pairs) = pair_names pairs
+names_in (requests.SetCounter table number) = table ∷ []
 names_in request = []
 
--- the tables that a request names, those included whose events it reads
+-- the tables that a request names, those included whose events or counters it reads
 abbrev pub tables_named : Request → List (List ℕ)
 tables_named (requests.ReadLog position limit tables) = tables
+tables_named (requests.ShowCounter table) = table ∷ []
 tables_named request = names_in request
 
 -- the request needs its names exclusively (MySQL's manual, "Metadata Locking")
@@ -204,6 +206,7 @@ is_exclusive (requests.LockTables names) = true
 is_exclusive (requests.Create schema) = true
 is_exclusive (requests.Drop name) = true
 is_exclusive (requests.Rename pairs) = true
+is_exclusive (requests.SetCounter table number) = true
 is_exclusive request = false
 
 -- who waits for names exclusively, in the order in which they came, in the words of `server_locks::metadata_locks`

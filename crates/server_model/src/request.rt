@@ -77,6 +77,15 @@ pub enum Request {
     ShowTables,
     /// The sessions that wait for names of tables exclusively.
     ShowWaiting,
+    /// The number that the AUTO_INCREMENT column of a table gets next; 0 where it has no such column.
+    ShowCounter(Name),
+    /// ALTER TABLE .. AUTO_INCREMENT: the column gets no lesser number than this one next.
+    SetCounter {
+        /// The table's name.
+        table: Name,
+        /// The number.
+        number: u64,
+    },
 }
 
 // By hand: crates above then take it as one call, and don't drop each part on each path again. The calls of `drop` have that of
@@ -85,7 +94,10 @@ impl Drop for Request {
     fn drop(self) {
         match self {
             Request::Do(statement) => drop(statement),
-            Request::Ends(table) | Request::Drop(table) => drop(table),
+            Request::Ends(table)
+            | Request::Drop(table)
+            | Request::ShowCounter(table)
+            | Request::SetCounter { table, number: _ } => drop(table),
             Request::ChunkEnd {
                 table,
                 low,
@@ -186,6 +198,11 @@ impl Duplicate for Request {
             },
             Request::ShowTables => Request::ShowTables,
             Request::ShowWaiting => Request::ShowWaiting,
+            Request::ShowCounter(table) => Request::ShowCounter(table.copy()?),
+            Request::SetCounter { table, number } => Request::SetCounter {
+                table: table.copy()?,
+                number: *number,
+            },
         })
     }
 }

@@ -24,8 +24,9 @@ use Rattle.plan_data.specs.PlanData.{PlanData, old_schema, new_map}
 use Rattle.tool_program.specs.EventApplier.Appliers as appliers
 use Rattle.tool_program.specs.declared.cutover_core.cutover.Phase.{Phase}
 use Rattle.tool_program.specs.declared.cutover_core.cutover.Phase.TheVariants.{Attempting}
-use Rattle.tool_program.specs.declared.cutover_core.cutover.Stage.TheVariants.{Draining}
-use Rattle.tool_program.specs.CutoverCore.CutOvers.{is_wait, may_succeed, is_resting}
+use Rattle.tool_program.specs.declared.cutover_core.cutover.Drain.{Drain}
+use Rattle.tool_program.specs.declared.cutover_core.cutover.Drain.TheVariants.{Turns}
+use Rattle.tool_program.specs.CutoverCore.CutOvers.{drain_of, is_wait, may_succeed, is_resting}
 use Rattle.tool_program.specs.Tools.{ToolPhase, SettingUp, Migrating, Moment, moment}
 use Rattle.tool_program.specs.Verdicts.{new_column_name}
 
@@ -78,8 +79,12 @@ pub record IsLost (entry : Entry) (before : Moment) : Type 0 where
   pub lost : entry.answer ≡ answers.Lost
   pub work : entry.asked ≡ Cut → has_work before.server entry.session ≡ true
 
+abbrev pub turns_of : Option Drain → Option ℕ
+turns_of (Some (Turns turns)) = Some turns
+turns_of drain = None
+
 abbrev pub turns_in : Phase → Option ℕ
-turns_in (Attempting (Draining turns)) = Some turns
+turns_in (Attempting stage) = turns_of (drain_of stage)
 turns_in phase = None
 
 abbrev pub drained_for : ToolPhase → Option ℕ

@@ -33,10 +33,11 @@ abbrev pub only_reads : Statement → Bool
 only_reads (statements.Select table shown condition) = true
 only_reads statement = false
 
--- a call writes rows of these two alone
+-- a call writes rows of these two alone, and sets no other counter
 abbrev pub writes_own : PlanData → Request → Bool
 writes_own plan (requests.Do statement) = only_reads statement || is_written plan (table_of statement)
 writes_own plan (requests.CopyRow from into map key) = is_written plan into
+writes_own plan (requests.SetCounter table number) = is_written plan table
 writes_own plan request = true
 
 -- a call names no table of clients but the migrated one

@@ -17,7 +17,7 @@ use Rattle.server_model.specs.declared.outcome.Progress.{Progress}
 use Rattle.server_model.specs.declared.outcome.Progress.TheVariants.{Going, TaskDone, TaskFailed, Unfit}
 use Rattle.server_model.specs.declared.outcome.Task.TheVariants as tasks
 use Rattle.server_model.specs.States.{State, has_work}
-use Rattle.plan_data.specs.PlanData.{PlanData, new_schema, new_map}
+use Rattle.plan_data.specs.PlanData.{PlanData, has_counter, new_schema, new_map}
 use Rattle.base_values.specs.ToolNames.{ghost_name}
 use Rattle.tool_program.specs.JournalWords.Journals.{opening, after_entry}
 use Rattle.tool_program.specs.declared.chunk_copier.copier.Copier.{Copier}
@@ -163,7 +163,7 @@ new_work plan size position range =
       chunk_tries = [];
       applier = new_applier plan.table (record (new_schema plan) { name = ghost_name plan.table }) (new_map plan) position plan.options.dml_batch_size;
       batch_tries = [];
-      cutover = new_cutover plan.table plan.options.drain_limit plan.options.ok_to_drop_table;
+      cutover = new_cutover plan.table plan.options.drain_limit plan.options.ok_to_drop_table (has_counter plan);
       attempt_tries = [];
     }
 

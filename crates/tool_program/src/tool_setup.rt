@@ -4,6 +4,6 @@ mod alters;
 mod operator;
 mod setup;
 
-pub use alters::{new_map, new_table};
+pub use alters::{has_counter, new_map, new_table};
 pub use operator::Operator;
 pub use setup::{Setup, SetupTook};

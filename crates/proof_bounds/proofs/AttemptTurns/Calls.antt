@@ -8,12 +8,15 @@ use Rattle.server_model.specs.declared.entry.Entry.{Entry}
 use Rattle.server_model.specs.declared.request.Request.{Request}
 use Rattle.server_model.specs.declared.request.Request.TheVariants as requests
 use Rattle.server_model.specs.Entries.{is_command, is_cut}
+use Rattle.base_values.specs.ToolNames.{ghost_name}
 use Rattle.plan_data.specs.PlanData.{PlanData}
 use Rattle.tool_program.specs.JournalWords.Journals.{state_at}
 use Rattle.tool_program.specs.declared.cutover_core.cutover.Hold.TheVariants.{Locks}
 use Rattle.tool_program.specs.declared.cutover_core.cutover.Phase.{Phase}
-use Rattle.tool_program.specs.declared.cutover_core.cutover.Phase.TheVariants.{Attempting}
-use Rattle.tool_program.specs.declared.cutover_core.cutover.Stage.TheVariants.{Hinting, Drained, Showing}
+use Rattle.tool_program.specs.declared.cutover_core.cutover.Clearing.TheVariants.{Drops}
+use Rattle.tool_program.specs.declared.cutover_core.cutover.Phase.TheVariants.{Attempting, Ending}
+use Rattle.tool_program.specs.declared.cutover_core.cutover.Drain.{Drain}
+use Rattle.tool_program.specs.declared.cutover_core.cutover.Stage.TheVariants.{Hinting, ReadingCounter, SettingCounter, Drained, Showing}
 use Rattle.tool_program.specs.CutoverCore.Attempts as attempts
 use Rattle.tool_program.specs.CutoverCore.Attempts.{exchange, writes_hint}
 use Rattle.tool_program.specs.Programs.{tool_call, given}
@@ -30,13 +33,14 @@ use Rattle.proof_migration.proofs.Attempt.Stages.{RenamerAt, StandsAt}
 use Rattle.proof_migration.proofs.Attempt.Standing.{ToolPhaseAt, about_own, renamer_unlocked}
 use Rattle.proof_migration.proofs.Program.Turns.Follows.{kept_front, kept_run}
 use Rattle.proof_migration.proofs.ToolPhase.ToolPhaseTurns.{gives_asked}
+use Rattle.proof_migration.specs.InspectorWaits.{SetsCounter}
 use Rattle.proof_bounds.specs.Guards.{HasSentryAtOnce}
-use Rattle.proof_bounds.proofs.Going.{IsGoing, all_going}
+use Rattle.proof_bounds.proofs.Going.{IsGoing, all_going, insp_waits, insp_idle}
 use Rattle.proof_bounds.proofs.Guards.{sentries_made}
-use Rattle.proof_bounds.specs.AttemptTurns.Attempts.{IsNotRefused, IsOk, ShowsWait, AttemptGoes, MayTry, AttemptsGoOn}
+use Rattle.proof_bounds.specs.AttemptTurns.Attempts.{IsAt, IsNotRefused, IsOk, ShowsWait, AttemptGoes, MayTry, AttemptsGoOn}
 use Rattle.proof_bounds.proofs.AttemptTurns.Blocked.{rename_goes, listing_shows}
 use Rattle.proof_bounds.proofs.AttemptTurns.Changelogs.{hint_goes}
-use Rattle.proof_bounds.proofs.AttemptTurns.Sentries.{ToolPhaseSentry, all_sentried, locks_go, drops_go, clears_ok}
+use Rattle.proof_bounds.proofs.AttemptTurns.Sentries.{ToolPhaseSentry, all_sentried, locks_go, drops_go, clears_ok, reads_go, sets_go}
 
 module _ (plan : PlanData) (runs : IsRunnable plan) (serial : IsSerialPlan plan) (journal : List Entry) (entry : Entry) (tries : MayTry plan) (kept_more : IsKept plan (journal ++ entry ∷ [])) where
   abbrev now : Moment
@@ -100,12 +104,16 @@ module _ (plan : PlanData) (runs : IsRunnable plan) (serial : IsSerialPlan plan)
       no : None ≡ Some request → ⊥
       no same = cc
 
-    -- the inspector calls
-    insp_calls : (P : Type 0) → entry.actor ≡ Insp → ((request : Request) → entry.asked ≡ Call request → attempts.inspector_call work.cutover phase ≡ Some request → P) → P
+    -- what the inspector waits with, in this phase
+    insp_waits_in : (one : Phase) → phase ≡ one → (request : Request) → (has Insp).waits ≡ Some request → SetsCounter plan one request
+    insp_waits_in one at_phase request some = subst (λ (p : Phase). SetsCounter plan p request) at_phase (insp_waits plan runs journal entry kept run going (Migrating work) eq request some).0
+
+    -- the inspector calls, where it doesn't wait
+    insp_calls : (P : Type 0) → ((request : Request) → (has Insp).waits ≡ Some request → ⊥) → entry.actor ≡ Insp → ((request : Request) → entry.asked ≡ Call request → attempts.inspector_call work.cutover phase ≡ Some request → P) → P
     unfolding attempts.next
-    insp_calls P same then = by (insp_asking same) where
+    insp_calls P never same then = by (insp_asking same) where
       by : Asking plan journal Insp entry.asked → P
-      by (polls_so request asks some) = none_some request (has Insp).waits going.idle some
+      by (polls_so request asks some) = absurd (never request some)
       by (calls_so request asks idle call) = then request asks (ap (λ (c : ToolPhase). tool_call plan now.server journal now.tool c Insp) (sym eq) ∙ call)
 
     renames : phase ≡ Attempting Drained → entry.actor ≡ Ren → IsNotRefused entry.answer
@@ -117,7 +125,7 @@ module _ (plan : PlanData) (runs : IsRunnable plan) (serial : IsSerialPlan plan)
           by (is_called asks idle) = rename_goes plan journal entry kept run going (locked (subst (λ (p : Phase). PhaseHolds p work.cutover.hold) drained stands.phase)) same asks (renamer_unlocked plan journal entry going.standing run work eq)
 
     shows : phase ≡ Attempting Showing → entry.actor ≡ Insp → entry.side ≡ None → ShowsWait entry.answer
-    shows showing same none = insp_calls (ShowsWait entry.answer) same (λ request asks call. by request asks (subst (λ (p : Phase). attempts.inspector_call work.cutover p ≡ Some request) showing call)) where
+    shows showing same none = insp_calls (ShowsWait entry.answer) (insp_waits_in (Attempting Showing) showing) same (λ request asks call. by request asks (subst (λ (p : Phase). attempts.inspector_call work.cutover p ≡ Some request) showing call)) where
       waits : (has Ren).waits ≡ Some (exchange plan.table)
       waits = ap (λ (s : Standing). s.waits) (stands.renamer ∙ ap (renaming work.cutover.table) (subst (λ (p : Phase). RenamerAt p work.cutover.renamer_waits) showing at.renamer)) ∙ ap (λ (t : List ℕ). Some (exchange t)) own_table
 
@@ -125,24 +133,50 @@ module _ (plan : PlanData) (runs : IsRunnable plan) (serial : IsSerialPlan plan)
       by request asks call =
           some_request (λ (r : Request). entry.asked ≡ Call r → ShowsWait entry.answer) requests.ShowWaiting request call
           (λ asks_it. listing_shows plan journal entry kept run going (locked (subst (λ (p : Phase). PhaseHolds p work.cutover.hold) showing stands.phase)) waits (renamer_unlocked plan journal entry going.standing run work eq)
-          (about_own plan journal entry going.standing run Insp requests.ShowWaiting same (is_called asks_it going.idle)) asks_it none) asks
+          (about_own plan journal entry going.standing run Insp requests.ShowWaiting same (is_called asks_it (insp_idle plan runs journal entry kept run going same requests.ShowWaiting asks_it))) asks_it none) asks
 
     hints : phase ≡ Attempting Hinting → entry.actor ≡ Insp → entry.side ≡ None → IsOk entry.answer
-    hints hinting same none = insp_calls (IsOk entry.answer) same (λ request asks call. by request asks (subst (λ (p : Phase). attempts.inspector_call work.cutover p ≡ Some request) hinting call)) where
+    hints hinting same none = insp_calls (IsOk entry.answer) (insp_waits_in (Attempting Hinting) hinting) same (λ request asks call. by request asks (subst (λ (p : Phase). attempts.inspector_call work.cutover p ≡ Some request) hinting call)) where
       by : (request : Request) → entry.asked ≡ Call request → Some (writes_hint work.cutover.table work.cutover.attempts) ≡ Some request → IsOk entry.answer
       by request asks call =
           some_request (λ (r : Request). entry.asked ≡ Call r → IsOk entry.answer) (writes_hint work.cutover.table work.cutover.attempts) request call
           (λ asks_it. hint_goes plan journal entry work runs serial tries.some tries.few kept_more eq hinting same (asks_it ∙ ap (λ (t : List ℕ). Call (writes_hint t work.cutover.attempts)) own_table) none) asks
 
+    reads : (drain : Drain) → phase ≡ Attempting (ReadingCounter drain) → entry.actor ≡ Insp → entry.side ≡ None → IsAt entry.answer
+    reads drain reading same none = insp_calls (IsAt entry.answer) (insp_waits_in (Attempting (ReadingCounter drain)) reading) same (λ request asks call. by request asks (subst (λ (p : Phase). attempts.inspector_call work.cutover p ≡ Some request) reading call)) where
+      by : (request : Request) → entry.asked ≡ Call request → Some (requests.ShowCounter work.cutover.table) ≡ Some request → IsAt entry.answer
+      by request asks call =
+          some_request (λ (r : Request). entry.asked ≡ Call r → IsAt entry.answer) (requests.ShowCounter work.cutover.table) request call
+          (λ asks_it. reads_go plan runs journal entry kept run going guarded sentry work eq called drain reading same (asks_it ∙ ap (λ (t : List ℕ). Call (requests.ShowCounter t)) own_table) none) asks
+
+    sets : (number : ℕ) (drain : Drain) → phase ≡ Attempting (SettingCounter number drain) → entry.actor ≡ Insp → IsNotRefused entry.answer
+    unfolding attempts.next
+    sets number drain setting same = by (insp_asking same) where
+      goes : (request : Request) → request ≡ requests.SetCounter (ghost_name plan.table) number → IsAbout request (has Insp) entry.asked → IsNotRefused entry.answer
+      goes request is_it about =
+          sets_go plan runs journal entry kept run going guarded sentry work eq called number drain setting same
+          (about_own plan journal entry going.standing run Insp (requests.SetCounter (ghost_name plan.table) number) same (subst (λ (r : Request). IsAbout r (has Insp) entry.asked) is_it about))
+
+      called_it : (request : Request) → attempts.inspector_call work.cutover phase ≡ Some request → request ≡ requests.SetCounter (ghost_name plan.table) number
+      called_it request call =
+          some_request (λ (r : Request). r ≡ requests.SetCounter (ghost_name plan.table) number) (requests.SetCounter (ghost_name work.cutover.table) number) request (subst (λ (p : Phase). attempts.inspector_call work.cutover p ≡ Some request) setting call)
+          (ap (λ (t : List ℕ). requests.SetCounter (ghost_name t) number) own_table)
+
+      by : Asking plan journal Insp entry.asked → IsNotRefused entry.answer
+      by (polls_so request asks some) = goes request (insp_waits_in (Attempting (SettingCounter number drain)) setting request some) (is_polled asks some)
+      by (calls_so request asks idle call) = goes request (called_it request (ap (λ (c : ToolPhase). tool_call plan now.server journal now.tool c Insp) (sym eq) ∙ call)) (is_called asks idle)
+
     goes_on : AttemptGoes work entry
     goes_on = record {
       locks = λ locking same. locks_go plan runs journal entry kept run going guarded sentry work eq called locking same (lock_asking same);
       hints = hints;
+      reads = reads;
+      sets = sets;
       renames = renames;
       shows = shows;
       drops = λ dropping same. drops_go plan runs journal entry kept run going guarded sentry work eq called dropping same (lock_asking same);
       clears = λ left ending same none.
-          insp_calls (IsOk entry.answer) same
+          insp_calls (IsOk entry.answer) (insp_waits_in (Ending (Drops left)) ending) same
           (λ request asks call. subst IsOk (sym (clears_ok plan runs journal entry kept run going guarded sentry work eq same request asks left ending (subst (λ (p : Phase). attempts.inspector_call work.cutover p ≡ Some request) ending call) none)) tt);
     }
 

@@ -17,7 +17,7 @@ use Rattle.base_script.specs.declared.actor.Side.{Side}
 use Rattle.base_script.specs.declared.actor.Side.TheVariants.{Before, After}
 use Rattle.base_values.specs.declared.event.RowEvent.{RowEvent}
 use Rattle.base_values.specs.declared.gho_schema.schema.Schema.{Schema}
-use Rattle.base_values.specs.ToolNames.{log_name}
+use Rattle.base_values.specs.ToolNames.{ghost_name, log_name}
 use Rattle.table_store.specs.Databases.{Database, TableRows, find_table}
 use Rattle.server_model.specs.Blockers.{need, blocker}
 use Rattle.server_model.specs.declared.answer.Answer.{Answer}
@@ -42,7 +42,7 @@ use Rattle.tool_program.specs.declared.cutover_core.cutover.Clearing.TheVariants
 use Rattle.tool_program.specs.declared.cutover_core.cutover.Leftovers.{Leftovers}
 use Rattle.tool_program.specs.declared.cutover_core.cutover.Phase.{Phase}
 use Rattle.tool_program.specs.declared.cutover_core.cutover.Phase.TheVariants.{Resting, Attempting, Ending, Finishing, Finished}
-use Rattle.tool_program.specs.declared.cutover_core.cutover.Stage.TheVariants.{Hinting, Showing}
+use Rattle.tool_program.specs.declared.cutover_core.cutover.Stage.TheVariants.{Hinting, ReadingCounter, SettingCounter, Showing}
 use Rattle.tool_program.specs.CutoverCore.Attempts as attempts
 use Rattle.tool_program.specs.CutoverCore.Attempts.{clears, first_name, is_clear, is_free, without_first, writes_hint}
 use Rattle.tool_program.specs.CutoverCore.CutOvers.{applier_turn}
@@ -80,7 +80,8 @@ use Rattle.proof_migration.proofs.ToolPhase.CopyAnswers.{not_outside}
 use Rattle.proof_migration.proofs.ToolPhase.ToolPhaseTurns.{Kept, SetupKeeps, AnswerKeeps, ResizeKeeps, turn_kept, gives_asked}
 use Rattle.proof_migration.proofs.ToolPhase.Unaltered.Away.{unaltered_front}
 use Rattle.proof_bounds.proofs.Attempts.{attempts_few}
-use Rattle.proof_bounds.proofs.Going.{IsGoing, ToolPhaseFits, all_going, insp_free}
+use Rattle.proof_bounds.proofs.Going.{IsGoing, ToolPhaseFits, all_going, insp_free, insp_idle, waits_to_set}
+use Rattle.proof_bounds.proofs.Inspecting.{setting_is}
 use Rattle.proof_bounds.proofs.Holders.{each_kept}
 use Rattle.proof_bounds.proofs.Leftovers.{SetupFits}
 use Rattle.proof_bounds.specs.AttemptTurns.Attempts.{IsOk, most_tries}
@@ -301,9 +302,9 @@ module _ (plan : PlanData) (runs : IsRunnable plan) (serial : IsSerialPlan plan)
       by (inl there) = old there (was_made past)
       by (inr empty) = subst (AllBelow (last_hint t 0 after.log + 1)) (sym empty) refl
 
-    -- the inspector's request waits never
+    -- the inspector's request that waits sets the counter, and writes no row
     insp_waits : entry.actor ≡ Insp → (request : Request) → (has entry.actor).waits ≡ Some request → WritesAway (watched t) request
-    insp_waits same request waits = none_some request (has Insp).waits going.idle (ap (λ (a : Actor). (has a).waits) (sym same) ∙ waits)
+    insp_waits same request waits = setting_is plan (WritesAway (watched t)) (λ number. tt) (moment plan journal).tool.tool_phase request (waits_to_set plan journal request runs serial kept (ap (λ (a : Actor). (has a).waits) (sym same) ∙ waits))
 
     uncalled : entry.actor ≡ Insp → is_command entry.asked ≡ false → (request : Request) → about open_now entry.session Poll ≡ Some request → WritesAway (watched t) request
     uncalled same called request is_about = insp_waits same request (waits_with plan serial runs.fitting journal entry (known plan runs serial journal entry kept_more off) run off called request is_about)
@@ -320,6 +321,8 @@ module _ (plan : PlanData) (runs : IsRunnable plan) (serial : IsSerialPlan plan)
 
       by : (phase : Phase) → work.cutover.phase ≡ phase → attempts.inspector_call work.cutover phase ≡ Some request → WritesAway (watched t) request
       by (Attempting Hinting) at call = absurd (unhinted at)
+      by (Attempting (ReadingCounter drain)) at call = some_request (WritesAway (watched t)) _ request call tt
+      by (Attempting (SettingCounter number drain)) at call = some_request (WritesAway (watched t)) _ request call tt
       by (Attempting Showing) at call = some_request (WritesAway (watched t)) _ request call tt
       by (Attempting stage) at call = absurd cc
       by (Ending one) at call = ends (is_free work.cutover.hold work.cutover.renamer_waits) one call
@@ -369,7 +372,7 @@ module _ (plan : PlanData) (runs : IsRunnable plan) (serial : IsSerialPlan plan)
     opened = is_open plan journal entry known_now served (ap is_command asks)
 
     own_free : has entry.actor ≡ free
-    own_free = ap has same ∙ insp_free plan runs journal entry kept run going
+    own_free = ap has same ∙ insp_free plan runs journal entry kept run going (insp_idle plan runs journal entry kept run going same (writes_hint t n) asks)
 
     inside : is_outside (session_of entry.session open_now.sessions) (writes_hint t n) ≡ false
     inside = not_outside (session_of entry.session open_now.sessions) (writes_hint t n) (ap (λ (o : Option Session). (face_in o).locked) opened.is ∙ ap (λ (s : Standing). s.locked) (sym opened.stands ∙ own_free))
@@ -432,12 +435,15 @@ module _ (plan : PlanData) (runs : IsRunnable plan) (serial : IsSerialPlan plan)
       waits : (other : ℕ) → answers.Waits other ≡ entry.answer → (standing_of plan more Insp).waits ≡ Some (writes_hint t n)
       waits other is_wait =
           ap (λ (a : Actor). (standing_of plan more a).waits) (sym same)
-          ∙ ap (λ (s : Standing). s.waits) (own_stands plan journal entry known_now served (writes_hint t n) (about_own plan journal entry going.standing run Insp (writes_hint t n) same (is_called asks going.idle)))
+          ∙ ap (λ (s : Standing). s.waits) (own_stands plan journal entry known_now served (writes_hint t n) (about_own plan journal entry going.standing run Insp (writes_hint t n) same (is_called asks (insp_idle plan runs journal entry kept run going same (writes_hint t n) asks))))
           ∙ ap (λ (a : Answer). (answered (writes_hint t n) a (has entry.actor)).waits) (sym is_wait)
 
       by : (blocked : Option ℕ) → blocker open_now entry.session (need open_now entry.session (writes_hint t n)) ≡ blocked → IsOk entry.answer
       by None at = subst IsOk (sym done_so.answer ∙ given_so None at) tt
-      by (Some other) at = none_some (writes_hint t n) (standing_of plan more Insp).waits (all_going plan more runs serial kept_more).idle (waits other (given_so (Some other) at))
+      by (Some other) at =
+          absurd (setting_is plan (λ (r : Request). r ≡ writes_hint t n → ⊥) (λ number both. other_request number both) (moment plan more).tool.tool_phase (writes_hint t n) (waits_to_set plan more (writes_hint t n) runs serial kept_more (waits other (given_so (Some other) at))) refl) where
+            other_request : (number : ℕ) → requests.SetCounter (ghost_name plan.table) number ≡ writes_hint t n → ⊥
+            other_request number both = cc
 
   -- EVERY TURN
 
@@ -470,7 +476,9 @@ module _ (plan : PlanData) (runs : IsRunnable plan) (serial : IsSerialPlan plan)
       hinting = hints_so work.cutover.phase some_hint
 
       with : Asking plan journal Insp entry.asked → IsNumbered plan more
-      with (polls_so other asks_it waits) = none_some other (has Insp).waits going.idle waits
+      with (polls_so other asks_it waits) = absurd (no_poll (sym asks_it ∙ asks)) where
+        no_poll : Poll ≡ Call request → ⊥
+        no_poll both = cc
       with (calls_so other asks_it idle call) = hint_more off_now is work eq hinting same (asks_it ∙ ap Call (asked_hint work eq hinting other call))
 
     called_so : entry.actor ≡ Insp → (request : Request) → entry.asked ≡ Call request → (b : Bool) → is_hinting now.tool.tool_phase ≡ b → IsNumbered plan more

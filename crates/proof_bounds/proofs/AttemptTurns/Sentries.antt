@@ -25,6 +25,7 @@ use Rattle.server_model.specs.Listings.{tables_shown}
 use Rattle.server_model.specs.PlainServer.{does, done, did}
 use Rattle.server_model.specs.States.{State, session_of, is_in_transaction, tables_named, view}
 use Rattle.plan_data.specs.PlanData.{PlanData, old_schema}
+use Rattle.proof_journals.specs.Machine.MigrationTables.{ghost_schema}
 use Rattle.tool_changelog.specs.ToolTables.{sentry_comment, sentry_schema}
 use Rattle.tool_program.specs.JournalWords.Journals.{may_lose, opens, state_at}
 use Rattle.tool_program.specs.declared.cutover_core.cutover.Clearing.{Clearing as Cleared}
@@ -37,7 +38,9 @@ use Rattle.tool_program.specs.declared.cutover_core.cutover.Phase.{Phase}
 use Rattle.tool_program.specs.declared.cutover_core.cutover.Phase.TheVariants.{Resting, Attempting, Ending, Finishing, Finished}
 use Rattle.tool_program.specs.declared.cutover_core.cutover.Role.TheVariants.{Inspector, Locker, Renamer}
 use Rattle.tool_program.specs.declared.cutover_core.cutover.Stage.{Stage}
-use Rattle.tool_program.specs.declared.cutover_core.cutover.Stage.TheVariants.{Guarding, Locking, Hinting, Draining, Drained, Showing, Dropping, Unlocking, Exchanging}
+use Rattle.tool_program.specs.declared.cutover_core.cutover.Stage.TheVariants.{Guarding, Locking, Hinting, ReadingCounter, SettingCounter, Draining, Drained, Showing, Dropping, Unlocking, Exchanging}
+use Rattle.tool_program.specs.declared.cutover_core.cutover.Drain.{Drain}
+use Rattle.tool_program.specs.declared.cutover_core.cutover.Drain.TheVariants.{Turns, Passed}
 use Rattle.tool_program.specs.CutoverCore.Attempts as attempts
 use Rattle.tool_program.specs.CutoverCore.Attempts.{exchange, clears, first_name, is_clear, is_free, has_name, has_sentry, without_first}
 use Rattle.tool_program.specs.CutoverCore.CutOvers as cutovers
@@ -51,13 +54,14 @@ use Rattle.proof_journals.specs.Plans.{IsSerialPlan}
 use Rattle.proof_journals.specs.Run.Kept.{IsKept}
 use Rattle.proof_journals.specs.Machine.Machines.{ToolPhaseStands, WorkStands, PhaseHolds, both_names, held, renaming}
 use Rattle.proof_journals.specs.Machine.Runnable.{IsRunnable}
-use Rattle.proof_journals.specs.Machine.Standings.{Standing, standing_in, standing_of, IsAbout, is_called}
+use Rattle.proof_journals.specs.Machine.Standings.{Standing, standing_in, standing_of, answers_to, serves_to, IsAbout, is_called, is_polled}
 use Rattle.proof_journals.proofs.Machine.Asking.{some_request}
 use Rattle.proof_journals.proofs.Machine.CuttingOver.{LockerAsks}
 use Rattle.proof_journals.proofs.Machine.Journals.{IsRun, IsTogether, Asking, calls_so, polls_so, asking, lock_about, ren_about}
 use Rattle.proof_journals.proofs.Machine.Schemas.{is_quiet}
-use Rattle.proof_journals.proofs.Machine.Seated.{IsKnown, IsServed, IsOpen, is_open, own_missed}
+use Rattle.proof_journals.proofs.Machine.Seated.{IsKnown, IsServed, IsOpen, is_open, own_fits, own_heard, own_missed}
 use Rattle.proof_journals.proofs.Machine.Tabling.{may_define, quiet_stay}
+use Rattle.proof_migration.proofs.Attempt.Counting.{IsUnrefused, shows_unrefused, sets_unrefused}
 use Rattle.proof_migration.proofs.Attempt.InspectorAnswers.{listed_is}
 use Rattle.proof_migration.proofs.Attempt.Leaving.{AllStay, CreateLeaves, DropLeaves, ExchangeLeaves, stands_has, has_is, create_left, drop_left, exchange_left}
 use Rattle.proof_migration.proofs.Attempt.LockerAnswers.{heard_leaves}
@@ -68,19 +72,22 @@ use Rattle.proof_migration.proofs.Program.Turns.Follows.{kept_front, kept_run}
 use Rattle.proof_migration.proofs.ToolPhase.Hearing.{IsFoundBy, HoldsUndone, own_answer, opened_tables}
 use Rattle.proof_migration.proofs.ToolPhase.Owners.{together_owned}
 use Rattle.proof_migration.proofs.ToolPhase.ToolPhaseTurns.{Kept, UnfitKeeps, CopyKeeps, ApplyKeeps, SetupKeeps, AnswerKeeps, ResizeKeeps, turn_kept, gives_asked}
+use Rattle.proof_migration.specs.InspectorWaits.{SetsCounter}
 use Rattle.proof_bounds.specs.Guards.{HasSentryAtOnce, WaitsForNoSentry}
 use Rattle.proof_bounds.proofs.FreeNames.{IsAway, away_forbidden, away_free, free_name, drops_ok}
-use Rattle.proof_bounds.proofs.Going.{IsGoing, all_going, insp_free}
+use Rattle.proof_bounds.proofs.Going.{IsGoing, all_going, insp_idle, insp_unlocked, insp_waits, polled_ends}
 use Rattle.proof_bounds.proofs.Guards.{sentries_made}
 use Rattle.proof_bounds.proofs.Holders.{each_kept}
 use Rattle.proof_bounds.proofs.Leftovers.{has_stays, old_is_tool}
-use Rattle.proof_bounds.specs.AttemptTurns.Attempts.{IsNotRefused}
+use Rattle.proof_bounds.specs.AttemptTurns.Attempts.{IsAt, IsNotRefused}
 
 -- THE PHASES IN WHICH IT EXISTS
 
 abbrev pub needs_sentry : Phase → Bool
 needs_sentry (Attempting Locking) = true
 needs_sentry (Attempting Hinting) = true
+needs_sentry (Attempting (ReadingCounter drain)) = true
+needs_sentry (Attempting (SettingCounter number drain)) = true
 needs_sentry (Attempting (Draining turns)) = true
 needs_sentry (Attempting Drained) = true
 needs_sentry (Attempting Showing) = true
@@ -110,6 +117,8 @@ ended_needs (Finishing cleared) need = need
 ended_needs Finished need = need
 
 drained_needs : (cutover : CutOver) (hint : ℕ) (phase : Phase) → Needs phase (drained cutover hint phase)
+drained_needs cutover hint (Attempting (ReadingCounter drain)) need = refl
+drained_needs cutover hint (Attempting (SettingCounter number drain)) need = refl
 drained_needs cutover hint (Attempting (Draining turns)) need = refl
 drained_needs cutover hint (Attempting stage) need = need
 drained_needs cutover hint Resting need = need
@@ -121,10 +130,12 @@ ends_or : (b : Bool) (old new : Stage) → Needs (Attempting old) (Attempting ne
 ends_or true old new needs need = absurd (false≢true need)
 ends_or false old new needs need = needs need
 
-inspector_needs : (stage : Stage) (answer : Answer) → Needs (Attempting stage) (Attempting (inspector_stage stage answer))
-inspector_needs Hinting answer need = refl
-inspector_needs Showing answer need = refl
-inspector_needs stage answer need = need
+inspector_needs : (counter : Bool) (stage : Stage) (answer : Answer) → Needs (Attempting stage) (Attempting (inspector_stage counter stage answer))
+inspector_needs counter Hinting answer need = refl
+inspector_needs counter (ReadingCounter drain) answer need = refl
+inspector_needs counter (SettingCounter number drain) answer need = refl
+inspector_needs counter Showing answer need = refl
+inspector_needs counter stage answer need = need
 
 locker_needs : (stage : Stage) (answer : Answer) → (stage ≡ Guarding → ⊥) → Needs (Attempting stage) (Attempting (locker_stage stage answer))
 locker_needs Guarding answer off need = absurd (off refl)
@@ -378,9 +389,21 @@ module _ (plan : PlanData) (runs : IsRunnable plan) (journal : List Entry) (entr
 
     -- THE INSPECTOR
 
+    -- the inspector sets the counter
+    sets_on : (number : ℕ) (drain : Drain) → phase ≡ Attempting (SettingCounter number drain) → AllStay before after → Becomes (inspector_phase work.cutover (Attempting (SettingCounter number drain)) entry.answer)
+    sets_on number drain at_phase stay =
+        stays_so stay (Attempting (SettingCounter number drain)) (cond (is_bad entry.answer) (Ending Looking) (Attempting (inspector_stage work.cutover.has_counter (SettingCounter number drain) entry.answer))) (subst (SentryStands plan before) at_phase (was (Migrating work) eq))
+        (ends_or (is_bad entry.answer) (SettingCounter number drain) (inspector_stage work.cutover.has_counter (SettingCounter number drain) entry.answer) (inspector_needs work.cutover.has_counter (SettingCounter number drain) entry.answer))
+
+    -- ... or polls that request
+    polled_on : (one : Phase) → phase ≡ one → (request : Request) → About request → SetsCounter plan one request → Becomes (inspector_phase work.cutover one entry.answer)
+    polled_on (Attempting (SettingCounter number drain)) at_phase request about sets = sets_on number drain at_phase (quiet request (requests.SetCounter (ghost_name plan.table) number) about sets refl)
+    polled_on (Ending Looking) at_phase request about sets = subst Becomes (sym (polled_ends plan runs journal entry kept run going work.cutover sets.0 request about sets.1)) (λ need. absurd (false≢true need))
+    polled_on one at_phase request about sets = absurd sets
+
     module _ (same : entry.actor ≡ Insp) (request : Request) (asks : entry.asked ≡ Call request) where
       about_it : (one : Request) → request ≡ one → About one
-      about_it one is_one = about_own plan journal entry going.standing run Insp one same (is_called (asks ∙ ap Call is_one) going.idle)
+      about_it one is_one = about_own plan journal entry going.standing run Insp one same (is_called (asks ∙ ap Call is_one) (insp_idle plan runs journal entry kept run going same request asks))
 
       calm : (one : Request) → request ≡ one → is_quiet one ≡ true → AllStay before after
       calm one is_one is_calm = quiet_stays plan journal entry going.standing run one (about_it one is_one) is_calm
@@ -399,7 +422,7 @@ module _ (plan : PlanData) (runs : IsRunnable plan) (journal : List Entry) (entr
       away nothing off Ren differ = away_free plan journal going.names Ren (old_name plan.table) (stands.renamer ∙ ap (renaming work.cutover.table) off)
 
       unlocked_insp : (has entry.actor).locked ≡ []
-      unlocked_insp = ap (λ (a : Actor). (has a).locked) same ∙ ap (λ (s : Standing). s.locked) (insp_free plan runs journal entry kept run going)
+      unlocked_insp = insp_unlocked plan runs journal entry kept run going same
 
       -- the sentry's DROP at an attempt's end
       drop_is : (left : Leftovers) → phase ≡ Ending (Drops left) → attempts.inspector_call work.cutover (Ending (Drops left)) ≡ Some request → request ≡ requests.Drop (old_name plan.table)
@@ -444,11 +467,16 @@ module _ (plan : PlanData) (runs : IsRunnable plan) (journal : List Entry) (entr
       insp_next Resting at_phase call = absurd cc
       insp_next Finished at_phase call = absurd cc
       insp_next (Attempting Hinting) at_phase call =
-          stays_so (some_request (λ (r : Request). request ≡ r → AllStay before after) _ request call (λ is_one. calm _ is_one refl) refl) (Attempting Hinting) (cond (is_bad entry.answer) (Ending Looking) (Attempting (inspector_stage Hinting entry.answer)))
-          (subst (SentryStands plan before) at_phase (was (Migrating work) eq)) (ends_or (is_bad entry.answer) Hinting (inspector_stage Hinting entry.answer) (inspector_needs Hinting entry.answer))
+          stays_so (some_request (λ (r : Request). request ≡ r → AllStay before after) _ request call (λ is_one. calm _ is_one refl) refl) (Attempting Hinting) (cond (is_bad entry.answer) (Ending Looking) (Attempting (inspector_stage work.cutover.has_counter Hinting entry.answer)))
+          (subst (SentryStands plan before) at_phase (was (Migrating work) eq)) (ends_or (is_bad entry.answer) Hinting (inspector_stage work.cutover.has_counter Hinting entry.answer) (inspector_needs work.cutover.has_counter Hinting entry.answer))
+      insp_next (Attempting (ReadingCounter drain)) at_phase call =
+          stays_so (some_request (λ (r : Request). request ≡ r → AllStay before after) _ request call (λ is_one. calm _ is_one refl) refl) (Attempting (ReadingCounter drain)) (cond (is_bad entry.answer) (Ending Looking) (Attempting (inspector_stage work.cutover.has_counter (ReadingCounter drain) entry.answer)))
+          (subst (SentryStands plan before) at_phase (was (Migrating work) eq)) (ends_or (is_bad entry.answer) (ReadingCounter drain) (inspector_stage work.cutover.has_counter (ReadingCounter drain) entry.answer) (inspector_needs work.cutover.has_counter (ReadingCounter drain) entry.answer))
+      insp_next (Attempting (SettingCounter number drain)) at_phase call =
+          sets_on number drain at_phase (some_request (λ (r : Request). request ≡ r → AllStay before after) _ request call (λ is_one. calm _ is_one refl) refl)
       insp_next (Attempting Showing) at_phase call =
-          stays_so (some_request (λ (r : Request). request ≡ r → AllStay before after) _ request call (λ is_one. calm _ is_one refl) refl) (Attempting Showing) (cond (is_bad entry.answer) (Ending Looking) (Attempting (inspector_stage Showing entry.answer)))
-          (subst (SentryStands plan before) at_phase (was (Migrating work) eq)) (ends_or (is_bad entry.answer) Showing (inspector_stage Showing entry.answer) (inspector_needs Showing entry.answer))
+          stays_so (some_request (λ (r : Request). request ≡ r → AllStay before after) _ request call (λ is_one. calm _ is_one refl) refl) (Attempting Showing) (cond (is_bad entry.answer) (Ending Looking) (Attempting (inspector_stage work.cutover.has_counter Showing entry.answer)))
+          (subst (SentryStands plan before) at_phase (was (Migrating work) eq)) (ends_or (is_bad entry.answer) Showing (inspector_stage work.cutover.has_counter Showing entry.answer) (inspector_needs work.cutover.has_counter Showing entry.answer))
       insp_next (Attempting stage) at_phase call = absurd cc
       insp_next (Ending Looking) at_phase call = ending_looks (by (is_free work.cutover.hold work.cutover.renamer_waits) call) entry.answer refl where
         by : (b : Bool) → cond b (clears work.cutover.table Looking) None ≡ Some request → request ≡ requests.ShowTables
@@ -464,7 +492,8 @@ module _ (plan : PlanData) (runs : IsRunnable plan) (journal : List Entry) (entr
 
     insp_turn : entry.actor ≡ Insp → Asking plan journal Insp entry.asked → (tries : List ℕ) → New (is_reverting now.tool.reason) (Migrating (record work { cutover = cutovers.took Inspector work.cutover entry.answer; attempt_tries = tries }))
     unfolding cutovers.took attempts.next
-    insp_turn same (polls_so request asks some) tries = none_some request (has Insp).waits going.idle some
+    insp_turn same (polls_so request asks some) tries =
+        polled_on phase refl request (about_own plan journal entry going.standing run Insp request same (is_polled asks some)) (insp_waits plan runs journal entry kept run going (Migrating work) eq request some).0
     insp_turn same (calls_so request asks idle call) tries = insp_next same request asks phase refl (ap (λ (c : ToolPhase). tool_call plan now.server journal now.tool c Insp) (sym eq) ∙ call)
 
     insp_lost : AllStay before after → (tries : List ℕ) → New (is_reverting now.tool.reason) (Migrating (record work { cutover = cutovers.took Inspector work.cutover answers.Lost; attempt_tries = tries }))
@@ -531,6 +560,38 @@ module _ (plan : PlanData) (runs : IsRunnable plan) (journal : List Entry) (entr
           (λ found is_found. drops_done (old_name plan.table) found entry.session
           (outside_is (requests.Drop (old_name plan.table)) called found is_found ∙ ap (λ (names : List (List ℕ)). is_beyond names (old_name plan.table ∷ [])) locked ∙ old_within plan.table)
           (ap (has_table (old_name plan.table)) (found_tables found is_found) ∙ was (Migrating work) eq (ap needs_sentry at_phase)))
+
+    -- *The counter is shown*
+    at_of : (name : List ℕ) (answer : Answer) → IsUnrefused answer → serves_to (requests.ShowCounter name) answer ≡ true → IsAt answer
+    at_of name (answers.At number) unrefused serves = tt
+    at_of name (answers.Refused number column) unrefused serves = absurd unrefused
+    at_of name answer unrefused serves = absurd (false≢true serves)
+
+    pub reads_go : is_command entry.asked ≡ false → (drain : Drain) → phase ≡ Attempting (ReadingCounter drain) → entry.actor ≡ Insp → entry.asked ≡ Call (requests.ShowCounter plan.table) → entry.side ≡ None → IsAt entry.answer
+    reads_go called drain at_phase same asks no_side = at_of plan.table entry.answer unrefused (own_heard plan journal entry known served (requests.ShowCounter plan.table) about no_side) where
+      about : About (requests.ShowCounter plan.table)
+      about = about_own plan journal entry going.standing run Insp (requests.ShowCounter plan.table) same (is_called asks (insp_idle plan runs journal entry kept run going same (requests.ShowCounter plan.table) asks))
+
+      guards : GuardedTables plan before
+      guards = subst (TablesAt plan before) at_phase at.tables
+
+      unrefused : IsUnrefused entry.answer
+      unrefused = shows_unrefused plan journal entry known served called (insp_unlocked plan runs journal entry kept run going same) plan.table (old_schema plan) guards.stand.old about
+
+    -- *The counter is set*
+    set_of : (name : List ℕ) (least : ℕ) (answer : Answer) → IsUnrefused answer → answers_to (requests.SetCounter name least) answer ≡ true → IsNotRefused answer
+    set_of name least (answers.Ok count) unrefused fits_so = tt
+    set_of name least (answers.Waits by) unrefused fits_so = tt
+    set_of name least (answers.TimedOut waited) unrefused fits_so = tt
+    set_of name least answers.Lost unrefused fits_so = tt
+    set_of name least (answers.Refused number column) unrefused fits_so = absurd unrefused
+    set_of name least answer unrefused fits_so = absurd (false≢true fits_so)
+
+    pub sets_go : is_command entry.asked ≡ false → (number : ℕ) (drain : Drain) → phase ≡ Attempting (SettingCounter number drain) → entry.actor ≡ Insp → About (requests.SetCounter (ghost_name plan.table) number) → IsNotRefused entry.answer
+    sets_go called number drain at_phase same about =
+        set_of (ghost_name plan.table) number entry.answer
+        (sets_unrefused plan journal entry known served called (insp_unlocked plan runs journal entry kept run going same) (ghost_name plan.table) number (ghost_schema plan) (subst (TablesAt plan before) at_phase at.tables).stand.ghost about)
+        (own_fits plan journal entry known served (requests.SetCounter (ghost_name plan.table) number) about)
 
   -- EVERY ACTOR
 

@@ -51,7 +51,7 @@ use Rattle.proof_journals.specs.Machine.Standings.{IsAbout, Standing, answered, 
 use Rattle.proof_journals.specs.Machine.TableKeys.{ToolPhaseKeyed}
 use Rattle.proof_journals.specs.Plans.{IsSerialPlan, limits_of, scene_of}
 use Rattle.proof_journals.specs.Run.Kept.{IsKept}
-use Rattle.proof_journals.specs.ServerTurns.Others.{TurnOf, asks_exclusive}
+use Rattle.proof_journals.specs.ServerTurns.Others.{TurnOf, asks_names}
 use Rattle.proof_journals.specs.Turns.{about}
 use Rattle.proof_journals.proofs.Machine.Asking.{copier_next, unless_called, waits_asks}
 use Rattle.proof_journals.proofs.Machine.Journals.{Asking, asking, calls_so, polls_so}
@@ -150,7 +150,7 @@ module _ (plan : PlanData) (runs : IsRunnable plan) (serial : IsSerialPlan plan)
 
   -- THE KEYS GROW
 
-  grows : TurnOf (asks_exclusive (about (opens entry now) entry.session entry.asked)) entry.session now then
+  grows : TurnOf (asks_names (about (opens entry now) entry.session entry.asked)) entry.session now then
   grows = entries_are_turns (limits_of plan) (scene_of plan journal) journal entry (plan_runs_are_scene_runs plan journal (unaltered_runs plan journal runs serial before off_before))
 
   abbrev new_keys : List Row

@@ -1,5 +1,5 @@
 -- Each attempt to exchange the tables logs one event of the changelog at most: its hint row, which the inspector inserts while the
--- attempt has none. Nobody else's turn logs any, and the inspector never waits, so no INSERT outlives its attempt.
+-- attempt has none. Nobody else's turn logs any, and the inspector waits with no INSERT, so none outlives its attempt.
 use Rattle.proof_migration.proofs.ToolServes.{about_called_so, tool_serves}
 use Rattle.std.proofs.Common.{◌≡◌, ◌≤◌, ◌<◌, ◌⊎◌, inl, inr, ℕ, ◌+◌, Bool, true, false, cond, List, [], ◌∷◌, ◌++◌, Option, Some, None, refl, sym, ap, ◌∙◌, subst, arith, append_assoc, append-nil}
 use Rattle.std.specs.Prelude.{count_by, ◌||◌}
@@ -29,7 +29,7 @@ use Rattle.tool_program.specs.declared.cutover_core.cutover.Phase.{Phase}
 use Rattle.tool_program.specs.declared.cutover_core.cutover.Phase.TheVariants.{Resting, Attempting, Ending, Finishing, Finished}
 use Rattle.tool_program.specs.declared.cutover_core.cutover.Role.TheVariants.{Inspector, Locker, Renamer}
 use Rattle.tool_program.specs.declared.cutover_core.cutover.Stage.{Stage}
-use Rattle.tool_program.specs.declared.cutover_core.cutover.Stage.TheVariants.{Guarding, Locking, Hinting, Showing, Dropping, Unlocking}
+use Rattle.tool_program.specs.declared.cutover_core.cutover.Stage.TheVariants.{Guarding, Locking, Hinting, ReadingCounter, SettingCounter, Showing, Dropping, Unlocking}
 use Rattle.tool_program.specs.CutoverCore.Attempts as attempts
 use Rattle.tool_program.specs.CutoverCore.CutOvers as cutovers
 use Rattle.tool_program.specs.CutoverCore.CutOvers.{attempts_after, begun, inspector_phase, is_bad, locker_phase, locker_stage, renamer_phase}
@@ -62,7 +62,8 @@ use Rattle.proof_migration.proofs.ToolPhase.Owners.{commands_operator}
 use Rattle.proof_migration.proofs.ToolPhase.ToolPhaseTurns.{AnswerKeeps, ApplyKeeps, CopyKeeps, CutKeeps, DrainKeeps, Kept, ResizeKeeps, SetupKeeps, TurnKeeps, UnfitKeeps, turn_kept}
 use Rattle.proof_migration.proofs.ToolPhase.Unaltered.Away.{unaltered_front}
 use Rattle.proof_bounds.proofs.Attempts.{attempts_few}
-use Rattle.proof_bounds.proofs.Going.{never_waits}
+use Rattle.proof_bounds.proofs.Going.{waits_to_set}
+use Rattle.proof_bounds.proofs.Inspecting.{setting_is}
 use Rattle.proof_bounds.specs.Volumes.Laws.{HintsAreFew, ReadEventsAreFew}
 use Rattle.proof_bounds.proofs.Volumes.HintRows.{away_count, hint_grows}
 use Rattle.proof_bounds.proofs.Volumes.LineEvents.{count_both, count_of}
@@ -159,6 +160,8 @@ insp_calls t cutover request own is = by cutover.phase is where
   by : (phase : Phase) → attempts.inspector_call cutover phase ≡ Some request → HintsOnly t cutover phase request
   by (Attempting Hinting) is =
       some_request (HintsOnly t cutover (Attempting Hinting)) (attempts.writes_hint cutover.table cutover.attempts) request is (inl (refl, ap (λ (n : List ℕ). requests.Do (hint_insert n cutover.attempts)) own))
+  by (Attempting (ReadingCounter drain)) is = some_request (HintsOnly t cutover (Attempting (ReadingCounter drain))) (requests.ShowCounter cutover.table) request is (inr tt)
+  by (Attempting (SettingCounter number drain)) is = some_request (HintsOnly t cutover (Attempting (SettingCounter number drain))) (requests.SetCounter (Rattle.base_values.specs.ToolNames.ghost_name cutover.table) number) request is (inr tt)
   by (Attempting Showing) is = some_request (HintsOnly t cutover (Attempting Showing)) requests.ShowWaiting request is (inr tt)
   by (Attempting stage) is = absurd cc
   by (Ending clearing) is = ends (attempts.is_free cutover.hold cutover.renamer_waits) clearing is
@@ -192,9 +195,6 @@ module _ (plan : PlanData) (runs : IsRunnable plan) (serial : IsSerialPlan plan)
 
   hints : HintsGo plan journal
   hints = hints_go plan journal runs serial (before plan runs serial journal entry kept off) (unaltered_front plan journal (entry ∷ []) off)
-
-  idle : (has Insp).waits ≡ None
-  idle = never_waits plan journal runs serial (before plan runs serial journal entry kept off)
 
   -- nothing is logged of the changelog
   same_count : LogsAway t now then → count_of (log_name t) then.log ≡ count_of (log_name t) now.log
@@ -280,9 +280,7 @@ module _ (plan : PlanData) (runs : IsRunnable plan) (serial : IsSerialPlan plan)
   called work request eq same is =
       insp_from plan runs serial journal entry kept off (HintsOnly t work.cutover work.cutover.phase request) request same is
       (λ call. insp_calls t work.cutover request (subst (ToolPhaseIsNamed plan) eq (named plan journal)).cutover (ap (λ (c : ToolPhase). tool_call plan (moment plan journal).server journal (moment plan journal).tool c Insp) (sym eq) ∙ call))
-      (λ some. absurd (no (sym idle ∙ some))) where
-        no : None ≡ Some request → ⊥
-        no both = cc
+      (λ some. inr (setting_is plan (WritesAway (watched t)) (λ number. tt) (moment plan journal).tool.tool_phase request (waits_to_set plan journal request runs serial (before plan runs serial journal entry kept off) some)))
 
   module _ (work : Work) (eq : (moment plan journal).tool.tool_phase ≡ Migrating work) (same : entry.actor ≡ Insp) (uncut : is_cut entry.asked ≡ false) where
     at : HintsStand t now.log (has Insp).waits work.applier work.cutover.attempts work.cutover.phase

@@ -9,7 +9,8 @@ use Rattle.plan_data.specs.PlanData.{PlanData}
 use Rattle.tool_program.specs.declared.cutover_core.cutover.Clearing.TheVariants.{Drops}
 use Rattle.tool_program.specs.declared.cutover_core.cutover.Leftovers.{Leftovers}
 use Rattle.tool_program.specs.declared.cutover_core.cutover.Phase.TheVariants.{Attempting, Ending}
-use Rattle.tool_program.specs.declared.cutover_core.cutover.Stage.TheVariants.{Locking, Hinting, Drained, Showing, Dropping}
+use Rattle.tool_program.specs.declared.cutover_core.cutover.Drain.{Drain}
+use Rattle.tool_program.specs.declared.cutover_core.cutover.Stage.TheVariants.{Locking, Hinting, ReadingCounter, SettingCounter, Drained, Showing, Dropping}
 use Rattle.tool_program.specs.CutoverCore.CutOvers.{shows_wait}
 use Rattle.tool_program.specs.JournalWords.Bounds.{measures}
 use Rattle.tool_program.specs.Tools.{Work, Migrating, moment}
@@ -33,16 +34,23 @@ abbrev pub IsOk : Answer → Type 0
 IsOk (answers.Ok count) = Unit {0}
 IsOk answer = ⊥
 
+-- it is a number: the one that comes next
+abbrev pub IsAt : Answer → Type 0
+IsAt (answers.At number) = Unit {0}
+IsAt answer = ⊥
+
 -- the listing shows the RENAME that waits
 abbrev pub ShowsWait : Answer → Type 0
 ShowsWait (answers.Waiting waiters) = shows_wait waiters ≡ true
 ShowsWait answer = ⊥
 
--- LOCK TABLES, the RENAME's call and the sentry's DROP aren't refused; and what the inspector asks in an attempt and at its end is
--- done, where its session isn't lost
+-- LOCK TABLES, the RENAME's call, the sentry's DROP and the request that sets the counter aren't refused; and what else the inspector
+-- asks in an attempt and at its end is done, where its session isn't lost
 pub record AttemptGoes (work : Work) (entry : Entry) : Type 0 where
   pub locks : work.cutover.phase ≡ Attempting Locking → entry.actor ≡ Lock → IsNotRefused entry.answer
   pub hints : work.cutover.phase ≡ Attempting Hinting → entry.actor ≡ Insp → entry.side ≡ None → IsOk entry.answer
+  pub reads : (drain : Drain) → work.cutover.phase ≡ Attempting (ReadingCounter drain) → entry.actor ≡ Insp → entry.side ≡ None → IsAt entry.answer
+  pub sets : (number : ℕ) (drain : Drain) → work.cutover.phase ≡ Attempting (SettingCounter number drain) → entry.actor ≡ Insp → IsNotRefused entry.answer
   pub renames : work.cutover.phase ≡ Attempting Drained → entry.actor ≡ Ren → IsNotRefused entry.answer
   pub shows : work.cutover.phase ≡ Attempting Showing → entry.actor ≡ Insp → entry.side ≡ None → ShowsWait entry.answer
   pub drops : work.cutover.phase ≡ Attempting Dropping → entry.actor ≡ Lock → IsNotRefused entry.answer

@@ -160,6 +160,8 @@ effect_apart now w number false busy seen requests.LogEnd free = tt
 effect_apart now w number false busy seen (requests.ReadLog position limit tables) free = tt
 effect_apart now w number false busy seen requests.ShowTables free = tt
 effect_apart now w number false busy seen requests.ShowWaiting free = tt
+effect_apart now w number false busy seen (requests.ShowCounter table) free = tt
+effect_apart now w number false busy seen (requests.SetCounter table least) free = tt
 
 -- the state, with its waits
 with_waits : (now : State) (w : List Waiting) (number : ℕ) (there : There now number) (lost : Bool) (request : Request) → AreApart now number (need now number request).locks

@@ -154,6 +154,8 @@ own_effect now w number own false busy seen requests.LogEnd same quiet rests = o
 own_effect now w number own false busy seen (requests.ReadLog position limit tables) same quiet rests = own_still now number own
 own_effect now w number own false busy seen requests.ShowTables same quiet rests = own_still now number own
 own_effect now w number own false busy seen requests.ShowWaiting same quiet rests = own_still now number own
+own_effect now w number own false busy seen (requests.ShowCounter table) same quiet rests = own_still now number own
+own_effect now w number own false busy seen (requests.SetCounter table least) same quiet rests = own_still now number own
 
 own_did : (now : State) (w : List Waiting) (number : ℕ) (own : Own now number) (request : Request) → AtRest (is_in_transaction (session_of number now.sessions)) (Some request) → OwnFits (did (at_wait now w) number request).after number
 unfolding did

@@ -34,7 +34,7 @@ use Rattle.tool_program.specs.declared.cutover_core.cutover.Hold.TheVariants.{No
 use Rattle.tool_program.specs.declared.cutover_core.cutover.Phase.{Phase}
 use Rattle.tool_program.specs.declared.cutover_core.cutover.Phase.TheVariants.{Resting, Attempting, Ending, Finishing, Finished}
 use Rattle.tool_program.specs.declared.cutover_core.cutover.Role.TheVariants.{Inspector, Locker, Renamer}
-use Rattle.tool_program.specs.declared.cutover_core.cutover.Stage.TheVariants.{Locking, Hinting, Drained, Showing, Dropping, Unlocking}
+use Rattle.tool_program.specs.declared.cutover_core.cutover.Stage.TheVariants.{Locking, Hinting, ReadingCounter, SettingCounter, Drained, Showing, Dropping, Unlocking}
 use Rattle.tool_program.specs.CutoverCore.Attempts as cutovers
 use Rattle.tool_program.specs.CutoverCore.Attempts.{exchange, unlocks, clears, is_free}
 use Rattle.tool_program.specs.Setups.{Setup, Listing, Clearing, MakingLog, MakingGhost, Marking, Reaching, Ready, setup_call}
@@ -193,6 +193,8 @@ unfolding cutovers.next
 inspector_next cutover request is = by cutover.phase is where
   by : (phase : Phase) → cutovers.inspector_call cutover phase ≡ Some request → (inspector_asks request ≡ true) × EndsFree phase cutover.hold
   by (Attempting Hinting) is = (some_request (λ r. inspector_asks r ≡ true) _ request is refl, tt)
+  by (Attempting (ReadingCounter drain)) is = (some_request (λ r. inspector_asks r ≡ true) _ request is refl, tt)
+  by (Attempting (SettingCounter number drain)) is = (some_request (λ r. inspector_asks r ≡ true) _ request is refl, tt)
   by (Attempting Showing) is = (some_request (λ r. inspector_asks r ≡ true) _ request is refl, tt)
   by (Attempting stage) is = absurd cc
   by (Ending clearing) is = at (is_free cutover.hold cutover.renamer_waits) refl is where

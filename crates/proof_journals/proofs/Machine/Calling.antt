@@ -90,6 +90,8 @@ insp_comes standing locked (requests.Drop name) busy kind = busy
 insp_comes standing locked requests.LogEnd busy kind = tt
 insp_comes standing locked requests.ShowTables busy kind = tt
 insp_comes standing locked requests.ShowWaiting busy kind = tt
+insp_comes standing locked (requests.ShowCounter table) busy kind = tt
+insp_comes standing locked (requests.SetCounter table least) busy kind = busy
 insp_comes standing locked request busy kind = absurd cc
 
 copy_comes : (standing : Standing) (locked : Bool) (step : CopyStep) (request : Request) → standing.busy ≡ copier_busy step → locked ≡ false → copier_asks step request ≡ true → Comes standing locked request

@@ -1,6 +1,8 @@
 -- What the cut-over keeps of the locker and the renamer is what their sessions have.
-use Rattle.std.proofs.Common.{◌≡◌, ℕ, ◌+◌, ◌==◌, Bool, true, false, cond, not, List, [], Option, None, refl, sym, ap, subst, inl, inr}
+use Rattle.std.proofs.Common.{◌≡◌, ◌≢◌, ℕ, ◌+◌, ◌==◌, Bool, true, false, cond, not, List, [], Option, None, refl, sym, ap, subst, inl, inr, Some, arith}
 use Rattle.std.specs.Prelude.{nat_le}
+use Rattle.std.proofs.lemmas.Bool.{eqb-true}
+use Rattle.std.proofs.lemmas.Bool.Decides.{nat_tests}
 use Rattle.server_model.specs.declared.answer.Answer.{Answer}
 use Rattle.server_model.specs.declared.answer.Answer.TheVariants as answers
 use Rattle.server_model.specs.declared.listing.TableName.{TableName}
@@ -17,9 +19,10 @@ use Rattle.tool_program.specs.declared.cutover_core.cutover.Leftovers.{Leftovers
 use Rattle.tool_program.specs.declared.cutover_core.cutover.Phase.{Phase}
 use Rattle.tool_program.specs.declared.cutover_core.cutover.Phase.TheVariants.{Resting, Attempting, Ending, Finishing, Finished}
 use Rattle.tool_program.specs.declared.cutover_core.cutover.Stage.{Stage}
-use Rattle.tool_program.specs.declared.cutover_core.cutover.Stage.TheVariants.{Guarding, Locking, Hinting, Draining, Drained, Showing, Dropping, Unlocking, Exchanging}
+use Rattle.tool_program.specs.declared.cutover_core.cutover.Stage.TheVariants.{Guarding, Locking, Hinting, ReadingCounter, SettingCounter, Draining, Drained, Showing, Dropping, Unlocking, Exchanging}
+use Rattle.tool_program.specs.declared.cutover_core.cutover.Drain.TheVariants.{Turns, Passed}
 use Rattle.tool_program.specs.CutoverCore.Attempts.{exchange, is_clear, has_name, has_sentry, without_first}
-use Rattle.tool_program.specs.CutoverCore.CutOvers.{locker_phase, hold_of_guard, hold_of_lock, hold_after, is_wait, renamer_phase, shows_wait, seen, finishing, left_at_end, sentry_alone, inspector_phase, drained, ended}
+use Rattle.tool_program.specs.CutoverCore.CutOvers.{locker_phase, hold_of_guard, hold_of_lock, hold_after, is_wait, renamer_phase, shows_wait, seen, finishing, left_at_end, sentry_alone, inspector_phase, drained, ended, with_drain, drains_to}
 use Rattle.proof_journals.specs.Machine.Standings.{Standing, free, answered, answers_to}
 use Rattle.proof_journals.specs.Machine.Machines.{both_names, held, PhaseHolds, renaming}
 use Rattle.proof_journals.proofs.Machine.Fitting.{IsPrompt}
@@ -89,6 +92,8 @@ guard_phase (Attempting Locking) answer (inl at) = absurd cc
 guard_phase (Attempting Locking) answer (inr at) = absurd cc
 guard_phase (Attempting Hinting) answer at = absurd (let no : WaitsToGuard ≡ Locks = at in cc)
 guard_phase (Attempting (Draining turns)) answer at = absurd (let no : WaitsToGuard ≡ Locks = at in cc)
+guard_phase (Attempting (ReadingCounter drain)) answer at = absurd (let no : WaitsToGuard ≡ Locks = at in cc)
+guard_phase (Attempting (SettingCounter number drain)) answer at = absurd (let no : WaitsToGuard ≡ Locks = at in cc)
 guard_phase (Attempting Drained) answer at = absurd (let no : WaitsToGuard ≡ Locks = at in cc)
 guard_phase (Attempting Showing) answer at = absurd (let no : WaitsToGuard ≡ Locks = at in cc)
 guard_phase (Attempting Dropping) answer at = absurd (let no : WaitsToGuard ≡ Locks = at in cc)
@@ -106,6 +111,8 @@ lock_phase (Attempting Guarding) answer (inl at) = absurd cc
 lock_phase (Attempting Guarding) answer (inr at) = absurd cc
 lock_phase (Attempting Hinting) answer at = absurd (let no : WaitsToLock ≡ Locks = at in cc)
 lock_phase (Attempting (Draining turns)) answer at = absurd (let no : WaitsToLock ≡ Locks = at in cc)
+lock_phase (Attempting (ReadingCounter drain)) answer at = absurd (let no : WaitsToLock ≡ Locks = at in cc)
+lock_phase (Attempting (SettingCounter number drain)) answer at = absurd (let no : WaitsToLock ≡ Locks = at in cc)
 lock_phase (Attempting Drained) answer at = absurd (let no : WaitsToLock ≡ Locks = at in cc)
 lock_phase (Attempting Showing) answer at = absurd (let no : WaitsToLock ≡ Locks = at in cc)
 lock_phase (Attempting Dropping) answer at = absurd (let no : WaitsToLock ≡ Locks = at in cc)
@@ -184,6 +191,8 @@ ended_holds (Attempting Guarding) hold at = tt
 ended_holds (Attempting Locking) hold at = tt
 ended_holds (Attempting Hinting) hold at = tt
 ended_holds (Attempting (Draining turns)) hold at = tt
+ended_holds (Attempting (ReadingCounter drain)) hold at = tt
+ended_holds (Attempting (SettingCounter number drain)) hold at = tt
 ended_holds (Attempting Drained) hold at = tt
 ended_holds (Attempting Showing) hold at = tt
 ended_holds (Attempting Dropping) hold at = tt
@@ -192,6 +201,17 @@ ended_holds (Ending clearing) hold at = at
 ended_holds (Finishing clearing) hold at = at
 ended_holds Finished hold at = at
 
+-- what holds where the applier is past the attempt's hint row, where the attempt fails, and where the applier has one turn more
+pub drain_cases_off : (P : Phase → Type 0) (cutover : CutOver) (hint turns : ℕ) (stage : Stage) → (hint ≡ cutover.attempts → P (Attempting (with_drain stage Passed))) → P (Ending Looking) → (hint ≢ cutover.attempts → P (Attempting (with_drain stage (Turns (turns + 1))))) → P (drains_to cutover hint stage (Some (Turns turns)))
+drain_cases_off P cutover hint turns stage passed failed more = by (hint == cutover.attempts) refl (nat_le cutover.drain_limit (turns + 1)) where
+  by : (b : Bool) → (hint == cutover.attempts) ≡ b → (c : Bool) → P (cond b (Attempting (with_drain stage Passed)) (cond c (Ending Looking) (Attempting (with_drain stage (Turns (turns + 1))))))
+  by true same late = passed (eqb-true hint cutover.attempts same)
+  by false same true = failed
+  by false same false = more (λ one. absurd (grind (arith, nat_tests, same, one)))
+
+pub drain_cases : (P : Phase → Type 0) (cutover : CutOver) (hint turns : ℕ) (stage : Stage) → (hint ≡ cutover.attempts → P (Attempting (with_drain stage Passed))) → P (Ending Looking) → P (Attempting (with_drain stage (Turns (turns + 1)))) → P (drains_to cutover hint stage (Some (Turns turns)))
+drain_cases P cutover hint turns stage passed failed more = drain_cases_off P cutover hint turns stage passed failed (λ other. more)
+
 -- an applier's turn
 pub drained_holds : (cutover : CutOver) (hint : ℕ) (phase : Phase) (hold : Hold) → PhaseHolds phase hold → PhaseHolds (drained cutover hint phase) hold
 drained_holds cutover hint (Attempting (Draining turns)) hold at = by (hint == cutover.attempts) (nat_le cutover.drain_limit (turns + 1)) where
@@ -199,10 +219,14 @@ drained_holds cutover hint (Attempting (Draining turns)) hold at = by (hint == c
   by true late = at
   by false true = tt
   by false false = at
+drained_holds cutover hint (Attempting (ReadingCounter (Turns turns))) hold at = drain_cases (λ (p : Phase). PhaseHolds p hold) cutover hint turns (ReadingCounter (Turns turns)) (λ same. at) tt at
+drained_holds cutover hint (Attempting (SettingCounter number (Turns turns))) hold at = drain_cases (λ (p : Phase). PhaseHolds p hold) cutover hint turns (SettingCounter number (Turns turns)) (λ same. at) tt at
 drained_holds cutover hint (Attempting Guarding) hold at = at
 drained_holds cutover hint (Attempting Locking) hold at = at
 drained_holds cutover hint (Attempting Hinting) hold at = at
 drained_holds cutover hint (Attempting Drained) hold at = at
+drained_holds cutover hint (Attempting (ReadingCounter Passed)) hold at = at
+drained_holds cutover hint (Attempting (SettingCounter number Passed)) hold at = at
 drained_holds cutover hint (Attempting Showing) hold at = at
 drained_holds cutover hint (Attempting Dropping) hold at = at
 drained_holds cutover hint (Attempting Unlocking) hold at = at
@@ -226,6 +250,8 @@ waiting_holds (Attempting Guarding) hold at = at
 waiting_holds (Attempting Locking) hold at = at
 waiting_holds (Attempting Hinting) hold at = at
 waiting_holds (Attempting (Draining turns)) hold at = at
+waiting_holds (Attempting (ReadingCounter drain)) hold at = at
+waiting_holds (Attempting (SettingCounter number drain)) hold at = at
 waiting_holds (Attempting Showing) hold at = at
 waiting_holds (Attempting Dropping) hold at = at
 waiting_holds (Attempting Unlocking) hold at = at
@@ -271,26 +297,35 @@ seen_holds cutover tables hold none = by (not (has_name (ghost_name cutover.tabl
   by false true = none
   by false false = none
 
-stage_holds : (stage : Stage) (hold : Hold) (answer : Answer) → PhaseHolds (Attempting stage) hold → PhaseHolds (cond (Rattle.tool_program.specs.CutoverCore.CutOvers.is_bad answer) (Ending Looking) (Attempting (Rattle.tool_program.specs.CutoverCore.CutOvers.inspector_stage stage answer))) hold
-stage_holds stage hold answers.Lost at = tt
-stage_holds stage hold (answers.TimedOut waited) at = tt
-stage_holds Hinting hold (answers.Ok count) at = at
-stage_holds Showing hold (answers.Waiting waiters) at = by (shows_wait waiters) where
+hinted_holds : (counter : Bool) (hold : Hold) → hold ≡ Locks → PhaseHolds (Attempting (Rattle.tool_program.specs.CutoverCore.CutOvers.hinted counter)) hold
+hinted_holds true hold at = at
+hinted_holds false hold at = at
+
+stage_holds : (counter : Bool) (stage : Stage) (hold : Hold) (answer : Answer) → PhaseHolds (Attempting stage) hold → PhaseHolds (cond (Rattle.tool_program.specs.CutoverCore.CutOvers.is_bad answer) (Ending Looking) (Attempting (Rattle.tool_program.specs.CutoverCore.CutOvers.inspector_stage counter stage answer))) hold
+stage_holds counter stage hold answers.Lost at = tt
+stage_holds counter stage hold (answers.TimedOut waited) at = tt
+stage_holds counter Hinting hold (answers.Ok count) at = hinted_holds counter hold at
+stage_holds counter (ReadingCounter drain) hold (answers.At number) at = at
+stage_holds counter (SettingCounter number (Turns turns)) hold (answers.Ok count) at = at
+stage_holds counter (SettingCounter number Passed) hold (answers.Ok count) at = at
+stage_holds counter Showing hold (answers.Waiting waiters) at = by (shows_wait waiters) where
   by : (b : Bool) → PhaseHolds (Attempting (cond b Dropping Showing)) hold
   by true = at
   by false = at
-stage_holds Guarding hold answer at = at
-stage_holds Locking hold answer at = at
-stage_holds Hinting hold answer at = at
-stage_holds (Draining looked) hold answer at = at
-stage_holds Drained hold answer at = at
-stage_holds Showing hold answer at = at
-stage_holds Dropping hold answer at = at
-stage_holds Unlocking hold answer at = at
-stage_holds Exchanging hold answer at = at
+stage_holds counter Guarding hold answer at = at
+stage_holds counter Locking hold answer at = at
+stage_holds counter Hinting hold answer at = at
+stage_holds counter (Draining looked) hold answer at = at
+stage_holds counter (ReadingCounter drain) hold answer at = at
+stage_holds counter (SettingCounter number drain) hold answer at = at
+stage_holds counter Drained hold answer at = at
+stage_holds counter Showing hold answer at = at
+stage_holds counter Dropping hold answer at = at
+stage_holds counter Unlocking hold answer at = at
+stage_holds counter Exchanging hold answer at = at
 
 pub inspector_holds : (cutover : CutOver) (phase : Phase) (hold : Hold) (answer : Answer) → PhaseHolds phase hold → ListsFree phase hold answer → PhaseHolds (inspector_phase cutover phase answer) hold
-inspector_holds cutover (Attempting stage) hold answer at may = stage_holds stage hold answer at
+inspector_holds cutover (Attempting stage) hold answer at may = stage_holds cutover.has_counter stage hold answer at
 inspector_holds cutover (Ending Looking) hold answers.Lost at may = tt
 inspector_holds cutover (Ending Looking) hold (answers.TimedOut waited) at may = tt
 inspector_holds cutover (Ending Looking) hold (answers.Tables tables) at may = seen_holds cutover tables hold may

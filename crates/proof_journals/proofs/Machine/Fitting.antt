@@ -3,7 +3,7 @@ use Rattle.server_model.proofs.Filling.{filled_case}
 use Rattle.server_model.specs.States.{is_of_tool}
 use Rattle.server_model.specs.Drawing.{numbered}
 use Rattle.std.proofs.Common.{◌≡◌, ℕ, Bool, true, false, ◌&&◌, ◌||◌, List, [], ◌∷◌, cond, Option, Some, None, Result, Ok, Err, refl, sym, ap, ◌∙◌, subst}
-use Rattle.std.specs.Prelude.{◌==◌}
+use Rattle.std.specs.Prelude.{◌==◌, unwrap_or}
 use Rattle.std.specs.List.{list_any}
 use Rattle.std.specs.Str.{bytes_eq}
 use Rattle.std.proofs.Math.Bool.{or-true}
@@ -16,6 +16,7 @@ use Rattle.table_store.specs.Databases.{TableRows, Database, find_table, has_tab
 use Rattle.base_script.specs.declared.script.ScriptWord.TheVariants as words
 use Rattle.server_model.specs.declared.answer.Answer.{Answer}
 use Rattle.server_model.specs.declared.answer.Answer.TheVariants as answers
+use Rattle.server_model.specs.Answers.{ok}
 use Rattle.server_model.specs.declared.need.Need.{Need}
 use Rattle.server_model.specs.declared.request.Request.{Request}
 use Rattle.server_model.specs.declared.request.Request.TheVariants as requests
@@ -26,7 +27,7 @@ use Rattle.server_model.specs.declared.work.StatementResult.{StatementResult}
 use Rattle.server_model.specs.Chunks.{span_keys, keys_of, ends_of}
 use Rattle.server_model.specs.Listings.{events_read}
 use Rattle.server_model.specs.Operations.{statement_result, operation_result, copy_operation}
-use Rattle.server_model.specs.States.{State, session_of, is_in_transaction, locked_names, names_held, view, waiting_of, waiters}
+use Rattle.server_model.specs.States.{State, session_of, is_in_transaction, locked_names, names_held, next_of, view, waiting_of, waiters}
 use Rattle.server_model.specs.Blockers.{need, need_within, blocker}
 use Rattle.server_model.specs.Effects.{of_table, result_effect, begins, all_exist, locks_if, created, dropped, renamed_or, defined, effect_within, effect_unless, is_outside}
 use Rattle.server_model.specs.PlainServer.{does, done, did, called_unless, calls, is_over, polled_over, polled_unless, polled_of, polls, without_waiting}
@@ -102,6 +103,14 @@ module _ (state : State) (number : ℕ) where
   within_fits (requests.ReadLog position limit tables) = refl
   within_fits requests.ShowTables = refl
   within_fits requests.ShowWaiting = refl
+  within_fits (requests.ShowCounter table) = at (find_table table state.tables) where
+    at : (found : Option TableRows) → serves_to (requests.ShowCounter table) (of_table found (λ t. answers.At (unwrap_or (next_of table state.counters) 0))) ≡ true
+    at None = refl
+    at (Some t) = refl
+  within_fits (requests.SetCounter table least) = at (find_table table state.tables) where
+    at : (found : Option TableRows) → serves_to (requests.SetCounter table least) (of_table found (λ t. ok)) ≡ true
+    at None = refl
+    at (Some t) = refl
 
 -- a request that names no table isn't refused for one that isn't locked
 abbrev RefusedFits : Request → Bool → Type 0
@@ -129,6 +138,8 @@ nothing_outside (Some session) request = by (locked_names session.names) request
   by (first ∷ locked) (requests.Create schema) = λ is. refl
   by (first ∷ locked) (requests.Drop name) = λ is. refl
   by (first ∷ locked) (requests.Rename pairs) = λ is. refl
+  by (first ∷ locked) (requests.ShowCounter table) = λ is. refl
+  by (first ∷ locked) (requests.SetCounter table least) = λ is. refl
 
 did_fits : (state : State) (number : ℕ) (request : Request) → serves_to request (did state number request).answer ≡ true
 unfolding did
@@ -163,6 +174,8 @@ need_fits state number requests.LogEnd = tt
 need_fits state number (requests.ReadLog position limit tables) = tt
 need_fits state number requests.ShowTables = tt
 need_fits state number requests.ShowWaiting = tt
+need_fits state number (requests.ShowCounter table) = tt
+need_fits state number (requests.SetCounter table least) = names_fit (requests.SetCounter table least) (blocker state number (need state number (requests.SetCounter table least))) refl
 need_fits state number (requests.Do statement) = names_fit (requests.Do statement) (blocker state number (need state number (requests.Do statement))) refl
 need_fits state number (requests.Ends table) = names_fit (requests.Ends table) (blocker state number (need state number (requests.Ends table))) refl
 need_fits state number (requests.ChunkEnd table low top size) = names_fit (requests.ChunkEnd table low top size) (blocker state number (need state number (requests.ChunkEnd table low top size))) refl

@@ -33,7 +33,7 @@ use Rattle.tool_program.specs.declared.cutover_core.cutover.Hold.TheVariants.{No
 use Rattle.tool_program.specs.declared.cutover_core.cutover.Phase.{Phase}
 use Rattle.tool_program.specs.declared.cutover_core.cutover.Phase.TheVariants.{Resting, Attempting, Ending, Finishing, Finished}
 use Rattle.tool_program.specs.declared.cutover_core.cutover.Role.TheVariants.{Inspector, Locker}
-use Rattle.tool_program.specs.declared.cutover_core.cutover.Stage.TheVariants.{Locking, Hinting, Showing, Dropping, Unlocking}
+use Rattle.tool_program.specs.declared.cutover_core.cutover.Stage.TheVariants.{Locking, Hinting, ReadingCounter, SettingCounter, Showing, Dropping, Unlocking}
 use Rattle.tool_program.specs.CutoverCore.Attempts as cutovers
 use Rattle.tool_program.specs.CutoverCore.Attempts.{exchange, clears, is_free, unlocks}
 use Rattle.tool_program.specs.Setups.{Setup, Listing, Clearing, MakingLog, MakingGhost, Marking, Reaching, Ready, setup_call}
@@ -103,6 +103,8 @@ unfolding cutovers.next
 inspector_formed tables cutover request is = by cutover.phase is where
   by : (phase : Phase) → cutovers.inspector_call cutover phase ≡ Some request → IsWellFormed tables request
   by (Attempting Hinting) is = some_request (IsWellFormed tables) _ request is tt
+  by (Attempting (ReadingCounter drain)) is = some_request (IsWellFormed tables) _ request is tt
+  by (Attempting (SettingCounter number drain)) is = some_request (IsWellFormed tables) _ request is tt
   by (Attempting Showing) is = some_request (IsWellFormed tables) _ request is tt
   by (Attempting stage) is = absurd cc
   by (Ending clearing) is = clears_formed tables cutover.table clearing request (at (is_free cutover.hold cutover.renamer_waits) is) where

@@ -283,6 +283,7 @@ module _ (plan : PlanData) (journal : List Entry) (entry : Entry) (is : IsTogeth
   waits_are_asks (requests.Ends table) is = refl
   waits_are_asks (requests.Create schema) is = refl
   waits_are_asks (requests.Drop name) is = refl
+  waits_are_asks (requests.SetCounter table least) is = refl
   waits_are_asks request is = absurd cc
 
   insp_stands : (request : Request) → entry.actor ≡ Insp → IsAbout request (has Insp) entry.asked → inspector_asks request ≡ true → Stands inspector_waits false [] (has Insp) → Stands inspector_waits false [] (now_has Insp)
@@ -294,6 +295,7 @@ module _ (plan : PlanData) (journal : List Entry) (entry : Entry) (is : IsTogeth
   waits_no_list (Ending clearing) hold (requests.Ends table) (answers.Tables tables) kind fits = absurd cc
   waits_no_list (Ending clearing) hold (requests.Create schema) (answers.Tables tables) kind fits = absurd cc
   waits_no_list (Ending clearing) hold (requests.Drop name) (answers.Tables tables) kind fits = absurd cc
+  waits_no_list (Ending clearing) hold (requests.SetCounter table least) (answers.Tables tables) kind fits = absurd cc
   waits_no_list (Ending clearing) hold request (answers.Tables tables) kind fits = absurd cc
   waits_no_list (Ending clearing) hold request answer kind fits = tt
   waits_no_list Resting hold request answer kind fits = tt

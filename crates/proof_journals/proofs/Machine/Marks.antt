@@ -41,7 +41,7 @@ use Rattle.tool_program.specs.declared.cutover_core.cutover.Leftovers.{Leftovers
 use Rattle.tool_program.specs.declared.cutover_core.cutover.Phase.{Phase}
 use Rattle.tool_program.specs.declared.cutover_core.cutover.Phase.TheVariants.{Resting, Attempting, Ending, Finishing, Finished}
 use Rattle.tool_program.specs.declared.cutover_core.cutover.Role.TheVariants.{Inspector}
-use Rattle.tool_program.specs.declared.cutover_core.cutover.Stage.TheVariants.{Locking, Hinting, Showing, Dropping, Unlocking}
+use Rattle.tool_program.specs.declared.cutover_core.cutover.Stage.TheVariants.{Locking, Hinting, ReadingCounter, SettingCounter, Showing, Dropping, Unlocking}
 use Rattle.tool_program.specs.CutoverCore.Attempts as cutovers
 use Rattle.tool_program.specs.CutoverCore.Attempts.{exchange, clears, first_name, has_name, is_free}
 use Rattle.tool_program.specs.CutoverCore.CutOvers.{is_bad}
@@ -128,6 +128,8 @@ inspector_keeps cutover request is undone = by cutover.phase is undone where
 
   by : (phase : Phase) → cutovers.inspector_call cutover phase ≡ Some request → IsUndone phase → KeepsGhost cutover.table request
   by (Attempting Hinting) is undone = some_request (KeepsGhost cutover.table) _ request is refl
+  by (Attempting (ReadingCounter drain)) is undone = some_request (KeepsGhost cutover.table) _ request is refl
+  by (Attempting (SettingCounter number drain)) is undone = some_request (KeepsGhost cutover.table) _ request is refl
   by (Attempting Showing) is undone = some_request (KeepsGhost cutover.table) _ request is refl
   by (Attempting stage) is undone = absurd cc
   by (Ending clearing) is undone = ends (is_free cutover.hold cutover.renamer_waits) clearing is undone.other

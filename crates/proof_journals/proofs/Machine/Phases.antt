@@ -1,6 +1,6 @@
 -- Until the RENAME is answered the cut-over's phase says that it isn't done, and an attempt's end drops another table than
 -- the new one.
-use Rattle.std.proofs.Common.{◌≡◌, ℕ, ◌+◌, ◌==◌, Bool, true, false, cond, not, List, [], ◌∷◌, ◌++◌, refl, sym, subst}
+use Rattle.std.proofs.Common.{◌≡◌, ℕ, ◌+◌, ◌==◌, Bool, true, false, cond, not, List, [], ◌∷◌, ◌++◌, refl, sym, subst, Some, Option}
 use Rattle.std.specs.Prelude.{nat_le}
 use Rattle.std.proofs.lemmas.Bool.{true≢false, false≢true}
 use Rattle.base_script.specs.declared.actor.Actor.{Actor}
@@ -20,14 +20,17 @@ use Rattle.tool_program.specs.declared.cutover_core.cutover.CutOver.{CutOver}
 use Rattle.tool_program.specs.declared.cutover_core.cutover.Phase.{Phase}
 use Rattle.tool_program.specs.declared.cutover_core.cutover.Phase.TheVariants.{Resting, Attempting, Ending, Finishing, Finished}
 use Rattle.tool_program.specs.declared.cutover_core.cutover.Role.TheVariants.{Inspector, Locker, Renamer}
-use Rattle.tool_program.specs.declared.cutover_core.cutover.Stage.TheVariants.{Draining, Drained, Unlocking, Exchanging}
+use Rattle.tool_program.specs.declared.cutover_core.cutover.Stage.TheVariants.{ReadingCounter, SettingCounter, Draining, Drained, Unlocking, Exchanging}
+use Rattle.tool_program.specs.declared.cutover_core.cutover.Drain.TheVariants.{Turns, Passed}
 use Rattle.tool_program.specs.CutoverCore.Attempts.{has_name, has_sentry}
 use Rattle.tool_program.specs.CutoverCore.CutOvers as cuts
-use Rattle.tool_program.specs.CutoverCore.CutOvers.{is_bad, is_done, begun, locker_phase, locker_stage, renamer_phase, waits_phase, failed, inspector_phase, inspector_stage, finishing, left_at_end, sentry_alone, drained, ended, applier_turn, reverted}
+use Rattle.tool_program.specs.CutoverCore.CutOvers.{is_bad, is_done, begun, locker_phase, locker_stage, renamer_phase, waits_phase, failed, inspector_phase, inspector_stage, finishing, left_at_end, sentry_alone, drained, ended, applier_turn, reverted, drain_of, drains_to}
 use Rattle.tool_program.specs.Operators.{commanded}
 use Rattle.tool_program.specs.Setups.{Setup, Listing, Clearing, MakingLog, MakingGhost, Marking, Reaching, Ready, setup_after}
 use Rattle.tool_program.specs.Tools.{Work, ToolPhase, SettingUp, Migrating, Panicked, Tool, stopped, spends, is_reverting, is_failure, tool_phase_of, copy_took, apply_took, actor_took, turn_counts, resizes, command_took}
+use Rattle.tool_program.specs.declared.cutover_core.cutover.Drain.{Drain}
 use Rattle.proof_journals.proofs.Machine.Lifting.{reverts_keeps, spends_keeps, attempt_keeps, copy_keeps, apply_keeps, drains_keeps}
+use Rattle.proof_journals.proofs.Machine.CuttingOver.{drain_cases}
 
 -- what an attempt's end drops isn't the new table
 abbrev pub DropsOther : Phase → Type 0
@@ -48,12 +51,10 @@ undone_ended (Finishing clearing) is = is
 undone_ended Finished is = is
 
 undone_drained : (cutover : CutOver) (hint : ℕ) (phase : Phase) → IsUndone phase → IsUndone (drained cutover hint phase)
-undone_drained cutover hint (Attempting (Draining turns)) is = by (hint == cutover.attempts) (nat_le cutover.drain_limit (turns + 1)) where
-  by : (a b : Bool) → IsUndone (cond a (Attempting Drained) (cond b (Ending Looking) (Attempting (Draining (turns + 1)))))
-  by true b = record { undone = refl; other = tt }
-  by false true = record { undone = refl; other = tt }
-  by false false = record { undone = refl; other = tt }
-undone_drained cutover hint (Attempting stage) is = is
+undone_drained cutover hint (Attempting stage) is = by (drain_of stage) where
+  by : (drain : Option Drain) → IsUndone (drains_to cutover hint stage drain)
+  by (Some (Turns turns)) = drain_cases IsUndone cutover hint turns stage (λ same. record { undone = refl; other = tt }) (record { undone = refl; other = tt }) (record { undone = refl; other = tt })
+  by drain = record { undone = refl; other = tt }
 undone_drained cutover hint Resting is = is
 undone_drained cutover hint (Ending clearing) is = is
 undone_drained cutover hint (Finishing clearing) is = is
@@ -106,7 +107,7 @@ undone_seen cutover tables stands = by (has_name (ghost_name cutover.table) tabl
 
 undone_inspector : (cutover : CutOver) (phase : Phase) (answer : Answer) → SeesGhost cutover answer → IsUndone phase → IsUndone (inspector_phase cutover phase answer)
 undone_inspector cutover (Attempting stage) answer sees is = by (is_bad answer) where
-  by : (b : Bool) → IsUndone (cond b (Ending Looking) (Attempting (inspector_stage stage answer)))
+  by : (b : Bool) → IsUndone (cond b (Ending Looking) (Attempting (inspector_stage cutover.has_counter stage answer)))
   by true = record { undone = refl; other = tt }
   by false = record { undone = refl; other = tt }
 undone_inspector cutover (Ending Looking) answers.Lost sees is = record { undone = refl; other = tt }

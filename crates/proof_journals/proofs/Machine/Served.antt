@@ -125,6 +125,8 @@ module _ (state : State) (number : ℕ) (found : Session) (is : session_of numbe
   within (requests.ReadLog position limit tables) = stays
   within requests.ShowTables = stays
   within requests.ShowWaiting = stays
+  within (requests.ShowCounter table) = stays
+  within (requests.SetCounter table least) = stays
 
   did_left : (request : Request) → Left state number found request (did state number request)
   unfolding did

@@ -37,6 +37,7 @@ inspector_stands (requests.Do statement) (answers.Waits by) old asks fits is = r
 inspector_stands (requests.Ends table) (answers.Waits by) old asks fits is = record { busy = is.busy; locked = is.locked; waits = refl }
 inspector_stands (requests.Create schema) (answers.Waits by) old asks fits is = record { busy = is.busy; locked = is.locked; waits = refl }
 inspector_stands (requests.Drop name) (answers.Waits by) old asks fits is = record { busy = is.busy; locked = is.locked; waits = refl }
+inspector_stands (requests.SetCounter table least) (answers.Waits by) old asks fits is = record { busy = is.busy; locked = is.locked; waits = refl }
 inspector_stands request (answers.Waits by) old asks fits is = absurd cc
 inspector_stands (requests.Do statement) answer old asks fits is = record { busy = is.busy; locked = is.locked; waits = refl }
 inspector_stands (requests.Ends table) answer old asks fits is = record { busy = is.busy; locked = is.locked; waits = refl }
@@ -45,6 +46,8 @@ inspector_stands (requests.Drop name) answer old asks fits is = record { busy = 
 inspector_stands requests.LogEnd answer old asks fits is = record { busy = is.busy; locked = is.locked; waits = refl }
 inspector_stands requests.ShowTables answer old asks fits is = record { busy = is.busy; locked = is.locked; waits = refl }
 inspector_stands requests.ShowWaiting answer old asks fits is = record { busy = is.busy; locked = is.locked; waits = refl }
+inspector_stands (requests.ShowCounter table) answer old asks fits is = record { busy = is.busy; locked = is.locked; waits = refl }
+inspector_stands (requests.SetCounter table least) answer old asks fits is = record { busy = is.busy; locked = is.locked; waits = refl }
 inspector_stands request answer old asks fits is = absurd cc
 
 pub free_stands : (asks : Request → Bool) (standing : Standing) → standing ≡ free → Stands asks false [] standing

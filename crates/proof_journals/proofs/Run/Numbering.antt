@@ -49,6 +49,8 @@ effect_numbered false busy seen made state requests.LogEnd = refl
 effect_numbered false busy seen made state (requests.ReadLog position limit tables) = refl
 effect_numbered false busy seen made state requests.ShowTables = refl
 effect_numbered false busy seen made state requests.ShowWaiting = refl
+effect_numbered false busy seen made state (requests.ShowCounter table) = refl
+effect_numbered false busy seen made state (requests.SetCounter table least) = refl
 
 done_numbered : (made : ℕ) (state : State) (number : ℕ) (request : Request) → done (numbered made state) number request ≡ renumbered made (done state number request)
 unfolding did

@@ -22,7 +22,8 @@ use Rattle.tool_changelog.specs.ToolTables.{sentry_schema}
 use Rattle.tool_program.specs.declared.cutover_core.cutover.CutOver.{CutOver}
 use Rattle.tool_program.specs.declared.cutover_core.cutover.Phase.{Phase}
 use Rattle.tool_program.specs.declared.cutover_core.cutover.Phase.TheVariants.{Resting, Attempting, Ending, Finishing, Finished}
-use Rattle.tool_program.specs.declared.cutover_core.cutover.Stage.TheVariants.{Guarding, Locking, Hinting, Draining, Drained, Showing, Dropping, Unlocking, Exchanging}
+use Rattle.tool_program.specs.declared.cutover_core.cutover.Stage.TheVariants.{Guarding, Locking, Hinting, ReadingCounter, SettingCounter, Draining, Drained, Showing, Dropping, Unlocking, Exchanging}
+use Rattle.tool_program.specs.declared.cutover_core.cutover.Drain.TheVariants.{Turns}
 use Rattle.tool_program.specs.declared.cutover_core.cutover.Hold.{Hold}
 use Rattle.tool_program.specs.declared.cutover_core.cutover.Hold.TheVariants.{Nothing, WaitsToGuard, WaitsToLock, Locks}
 use Rattle.tool_program.specs.CutoverCore.Attempts.{locker_call, unlocks, renamer_call}
@@ -53,6 +54,8 @@ locker_calls cutover (Ending clearing) request e = by cutover.hold e
 locker_calls cutover (Attempting Guarding) request e = absurd cc
 locker_calls cutover (Attempting Hinting) request e = absurd cc
 locker_calls cutover (Attempting (Draining turns)) request e = absurd cc
+locker_calls cutover (Attempting (ReadingCounter drain)) request e = absurd cc
+locker_calls cutover (Attempting (SettingCounter number drain)) request e = absurd cc
 locker_calls cutover (Attempting Drained) request e = absurd cc
 locker_calls cutover (Attempting Showing) request e = absurd cc
 locker_calls cutover (Attempting Exchanging) request e = absurd cc
@@ -144,6 +147,8 @@ locker_serves t l r (Ending clearing) hold request answer before after apart ask
 locker_serves t l r (Attempting Guarding) hold request answer before after apart asked left = absurd asked
 locker_serves t l r (Attempting Hinting) hold request answer before after apart asked left = absurd asked
 locker_serves t l r (Attempting (Draining turns)) hold request answer before after apart asked left = absurd asked
+locker_serves t l r (Attempting (ReadingCounter drain)) hold request answer before after apart asked left = absurd asked
+locker_serves t l r (Attempting (SettingCounter number drain)) hold request answer before after apart asked left = absurd asked
 locker_serves t l r (Attempting Drained) hold request answer before after apart asked left = absurd asked
 locker_serves t l r (Attempting Showing) hold request answer before after apart asked left = absurd asked
 locker_serves t l r (Attempting Exchanging) hold request answer before after apart asked left = absurd asked
@@ -164,6 +169,8 @@ drained_calls cutover (Attempting Guarding) waits request e = absurd cc
 drained_calls cutover (Attempting Locking) waits request e = absurd cc
 drained_calls cutover (Attempting Hinting) waits request e = absurd cc
 drained_calls cutover (Attempting (Draining turns)) waits request e = absurd cc
+drained_calls cutover (Attempting (ReadingCounter drain)) waits request e = absurd cc
+drained_calls cutover (Attempting (SettingCounter number drain)) waits request e = absurd cc
 drained_calls cutover (Finishing clearing) waits request e = absurd cc
 drained_calls cutover Finished waits request e = absurd cc
 
@@ -183,6 +190,8 @@ waiting_may (Attempting Guarding) hold waits fits so = no_claim (MayAnswer Resti
 waiting_may (Attempting Locking) hold waits fits so = no_claim (MayAnswer Resting waits) waits fits.1 so
 waiting_may (Attempting Hinting) hold waits fits so = no_claim (MayAnswer Resting waits) waits fits.1 so
 waiting_may (Attempting (Draining turns)) hold waits fits so = no_claim (MayAnswer Resting waits) waits fits.1 so
+waiting_may (Attempting (ReadingCounter drain)) hold waits fits so = no_claim (MayAnswer Resting waits) waits fits.1 so
+waiting_may (Attempting (SettingCounter number drain)) hold waits fits so = no_claim (MayAnswer Resting waits) waits fits.1 so
 waiting_may (Finishing clearing) hold waits fits so = no_claim (MayAnswer Resting waits) waits fits so
 waiting_may Finished hold waits fits so = no_claim (MayAnswer Resting waits) waits fits so
 

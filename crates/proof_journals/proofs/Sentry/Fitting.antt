@@ -6,7 +6,7 @@ use Rattle.proof_journals.specs.Sentry.Sentries.{Fits, LockerMay}
 use Rattle.server_model.specs.declared.answer.Answer.{Answer}
 use Rattle.tool_program.specs.declared.cutover_core.cutover.Phase.{Phase}
 use Rattle.tool_program.specs.declared.cutover_core.cutover.Phase.TheVariants.{Resting, Attempting, Ending, Finishing, Finished}
-use Rattle.tool_program.specs.declared.cutover_core.cutover.Stage.TheVariants.{Guarding, Locking, Hinting, Draining, Drained, Showing, Dropping, Unlocking, Exchanging}
+use Rattle.tool_program.specs.declared.cutover_core.cutover.Stage.TheVariants.{Guarding, Locking, Hinting, ReadingCounter, SettingCounter, Draining, Drained, Showing, Dropping, Unlocking, Exchanging}
 use Rattle.tool_program.specs.declared.cutover_core.cutover.Stage.{Stage}
 use Rattle.tool_program.specs.declared.cutover_core.cutover.Hold.{Hold}
 use Rattle.tool_program.specs.declared.cutover_core.cutover.Hold.TheVariants.{Nothing, WaitsToGuard, WaitsToLock, Locks}
@@ -70,6 +70,8 @@ locker_fits (Attempting Unlocking) hold waits answers.Lost fits may = loses Unlo
 locker_fits (Attempting Unlocking) hold waits answer fits may = absurd may
 locker_fits (Attempting Hinting) hold waits answer fits may = loses Hinting hold waits answer may (ap (λ h. hold_after h (Attempting Hinting) answers.Lost) fits.0)
 locker_fits (Attempting (Draining turns)) hold waits answer fits may = loses (Draining turns) hold waits answer may (ap (λ h. hold_after h (Attempting (Draining turns)) answers.Lost) fits.0)
+locker_fits (Attempting (ReadingCounter drain)) hold waits answer fits may = loses (ReadingCounter drain) hold waits answer may (ap (λ h. hold_after h (Attempting (ReadingCounter drain)) answers.Lost) fits.0)
+locker_fits (Attempting (SettingCounter number drain)) hold waits answer fits may = loses (SettingCounter number drain) hold waits answer may (ap (λ h. hold_after h (Attempting (SettingCounter number drain)) answers.Lost) fits.0)
 locker_fits (Attempting Drained) hold waits answer fits may = loses Drained hold waits answer may (ap (λ h. hold_after h (Attempting Drained) answers.Lost) fits.0)
 locker_fits (Attempting Showing) hold waits answer fits may = loses Showing hold waits answer may (ap (λ h. hold_after h (Attempting Showing) answers.Lost) fits.0)
 locker_fits (Attempting Exchanging) hold waits answer fits may = loses Exchanging hold waits answer may (ap (λ h. hold_after h (Attempting Exchanging) answers.Lost) fits)
@@ -100,6 +102,8 @@ revert_fits (Attempting Locking) hold waits fits = ends fits.0 fits.1
     ends (inr is) quiet = ends_with hold WaitsToLock waits is quiet
 revert_fits (Attempting Hinting) hold waits fits = ends_with hold Locks waits fits.0 tt
 revert_fits (Attempting (Draining turns)) hold waits fits = ends_with hold Locks waits fits.0 tt
+revert_fits (Attempting (ReadingCounter drain)) hold waits fits = ends_with hold Locks waits fits.0 tt
+revert_fits (Attempting (SettingCounter number drain)) hold waits fits = ends_with hold Locks waits fits.0 tt
 revert_fits (Attempting Drained) hold waits fits = ends_with hold Locks waits fits.0 tt
 revert_fits (Attempting Showing) hold waits fits = ends_with hold Locks waits fits.0 tt
 revert_fits (Attempting Dropping) hold waits fits = ends_with hold Locks waits fits.0 tt
@@ -114,6 +118,8 @@ failed_fits Guarding hold waits fits = revert_fits (Attempting Guarding) hold wa
 failed_fits Locking hold waits fits = revert_fits (Attempting Locking) hold waits fits
 failed_fits Hinting hold waits fits = ends_with hold Locks waits fits.0 tt
 failed_fits (Draining turns) hold waits fits = ends_with hold Locks waits fits.0 tt
+failed_fits (ReadingCounter drain) hold waits fits = ends_with hold Locks waits fits.0 tt
+failed_fits (SettingCounter number drain) hold waits fits = ends_with hold Locks waits fits.0 tt
 failed_fits Drained hold waits fits = ends_with hold Locks waits fits.0 tt
 failed_fits Showing hold waits fits = ends_with hold Locks waits fits.0 tt
 failed_fits Dropping hold waits fits = ends_with hold Locks waits fits.0 tt

@@ -20,7 +20,8 @@ use Rattle.tool_program.specs.EventApplier.Appliers.{events_of}
 use Rattle.tool_program.specs.declared.cutover_core.cutover.CutOver.{CutOver}
 use Rattle.tool_program.specs.declared.cutover_core.cutover.Phase.{Phase}
 use Rattle.tool_program.specs.declared.cutover_core.cutover.Phase.TheVariants.{Resting, Attempting, Ending, Finishing, Finished}
-use Rattle.tool_program.specs.declared.cutover_core.cutover.Stage.TheVariants.{Guarding, Locking, Hinting, Draining, Drained, Showing, Dropping, Unlocking, Exchanging}
+use Rattle.tool_program.specs.declared.cutover_core.cutover.Stage.TheVariants.{Guarding, Locking, Hinting, ReadingCounter, SettingCounter, Draining, Drained, Showing, Dropping, Unlocking, Exchanging}
+use Rattle.tool_program.specs.declared.cutover_core.cutover.Drain.TheVariants.{Turns, Passed}
 use Rattle.tool_program.specs.declared.cutover_core.cutover.Hold.{Hold}
 use Rattle.tool_program.specs.declared.cutover_core.cutover.Hold.TheVariants.{Nothing, WaitsToGuard, WaitsToLock, Locks}
 
@@ -126,7 +127,15 @@ others_keep t r s l before after turn copier applier cutover apart other (Attemp
     record { sentry = sentry_after t r s before after turn at.sentry; locked = still_locked t r s l before after turn apart at.locked }
 others_keep t r s l before after turn copier applier cutover apart other (Attempting (Draining turns)) at =
     record { sentry = sentry_after t r s before after turn at.sentry; locked = still_locked t r s l before after turn apart at.locked; hinted = hinted_after t r s l before after turn cutover.attempts apart (locked_out t s l before apart at.locked) at.locked.alone at.hinted }
+others_keep t r s l before after turn copier applier cutover apart other (Attempting (ReadingCounter (Turns turns))) at =
+    record { sentry = sentry_after t r s before after turn at.sentry; locked = still_locked t r s l before after turn apart at.locked; hinted = hinted_after t r s l before after turn cutover.attempts apart (locked_out t s l before apart at.locked) at.locked.alone at.hinted }
+others_keep t r s l before after turn copier applier cutover apart other (Attempting (SettingCounter number (Turns turns))) at =
+    record { sentry = sentry_after t r s before after turn at.sentry; locked = still_locked t r s l before after turn apart at.locked; hinted = hinted_after t r s l before after turn cutover.attempts apart (locked_out t s l before apart at.locked) at.locked.alone at.hinted }
 others_keep t r s l before after turn copier applier cutover apart other (Attempting Drained) at =
+    record { sentry = sentry_after t r s before after turn at.sentry; locked = still_locked t r s l before after turn apart at.locked; drained = drained_after t r s l before after turn copier applier apart (locked_out t s l before apart at.locked) at.locked.alone at.drained }
+others_keep t r s l before after turn copier applier cutover apart other (Attempting (ReadingCounter Passed)) at =
+    record { sentry = sentry_after t r s before after turn at.sentry; locked = still_locked t r s l before after turn apart at.locked; drained = drained_after t r s l before after turn copier applier apart (locked_out t s l before apart at.locked) at.locked.alone at.drained }
+others_keep t r s l before after turn copier applier cutover apart other (Attempting (SettingCounter number Passed)) at =
     record { sentry = sentry_after t r s before after turn at.sentry; locked = still_locked t r s l before after turn apart at.locked; drained = drained_after t r s l before after turn copier applier apart (locked_out t s l before apart at.locked) at.locked.alone at.drained }
 others_keep t r s l before after turn copier applier cutover apart other (Attempting Showing) at = rename_after t r s l before after turn copier applier apart at
 others_keep t r s l before after turn copier applier cutover apart other (Attempting Dropping) at = rename_after t r s l before after turn copier applier apart at
@@ -281,5 +290,7 @@ rename_exchanges t l r scene copier applier cutover (Attempting Guarding) at may
 rename_exchanges t l r scene copier applier cutover (Attempting Locking) at may gone = absurd may
 rename_exchanges t l r scene copier applier cutover (Attempting Hinting) at may gone = absurd may
 rename_exchanges t l r scene copier applier cutover (Attempting (Draining turns)) at may gone = absurd may
+rename_exchanges t l r scene copier applier cutover (Attempting (ReadingCounter drain)) at may gone = absurd may
+rename_exchanges t l r scene copier applier cutover (Attempting (SettingCounter number drain)) at may gone = absurd may
 rename_exchanges t l r scene copier applier cutover (Finishing clearing) at may gone = absurd may
 rename_exchanges t l r scene copier applier cutover Finished at may gone = absurd may

@@ -3,6 +3,7 @@
 use Rattle.std.proofs.Common.{◌≡◌, ◌≢◌, ℕ, ◌+◌, nat_eq, nat_le, Bool, true, false, not, cond, List, sym, subst}
 use Rattle.server_model.specs.declared.answer.Answer.TheVariants as answers
 use Rattle.proof_journals.specs.Sentry.Sentries.{Scene, AtEnd, Guards, Fits, InspectorMay, InspectorTurns, InspectorWrites}
+use Rattle.proof_journals.proofs.Machine.CuttingOver.{drain_cases}
 use Rattle.proof_journals.proofs.Sentry.Guarding.{others_keep}
 use Rattle.proof_journals.proofs.Sentry.Fitting.{failed_fits, ends_with}
 use Rattle.proof_journals.proofs.Sentry.OtherTurns.{inspector_guards}
@@ -14,7 +15,8 @@ use Rattle.tool_program.specs.declared.event_applier.applier.Applier.{Applier}
 use Rattle.tool_program.specs.declared.cutover_core.cutover.CutOver.{CutOver}
 use Rattle.tool_program.specs.declared.cutover_core.cutover.Phase.{Phase}
 use Rattle.tool_program.specs.declared.cutover_core.cutover.Phase.TheVariants.{Resting, Attempting, Ending, Finishing, Finished}
-use Rattle.tool_program.specs.declared.cutover_core.cutover.Stage.TheVariants.{Guarding, Locking, Hinting, Draining, Drained, Showing, Dropping, Unlocking, Exchanging}
+use Rattle.tool_program.specs.declared.cutover_core.cutover.Stage.TheVariants.{Guarding, Locking, Hinting, ReadingCounter, SettingCounter, Draining, Drained, Showing, Dropping, Unlocking, Exchanging}
+use Rattle.tool_program.specs.declared.cutover_core.cutover.Drain.TheVariants.{Turns, Passed}
 use Rattle.tool_program.specs.declared.cutover_core.cutover.Stage.{Stage}
 use Rattle.tool_program.specs.declared.cutover_core.cutover.Hold.{Hold}
 use Rattle.tool_program.specs.declared.cutover_core.cutover.Hold.TheVariants.{Nothing}
@@ -22,7 +24,7 @@ use Rattle.tool_program.specs.declared.cutover_core.cutover.Clearing.TheVariants
 use Rattle.tool_program.specs.declared.cutover_core.cutover.Leftovers.{Leftovers}
 use Rattle.tool_program.specs.declared.cutover_core.cutover.Clearing.{Clearing}
 use Rattle.tool_program.specs.CutoverCore.Attempts.{has_name, has_sentry, is_clear, without_first}
-use Rattle.tool_program.specs.CutoverCore.CutOvers.{inspector_phase, inspector_stage, ending_after, is_bad, seen, finishing, left_at_end, sentry_alone, finishing_after, shows_wait, drained}
+use Rattle.tool_program.specs.CutoverCore.CutOvers.{hinted, inspector_phase, inspector_stage, ending_after, is_bad, seen, finishing, left_at_end, sentry_alone, finishing_after, shows_wait, drained}
 
 free_end : (t : List ℕ) (l r : ℕ) (scene : Scene) (copier : Copier) (applier : Applier) (hold : Hold) (waits : Bool) → hold ≡ Nothing → waits ≡ false → AtEnd t scene copier applier l r hold waits
 free_end t l r scene copier applier hold waits is so =
@@ -107,22 +109,31 @@ inspector_turn t l r i before after copier applier cutover (Ending (Drops left))
 inspector_turn t l r i before after copier applier cutover (Finishing clearing) answer apart other turn served fits may at = finishing_guards t l r after copier applier cutover clearing answer
 inspector_turn t l r i before after copier applier cutover Finished answer apart other turn served fits may at = tt
 
-stage_fits : (stage : Stage) (answer : Answer) (hold : Hold) (waits : Bool) → Fits (Attempting stage) hold waits → Fits (Attempting (inspector_stage stage answer)) hold waits
-stage_fits Hinting (answers.Ok count) hold waits fits = fits
-stage_fits Hinting answer hold waits fits = fits
-stage_fits Showing (answers.Waiting waiters) hold waits fits = by (shows_wait waiters)
+stage_fits : (counter : Bool) (stage : Stage) (answer : Answer) (hold : Hold) (waits : Bool) → Fits (Attempting stage) hold waits → Fits (Attempting (inspector_stage counter stage answer)) hold waits
+stage_fits counter Hinting (answers.Ok count) hold waits fits = by counter
+  where
+    by : (b : Bool) → Fits (Attempting (hinted b)) hold waits
+    by true = fits
+    by false = fits
+stage_fits counter (ReadingCounter drain) (answers.At number) hold waits fits = fits
+stage_fits counter (SettingCounter number (Turns turns)) (answers.Ok count) hold waits fits = fits
+stage_fits counter (SettingCounter number Passed) (answers.Ok count) hold waits fits = fits
+stage_fits counter Hinting answer hold waits fits = fits
+stage_fits counter Showing (answers.Waiting waiters) hold waits fits = by (shows_wait waiters)
   where
     by : (b : Bool) → Fits (Attempting (cond b Dropping Showing)) hold waits
     by true = fits
     by false = fits
-stage_fits Showing answer hold waits fits = fits
-stage_fits Guarding answer hold waits fits = fits
-stage_fits Locking answer hold waits fits = fits
-stage_fits (Draining turns) answer hold waits fits = fits
-stage_fits Drained answer hold waits fits = fits
-stage_fits Dropping answer hold waits fits = fits
-stage_fits Unlocking answer hold waits fits = fits
-stage_fits Exchanging answer hold waits fits = fits
+stage_fits counter Showing answer hold waits fits = fits
+stage_fits counter Guarding answer hold waits fits = fits
+stage_fits counter Locking answer hold waits fits = fits
+stage_fits counter (Draining turns) answer hold waits fits = fits
+stage_fits counter (ReadingCounter drain) answer hold waits fits = fits
+stage_fits counter (SettingCounter number drain) answer hold waits fits = fits
+stage_fits counter Drained answer hold waits fits = fits
+stage_fits counter Dropping answer hold waits fits = fits
+stage_fits counter Unlocking answer hold waits fits = fits
+stage_fits counter Exchanging answer hold waits fits = fits
 
 looking_fit : (cutover : CutOver) (answer : Answer) (hold : Hold) (waits : Bool) → InspectorMay (Ending Looking) hold waits answer → Fits (Ending Looking) hold waits → Fits (ending_after cutover Looking answer) hold waits
 looking_fit cutover answers.Lost hold waits may fits = fits
@@ -140,9 +151,9 @@ pub inspector_fits : (cutover : CutOver) (phase : Phase) (answer : Answer) (hold
 inspector_fits cutover Resting answer hold waits may fits = fits
 inspector_fits cutover (Attempting stage) answer hold waits may fits = by (is_bad answer)
   where
-    by : (b : Bool) → Fits (cond b (Ending Looking) (Attempting (inspector_stage stage answer))) hold waits
+    by : (b : Bool) → Fits (cond b (Ending Looking) (Attempting (inspector_stage cutover.has_counter stage answer))) hold waits
     by true = failed_fits stage hold waits fits
-    by false = stage_fits stage answer hold waits fits
+    by false = stage_fits cutover.has_counter stage answer hold waits fits
 inspector_fits cutover (Ending Looking) answer hold waits may fits = looking_fit cutover answer hold waits may fits
 inspector_fits cutover (Ending (Drops left)) answer hold waits may fits = dropping_fit cutover left answer hold waits fits.0 fits.1
 inspector_fits cutover (Finishing clearing) answer hold waits may fits = finishing_fits cutover clearing answer hold waits fits
@@ -156,11 +167,15 @@ drained_fits cutover hint (Attempting (Draining turns)) hold waits fits = by (na
     by true c = fits
     by false true = failed_fits (Draining turns) hold waits fits
     by false false = fits
+drained_fits cutover hint (Attempting (ReadingCounter (Turns turns))) hold waits fits = drain_cases (λ (p : Phase). Fits p hold waits) cutover hint turns (ReadingCounter (Turns turns)) (λ same. fits) (failed_fits (ReadingCounter (Turns turns)) hold waits fits) fits
+drained_fits cutover hint (Attempting (SettingCounter number (Turns turns))) hold waits fits = drain_cases (λ (p : Phase). Fits p hold waits) cutover hint turns (SettingCounter number (Turns turns)) (λ same. fits) (failed_fits (SettingCounter number (Turns turns)) hold waits fits) fits
 drained_fits cutover hint Resting hold waits fits = fits
 drained_fits cutover hint (Attempting Guarding) hold waits fits = fits
 drained_fits cutover hint (Attempting Locking) hold waits fits = fits
 drained_fits cutover hint (Attempting Hinting) hold waits fits = fits
 drained_fits cutover hint (Attempting Drained) hold waits fits = fits
+drained_fits cutover hint (Attempting (ReadingCounter Passed)) hold waits fits = fits
+drained_fits cutover hint (Attempting (SettingCounter number Passed)) hold waits fits = fits
 drained_fits cutover hint (Attempting Showing) hold waits fits = fits
 drained_fits cutover hint (Attempting Dropping) hold waits fits = fits
 drained_fits cutover hint (Attempting Unlocking) hold waits fits = fits

@@ -11,7 +11,8 @@ use Rattle.tool_program.specs.declared.event_applier.applier.Applier.{Applier}
 use Rattle.tool_program.specs.declared.cutover_core.cutover.CutOver.{CutOver}
 use Rattle.tool_program.specs.declared.cutover_core.cutover.Phase.{Phase}
 use Rattle.tool_program.specs.declared.cutover_core.cutover.Phase.TheVariants.{Resting, Attempting, Ending, Finishing, Finished}
-use Rattle.tool_program.specs.declared.cutover_core.cutover.Stage.TheVariants.{Guarding, Locking, Hinting, Draining, Drained, Showing, Dropping, Unlocking, Exchanging}
+use Rattle.tool_program.specs.declared.cutover_core.cutover.Stage.TheVariants.{Guarding, Locking, Hinting, ReadingCounter, SettingCounter, Draining, Drained, Showing, Dropping, Unlocking, Exchanging}
+use Rattle.tool_program.specs.declared.cutover_core.cutover.Drain.TheVariants.{Turns, Passed}
 use Rattle.tool_program.specs.declared.cutover_core.cutover.Stage.{Stage}
 use Rattle.tool_program.specs.declared.cutover_core.cutover.Hold.{Hold}
 use Rattle.tool_program.specs.declared.cutover_core.cutover.Hold.TheVariants.{Nothing, WaitsToGuard, WaitsToLock, Locks}
@@ -41,7 +42,11 @@ ends_guarded t l r scene copier applier cutover Locking fits at = by fits.0
     by (inr is) = end_is t l r scene copier applier cutover.hold WaitsToLock cutover.renamer_waits false is fits.1 (record { lock = tt; rename = tt })
 ends_guarded t l r scene copier applier cutover Hinting fits at = end_is t l r scene copier applier cutover.hold Locks cutover.renamer_waits false fits.0 fits.1 (record { lock = at.locked; rename = tt })
 ends_guarded t l r scene copier applier cutover (Draining turns) fits at = end_is t l r scene copier applier cutover.hold Locks cutover.renamer_waits false fits.0 fits.1 (record { lock = at.locked; rename = tt })
+ends_guarded t l r scene copier applier cutover (ReadingCounter (Turns turns)) fits at = end_is t l r scene copier applier cutover.hold Locks cutover.renamer_waits false fits.0 fits.1 (record { lock = at.locked; rename = tt })
+ends_guarded t l r scene copier applier cutover (SettingCounter number (Turns turns)) fits at = end_is t l r scene copier applier cutover.hold Locks cutover.renamer_waits false fits.0 fits.1 (record { lock = at.locked; rename = tt })
 ends_guarded t l r scene copier applier cutover Drained fits at = end_is t l r scene copier applier cutover.hold Locks cutover.renamer_waits false fits.0 fits.1 (record { lock = at.locked; rename = tt })
+ends_guarded t l r scene copier applier cutover (ReadingCounter Passed) fits at = end_is t l r scene copier applier cutover.hold Locks cutover.renamer_waits false fits.0 fits.1 (record { lock = at.locked; rename = tt })
+ends_guarded t l r scene copier applier cutover (SettingCounter number Passed) fits at = end_is t l r scene copier applier cutover.hold Locks cutover.renamer_waits false fits.0 fits.1 (record { lock = at.locked; rename = tt })
 ends_guarded t l r scene copier applier cutover Showing fits at =
     end_is t l r scene copier applier cutover.hold Locks cutover.renamer_waits true fits.0 fits.1 (record { lock = at.locked; rename = record { waits = at.waits; guarded = inl at.sentry } })
 ends_guarded t l r scene copier applier cutover Dropping fits at =
@@ -61,6 +66,8 @@ revert_guards t l r scene copier applier cutover (Attempting Guarding) fits at =
 revert_guards t l r scene copier applier cutover (Attempting Locking) fits at = ends_guarded t l r scene copier applier cutover Locking fits at
 revert_guards t l r scene copier applier cutover (Attempting Hinting) fits at = ends_guarded t l r scene copier applier cutover Hinting fits at
 revert_guards t l r scene copier applier cutover (Attempting (Draining turns)) fits at = ends_guarded t l r scene copier applier cutover (Draining turns) fits at
+revert_guards t l r scene copier applier cutover (Attempting (ReadingCounter drain)) fits at = ends_guarded t l r scene copier applier cutover (ReadingCounter drain) fits at
+revert_guards t l r scene copier applier cutover (Attempting (SettingCounter number drain)) fits at = ends_guarded t l r scene copier applier cutover (SettingCounter number drain) fits at
 revert_guards t l r scene copier applier cutover (Attempting Drained) fits at = ends_guarded t l r scene copier applier cutover Drained fits at
 revert_guards t l r scene copier applier cutover (Attempting Showing) fits at = ends_guarded t l r scene copier applier cutover Showing fits at
 revert_guards t l r scene copier applier cutover (Attempting Dropping) fits at = ends_guarded t l r scene copier applier cutover Dropping fits at
@@ -158,6 +165,8 @@ locker_guards t l r before after copier applier cutover (Attempting Guarding) an
 locker_guards t l r before after copier applier cutover (Attempting Locking) answer at fits may served = at_locking t l r before after copier applier cutover answer at fits served
 locker_guards t l r before after copier applier cutover (Attempting Hinting) answer at fits may served = loses t l r before after copier applier cutover Hinting answer at fits may (ap (λ h. hold_after h (Attempting Hinting) answers.Lost) fits.0) served
 locker_guards t l r before after copier applier cutover (Attempting (Draining turns)) answer at fits may served = loses t l r before after copier applier cutover (Draining turns) answer at fits may (ap (λ h. hold_after h (Attempting (Draining turns)) answers.Lost) fits.0) served
+locker_guards t l r before after copier applier cutover (Attempting (ReadingCounter drain)) answer at fits may served = loses t l r before after copier applier cutover (ReadingCounter drain) answer at fits may (ap (λ h. hold_after h (Attempting (ReadingCounter drain)) answers.Lost) fits.0) served
+locker_guards t l r before after copier applier cutover (Attempting (SettingCounter number drain)) answer at fits may served = loses t l r before after copier applier cutover (SettingCounter number drain) answer at fits may (ap (λ h. hold_after h (Attempting (SettingCounter number drain)) answers.Lost) fits.0) served
 locker_guards t l r before after copier applier cutover (Attempting Drained) answer at fits may served = loses t l r before after copier applier cutover Drained answer at fits may (ap (λ h. hold_after h (Attempting Drained) answers.Lost) fits.0) served
 locker_guards t l r before after copier applier cutover (Attempting Showing) answer at fits may served = loses t l r before after copier applier cutover Showing answer at fits may (ap (λ h. hold_after h (Attempting Showing) answers.Lost) fits.0) served
 locker_guards t l r before after copier applier cutover (Attempting Dropping) answer at fits may served = at_dropping t l r before after copier applier cutover answer at fits served

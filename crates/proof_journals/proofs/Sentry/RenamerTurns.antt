@@ -14,7 +14,8 @@ use Rattle.tool_program.specs.declared.event_applier.applier.Applier.{Applier}
 use Rattle.tool_program.specs.declared.cutover_core.cutover.CutOver.{CutOver}
 use Rattle.tool_program.specs.declared.cutover_core.cutover.Phase.{Phase}
 use Rattle.tool_program.specs.declared.cutover_core.cutover.Phase.TheVariants.{Resting, Attempting, Ending, Finishing, Finished}
-use Rattle.tool_program.specs.declared.cutover_core.cutover.Stage.TheVariants.{Guarding, Locking, Hinting, Draining, Drained, Showing, Dropping, Unlocking, Exchanging}
+use Rattle.tool_program.specs.declared.cutover_core.cutover.Stage.TheVariants.{Guarding, Locking, Hinting, ReadingCounter, SettingCounter, Draining, Drained, Showing, Dropping, Unlocking, Exchanging}
+use Rattle.tool_program.specs.declared.cutover_core.cutover.Drain.TheVariants.{Turns, Passed}
 use Rattle.tool_program.specs.declared.cutover_core.cutover.Hold.{Hold}
 use Rattle.tool_program.specs.declared.cutover_core.cutover.Hold.TheVariants.{Nothing, WaitsToGuard, WaitsToLock, Locks}
 use Rattle.tool_program.specs.declared.cutover_core.cutover.Clearing.TheVariants.{Looking, Drops}
@@ -55,7 +56,15 @@ rests_keep t l r before after copier applier cutover (Attempting Locking) rests 
 rests_keep t l r before after copier applier cutover (Attempting Hinting) rests at = record { sentry = rests.tables ∙ at.sentry; locked = rests_lock t l r before after rests at.locked }
 rests_keep t l r before after copier applier cutover (Attempting (Draining turns)) rests at =
     record { sentry = rests.tables ∙ at.sentry; locked = rests_lock t l r before after rests at.locked; hinted = subst (λ log. IsHinted t cutover.attempts log) (sym rests.log) at.hinted }
+rests_keep t l r before after copier applier cutover (Attempting (ReadingCounter (Turns turns))) rests at =
+    record { sentry = rests.tables ∙ at.sentry; locked = rests_lock t l r before after rests at.locked; hinted = subst (λ log. IsHinted t cutover.attempts log) (sym rests.log) at.hinted }
+rests_keep t l r before after copier applier cutover (Attempting (SettingCounter number (Turns turns))) rests at =
+    record { sentry = rests.tables ∙ at.sentry; locked = rests_lock t l r before after rests at.locked; hinted = subst (λ log. IsHinted t cutover.attempts log) (sym rests.log) at.hinted }
 rests_keep t l r before after copier applier cutover (Attempting Drained) rests at =
+    record { sentry = rests.tables ∙ at.sentry; locked = rests_lock t l r before after rests at.locked; drained = rests_drain t r before after copier applier rests at.drained }
+rests_keep t l r before after copier applier cutover (Attempting (ReadingCounter Passed)) rests at =
+    record { sentry = rests.tables ∙ at.sentry; locked = rests_lock t l r before after rests at.locked; drained = rests_drain t r before after copier applier rests at.drained }
+rests_keep t l r before after copier applier cutover (Attempting (SettingCounter number Passed)) rests at =
     record { sentry = rests.tables ∙ at.sentry; locked = rests_lock t l r before after rests at.locked; drained = rests_drain t r before after copier applier rests at.drained }
 rests_keep t l r before after copier applier cutover (Attempting Showing) rests at = rests_rename t l r before after copier applier at rests
 rests_keep t l r before after copier applier cutover (Attempting Dropping) rests at = rests_rename t l r before after copier applier at rests
@@ -102,6 +111,8 @@ renamer_waits t l r before after copier applier cutover (Attempting Guarding) n 
 renamer_waits t l r before after copier applier cutover (Attempting Locking) n rests may at fits = absurd may
 renamer_waits t l r before after copier applier cutover (Attempting Hinting) n rests may at fits = absurd may
 renamer_waits t l r before after copier applier cutover (Attempting (Draining turns)) n rests may at fits = absurd may
+renamer_waits t l r before after copier applier cutover (Attempting (ReadingCounter drain)) n rests may at fits = absurd may
+renamer_waits t l r before after copier applier cutover (Attempting (SettingCounter number drain)) n rests may at fits = absurd may
 renamer_waits t l r before after copier applier cutover (Finishing clearing) n rests may at fits = absurd may
 renamer_waits t l r before after copier applier cutover Finished n rests may at fits = absurd may
 
@@ -119,6 +130,8 @@ renamer_refused t l r before after copier applier cutover (Attempting Guarding) 
 renamer_refused t l r before after copier applier cutover (Attempting Locking) apart refused may at = absurd may
 renamer_refused t l r before after copier applier cutover (Attempting Hinting) apart refused may at = absurd may
 renamer_refused t l r before after copier applier cutover (Attempting (Draining turns)) apart refused may at = absurd may
+renamer_refused t l r before after copier applier cutover (Attempting (ReadingCounter drain)) apart refused may at = absurd may
+renamer_refused t l r before after copier applier cutover (Attempting (SettingCounter number drain)) apart refused may at = absurd may
 renamer_refused t l r before after copier applier cutover (Finishing clearing) apart refused may at = absurd may
 renamer_refused t l r before after copier applier cutover Finished apart refused may at = absurd may
 
@@ -146,6 +159,8 @@ waits_fit (Attempting Guarding) hold waits by fits may = absurd may
 waits_fit (Attempting Locking) hold waits by fits may = absurd may
 waits_fit (Attempting Hinting) hold waits by fits may = absurd may
 waits_fit (Attempting (Draining turns)) hold waits by fits may = absurd may
+waits_fit (Attempting (ReadingCounter drain)) hold waits by fits may = absurd may
+waits_fit (Attempting (SettingCounter number drain)) hold waits by fits may = absurd may
 waits_fit (Finishing clearing) hold waits by fits may = absurd may
 waits_fit Finished hold waits by fits may = absurd may
 
@@ -172,6 +187,8 @@ refused_fit t r before after (Attempting Guarding) hold waits fits may refused =
 refused_fit t r before after (Attempting Locking) hold waits fits may refused = absurd may
 refused_fit t r before after (Attempting Hinting) hold waits fits may refused = absurd may
 refused_fit t r before after (Attempting (Draining turns)) hold waits fits may refused = absurd may
+refused_fit t r before after (Attempting (ReadingCounter drain)) hold waits fits may refused = absurd may
+refused_fit t r before after (Attempting (SettingCounter number drain)) hold waits fits may refused = absurd may
 refused_fit t r before after (Finishing clearing) hold waits fits may refused = absurd may
 refused_fit t r before after Finished hold waits fits may refused = absurd may
 

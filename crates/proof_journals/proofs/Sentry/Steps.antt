@@ -28,7 +28,7 @@ use Rattle.tool_program.specs.declared.cutover_core.cutover.CutOver.{CutOver}
 use Rattle.tool_program.specs.declared.cutover_core.cutover.Phase.{Phase}
 use Rattle.tool_program.specs.declared.cutover_core.cutover.Phase.TheVariants.{Resting, Attempting, Ending, Finishing, Finished}
 use Rattle.tool_program.specs.declared.cutover_core.cutover.Role.TheVariants.{Inspector, Locker, Renamer}
-use Rattle.tool_program.specs.declared.cutover_core.cutover.Stage.TheVariants.{Guarding, Locking, Hinting, Draining, Drained, Showing, Dropping, Unlocking, Exchanging}
+use Rattle.tool_program.specs.declared.cutover_core.cutover.Stage.TheVariants.{Guarding, Locking, Hinting, ReadingCounter, SettingCounter, Draining, Drained, Showing, Dropping, Unlocking, Exchanging}
 use Rattle.tool_program.specs.CutoverCore.CutOvers.{took, reverted, applier_turn, stands, ended, inspector_took, renamer_took}
 use Rattle.tool_program.specs.Operators.{commanded}
 use Rattle.tool_program.specs.Tools.{Work, ToolPhase, Tool, stopped, is_reverting, is_failure, copy_took, apply_took, drains, actor_took, turn_counts, resizes, command_took}
@@ -114,6 +114,8 @@ turned_stops plan state l r (Migrating work) at = (stops plan state l r (Migrati
     none (Attempting Locking) is = is
     none (Attempting Hinting) is = is
     none (Attempting (Draining turns)) is = is
+    none (Attempting (ReadingCounter drain)) is = is
+    none (Attempting (SettingCounter number drain)) is = is
     none (Attempting Drained) is = is
     none (Attempting Showing) is = is
     none (Attempting Dropping) is = is

@@ -11,7 +11,8 @@ use Rattle.tool_program.specs.declared.event_applier.applier.Applier.{Applier}
 use Rattle.tool_program.specs.declared.cutover_core.cutover.CutOver.{CutOver}
 use Rattle.tool_program.specs.declared.cutover_core.cutover.Phase.{Phase}
 use Rattle.tool_program.specs.declared.cutover_core.cutover.Phase.TheVariants.{Resting, Attempting, Ending, Finishing, Finished}
-use Rattle.tool_program.specs.declared.cutover_core.cutover.Stage.TheVariants.{Guarding, Locking, Hinting, Draining, Drained, Showing, Dropping, Unlocking, Exchanging}
+use Rattle.tool_program.specs.declared.cutover_core.cutover.Stage.TheVariants.{Guarding, Locking, Hinting, ReadingCounter, SettingCounter, Draining, Drained, Showing, Dropping, Unlocking, Exchanging}
+use Rattle.tool_program.specs.declared.cutover_core.cutover.Drain.TheVariants.{Turns, Passed}
 use Rattle.tool_program.specs.declared.cutover_core.cutover.Clearing.TheVariants.{Looking, Drops}
 use Rattle.tool_program.specs.declared.cutover_core.cutover.Leftovers.{Leftovers}
 use Rattle.tool_program.specs.declared.cutover_core.cutover.Clearing.{Clearing}
@@ -25,7 +26,11 @@ guards_of t l r scene copier applier a b (Attempting Guarding) e f g at = tt
 guards_of t l r scene copier applier a b (Attempting Locking) e f g at = at
 guards_of t l r scene copier applier a b (Attempting Hinting) e f g at = at
 guards_of t l r scene copier applier a b (Attempting (Draining turns)) e f g at = subst (λ n. Rattle.proof_journals.specs.Sentry.Sentries.AfterHint t scene n l) e at
+guards_of t l r scene copier applier a b (Attempting (ReadingCounter (Turns turns))) e f g at = subst (λ n. Rattle.proof_journals.specs.Sentry.Sentries.AfterHint t scene n l) e at
+guards_of t l r scene copier applier a b (Attempting (SettingCounter number (Turns turns))) e f g at = subst (λ n. Rattle.proof_journals.specs.Sentry.Sentries.AfterHint t scene n l) e at
 guards_of t l r scene copier applier a b (Attempting Drained) e f g at = at
+guards_of t l r scene copier applier a b (Attempting (ReadingCounter Passed)) e f g at = at
+guards_of t l r scene copier applier a b (Attempting (SettingCounter number Passed)) e f g at = at
 guards_of t l r scene copier applier a b (Attempting Showing) e f g at = at
 guards_of t l r scene copier applier a b (Attempting Dropping) e f g at = at
 guards_of t l r scene copier applier a b (Attempting Unlocking) e f g at = at
@@ -49,6 +54,8 @@ locker_free t l k r scene copier applier cutover (Finishing clearing) free at = 
 locker_free t l k r scene copier applier cutover Finished free at = tt
 locker_free t l k r scene copier applier cutover (Attempting Hinting) free at = absurd free
 locker_free t l k r scene copier applier cutover (Attempting (Draining turns)) free at = absurd free
+locker_free t l k r scene copier applier cutover (Attempting (ReadingCounter drain)) free at = absurd free
+locker_free t l k r scene copier applier cutover (Attempting (SettingCounter number drain)) free at = absurd free
 locker_free t l k r scene copier applier cutover (Attempting Drained) free at = absurd free
 locker_free t l k r scene copier applier cutover (Attempting Showing) free at = absurd free
 locker_free t l k r scene copier applier cutover (Attempting Dropping) free at = absurd free
@@ -68,7 +75,11 @@ renamer_free t l r k scene copier applier cutover (Finishing clearing) free at =
 renamer_free t l r k scene copier applier cutover Finished free at = tt
 renamer_free t l r k scene copier applier cutover (Attempting Hinting) free at = at
 renamer_free t l r k scene copier applier cutover (Attempting (Draining turns)) free at = at
+renamer_free t l r k scene copier applier cutover (Attempting (ReadingCounter (Turns turns))) free at = at
+renamer_free t l r k scene copier applier cutover (Attempting (SettingCounter number (Turns turns))) free at = at
 renamer_free t l r k scene copier applier cutover (Attempting Drained) free at = at
+renamer_free t l r k scene copier applier cutover (Attempting (ReadingCounter Passed)) free at = at
+renamer_free t l r k scene copier applier cutover (Attempting (SettingCounter number Passed)) free at = at
 renamer_free t l r k scene copier applier cutover (Attempting Showing) free at = absurd free
 renamer_free t l r k scene copier applier cutover (Attempting Dropping) free at = absurd free
 renamer_free t l r k scene copier applier cutover (Attempting Unlocking) free at = absurd free

@@ -188,6 +188,8 @@ within_fits state number busy requests.LogEnd work = tt
 within_fits state number busy (requests.ReadLog position limit tables) work = tt
 within_fits state number busy requests.ShowTables work = tt
 within_fits state number busy requests.ShowWaiting work = tt
+within_fits state number busy (requests.ShowCounter table) work = tt
+within_fits state number busy (requests.SetCounter table least) work = tt
 
 unless_fits : (state : State) (number : ℕ) (outside busy : Bool) (request : Request) → AtWork state number request → EffectFits state number (effect_unless outside busy (view number state) state request)
 unless_fits state number true busy request work = tt

@@ -157,3 +157,5 @@ blocked_names state number by requests.LogEnd is none = none_blocks state number
 blocked_names state number by (requests.ReadLog position limit tables) is none = none_blocks state number by false is
 blocked_names state number by requests.ShowTables is none = none_blocks state number by false is
 blocked_names state number by requests.ShowWaiting is none = none_blocks state number by false is
+blocked_names state number by (requests.ShowCounter table) is none = none_blocks state number by false is
+blocked_names state number by (requests.SetCounter table least) is none = one_named _ _ none

@@ -40,7 +40,7 @@ use Rattle.proof_journals.proofs.Answering.{apart_both}
 use Rattle.proof_journals.proofs.Tooling.{AreApart, names_two}
 use Rattle.proof_journals.proofs.Serves.{IsFree, granted}
 use Rattle.proof_journals.proofs.Journals.{state_more, JournalHolds, journal_holds, stored_opened}
-use Rattle.server_model.specs.declared.request.Request.TheVariants.{BeginSpan, ChunkEnd, CopyRow, Create, Drop, Ends, LockTables, LogEnd, ReadLog, Rename, ShowTables, ShowWaiting, Unlock}
+use Rattle.server_model.specs.declared.request.Request.TheVariants.{BeginSpan, ChunkEnd, CopyRow, Create, Drop, Ends, LockTables, LogEnd, ReadLog, Rename, SetCounter, ShowCounter, ShowTables, ShowWaiting, Unlock}
 use Rattle.server_model.specs.declared.request.Request.{Request}
 use Rattle.server_model.specs.declared.request.Request.TheVariants as requests
 use Rattle.server_model.specs.Blockers.{need, need_within, blocker}
@@ -119,6 +119,8 @@ agrees_effect now w number own false busy (Drop name) free = agrees_defined now 
 agrees_effect now w number own false busy (Rename pairs) free = agrees_defined now w number (pair_names pairs) (renamed_or (rename_tables pairs now.tables)) free.names (renamed_same pairs now.tables (rename_tables pairs now.tables) refl)
 agrees_effect now w number own false busy ShowTables free = agrees_still now number
 agrees_effect now w number own false busy ShowWaiting free = agrees_still now number
+agrees_effect now w number own false busy (ShowCounter table) free = agrees_still now number
+agrees_effect now w number own false busy (SetCounter table least) free = agrees_still now number
 agrees_effect now w number own false busy LogEnd free = agrees_still now number
 agrees_effect now w number own false busy (ReadLog position limit names) free = agrees_still now number
 agrees_effect now w number own false busy (Ends table) free = agrees_still now number

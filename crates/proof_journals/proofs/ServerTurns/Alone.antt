@@ -18,7 +18,7 @@ use Rattle.server_model.specs.declared.entry.Asked.{Asked}
 use Rattle.server_model.specs.declared.entry.Asked.TheVariants.{Call, Poll, Cut, Command}
 use Rattle.server_model.specs.Entries.{is_command, is_client}
 use Rattle.proof_journals.specs.Holdings.{IsHeld}
-use Rattle.proof_journals.specs.ServerTurns.Others.{asks_exclusive, held_at, TurnOf, ExclusiveIsAlone}
+use Rattle.proof_journals.specs.ServerTurns.Others.{asks_names, held_at, TurnOf, ExclusiveIsAlone}
 use Rattle.proof_journals.proofs.Names.{Free, OneIn, as_held, as_needed, held_joined, opened_one}
 use Rattle.proof_journals.proofs.Serves.{IsFree, granted}
 use Rattle.proof_journals.proofs.Journals.{JournalHolds, journal_holds}
@@ -133,5 +133,5 @@ exclusive_is_alone limits scene journal entry request run answered asks takes wa
     let given : inner state entry ≡ ok = reported_inner entry.side (inner state entry) (sym (ap (λ (g : Answer). reported_at entry.side g entry.missed) answered.answer ∙ ap (λ (m : Option Answer). reported_at entry.side (answer_at entry.side (inner state entry)) m) answered.missed) ∙ was) in
     let alone : AloneAt now number request = served_alone now number entry.asked request (opened_one nothing tool number state held.one) asks takes given in
     let before : AloneAt state number request = λ n name differ named. ap (λ (h : List grants.HeldName). holds h n name false) (sym (held_opened nothing tool number state)) ∙ alone n name differ named in
-    let turn : TurnOf (asks_exclusive (about now number entry.asked)) number state (scene_state limits scene (journal ++ entry ∷ [])) = entries_are_turns limits scene journal entry run in
+    let turn : TurnOf (asks_names (about now number entry.asked)) number state (scene_state limits scene (journal ++ entry ∷ [])) = entries_are_turns limits scene journal entry run in
     record { alone = before; alone_after = λ n name differ named. turn.others n name false differ ∙ before n name differ named }

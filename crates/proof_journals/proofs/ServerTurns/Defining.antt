@@ -17,7 +17,7 @@ use Rattle.server_model.specs.Entries.{is_command, is_client}
 use Rattle.proof_journals.specs.ServerTurns.Others.{definition, DefinitionsAreDone}
 use Rattle.proof_journals.proofs.ServerTurns.Alone.{reported_inner}
 use Rattle.proof_journals.proofs.Journals.{state_more, stored_opened}
-use Rattle.server_model.specs.declared.request.Request.TheVariants.{BeginSpan, ChunkEnd, CopyRow, Create, Drop, Ends, LockTables, LogEnd, ReadLog, Rename, ShowTables, ShowWaiting, Unlock}
+use Rattle.server_model.specs.declared.request.Request.TheVariants.{BeginSpan, ChunkEnd, CopyRow, Create, Drop, Ends, LockTables, LogEnd, ReadLog, Rename, SetCounter, ShowCounter, ShowTables, ShowWaiting, Unlock}
 use Rattle.server_model.specs.declared.request.Request.{Request}
 use Rattle.server_model.specs.Answers.{refuses, ok}
 use Rattle.server_model.specs.declared.request.Request.TheVariants as requests
@@ -55,6 +55,8 @@ done_defined base number (LockTables names) result is outside busy given = absur
 done_defined base number Unlock result is outside busy given = absurd (cc)
 done_defined base number ShowTables result is outside busy given = absurd (cc)
 done_defined base number ShowWaiting result is outside busy given = absurd (cc)
+done_defined base number (ShowCounter table) result is outside busy given = absurd (cc)
+done_defined base number (SetCounter table least) result is outside busy given = absurd (cc)
 done_defined base number LogEnd result is outside busy given = absurd (cc)
 done_defined base number (ReadLog position limit names) result is outside busy given = absurd (cc)
 done_defined base number (Ends table) result is outside busy given = absurd (cc)

@@ -1,8 +1,8 @@
 -- What a turn of a session does to names that are held, to requests that wait, to the log and to the tables that stand.
 use Rattle.server_model.specs.declared.counter.Counter.{Counter}
 use Rattle.server_model.specs.PlainServer.{recounted}
-use Rattle.server_model.specs.Drawing.{filled}
-use Rattle.server_model.proofs.Filling.{filled_exclusive}
+use Rattle.server_model.specs.Drawing.{filled, filled_for}
+use Rattle.server_model.proofs.Filling.{filled_case}
 use Rattle.server_model.specs.States.{is_of_tool}
 use Rattle.std.proofs.Common.{◌≡◌, ◌⊎◌, ℕ, ◌+◌, Bool, true, false, not, ◌&&◌, ◌||◌, List, [], ◌∷◌, ◌++◌, map, filter, cond, Option, Some, None, Result, Ok, Err, refl, sym, ap, ◌∙◌, subst, inl, inr, arith}
 use Rattle.std.specs.Prelude.{◌==◌}
@@ -34,7 +34,7 @@ use Rattle.server_model.specs.declared.entry.Asked.TheVariants.{Call, Poll, Cut,
 use Rattle.server_model.specs.declared.entry.Entry.{Entry}
 use Rattle.server_model.specs.Entries.{is_command, is_client}
 use Rattle.proof_journals.specs.Holdings.{face_of, IsHeld, Face, face_in}
-use Rattle.proof_journals.specs.ServerTurns.Others.{asks_exclusive, held_at, waiters_at, waits_on, is_waiting_on, IsGrantedName, MayWrite, TurnOf, EntriesAreTurns}
+use Rattle.proof_journals.specs.ServerTurns.Others.{asks_names, held_at, waiters_at, waits_on, is_waiting_on, IsGrantedName, MayWrite, TurnOf, EntriesAreTurns, takes_names}
 use Rattle.proof_journals.proofs.Faces.{faces_opened, changed_there, gone_there}
 use Rattle.proof_journals.proofs.Names.{Among2, as_held, as_needed, held_with, held_less, held_joined, some_among, both_among, at_number, Holding, holding_of}
 use Rattle.std.specs.Option.{is_some}
@@ -47,7 +47,7 @@ use Rattle.server_model.specs.declared.session.Limits.{Limits}
 use Rattle.proof_journals.specs.Scenes.{Scene}
 use Rattle.server_locks.specs.declared.row_locks.lock.Lock.{Lock}
 use Rattle.proof_journals.proofs.Journals.{state_more, journal_holds, JournalHolds, done_waits}
-use Rattle.server_model.specs.declared.request.Request.TheVariants.{BeginSpan, ChunkEnd, CopyRow, Create, Drop, Ends, LockTables, LogEnd, ReadLog, Rename, ShowTables, ShowWaiting, Unlock}
+use Rattle.server_model.specs.declared.request.Request.TheVariants.{BeginSpan, ChunkEnd, CopyRow, Create, Drop, Ends, LockTables, LogEnd, ReadLog, Rename, SetCounter, ShowCounter, ShowTables, ShowWaiting, Unlock}
 use Rattle.server_model.specs.declared.request.Request.{Request}
 use Rattle.std.specs.Prelude.{is_some}
 use Rattle.server_model.specs.States.{connected, State, is_exclusive, is_in_transaction, locks_held, names_held, names_in, new_session, opened, pair_names, polls_of, session_of, view, waiting_of, waits_for, with_session, writes_of}
@@ -357,8 +357,8 @@ renamed_same pairs tables (Err reason) result after is name off = absurd (cc)
 renamed_same pairs tables (Ok renamed) result after is name off = let same : renamed ≡ after = cc in ap (find_table name) (sym same) ∙ (rename_moves pairs tables renamed result).others name off
 
 effect_does : (before : State) (w : List Waiting) (number : ℕ) (outside busy : Bool) (seen : Database) (request : Request) → OwnWrites before number → blocker_of_names (held_at before) (waiters_at before) number (need_within seen request).exclusive (need_within seen request).names ≡ None
-    → Does (is_exclusive request) before number (does (effect_unless outside busy seen (at_wait before w) request) (at_wait before w) number).after
-effect_does before w number true busy seen request own free = does_nothing (is_exclusive request) before w number
+    → Does (takes_names request) before number (does (effect_unless outside busy seen (at_wait before w) request) (at_wait before w) number).after
+effect_does before w number true busy seen request own free = does_nothing (takes_names request) before w number
 effect_does before w number false busy seen requests.Begin own free = does_grows false before w number nothing_needed [] (none_refused before number false)
 effect_does before w number false busy seen requests.Commit own free = does_commits false before w number [] (all_both (λ event. MayWrite before number event.table) (writes_of (session_of number before.sessions)) [] own tt)
 effect_does before w number false busy seen requests.Rollback own free = does_forgets false before w number
@@ -379,6 +379,8 @@ effect_does before w number false busy seen (Drop name) own free = defined_does 
 effect_does before w number false busy seen (Rename pairs) own free = defined_does before w number (pair_names pairs) (renamed_or (rename_tables pairs before.tables)) free (renamed_same pairs before.tables (rename_tables pairs before.tables) refl)
 effect_does before w number false busy seen ShowTables own free = does_nothing false before w number
 effect_does before w number false busy seen ShowWaiting own free = does_nothing false before w number
+effect_does before w number false busy seen (ShowCounter table) own free = does_nothing false before w number
+effect_does before w number false busy seen (SetCounter table least) own free = does_nothing false before w number
 effect_does before w number false busy seen LogEnd own free = does_nothing false before w number
 effect_does before w number false busy seen (ReadLog position limit names) own free = does_nothing false before w number
 effect_does before w number false busy seen (Ends table) own free = does_nothing false before w number
@@ -396,10 +398,13 @@ effect_does before w number false busy seen (CopyRow from into columns key) own 
   at false = does_commits false before w number (operation_result seen (copy_operation seen from into columns key)).events
       (all_both (λ event. MayWrite before number event.table) (writes_of (session_of number before.sessions)) (operation_result seen (copy_operation seen from into columns key)).events own (said_all (λ name. MayWrite before number name) seen (copy_operation seen from into columns key) (inr one)))
 
-done_does : (before : State) (w : List Waiting) (number : ℕ) (request : Request) → OwnWrites before number → blocker before number (need before number request) ≡ None → Does (is_exclusive request) before number (done (at_wait before w) number request).after
+filled_takes : (tool : Bool) (tables : Database) (counters : List Counter) (request : Request) → takes_names (filled_for tool tables counters request) ≡ takes_names request
+filled_takes = filled_case (λ asked full. takes_names full ≡ takes_names asked) (λ r. refl) (λ statement n. refl)
+
+done_does : (before : State) (w : List Waiting) (number : ℕ) (request : Request) → OwnWrites before number → blocker before number (need before number request) ≡ None → Does (takes_names request) before number (done (at_wait before w) number request).after
 unfolding did
 done_does before w number request own free =
-    subst (λ (takes : Bool). Does takes before number (done (at_wait before w) number request).after) (filled_exclusive (is_of_tool (session_of number before.sessions)) before.tables before.counters request)
+    subst (λ (takes : Bool). Does takes before number (done (at_wait before w) number request).after) (filled_takes (is_of_tool (session_of number before.sessions)) before.tables before.counters request)
     (effect_does before w number (is_outside (session_of number before.sessions) (filled before number request)) (is_in_transaction (session_of number before.sessions)) (view number before) (filled before number request) own
     (none_of (blocker_of_names (held_at before) (waiters_at before) number (need before number request).exclusive (need before number request).names) (blocker_of_set (locks_held before.sessions) number (need before number request).locks) free).0)
 
@@ -417,31 +422,31 @@ lost_does takes before after number does' = record {
 }
 
 -- each turn
-served_does : (before : State) (number : ℕ) (asked : Asked) → OwnWrites before number → Does (asks_exclusive (about before number asked)) before number (serves before number asked).after
+served_does : (before : State) (number : ℕ) (asked : Asked) → OwnWrites before number → Does (asks_names (about before number asked)) before number (serves before number asked).after
 unfolding calls polls
 served_does before number (Call request) own = at (blocker before number (need before number request)) refl where
-  at : (by : Option ℕ) → blocker before number (need before number request) ≡ by → Does (is_exclusive request) before number (called_unless by before number request).after
+  at : (by : Option ℕ) → blocker before number (need before number request) ≡ by → Does (takes_names request) before number (called_unless by before number request).after
   at None is = done_does before before.waiting number request own is
-  at (Some by) is = does_counts (is_exclusive request) before (before.waiting ++ record { session = number; request = request } ∷ []) number 0
+  at (Some by) is = does_counts (takes_names request) before (before.waiting ++ record { session = number; request = request } ∷ []) number 0
 served_does before number Poll own = at (waiting_of number before.waiting) where
   over : (takes b : Bool) (by : ℕ) → Does takes before number (polled_over b by before number).after
   over takes true by = does_forgets takes before (without_waiting number before).waiting number
   over takes false by = does_counts takes before before.waiting number (polls_of (session_of number before.sessions) + 1)
 
-  each : (waiting : Waiting) (by : Option ℕ) → blocker before number (need before number waiting.request) ≡ by → Does (is_exclusive waiting.request) before number (polled_unless by before number waiting.request).after
+  each : (waiting : Waiting) (by : Option ℕ) → blocker before number (need before number waiting.request) ≡ by → Does (takes_names waiting.request) before number (polled_unless by before number waiting.request).after
   each waiting None is = done_does before (without_waiting number before).waiting number waiting.request own is
-  each waiting (Some by) is = over (is_exclusive waiting.request) (is_over before number) by
+  each waiting (Some by) is = over (takes_names waiting.request) (is_over before number) by
 
-  at : (waiting : Option Waiting) → Does (asks_exclusive (request_of waiting)) before number (polled_of waiting before number).after
+  at : (waiting : Option Waiting) → Does (asks_names (request_of waiting)) before number (polled_of waiting before number).after
   at None = does_nothing false before before.waiting number
   at (Some waiting) = each waiting (blocker before number (need before number waiting.request)) refl
 served_does before number (Command word) own = does_nothing false before before.waiting number
-served_does before number Cut own = let takes : Bool = asks_exclusive (about before number Cut) in lost_does takes before before number (does_nothing takes before before.waiting number)
+served_does before number Cut own = let takes : Bool = asks_names (about before number Cut) in lost_does takes before before number (does_nothing takes before before.waiting number)
 
-turn_does : (side : Option Side) (before : State) (number : ℕ) (asked : Asked) → OwnWrites before number → Does (asks_exclusive (about before number asked)) before number (leaves side before number asked)
+turn_does : (side : Option Side) (before : State) (number : ℕ) (asked : Asked) → OwnWrites before number → Does (asks_names (about before number asked)) before number (leaves side before number asked)
 turn_does None before number asked own = served_does before number asked own
-turn_does (Some Before) before number asked own = let takes : Bool = asks_exclusive (about before number asked) in lost_does takes before before number (does_nothing takes before before.waiting number)
-turn_does (Some After) before number asked own = lost_does (asks_exclusive (about before number asked)) before (serves before number asked).after number (served_does before number asked own)
+turn_does (Some Before) before number asked own = let takes : Bool = asks_names (about before number asked) in lost_does takes before before number (does_nothing takes before before.waiting number)
+turn_does (Some After) before number asked own = lost_does (asks_names (about before number asked)) before (serves before number asked).after number (served_does before number asked own)
 
 -- REQUESTS OF OTHERS THAT WAIT
 
@@ -500,13 +505,13 @@ turn_waits (Some After) before number other asked name differ = waits_less name 
 pub turn_faces : (side : Option Side) (before : State) (number : ℕ) (asked : Asked) → OwnWrites before number → (n : ℕ) → (n == number) ≡ false → face_of (leaves side before number asked).sessions n ≡ face_of before.sessions n
 turn_faces side before number asked own = (turn_does side before number asked own).faces
 
-pub turn_of : (side : Option Side) (before : State) (number : ℕ) (asked : Asked) → OwnWrites before number → TurnOf (asks_exclusive (about before number asked)) number before (leaves side before number asked)
+pub turn_of : (side : Option Side) (before : State) (number : ℕ) (asked : Asked) → OwnWrites before number → TurnOf (asks_names (about before number asked)) number before (leaves side before number asked)
 turn_of side before number asked own =
     let does' = turn_does side before number asked own in
     record {
       others = does'.others;
       waits = λ other name differ. turn_waits side before number other asked name differ;
-      granted = λ name lacked has. granted_more (asks_exclusive (about before number asked)) before number (leaves side before number asked).sessions does'.more name lacked has;
+      granted = λ name lacked has. granted_more (asks_names (about before number asked)) before number (leaves side before number asked).sessions does'.more name lacked has;
       events = does'.events;
       log = does'.log;
       written = does'.written;
@@ -573,7 +578,7 @@ entries_are_turns limits scene journal entry run =
     let covered = (held.holds.kept.fine number).covered in
     let own : OwnWrites now number = own_writes now number state.tables
     (subst (λ (f : Face). EventsCovered f.hold.names f.hold.locks state.tables f.hold.writes) (sym (faces_opened nothing tool number number state)) covered) in
-    rw (state_more (opened limits scene.opening) journal entry) (from_opened (asks_exclusive (about now number entry.asked)) nothing tool state number (after_entry state entry) (turn_recounted (asks_exclusive (about now number entry.asked)) number now (leaves entry.side now number entry.asked) _ (turn_of entry.side now number entry.asked own)))
+    rw (state_more (opened limits scene.opening) journal entry) (from_opened (asks_names (about now number entry.asked)) nothing tool state number (after_entry state entry) (turn_recounted (asks_names (about now number entry.asked)) number now (leaves entry.side now number entry.asked) _ (turn_of entry.side now number entry.asked own)))
 
 -- the others' faces stay
 pub entry_faces : (limits : Limits) (scene : Scene) (journal : List Entry) (entry : Entry) → JournalHolds limits scene journal → (n : ℕ) → (n == entry.session) ≡ false → face_of (after_entry (scene_state limits scene journal) entry).sessions n ≡ face_of (scene_state limits scene journal).sessions n

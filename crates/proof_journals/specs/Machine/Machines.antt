@@ -23,7 +23,7 @@ use Rattle.tool_program.specs.declared.cutover_core.cutover.Hold.{Hold}
 use Rattle.tool_program.specs.declared.cutover_core.cutover.Hold.TheVariants.{Nothing, WaitsToGuard, WaitsToLock, Locks}
 use Rattle.tool_program.specs.declared.cutover_core.cutover.Phase.{Phase}
 use Rattle.tool_program.specs.declared.cutover_core.cutover.Phase.TheVariants.{Resting, Attempting, Ending, Finishing, Finished}
-use Rattle.tool_program.specs.declared.cutover_core.cutover.Stage.TheVariants.{Guarding, Locking, Hinting, Draining, Drained, Showing, Dropping, Unlocking, Exchanging}
+use Rattle.tool_program.specs.declared.cutover_core.cutover.Stage.TheVariants.{Guarding, Locking, Hinting, ReadingCounter, SettingCounter, Draining, Drained, Showing, Dropping, Unlocking, Exchanging}
 use Rattle.tool_program.specs.CutoverCore.Attempts.{exchange}
 use Rattle.tool_program.specs.Tools.{ToolPhase, SettingUp, Migrating, Work}
 use Rattle.proof_journals.specs.Machine.Standings.{Standing, free}
@@ -50,6 +50,8 @@ inspector_asks (requests.Drop name) = true
 inspector_asks requests.LogEnd = true
 inspector_asks requests.ShowTables = true
 inspector_asks requests.ShowWaiting = true
+inspector_asks (requests.ShowCounter table) = true
+inspector_asks (requests.SetCounter table least) = true
 inspector_asks request = false
 
 abbrev pub inspector_waits : Request → Bool
@@ -57,6 +59,7 @@ inspector_waits (requests.Do statement) = true
 inspector_waits (requests.Ends table) = true
 inspector_waits (requests.Create schema) = true
 inspector_waits (requests.Drop name) = true
+inspector_waits (requests.SetCounter table least) = true
 inspector_waits request = false
 
 -- THE COPIER
@@ -128,6 +131,8 @@ PhaseHolds (Attempting Guarding) hold = (hold ≡ Nothing) ⊎ (hold ≡ WaitsTo
 PhaseHolds (Attempting Locking) hold = (hold ≡ Nothing) ⊎ (hold ≡ WaitsToLock)
 PhaseHolds (Attempting Hinting) hold = hold ≡ Locks
 PhaseHolds (Attempting (Draining turns)) hold = hold ≡ Locks
+PhaseHolds (Attempting (ReadingCounter drain)) hold = hold ≡ Locks
+PhaseHolds (Attempting (SettingCounter number drain)) hold = hold ≡ Locks
 PhaseHolds (Attempting Drained) hold = hold ≡ Locks
 PhaseHolds (Attempting Showing) hold = hold ≡ Locks
 PhaseHolds (Attempting Dropping) hold = hold ≡ Locks

@@ -80,6 +80,7 @@ needs_names requests.LogEnd = false
 needs_names (requests.ReadLog position limit tables) = false
 needs_names requests.ShowTables = false
 needs_names requests.ShowWaiting = false
+needs_names (requests.ShowCounter table) = false
 needs_names request = true
 
 -- the answer is one of such a request that is done; a copy of a row is a statement
@@ -103,11 +104,14 @@ gives requests.LogEnd (answers.At position) = true
 gives (requests.ReadLog position limit tables) (answers.Events events next) = true
 gives requests.ShowTables (answers.Tables tables) = true
 gives requests.ShowWaiting (answers.Waiting waiters) = true
+gives (requests.ShowCounter table) (answers.At next) = true
+gives (requests.SetCounter table least) (answers.Ok count) = true
 gives request answer = false
 
--- a refusal: of a request that needs names, or of a table outside the locked ones
+-- a refusal: of a request that needs names, or that names a table which doesn't stand or is outside the locked ones
 abbrev pub is_refusable : Request → Bool
 is_refusable (requests.ReadLog position limit tables) = true
+is_refusable (requests.ShowCounter table) = true
 is_refusable request = needs_names request
 
 -- *Serves to*: what the server may answer to a request

@@ -20,7 +20,8 @@ use Rattle.tool_program.specs.EventApplier.Appliers.{events_of}
 use Rattle.tool_program.specs.declared.cutover_core.cutover.CutOver.{CutOver}
 use Rattle.tool_program.specs.declared.cutover_core.cutover.Phase.{Phase}
 use Rattle.tool_program.specs.declared.cutover_core.cutover.Phase.TheVariants.{Resting, Attempting, Ending, Finishing, Finished}
-use Rattle.tool_program.specs.declared.cutover_core.cutover.Stage.TheVariants.{Guarding, Locking, Hinting, Draining, Drained, Showing, Dropping, Unlocking, Exchanging}
+use Rattle.tool_program.specs.declared.cutover_core.cutover.Stage.TheVariants.{Guarding, Locking, Hinting, ReadingCounter, SettingCounter, Draining, Drained, Showing, Dropping, Unlocking, Exchanging}
+use Rattle.tool_program.specs.declared.cutover_core.cutover.Drain.TheVariants.{Turns, Passed}
 use Rattle.tool_program.specs.declared.cutover_core.cutover.Stage.{Stage}
 use Rattle.tool_program.specs.declared.cutover_core.cutover.Hold.{Hold}
 use Rattle.tool_program.specs.declared.cutover_core.cutover.Hold.TheVariants.{Locks, WaitsToLock, WaitsToGuard, Nothing}
@@ -158,7 +159,11 @@ Guards table scene copier applier cutover locker renamer (Attempting Guarding) =
 Guards table scene copier applier cutover locker renamer (Attempting Locking) = AfterSentry table scene
 Guards table scene copier applier cutover locker renamer (Attempting Hinting) = AfterLock table scene locker
 Guards table scene copier applier cutover locker renamer (Attempting (Draining turns)) = AfterHint table scene cutover.attempts locker
+Guards table scene copier applier cutover locker renamer (Attempting (ReadingCounter (Turns turns))) = AfterHint table scene cutover.attempts locker
+Guards table scene copier applier cutover locker renamer (Attempting (SettingCounter number (Turns turns))) = AfterHint table scene cutover.attempts locker
 Guards table scene copier applier cutover locker renamer (Attempting Drained) = AfterDrain table scene copier applier locker
+Guards table scene copier applier cutover locker renamer (Attempting (ReadingCounter Passed)) = AfterDrain table scene copier applier locker
+Guards table scene copier applier cutover locker renamer (Attempting (SettingCounter number Passed)) = AfterDrain table scene copier applier locker
 Guards table scene copier applier cutover locker renamer (Attempting Showing) = AfterRename table scene copier applier locker renamer
 Guards table scene copier applier cutover locker renamer (Attempting Dropping) = AfterRename table scene copier applier locker renamer
 Guards table scene copier applier cutover locker renamer (Attempting Unlocking) = AfterDrop table scene copier applier locker renamer
@@ -222,6 +227,8 @@ Fits (Attempting Guarding) hold waits = ((hold ≡ Nothing) ⊎ (hold ≡ WaitsT
 Fits (Attempting Locking) hold waits = ((hold ≡ Nothing) ⊎ (hold ≡ WaitsToLock)) × (waits ≡ false)
 Fits (Attempting Hinting) hold waits = (hold ≡ Locks) × (waits ≡ false)
 Fits (Attempting (Draining turns)) hold waits = (hold ≡ Locks) × (waits ≡ false)
+Fits (Attempting (ReadingCounter drain)) hold waits = (hold ≡ Locks) × (waits ≡ false)
+Fits (Attempting (SettingCounter number drain)) hold waits = (hold ≡ Locks) × (waits ≡ false)
 Fits (Attempting Drained) hold waits = (hold ≡ Locks) × (waits ≡ false)
 Fits (Attempting Showing) hold waits = (hold ≡ Locks) × (waits ≡ true)
 Fits (Attempting Dropping) hold waits = (hold ≡ Locks) × (waits ≡ true)
@@ -238,6 +245,8 @@ Fits Finished hold waits = waits ≡ false
 abbrev pub LockerMay : Phase → Hold → Answer → Type 0
 LockerMay (Attempting Hinting) hold answer = answer ≡ answers.Lost
 LockerMay (Attempting (Draining turns)) hold answer = answer ≡ answers.Lost
+LockerMay (Attempting (ReadingCounter drain)) hold answer = answer ≡ answers.Lost
+LockerMay (Attempting (SettingCounter number drain)) hold answer = answer ≡ answers.Lost
 LockerMay (Attempting Drained) hold answer = answer ≡ answers.Lost
 LockerMay (Attempting Showing) hold answer = answer ≡ answers.Lost
 LockerMay (Attempting Exchanging) hold answer = answer ≡ answers.Lost
@@ -295,6 +304,8 @@ InspectorServes t attempt stage answer before after = Unit {0}
 -- hint row, no batch is open
 abbrev pub IsDraining : Phase → Type 0
 IsDraining (Attempting (Draining turns)) = Unit {0}
+IsDraining (Attempting (ReadingCounter (Turns turns))) = Unit {0}
+IsDraining (Attempting (SettingCounter number (Turns turns))) = Unit {0}
 IsDraining phase = ⊥
 
 pub record HasTurned (t : List ℕ) (scene : Scene) (copier : Copier) (applier next : Applier) (attempt : ℕ) (phase : Phase) : Type 0 where

@@ -23,7 +23,7 @@ use Rattle.server_model.specs.States.{State, has_work, names_held}
 use Rattle.plan_data.specs.PlanData.{PlanData}
 use Rattle.tool_program.specs.declared.cutover_core.cutover.Phase.{Phase}
 use Rattle.tool_program.specs.declared.cutover_core.cutover.Phase.TheVariants.{Resting, Attempting, Ending, Finishing, Finished}
-use Rattle.tool_program.specs.declared.cutover_core.cutover.Stage.TheVariants.{Guarding, Locking, Hinting, Draining, Drained, Unlocking, Dropping}
+use Rattle.tool_program.specs.declared.cutover_core.cutover.Stage.TheVariants.{Guarding, Locking, Hinting, ReadingCounter, SettingCounter, Draining, Drained, Unlocking, Dropping}
 use Rattle.tool_program.specs.declared.cutover_core.cutover.Hold.{Hold}
 use Rattle.tool_program.specs.declared.cutover_core.cutover.Hold.TheVariants.{Locks}
 use Rattle.tool_program.specs.CutoverCore.CutOvers.{stands, is_wait}
@@ -70,6 +70,8 @@ IsLockerFree phase = ⊥
 abbrev pub IsRenamerFree : Phase → Type 0
 IsRenamerFree (Attempting Hinting) = Unit {0}
 IsRenamerFree (Attempting (Draining turns)) = Unit {0}
+IsRenamerFree (Attempting (ReadingCounter drain)) = Unit {0}
+IsRenamerFree (Attempting (SettingCounter number drain)) = Unit {0}
 IsRenamerFree (Attempting Drained) = Unit {0}
 IsRenamerFree phase = IsLockerFree phase
 

@@ -53,10 +53,18 @@ IsGrantedName state session name exclusive = blocker_of_name (held_at state) (wa
 abbrev pub MayWrite : State → ℕ → List ℕ → Type 0
 MayWrite state session name = (holds (held_at state) session name false ≡ true) ⊎ IsGrantedName state session name false
 
--- the turn is about a request that needs its names exclusively
-abbrev pub asks_exclusive : Option Request → Bool
-asks_exclusive None = false
-asks_exclusive (Some request) = is_exclusive request
+-- LOCK TABLES, and what makes, drops or renames tables
+abbrev pub takes_names : Request → Bool
+takes_names (LockTables names) = true
+takes_names (Create schema) = true
+takes_names (Drop name) = true
+takes_names (Rename pairs) = true
+takes_names request = false
+
+-- the turn is about such a request
+abbrev pub asks_names : Option Request → Bool
+asks_names None = false
+asks_names (Some request) = takes_names request
 
 -- *A turn of a session*: what others hold and wait for stays; the session comes to hold a name only where it is granted;
 -- what it commits is of tables that it held, or that were granted; a table comes or goes only where its name is granted
@@ -73,7 +81,7 @@ pub record TurnOf (takes : Bool) (session : ℕ) (before after : State) : Type 0
 -- *Each entry is such a turn*
 abbrev pub EntriesAreTurns : Type 0
 EntriesAreTurns = (limits : Limits) (scene : Scene) (journal : List Entry) (entry : Entry) → IsSceneRun limits scene journal
-    → TurnOf (asks_exclusive (about (opens entry (scene_state limits scene journal)) entry.session entry.asked)) entry.session (scene_state limits scene journal) (scene_state limits scene (journal ++ entry ∷ []))
+    → TurnOf (asks_names (about (opens entry (scene_state limits scene journal)) entry.session entry.asked)) entry.session (scene_state limits scene journal) (scene_state limits scene (journal ++ entry ∷ []))
 
 -- the entry's request was done, with ok 0, whether or not the answer was missed
 abbrev pub WasDone : Entry → Type 0

@@ -27,9 +27,11 @@ use Rattle.tool_program.specs.declared.cutover_core.cutover.Leftovers.{Leftovers
 use Rattle.tool_program.specs.declared.cutover_core.cutover.Phase.{Phase}
 use Rattle.tool_program.specs.declared.cutover_core.cutover.Phase.TheVariants.{Resting, Attempting, Ending, Finishing, Finished}
 use Rattle.tool_program.specs.declared.cutover_core.cutover.Stage.{Stage}
-use Rattle.tool_program.specs.declared.cutover_core.cutover.Stage.TheVariants.{Guarding, Locking, Hinting, Draining, Drained, Showing, Dropping, Unlocking, Exchanging}
+use Rattle.tool_program.specs.declared.cutover_core.cutover.Stage.TheVariants.{Guarding, Locking, Hinting, Draining, Drained, Showing, Dropping, Unlocking, Exchanging, ReadingCounter, SettingCounter}
 use Rattle.tool_program.specs.CutoverCore.Attempts.{is_clear, without_first, has_name, has_sentry}
 use Rattle.tool_program.specs.CutoverCore.CutOvers.{is_bad, is_wait, inspector_phase, inspector_stage, shows_wait, ending_after, finishing_after, finishing, left_at_end, sentry_alone, seen}
+use Rattle.tool_program.specs.declared.cutover_core.cutover.Drain.TheVariants.{Turns, Passed}
+use Rattle.tool_program.specs.declared.cutover_core.cutover.Drain.{Drain}
 use Rattle.proof_journals.specs.Machine.MigrationTables.{schema_of, TablesExist}
 use Rattle.proof_journals.proofs.Machine.Schemas.{is_quiet}
 use Rattle.server_model.proofs.LockedRows.Tests.{same_bytes}
@@ -110,26 +112,41 @@ module _ (plan : PlanData) (before after : Database) (was inspects : Option Requ
   ListsWell (Ending Looking) (answers.Tables tables) = (tables ≡ tables_shown before) × (renames ≡ false)
   ListsWell phase answer = Unit {0}
 
-  stage_at : (stage : Stage) (answer : Answer) → AllStay before after → ((request : Request) → inspects ≡ Some request → InspectorAt plan (Attempting stage) request) → Was (Attempting stage) → Becomes (cond (is_bad answer) (Ending Looking) (Attempting (inspector_stage stage answer)))
-  stage_at stage answer stay waits at = by (is_bad answer) where
+  stage_at : (counter : Bool) (stage : Stage) (answer : Answer) → AllStay before after → ((request : Request) → inspects ≡ Some request → InspectorAt plan (Attempting stage) request) → Was (Attempting stage) → Becomes (cond (is_bad answer) (Ending Looking) (Attempting (inspector_stage counter stage answer)))
+  stage_at counter stage answer stay waits at = by (is_bad answer) where
     stayed : Becomes (Attempting stage)
     stayed = record { tables = tables_stay plan before after stay (Attempting stage) at.tables; renamer = at.renamer; asked = at.asked; hold = at.hold; left = tt; inspector = waits }
 
-    hints : (answer : Answer) → Becomes (Attempting Hinting) → Becomes (Attempting (inspector_stage Hinting answer))
-    hints (answers.Ok count) at = record { tables = at.tables; renamer = at.renamer; asked = at.asked; hold = tt; left = tt; inspector = at.inspector }
+    hints : (answer : Answer) → Becomes (Attempting Hinting) → Becomes (Attempting (inspector_stage counter Hinting answer))
+    hints (answers.Ok count) at = begins counter where
+      begins : (b : Bool) → Becomes (Attempting (cutovers.hinted b))
+      begins true = record { tables = at.tables; renamer = at.renamer; asked = at.asked; hold = tt; left = tt; inspector = at.inspector }
+      begins false = record { tables = at.tables; renamer = at.renamer; asked = at.asked; hold = tt; left = tt; inspector = at.inspector }
     hints answer at = at
 
     drops : (b : Bool) → Becomes (Attempting Showing) → Becomes (Attempting (cond b Dropping Showing))
     drops true at = record { tables = at.tables; renamer = at.renamer; asked = tt; hold = tt; left = tt; inspector = at.inspector }
     drops false at = at
 
-    shows : (answer : Answer) → Becomes (Attempting Showing) → Becomes (Attempting (inspector_stage Showing answer))
+    shows : (answer : Answer) → Becomes (Attempting Showing) → Becomes (Attempting (inspector_stage counter Showing answer))
     shows (answers.Waiting waiters) at = drops (shows_wait waiters) at
     shows answer at = at
 
-    going : (stage : Stage) → Becomes (Attempting stage) → Becomes (Attempting (inspector_stage stage answer))
+    going : (stage : Stage) → Becomes (Attempting stage) → Becomes (Attempting (inspector_stage counter stage answer))
     going Hinting at = hints answer at
     going Showing at = shows answer at
+    going (ReadingCounter drain) at = reads answer at where
+      reads : (answer : Answer) → Becomes (Attempting (ReadingCounter drain)) → Becomes (Attempting (inspector_stage counter (ReadingCounter drain) answer))
+      reads (answers.At number) at = record { tables = at.tables; renamer = at.renamer; asked = at.asked; hold = tt; left = tt; inspector = at.inspector }
+      reads answer at = at
+    going (SettingCounter number drain) at = sets answer at where
+      goes_on : (drain : Drain) → Becomes (Attempting (SettingCounter number drain)) → Becomes (Attempting (cutovers.drain_stage drain))
+      goes_on (Turns turns) at = record { tables = at.tables; renamer = at.renamer; asked = at.asked; hold = tt; left = tt; inspector = at.inspector }
+      goes_on Passed at = record { tables = at.tables; renamer = at.renamer; asked = tt; hold = tt; left = tt; inspector = at.inspector }
+
+      sets : (answer : Answer) → Becomes (Attempting (SettingCounter number drain)) → Becomes (Attempting (inspector_stage counter (SettingCounter number drain) answer))
+      sets (answers.Ok count) at = goes_on drain at
+      sets answer at = at
     going Guarding at = at
     going Locking at = at
     going (Draining turns) at = at
@@ -138,7 +155,7 @@ module _ (plan : PlanData) (before after : Database) (was inspects : Option Requ
     going Unlocking at = at
     going Exchanging at = at
 
-    by : (b : Bool) → Becomes (cond b (Ending Looking) (Attempting (inspector_stage stage answer)))
+    by : (b : Bool) → Becomes (cond b (Ending Looking) (Attempting (inspector_stage counter stage answer)))
     by true = fails plan after inspects hold renames asked stage stayed
     by false = going stage stayed
 
@@ -236,7 +253,7 @@ module _ (plan : PlanData) (before after : Database) (was inspects : Option Requ
   -- *The inspector's answer*
   pub inspector_at : (cutover : CutOver) (phase : Phase) (answer : Answer) → cutover.table ≡ plan.table → Inspects phase answer → ListsWell phase answer → ((request : Request) → inspects ≡ Some request → InspectorAt plan phase request × (is_wait answer ≡ true)) → Was phase → Becomes (inspector_phase cutover phase answer)
   inspector_at cutover Resting answer own leaves lists waits at = record { tables = tables_stay plan before after leaves Resting at.tables; renamer = at.renamer; asked = tt; hold = tt; left = tt; inspector = λ request some. (waits request some).0 }
-  inspector_at cutover (Attempting stage) answer own leaves lists waits at = stage_at stage answer leaves (λ request some. (waits request some).0) at
+  inspector_at cutover (Attempting stage) answer own leaves lists waits at = stage_at cutover.has_counter stage answer leaves (λ request some. (waits request some).0) at
   inspector_at cutover (Ending Looking) answer own leaves lists waits at = looking_at cutover answer own leaves lists waits at
   inspector_at cutover (Ending (Drops left)) answer own leaves lists waits at = drops_at cutover left answer leaves waits at
   inspector_at cutover (Finishing clearing) answer own leaves lists waits at = finished_at cutover clearing answer

@@ -15,7 +15,7 @@ use Rattle.tool_program.specs.declared.cutover_core.cutover.Hold.{Hold}
 use Rattle.tool_program.specs.declared.cutover_core.cutover.Hold.TheVariants.{Nothing, WaitsToGuard, WaitsToLock, Locks}
 use Rattle.tool_program.specs.declared.cutover_core.cutover.Phase.{Phase}
 use Rattle.tool_program.specs.declared.cutover_core.cutover.Phase.TheVariants.{Resting, Attempting, Ending, Finishing, Finished}
-use Rattle.tool_program.specs.declared.cutover_core.cutover.Stage.TheVariants.{Guarding, Locking, Hinting, Draining, Drained, Showing, Dropping, Unlocking, Exchanging}
+use Rattle.tool_program.specs.declared.cutover_core.cutover.Stage.TheVariants.{Guarding, Locking, Hinting, ReadingCounter, SettingCounter, Draining, Drained, Showing, Dropping, Unlocking, Exchanging}
 use Rattle.tool_program.specs.CutoverCore.CutOvers.{is_bad, is_resting, locker_phase, locker_stage, hold_after}
 use Rattle.proof_journals.specs.Machine.Machines.{PhaseHolds, both_names}
 use Rattle.proof_journals.specs.Machine.Standings.{answers_to}
@@ -190,6 +190,8 @@ module _ (plan : PlanData) (before after : Database) where
       waits_to_lock (Attempting Guarding) (inr holds) stay at = absurd cc
       waits_to_lock (Attempting Hinting) holds stay at = absurd (let no : WaitsToLock ≡ Locks = holds in cc)
       waits_to_lock (Attempting (Draining turns)) holds stay at = absurd (let no : WaitsToLock ≡ Locks = holds in cc)
+      waits_to_lock (Attempting (ReadingCounter drain)) holds stay at = absurd (let no : WaitsToLock ≡ Locks = holds in cc)
+      waits_to_lock (Attempting (SettingCounter number drain)) holds stay at = absurd (let no : WaitsToLock ≡ Locks = holds in cc)
       waits_to_lock (Attempting Drained) holds stay at = absurd (let no : WaitsToLock ≡ Locks = holds in cc)
       waits_to_lock (Attempting Showing) holds stay at = absurd (let no : WaitsToLock ≡ Locks = holds in cc)
       waits_to_lock (Attempting Dropping) holds stay at = absurd (let no : WaitsToLock ≡ Locks = holds in cc)
@@ -207,6 +209,8 @@ module _ (plan : PlanData) (before after : Database) where
       waits_to_guard (Attempting Locking) (inr holds) left fits at = absurd cc
       waits_to_guard (Attempting Hinting) holds left fits at = absurd (let no : WaitsToGuard ≡ Locks = holds in cc)
       waits_to_guard (Attempting (Draining turns)) holds left fits at = absurd (let no : WaitsToGuard ≡ Locks = holds in cc)
+      waits_to_guard (Attempting (ReadingCounter drain)) holds left fits at = absurd (let no : WaitsToGuard ≡ Locks = holds in cc)
+      waits_to_guard (Attempting (SettingCounter number drain)) holds left fits at = absurd (let no : WaitsToGuard ≡ Locks = holds in cc)
       waits_to_guard (Attempting Drained) holds left fits at = absurd (let no : WaitsToGuard ≡ Locks = holds in cc)
       waits_to_guard (Attempting Showing) holds left fits at = absurd (let no : WaitsToGuard ≡ Locks = holds in cc)
       waits_to_guard (Attempting Dropping) holds left fits at = absurd (let no : WaitsToGuard ≡ Locks = holds in cc)

@@ -12,7 +12,7 @@ use Rattle.tool_program.specs.declared.cutover_core.cutover.Hold.{Hold}
 use Rattle.tool_program.specs.declared.cutover_core.cutover.Phase.{Phase}
 use Rattle.tool_program.specs.declared.cutover_core.cutover.Phase.TheVariants.{Resting, Attempting, Ending, Finishing, Finished}
 use Rattle.tool_program.specs.declared.cutover_core.cutover.Stage.{Stage}
-use Rattle.tool_program.specs.declared.cutover_core.cutover.Stage.TheVariants.{Guarding, Locking, Hinting, Draining, Drained, Showing, Dropping, Unlocking, Exchanging}
+use Rattle.tool_program.specs.declared.cutover_core.cutover.Stage.TheVariants.{Guarding, Locking, Hinting, ReadingCounter, SettingCounter, Draining, Drained, Showing, Dropping, Unlocking, Exchanging}
 use Rattle.tool_program.specs.CutoverCore.Attempts.{exchange}
 use Rattle.tool_program.specs.CutoverCore.CutOvers.{is_wait, renamer_phase, waits_phase, failed}
 use Rattle.proof_journals.specs.Machine.Standings.{answers_to}
@@ -112,6 +112,8 @@ module _ (plan : PlanData) (before after : Database) (inspects : Option Request)
     by (Attempting Locking) asks at tables = absurd (not_waiting at.renamer (Attempting Locking) (λ same. cc) asks)
     by (Attempting Hinting) asks at tables = absurd (not_waiting at.renamer (Attempting Hinting) (λ same. cc) asks)
     by (Attempting (Draining turns)) asks at tables = absurd (not_waiting at.renamer (Attempting (Draining turns)) (λ same. cc) asks)
+    by (Attempting (ReadingCounter drain)) asks at tables = absurd (not_waiting at.renamer (Attempting (ReadingCounter drain)) (λ same. cc) asks)
+    by (Attempting (SettingCounter number drain)) asks at tables = absurd (not_waiting at.renamer (Attempting (SettingCounter number drain)) (λ same. cc) asks)
     by (Ending (Drops some)) asks at tables = absurd (not_waiting at.renamer (Ending (Drops some)) (λ same. cc) asks)
 
   -- a refusal comes only where the tables can't be exchanged, and the table isn't locked
@@ -137,6 +139,8 @@ module _ (plan : PlanData) (before after : Database) (inspects : Option Request)
     by (Attempting Locking) asks unlocked at tables = absurd (not_waiting at.renamer (Attempting Locking) (λ same. cc) asks)
     by (Attempting Hinting) asks unlocked at tables = absurd (not_waiting at.renamer (Attempting Hinting) (λ same. cc) asks)
     by (Attempting (Draining turns)) asks unlocked at tables = absurd (not_waiting at.renamer (Attempting (Draining turns)) (λ same. cc) asks)
+    by (Attempting (ReadingCounter drain)) asks unlocked at tables = absurd (not_waiting at.renamer (Attempting (ReadingCounter drain)) (λ same. cc) asks)
+    by (Attempting (SettingCounter number drain)) asks unlocked at tables = absurd (not_waiting at.renamer (Attempting (SettingCounter number drain)) (λ same. cc) asks)
     by (Ending (Drops some)) asks unlocked at tables = absurd (not_waiting at.renamer (Ending (Drops some)) (λ same. cc) asks)
 
   -- *The renamer's answer*

@@ -14,10 +14,12 @@ use Rattle.tool_program.specs.declared.cutover_core.cutover.Hold.TheVariants.{Wa
 use Rattle.tool_program.specs.declared.cutover_core.cutover.Phase.{Phase}
 use Rattle.tool_program.specs.declared.cutover_core.cutover.Phase.TheVariants.{Resting, Attempting, Ending, Finishing, Finished}
 use Rattle.tool_program.specs.declared.cutover_core.cutover.Stage.{Stage}
-use Rattle.tool_program.specs.declared.cutover_core.cutover.Stage.TheVariants.{Guarding, Locking, Hinting, Draining, Drained, Showing, Dropping, Unlocking, Exchanging}
+use Rattle.tool_program.specs.declared.cutover_core.cutover.Stage.TheVariants.{Guarding, Locking, Hinting, ReadingCounter, SettingCounter, Draining, Drained, Showing, Dropping, Unlocking, Exchanging}
+use Rattle.tool_program.specs.declared.cutover_core.cutover.Drain.TheVariants.{Turns, Passed}
 use Rattle.tool_program.specs.CutoverCore.CutOvers.{sentry_alone, drained, ended}
 use Rattle.proof_journals.specs.Machine.MigrationTables.{schema_of, TablesExist}
 use Rattle.proof_journals.proofs.Machine.Schemas.{is_quiet}
+use Rattle.proof_journals.proofs.Machine.CuttingOver.{drain_cases}
 use Rattle.proof_migration.proofs.Attempt.Leaving.{AllStay}
 
 -- WHAT STANDS
@@ -47,6 +49,8 @@ TablesAt plan tables (Attempting Guarding) = FreeTables plan tables
 TablesAt plan tables (Attempting Locking) = GuardedTables plan tables
 TablesAt plan tables (Attempting Hinting) = GuardedTables plan tables
 TablesAt plan tables (Attempting (Draining turns)) = GuardedTables plan tables
+TablesAt plan tables (Attempting (ReadingCounter drain)) = GuardedTables plan tables
+TablesAt plan tables (Attempting (SettingCounter number drain)) = GuardedTables plan tables
 TablesAt plan tables (Attempting Drained) = GuardedTables plan tables
 TablesAt plan tables (Attempting Showing) = GuardedTables plan tables
 TablesAt plan tables (Attempting Dropping) = GuardedTables plan tables
@@ -71,6 +75,8 @@ RenamerAt (Attempting Guarding) waits = waits ≡ false
 RenamerAt (Attempting Locking) waits = waits ≡ false
 RenamerAt (Attempting Hinting) waits = waits ≡ false
 RenamerAt (Attempting (Draining turns)) waits = waits ≡ false
+RenamerAt (Attempting (ReadingCounter drain)) waits = waits ≡ false
+RenamerAt (Attempting (SettingCounter number drain)) waits = waits ≡ false
 RenamerAt (Attempting Drained) waits = waits ≡ false
 RenamerAt (Ending (Drops left)) waits = waits ≡ false
 
@@ -80,6 +86,8 @@ AskedAt (Attempting Guarding) asked = asked ≡ false
 AskedAt (Attempting Locking) asked = asked ≡ false
 AskedAt (Attempting Hinting) asked = asked ≡ false
 AskedAt (Attempting (Draining turns)) asked = asked ≡ false
+AskedAt (Attempting (ReadingCounter drain)) asked = asked ≡ false
+AskedAt (Attempting (SettingCounter number drain)) asked = asked ≡ false
 AskedAt (Attempting Drained) asked = Unit {0}
 AskedAt (Attempting Showing) asked = Unit {0}
 AskedAt (Attempting Dropping) asked = Unit {0}
@@ -96,6 +104,8 @@ HoldAt (Attempting Guarding) hold = hold ≡ WaitsToGuard
 HoldAt (Attempting Locking) hold = Unit {0}
 HoldAt (Attempting Hinting) hold = Unit {0}
 HoldAt (Attempting (Draining turns)) hold = Unit {0}
+HoldAt (Attempting (ReadingCounter drain)) hold = Unit {0}
+HoldAt (Attempting (SettingCounter number drain)) hold = Unit {0}
 HoldAt (Attempting Drained) hold = Unit {0}
 HoldAt (Attempting Showing) hold = Unit {0}
 HoldAt (Attempting Dropping) hold = Unit {0}
@@ -154,6 +164,8 @@ tables_stay plan before after stay (Attempting Guarding) at = free_stay plan bef
 tables_stay plan before after stay (Attempting Locking) at = guarded_stay plan before after stay at
 tables_stay plan before after stay (Attempting Hinting) at = guarded_stay plan before after stay at
 tables_stay plan before after stay (Attempting (Draining turns)) at = guarded_stay plan before after stay at
+tables_stay plan before after stay (Attempting (ReadingCounter drain)) at = guarded_stay plan before after stay at
+tables_stay plan before after stay (Attempting (SettingCounter number drain)) at = guarded_stay plan before after stay at
 tables_stay plan before after stay (Attempting Drained) at = guarded_stay plan before after stay at
 tables_stay plan before after stay (Attempting Showing) at = guarded_stay plan before after stay at
 tables_stay plan before after stay (Attempting Dropping) at = guarded_stay plan before after stay at
@@ -181,6 +193,8 @@ guarded_in plan tables Guarding at = free_guards plan tables at
 guarded_in plan tables Locking at = at
 guarded_in plan tables Hinting at = at
 guarded_in plan tables (Draining turns) at = at
+guarded_in plan tables (ReadingCounter drain) at = at
+guarded_in plan tables (SettingCounter number drain) at = at
 guarded_in plan tables Drained at = at
 guarded_in plan tables Showing at = at
 guarded_in plan tables Dropping at = at
@@ -202,6 +216,8 @@ module _ (plan : PlanData) (tables : Database) (inspects : Option Request) (hold
   ended_at (Attempting Locking) at = fails Locking at
   ended_at (Attempting Hinting) at = fails Hinting at
   ended_at (Attempting (Draining turns)) at = fails (Draining turns) at
+  ended_at (Attempting (ReadingCounter drain)) at = fails (ReadingCounter drain) at
+  ended_at (Attempting (SettingCounter number drain)) at = fails (SettingCounter number drain) at
   ended_at (Attempting Drained) at = fails Drained at
   ended_at (Attempting Showing) at = fails Showing at
   ended_at (Attempting Dropping) at = fails Dropping at
@@ -212,11 +228,17 @@ module _ (plan : PlanData) (tables : Database) (inspects : Option Request) (hold
 
   -- an applier's turn
   pub drained_at : (cutover : CutOver) (hint : ℕ) (phase : Phase) → At phase → At (drained cutover hint phase)
-  drained_at cutover hint (Attempting (Draining turns)) at = by (hint == cutover.attempts) (nat_le cutover.drain_limit (turns + 1)) where
-    by : (a b : Bool) → At (cond a (Attempting Drained) (cond b (Ending Looking) (Attempting (Draining (turns + 1)))))
-    by true b = record { tables = at.tables; renamer = at.renamer; asked = tt; hold = tt; left = tt; inspector = at.inspector }
-    by false true = fails (Draining turns) at
-    by false false = record { tables = at.tables; renamer = at.renamer; asked = at.asked; hold = tt; left = tt; inspector = at.inspector }
+  drained_at cutover hint (Attempting (Draining turns)) at =
+      drain_cases At cutover hint turns (Draining turns) (λ same. record { tables = at.tables; renamer = at.renamer; asked = tt; hold = tt; left = tt; inspector = at.inspector }) (fails (Draining turns) at)
+      (record { tables = at.tables; renamer = at.renamer; asked = at.asked; hold = tt; left = tt; inspector = at.inspector })
+  drained_at cutover hint (Attempting (ReadingCounter (Turns turns))) at =
+      drain_cases At cutover hint turns (ReadingCounter (Turns turns)) (λ same. record { tables = at.tables; renamer = at.renamer; asked = at.asked; hold = tt; left = tt; inspector = at.inspector }) (fails (ReadingCounter (Turns turns)) at)
+      (record { tables = at.tables; renamer = at.renamer; asked = at.asked; hold = tt; left = tt; inspector = at.inspector })
+  drained_at cutover hint (Attempting (SettingCounter number (Turns turns))) at =
+      drain_cases At cutover hint turns (SettingCounter number (Turns turns)) (λ same. record { tables = at.tables; renamer = at.renamer; asked = at.asked; hold = tt; left = tt; inspector = at.inspector }) (fails (SettingCounter number (Turns turns)) at)
+      (record { tables = at.tables; renamer = at.renamer; asked = at.asked; hold = tt; left = tt; inspector = at.inspector })
+  drained_at cutover hint (Attempting (ReadingCounter Passed)) at = at
+  drained_at cutover hint (Attempting (SettingCounter number Passed)) at = at
   drained_at cutover hint (Attempting Guarding) at = at
   drained_at cutover hint (Attempting Locking) at = at
   drained_at cutover hint (Attempting Hinting) at = at

@@ -34,7 +34,7 @@ use Rattle.tool_program.specs.declared.cutover_core.cutover.Hold.TheVariants.{No
 use Rattle.tool_program.specs.declared.cutover_core.cutover.Phase.{Phase}
 use Rattle.tool_program.specs.declared.cutover_core.cutover.Phase.TheVariants.{Resting, Attempting, Ending, Finishing, Finished}
 use Rattle.tool_program.specs.declared.cutover_core.cutover.Role.TheVariants.{Inspector, Locker, Renamer}
-use Rattle.tool_program.specs.declared.cutover_core.cutover.Stage.TheVariants.{Guarding, Locking, Hinting, Drained, Showing, Dropping, Unlocking, Exchanging}
+use Rattle.tool_program.specs.declared.cutover_core.cutover.Stage.TheVariants.{Guarding, Locking, Hinting, Drained, Showing, Dropping, Unlocking, Exchanging, ReadingCounter, SettingCounter}
 use Rattle.tool_program.specs.CutoverCore.Attempts as attempts
 use Rattle.tool_program.specs.CutoverCore.Attempts.{exchange, clears, first_name, is_free}
 use Rattle.tool_program.specs.CutoverCore.CutOvers as cutovers
@@ -306,6 +306,8 @@ module _ (plan : PlanData) (journal : List Entry) (entry : Entry) (is : IsStandi
 
       by : (phase : Phase) → attempts.inspector_call work.cutover phase ≡ Some request → LeftAt phase → InspectorAt plan phase request
       by (Attempting Hinting) call left = some_request (λ r. is_quiet r ≡ true) _ request call refl
+      by (Attempting (ReadingCounter drain)) call left = some_request (λ r. is_quiet r ≡ true) _ request call refl
+      by (Attempting (SettingCounter number drain)) call left = some_request (λ r. is_quiet r ≡ true) _ request call refl
       by (Attempting Showing) call left = some_request (λ r. is_quiet r ≡ true) _ request call refl
       by (Attempting stage) call left = absurd cc
       by (Ending clearing) call left = ends (is_free work.cutover.hold work.cutover.renamer_waits) clearing call left

@@ -5,7 +5,7 @@ use Rattle.std.proofs.lemmas.Bool.{true≢false}
 use Rattle.base_script.specs.declared.actor.Actor.{Actor}
 use Rattle.base_script.specs.declared.actor.Actor.TheVariants.{Op, Insp, Copy, Apply, Lock, Ren, Client}
 use Rattle.server_model.specs.Entries.{is_client, is_command, same_actor}
-use Rattle.server_model.specs.States.{State, is_exclusive}
+use Rattle.server_model.specs.States.{State}
 use Rattle.server_model.specs.declared.answer.Answer.{Answer}
 use Rattle.server_model.specs.declared.entry.Asked.{Asked}
 use Rattle.server_model.specs.declared.entry.Asked.TheVariants.{Call, Poll, Command, Cut}
@@ -19,7 +19,7 @@ use Rattle.tool_program.specs.Tools.{ToolPhase, Migrating, SettingUp, Work, mome
 use Rattle.proof_journals.specs.Plans.{IsSerialPlan, limits_of, scene_of}
 use Rattle.proof_journals.specs.Turns.{ClientAsks, about}
 use Rattle.proof_journals.proofs.PlanJournals.{plan_runs_are_scene_runs}
-use Rattle.proof_journals.specs.ServerTurns.Others.{EntriesAreTurns, TurnOf, asks_exclusive}
+use Rattle.proof_journals.specs.ServerTurns.Others.{EntriesAreTurns, TurnOf, asks_names, takes_names}
 use Rattle.proof_journals.specs.Run.Kept.{IsKept}
 use Rattle.proof_journals.specs.Machine.Runnable.{IsRunnable}
 use Rattle.proof_journals.proofs.Machine.Journals.{IsRun, IsTogether, client_commands}
@@ -41,7 +41,7 @@ use Rattle.proof_migration.proofs.CutOver.Commands.{command_turned}
 abbrev IsOther : PlanData → Entry → Actor → Type 0
 IsOther plan entry actor = (before after : State) (locker renamer : ℕ) (work : Work) (turn : ℕ) (answer : Option Answer) → OtherTurn plan before after locker renamer entry.session → WorkTurn plan before after locker renamer work turn entry actor answer
 
-module _ (entries_are_turns : EntriesAreTurns) (plan : PlanData) (journal : List Entry) (entry : Entry) (actor : Actor) (same : entry.actor ≡ actor) (called : is_command entry.asked ≡ false) (asks_shared : (request : Request) → AskedAs plan actor request → is_exclusive request ≡ false) (no_locker : same_actor actor Lock ≡ false) (no_renamer : same_actor actor Ren ≡ false) (is_other : IsOther plan entry actor) (runs : IsRunnable plan) (serial : IsSerialPlan plan) (kept : IsKept plan (journal ++ entry ∷ [])) (off : IsUnaltered plan (journal ++ entry ∷ [])) where
+module _ (entries_are_turns : EntriesAreTurns) (plan : PlanData) (journal : List Entry) (entry : Entry) (actor : Actor) (same : entry.actor ≡ actor) (called : is_command entry.asked ≡ false) (asks_shared : (request : Request) → AskedAs plan actor request → takes_names request ≡ false) (no_locker : same_actor actor Lock ≡ false) (no_renamer : same_actor actor Ren ≡ false) (is_other : IsOther plan entry actor) (runs : IsRunnable plan) (serial : IsSerialPlan plan) (kept : IsKept plan (journal ++ entry ∷ [])) (off : IsUnaltered plan (journal ++ entry ∷ [])) where
   abbrev now : State
   now = state_at plan journal
 
@@ -63,9 +63,9 @@ module _ (entries_are_turns : EntriesAreTurns) (plan : PlanData) (journal : List
   then_together : IsTogether plan more
   then_together = (all_asked plan more runs kept.faithful kept.follows).marking.tabled.all.tool
 
-  shared : asks_exclusive (about (opens entry now) entry.session entry.asked) ≡ false
+  shared : asks_names (about (opens entry now) entry.session entry.asked) ≡ false
   shared = by (about (opens entry now) entry.session entry.asked) refl where
-    by : (asks : Option Request) → about (opens entry now) entry.session entry.asked ≡ asks → asks_exclusive asks ≡ false
+    by : (asks : Option Request) → about (opens entry now) entry.session entry.asked ≡ asks → asks_names asks ≡ false
     by None is = refl
     by (Some request) is = asks_shared request (subst (λ (a : Actor). AskedAs plan a request) same (asked_as plan serial runs.fitting journal entry known run off request is))
 
@@ -102,7 +102,7 @@ module _ (entries_are_turns : EntriesAreTurns) (plan : PlanData) (journal : List
 
 -- CLIENTS
 
-client_shared : (plan : PlanData) (request : Request) → ClientAsks (scene_of plan []) request → is_exclusive request ≡ false
+client_shared : (plan : PlanData) (request : Request) → ClientAsks (scene_of plan []) request → takes_names request ≡ false
 client_shared plan (requests.LockTables names) asks = absurd asks
 client_shared plan (requests.Create schema) asks = absurd asks
 client_shared plan (requests.Drop name) asks = absurd asks

@@ -32,7 +32,8 @@ use Rattle.tool_program.specs.declared.cutover_core.cutover.Phase.{Phase}
 use Rattle.tool_program.specs.declared.cutover_core.cutover.Phase.TheVariants.{Resting, Attempting, Ending, Finishing, Finished}
 use Rattle.tool_program.specs.declared.cutover_core.cutover.Role.TheVariants.{Inspector, Locker, Renamer}
 use Rattle.tool_program.specs.declared.cutover_core.cutover.Stage.{Stage}
-use Rattle.tool_program.specs.declared.cutover_core.cutover.Stage.TheVariants.{Guarding, Locking, Hinting, Draining, Drained, Showing, Dropping, Unlocking, Exchanging}
+use Rattle.tool_program.specs.declared.cutover_core.cutover.Stage.TheVariants.{Guarding, Locking, Hinting, ReadingCounter, SettingCounter, Draining, Drained, Showing, Dropping, Unlocking, Exchanging}
+use Rattle.tool_program.specs.declared.cutover_core.cutover.Drain.TheVariants.{Turns, Passed}
 use Rattle.tool_program.specs.CutoverCore.Attempts.{has_name, has_sentry, is_clear, without_first}
 use Rattle.tool_program.specs.CutoverCore.CutOvers as cutovers
 use Rattle.tool_program.specs.CutoverCore.CutOvers.{is_bad, begun, locker_phase, locker_stage, attempts_after, inspector_phase, inspector_stage, finishing, seen, renamer_phase, waits_phase, failed, applier_turn, reverted}
@@ -117,7 +118,11 @@ ended_from (Attempting Guarding) = λ drains. absurd drains
 ended_from (Attempting Locking) = λ drains. absurd drains
 ended_from (Attempting Hinting) = λ drains. absurd drains
 ended_from (Attempting (Draining turns)) = λ drains. absurd drains
+ended_from (Attempting (ReadingCounter (Turns turns))) = λ drains. absurd drains
+ended_from (Attempting (SettingCounter number (Turns turns))) = λ drains. absurd drains
 ended_from (Attempting Drained) = λ drains. absurd drains
+ended_from (Attempting (ReadingCounter Passed)) = λ drains. absurd drains
+ended_from (Attempting (SettingCounter number Passed)) = λ drains. absurd drains
 ended_from (Attempting Showing) = λ drains. absurd drains
 ended_from (Attempting Dropping) = λ drains. absurd drains
 ended_from (Attempting Unlocking) = λ drains. drains
@@ -128,6 +133,10 @@ ended_from Finished = λ drains. drains
 
 drained_from : (cutover : CutOver) (hint : ℕ) (phase : Phase) → From phase (cutovers.drained cutover hint phase)
 drained_from cutover hint (Attempting (Draining turns)) = λ drains. tt
+drained_from cutover hint (Attempting (ReadingCounter (Turns turns))) = λ drains. tt
+drained_from cutover hint (Attempting (SettingCounter number (Turns turns))) = λ drains. tt
+drained_from cutover hint (Attempting (ReadingCounter Passed)) = λ drains. drains
+drained_from cutover hint (Attempting (SettingCounter number Passed)) = λ drains. drains
 drained_from cutover hint (Attempting Guarding) = λ drains. drains
 drained_from cutover hint (Attempting Locking) = λ drains. drains
 drained_from cutover hint (Attempting Hinting) = λ drains. drains
@@ -154,6 +163,10 @@ waits_from (Attempting Guarding) = λ drains. drains
 waits_from (Attempting Locking) = λ drains. drains
 waits_from (Attempting Hinting) = λ drains. drains
 waits_from (Attempting (Draining turns)) = λ drains. drains
+waits_from (Attempting (ReadingCounter (Turns turns))) = λ drains. drains
+waits_from (Attempting (ReadingCounter Passed)) = λ drains. drains
+waits_from (Attempting (SettingCounter number (Turns turns))) = λ drains. drains
+waits_from (Attempting (SettingCounter number Passed)) = λ drains. drains
 waits_from (Attempting Showing) = λ drains. drains
 waits_from (Attempting Dropping) = λ drains. drains
 waits_from (Attempting Unlocking) = λ drains. drains
@@ -181,6 +194,8 @@ locker_from Resting answer attempts drains = absurd (begun_from answer drains)
 locker_from (Attempting stage) answer attempts drains = (by (is_bad answer) drains, refl) where
   staged : (stage : Stage) (answer : Answer) → IsDraining (Attempting (locker_stage stage answer)) → IsDraining (Attempting stage)
   staged (Draining turns) answer drains = tt
+  staged (ReadingCounter (Turns turns)) answer drains = tt
+  staged (SettingCounter number (Turns turns)) answer drains = tt
   staged Guarding (answers.Ok count) drains = drains
   staged Guarding answer drains = drains
   staged Locking (answers.Ok count) drains = drains
@@ -191,6 +206,8 @@ locker_from (Attempting stage) answer attempts drains = (by (is_bad answer) drai
   staged Unlocking answer drains = drains
   staged Hinting answer drains = drains
   staged Drained answer drains = drains
+  staged (ReadingCounter Passed) answer drains = drains
+  staged (SettingCounter number Passed) answer drains = drains
   staged Showing answer drains = drains
   staged Exchanging answer drains = drains
 
@@ -221,9 +238,13 @@ seen_from cutover tables drains = by (has_name (ghost_name cutover.table) tables
 inspector_from : (cutover : CutOver) (phase : Phase) (answer : Answer) → IsDraining (inspector_phase cutover phase answer) → Hints phase answer ⊎ IsDraining phase
 inspector_from cutover Resting answer drains = inr drains
 inspector_from cutover (Attempting stage) answer drains = by (is_bad answer) drains where
-  staged : (stage : Stage) (answer : Answer) → IsDraining (Attempting (inspector_stage stage answer)) → Hints (Attempting stage) answer ⊎ IsDraining (Attempting stage)
+  staged : (stage : Stage) (answer : Answer) → IsDraining (Attempting (inspector_stage cutover.has_counter stage answer)) → Hints (Attempting stage) answer ⊎ IsDraining (Attempting stage)
   staged Hinting (answers.Ok count) drains = inl (refl, count, refl)
   staged Hinting answer drains = absurd drains
+  staged (ReadingCounter (Turns turns)) answer drains = inr tt
+  staged (SettingCounter number (Turns turns)) answer drains = inr tt
+  staged (ReadingCounter Passed) (answers.At number) drains = absurd drains
+  staged (SettingCounter number Passed) (answers.Ok count) drains = absurd drains
   staged Showing (answers.Waiting waiters) drains = absurd (shown (cutovers.shows_wait waiters) drains) where
     shown : (b : Bool) → IsDraining (Attempting (cond b Dropping Showing)) → ⊥
     shown true drains = drains
@@ -233,11 +254,13 @@ inspector_from cutover (Attempting stage) answer drains = by (is_bad answer) dra
   staged Guarding answer drains = absurd drains
   staged Locking answer drains = absurd drains
   staged Drained answer drains = absurd drains
+  staged (ReadingCounter Passed) answer drains = absurd drains
+  staged (SettingCounter number Passed) answer drains = absurd drains
   staged Dropping answer drains = absurd drains
   staged Unlocking answer drains = absurd drains
   staged Exchanging answer drains = absurd drains
 
-  by : (b : Bool) → IsDraining (cond b (Ending Looking) (Attempting (inspector_stage stage answer))) → Hints (Attempting stage) answer ⊎ IsDraining (Attempting stage)
+  by : (b : Bool) → IsDraining (cond b (Ending Looking) (Attempting (inspector_stage cutover.has_counter stage answer))) → Hints (Attempting stage) answer ⊎ IsDraining (Attempting stage)
   by true drains = absurd drains
   by false drains = staged stage answer drains
 inspector_from cutover (Ending Looking) answers.Lost drains = absurd drains
@@ -415,6 +438,8 @@ module _ (turns : EntriesAreTurns) (plan : PlanData) (runs : IsRunnable plan) (s
     drains_away drains = by (insp_left plan runs serial journal entry kept off hints.none work eq (subst (ToolPhaseHints t now.log (standing_of plan journal Insp).waits) eq hints.tool_phase).waits_so same uncut).logs where
       never : (phase : Phase) → IsDraining phase → may_hint phase ≡ true → ⊥
       never (Attempting (Draining turns)) drains may = false≢true may
+      never (Attempting (ReadingCounter (Turns turns))) drains may = false≢true may
+      never (Attempting (SettingCounter number (Turns turns))) drains may = false≢true may
       never phase drains may = drains
 
       by : LogsAway t now then ⊎ (LogsHint t work.cutover.attempts entry.answer now then × (may_hint work.cutover.phase ≡ true)) → LogsAway t now then

@@ -18,7 +18,7 @@ use Rattle.tool_program.specs.JournalWords.Journals.{state_at}
 use Rattle.tool_program.specs.declared.cutover_core.cutover.Hold.TheVariants.{Nothing, WaitsToGuard}
 use Rattle.tool_program.specs.declared.cutover_core.cutover.Phase.{Phase}
 use Rattle.tool_program.specs.declared.cutover_core.cutover.Phase.TheVariants.{Resting, Attempting, Ending, Finishing, Finished}
-use Rattle.tool_program.specs.declared.cutover_core.cutover.Stage.TheVariants.{Guarding, Draining, Exchanging}
+use Rattle.tool_program.specs.declared.cutover_core.cutover.Stage.TheVariants.{Guarding, Draining, Exchanging, ReadingCounter, SettingCounter}
 use Rattle.tool_program.specs.Orders.{actors, is_ready}
 use Rattle.tool_program.specs.Programs.{may_read, unread_in}
 use Rattle.tool_program.specs.Tools.{Work, ToolPhase, SettingUp, Migrating, Moment, moment}
@@ -71,6 +71,8 @@ module _ (turns : EntriesAreTurns) (plan : PlanData) (journal : List Entry) (run
     unasked drains = by work.cutover.phase drains (subst (ToolPhaseAt plan (state_at plan journal).tables (standing_of plan journal Insp).waits) eq standing.tool_phase).asked where
       by : (phase : Phase) → IsDraining phase → AskedAt phase work.cutover.is_asked → work.cutover.is_asked ≡ false
       by (Attempting (Draining count)) drains asked = asked
+      by (Attempting (ReadingCounter drain)) drains asked = asked
+      by (Attempting (SettingCounter number drain)) drains asked = asked
       by phase drains asked = absurd drains
 
     -- something is left to be read

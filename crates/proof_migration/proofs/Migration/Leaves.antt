@@ -291,6 +291,8 @@ module _ (m : Migration) (limits : Limits) (scene : Scene) (journal : List Entry
         by_request (requests.ReadLog from limit tables) asks away busy there same is = by_rests _ is
         by_request requests.ShowTables asks away busy there same is = by_rests _ is
         by_request requests.ShowWaiting asks away busy there same is = by_rests _ is
+        by_request (requests.ShowCounter table) asks away busy there same is = by_rests _ is
+        by_request (requests.SetCounter table least) asks away busy there same is = by_rests _ is
 
         done_goal : Goal
         done_goal = by (deeded entry before full)

@@ -35,7 +35,7 @@ use Rattle.tool_program.specs.declared.cutover_core.cutover.CutOver.{CutOver}
 use Rattle.tool_program.specs.declared.cutover_core.cutover.Phase.{Phase}
 use Rattle.tool_program.specs.declared.cutover_core.cutover.Phase.TheVariants.{Attempting, Ending, Finished, Finishing, Resting}
 use Rattle.tool_program.specs.declared.cutover_core.cutover.Role.TheVariants.{Inspector}
-use Rattle.tool_program.specs.declared.cutover_core.cutover.Stage.TheVariants.{Hinting, Showing}
+use Rattle.tool_program.specs.declared.cutover_core.cutover.Stage.TheVariants.{Hinting, Showing, ReadingCounter, SettingCounter}
 use Rattle.tool_program.specs.JournalWords.Histories as histories
 use Rattle.tool_program.specs.JournalWords.Histories.{alters, entry_adds, is_alter, answer_in}
 use Rattle.tool_program.specs.JournalWords.Journals.{may_lose, opens, state_at}
@@ -93,6 +93,8 @@ call_makes cutover phase request is = by phase is where
 
   by : (phase : Phase) → cutovers.inspector_call cutover phase ≡ Some request → makes request ≡ false
   by (Attempting Hinting) is = some_request NoMake _ request is refl
+  by (Attempting (ReadingCounter drain)) is = some_request NoMake _ request is refl
+  by (Attempting (SettingCounter number drain)) is = some_request NoMake _ request is refl
   by (Attempting Showing) is = some_request NoMake _ request is refl
   by (Attempting stage) is = absurd cc
   by (Ending clearing) is = ends (is_free cutover.hold cutover.renamer_waits) clearing is
@@ -395,6 +397,8 @@ module _ (definitions_are_done : DefinitionsAreDone) (plan : PlanData) (journal 
     insp_one same requests.LogEnd is_about kind off = kept_so Insp requests.LogEnd same is_about refl
     insp_one same requests.ShowTables is_about kind off = kept_so Insp requests.ShowTables same is_about refl
     insp_one same requests.ShowWaiting is_about kind off = kept_so Insp requests.ShowWaiting same is_about refl
+    insp_one same (requests.ShowCounter table) is_about kind off = kept_so Insp (requests.ShowCounter table) same is_about refl
+    insp_one same (requests.SetCounter table least) is_about kind off = kept_so Insp (requests.SetCounter table least) same is_about refl
     insp_one same request is_about kind off = absurd cc
 
     insp_waits : entry.actor ≡ Insp → (request : Request) → IsAbout request (has Insp) entry.asked → makes request ≡ false → NoMake (now_has Insp).waits
@@ -411,6 +415,7 @@ module _ (definitions_are_done : DefinitionsAreDone) (plan : PlanData) (journal 
     asks_kind (requests.Ends table) is = refl
     asks_kind (requests.Create schema) is = refl
     asks_kind (requests.Drop name) is = refl
+    asks_kind (requests.SetCounter table least) is = refl
     asks_kind request is = absurd cc
 
     insp_both : entry.actor ≡ Insp → Asking plan journal Insp entry.asked → Both

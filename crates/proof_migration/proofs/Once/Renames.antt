@@ -8,7 +8,6 @@ use Rattle.base_script.specs.declared.actor.Actor.{Actor}
 use Rattle.base_script.specs.declared.actor.Actor.TheVariants.{Apply, Client, Copy, Insp, Lock, Op, Ren}
 use Rattle.server_model.specs.Along.{Along}
 use Rattle.server_model.specs.Entries.{is_client, same_actor}
-use Rattle.server_model.specs.States.{is_exclusive}
 use Rattle.server_model.specs.declared.answer.Answer.{Answer}
 use Rattle.server_model.specs.declared.answer.Answer.TheVariants as answers
 use Rattle.server_model.specs.declared.entry.Asked.{Asked}
@@ -22,14 +21,14 @@ use Rattle.tool_program.specs.CutoverCore.CutOvers.{is_done}
 use Rattle.tool_program.specs.declared.cutover_core.cutover.Clearing.TheVariants.{Drops, Looking}
 use Rattle.tool_program.specs.declared.cutover_core.cutover.Phase.{Phase}
 use Rattle.tool_program.specs.declared.cutover_core.cutover.Phase.TheVariants.{Attempting, Ending, Finished, Finishing, Resting}
-use Rattle.tool_program.specs.declared.cutover_core.cutover.Stage.TheVariants.{Hinting}
+use Rattle.tool_program.specs.declared.cutover_core.cutover.Stage.TheVariants.{Hinting, SettingCounter}
 use Rattle.tool_program.specs.JournalWords.Histories as histories
 use Rattle.tool_program.specs.JournalWords.Histories.{alters, entry_adds, is_alter, answer_in}
 use Rattle.tool_program.specs.JournalWords.Journals.{state_at}
 use Rattle.tool_program.specs.Programs.{IsGiven, given, tool_call}
 use Rattle.tool_program.specs.Tools.{ToolPhase, Migrating, SettingUp, is_reverting, moment}
 use Rattle.proof_journals.specs.Plans.{IsSerialPlan}
-use Rattle.proof_journals.specs.ServerTurns.Others.{DefinitionsAreDone}
+use Rattle.proof_journals.specs.ServerTurns.Others.{DefinitionsAreDone, takes_names}
 use Rattle.proof_journals.specs.Run.Kept.{IsKept}
 use Rattle.run_actors.proofs.AlterTurns.{of_client}
 use Rattle.proof_journals.specs.Machine.Machines.{ToolPhaseStands, SetupStands}
@@ -51,10 +50,11 @@ use Rattle.proof_migration.proofs.Once.Past.{GoesPast, IsPast, NoMake, goes_past
 waits_none : (waits : Option Request) (table : List ℕ) (attempt : ℕ) (phase : Phase) → is_done phase ≡ false → WaitsAt waits table attempt phase → NoMake waits
 waits_none None table attempt phase undone at = tt
 waits_none (Some request) table attempt (Attempting Hinting) undone at = ap makes at
+waits_none (Some request) table attempt (Attempting (SettingCounter number drain)) undone at = ap makes at
 waits_none (Some request) table attempt (Attempting stage) undone at = absurd at
 waits_none (Some request) table attempt Resting undone at = absurd at
 waits_none (Some request) table attempt (Ending Looking) undone at = by request at where
-  by : (request : Request) → is_exclusive request ≡ false → makes request ≡ false
+  by : (request : Request) → takes_names request ≡ false → makes request ≡ false
   by (requests.Create schema) off = absurd (true≢false off)
   by request off = refl
 waits_none (Some request) table attempt (Ending (Drops left)) undone at = ap makes at

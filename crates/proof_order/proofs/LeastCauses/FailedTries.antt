@@ -1,9 +1,10 @@
 -- A failed try of a task is counted in its turn, where nothing is reverted after that.
-use Rattle.std.proofs.Common.{◌≡◌, ◌≤◌, ◌<◌, ℕ, ◌+◌, ◌==◌, Bool, true, false, cond, List, [], ◌∷◌, ◌++◌, length, None, refl, sym, ap, ◌∙◌, subst, arith}
+use Rattle.std.proofs.Common.{◌≡◌, ◌≤◌, ◌<◌, ℕ, ◌+◌, ◌==◌, Bool, true, false, cond, List, [], ◌∷◌, ◌++◌, length, Option, Some, None, refl, sym, ap, ◌∙◌, subst, arith}
 use Rattle.std.specs.Prelude.{nat_le}
 use Rattle.std.proofs.lemmas.Bool.{true≢false, false≢true}
 use Rattle.std.proofs.lemmas.Bool.Decides.{nat_tests}
 use Rattle.std.proofs.lemmas.List.{length_push}
+use Rattle.std.proofs.lemmas.Option.{none-some, same_Some}
 use Rattle.base_script.specs.declared.actor.Actor.TheVariants.{Insp, Copy, Apply}
 use Rattle.server_model.specs.declared.answer.Answer.{Answer}
 use Rattle.server_model.specs.declared.answer.Answer.TheVariants as answers
@@ -17,7 +18,9 @@ use Rattle.tool_program.specs.declared.event_applier.applier.Applier.{Applier}
 use Rattle.tool_program.specs.declared.cutover_core.cutover.CutOver.{CutOver}
 use Rattle.tool_program.specs.declared.cutover_core.cutover.Phase.{Phase}
 use Rattle.tool_program.specs.declared.cutover_core.cutover.Phase.TheVariants.{Resting, Attempting, Ending, Finishing, Finished}
-use Rattle.tool_program.specs.declared.cutover_core.cutover.Stage.TheVariants.{Draining, Drained}
+use Rattle.tool_program.specs.declared.cutover_core.cutover.Drain.{Drain}
+use Rattle.tool_program.specs.declared.cutover_core.cutover.Drain.TheVariants.{Turns, Passed}
+use Rattle.tool_program.specs.declared.cutover_core.cutover.Stage.{Stage}
 use Rattle.tool_program.specs.declared.cutover_core.cutover.Clearing.TheVariants.{Looking}
 use Rattle.tool_program.specs.declared.cutover_core.cutover.Role.{Role}
 use Rattle.tool_program.specs.declared.cutover_core.cutover.Role.TheVariants.{Inspector, Locker, Renamer}
@@ -25,7 +28,7 @@ use Rattle.tool_program.specs.ChunkCopier.Copiers as copiers
 use Rattle.tool_program.specs.EventApplier.Appliers as appliers
 use Rattle.tool_program.specs.CutoverCore.CutOvers as cutovers
 use Rattle.tool_program.specs.CutoverCore.CutOvers.{is_bad, locker_phase, inspector_phase, renamer_phase}
-use Rattle.tool_program.specs.Failures.{has_passed}
+use Rattle.tool_program.specs.Failures.{turns_of, turns_in, has_passed}
 use Rattle.tool_program.specs.Setups.{Setup, Listing, setup_after}
 use Rattle.tool_program.specs.Tools.{Work, ToolPhase, SettingUp, Migrating, Spent, Tool, first_reason, stopped, is_renamed, reverts, spends, is_reverting, copy_took, apply_after, apply_took, attempt_after, is_failure, cutover_took, drains, tool_phase_of, setup_took, actor_took}
 use Rattle.proof_migration.proofs.Attempt.Verdicts.Reasons.{chunk_stays, batch_stays}
@@ -55,7 +58,7 @@ MayFail role (Attempting stage) = Unit {0}
 MayFail role phase = ⊥
 
 bad_inspector : (cutover : CutOver) (phase : Phase) (answer : Answer) → MayFail Inspector phase → is_bad answer ≡ true → is_failure phase (inspector_phase cutover phase answer) ≡ true
-bad_inspector cutover (Attempting stage) answer may bad = ap (λ (b : Bool). is_failure (Attempting stage) (cond b (Ending Looking) (Attempting (cutovers.inspector_stage stage answer)))) bad
+bad_inspector cutover (Attempting stage) answer may bad = ap (λ (b : Bool). is_failure (Attempting stage) (cond b (Ending Looking) (Attempting (cutovers.inspector_stage cutover.has_counter stage answer)))) bad
 bad_inspector cutover Resting answer may bad = absurd may
 bad_inspector cutover (Ending clearing) answer may bad = absurd may
 bad_inspector cutover (Finishing clearing) answer may bad = absurd may
@@ -227,20 +230,31 @@ module _ (plan : PlanData) where
   unfolding cutovers.applier_turn
   turned_attempts hint cutover = refl
 
-  last_drain : (hint turns : ℕ) (cutover : CutOver) → cutover.phase ≡ Attempting (Draining turns) → turns + 1 ≡ cutover.drain_limit → (hint == cutover.attempts) ≡ false → is_failure cutover.phase (cutovers.applier_turn hint cutover).phase ≡ true
+  last_drain : (hint turns : ℕ) (cutover : CutOver) → turns_in cutover.phase ≡ Some turns → turns + 1 ≡ cutover.drain_limit → (hint == cutover.attempts) ≡ false → is_failure cutover.phase (cutovers.applier_turn hint cutover).phase ≡ true
   unfolding cutovers.applier_turn
-  last_drain hint turns cutover at last behind =
-      subst (λ (p : Phase). is_failure p (cutovers.drained cutover hint p) ≡ true) (sym at)
-      (ap (λ (b : Bool). is_failure (Attempting (Draining turns)) (cond b (Attempting Drained) (cond (nat_le cutover.drain_limit (turns + 1)) (Ending Looking) (Attempting (Draining (turns + 1)))))) behind
-      ∙ ap (λ (b : Bool). is_failure (Attempting (Draining turns)) (cond b (Ending Looking) (Attempting (Draining (turns + 1))))) (reached cutover.drain_limit (turns + 1) last)) where
-        reached : (limit turns : ℕ) → turns ≡ limit → nat_le limit turns ≡ true
-        reached limit turns same = grind (arith, nat_tests, same)
+  last_drain hint turns cutover at last behind = by cutover.phase at where
+    reached : (limit turns : ℕ) → turns ≡ limit → nat_le limit turns ≡ true
+    reached limit turns same = grind (arith, nat_tests, same)
+
+    staged : (stage : Stage) (drain : Option Drain) → turns_of drain ≡ Some turns → is_failure (Attempting stage) (cutovers.drains_to cutover hint stage drain) ≡ true
+    staged stage (Some (Turns count)) same =
+        ap (λ (b : Bool). is_failure (Attempting stage) (cond b (Attempting (cutovers.with_drain stage Passed)) (cond (nat_le cutover.drain_limit (count + 1)) (Ending Looking) (Attempting (cutovers.with_drain stage (Turns (count + 1))))))) behind
+        ∙ ap (λ (b : Bool). is_failure (Attempting stage) (cond b (Ending Looking) (Attempting (cutovers.with_drain stage (Turns (count + 1)))))) (reached cutover.drain_limit (count + 1) (ap (λ (n : ℕ). n + 1) (same_Some count turns same) ∙ last))
+    staged stage (Some Passed) same = absurd (none-some turns same)
+    staged stage None same = absurd (none-some turns same)
+
+    by : (phase : Phase) → turns_in phase ≡ Some turns → is_failure phase (cutovers.drained cutover hint phase) ≡ true
+    by (Attempting stage) at = staged stage (cutovers.drain_of stage) at
+    by Resting at = absurd (none-some turns at)
+    by (Ending clearing) at = absurd (none-some turns at)
+    by (Finishing clearing) at = absurd (none-some turns at)
+    by Finished at = absurd (none-some turns at)
 
   -- the drain's last turn, after which the hint row isn't passed
-  drain_tried : (tool_phase : ToolPhase) (tool : Tool) (work : Work) (turns : ℕ) → tool_phase ≡ Migrating work → work.cutover.phase ≡ Attempting (Draining turns) → turns + 1 ≡ work.cutover.drain_limit → has_passed (drains plan tool_phase tool).tool_phase ≡ false
+  drain_tried : (tool_phase : ToolPhase) (tool : Tool) (work : Work) (turns : ℕ) → tool_phase ≡ Migrating work → turns_in work.cutover.phase ≡ Some turns → turns + 1 ≡ work.cutover.drain_limit → has_passed (drains plan tool_phase tool).tool_phase ≡ false
       → (drains plan tool_phase tool).reason ≡ None → HasTry tasks.CutOver tool.turns (drains plan tool_phase tool).tool_phase
   drain_tried (SettingUp setup tries) tool work turns at phase last behind calm = absurd (let no : SettingUp setup tries ≡ Migrating work = at in cc)
-  drain_tried (Migrating next) tool work turns at phase last behind calm = attempt_tried fails next turned tool (last_drain next.applier.hint turns next.cutover (ap (λ (w : Work). w.cutover.phase) same ∙ phase) (last ∙ ap (λ (w : Work). w.cutover.drain_limit) (sym same)) unpassed) calm where
+  drain_tried (Migrating next) tool work turns at phase last behind calm = attempt_tried fails next turned tool (last_drain next.applier.hint turns next.cutover (ap (λ (w : Work). turns_in w.cutover.phase) same ∙ phase) (last ∙ ap (λ (w : Work). w.cutover.drain_limit) (sym same)) unpassed) calm where
     same : next ≡ work
     same = let one : Migrating next ≡ Migrating work = at in cc
 
@@ -254,7 +268,7 @@ module _ (plan : PlanData) where
     unpassed = ap (λ (n : ℕ). next.applier.hint == n) (sym (turned_attempts next.applier.hint next.cutover)) ∙ sym (ap (λ (t : Tool). has_passed t.tool_phase) (calm_attempt plan fails next turned tool calm)) ∙ behind
 
   pub failed_drain : (answer : Answer) (work : Work) (turns : ℕ) (tool : Tool) → tool.reason ≡ None → tool.tool_phase ≡ Migrating work → (actor_took plan Apply answer (Migrating work) tool).reason ≡ None
-      → work.cutover.phase ≡ Attempting (Draining turns) → turns + 1 ≡ work.cutover.drain_limit
+      → turns_in work.cutover.phase ≡ Some turns → turns + 1 ≡ work.cutover.drain_limit
       → has_passed (drains plan (actor_took plan Apply answer (Migrating work) tool).tool_phase (actor_took plan Apply answer (Migrating work) tool)).tool_phase ≡ false
       → (drains plan (actor_took plan Apply answer (Migrating work) tool).tool_phase (actor_took plan Apply answer (Migrating work) tool)).reason ≡ None
       → HasTry tasks.CutOver tool.turns (drains plan (actor_took plan Apply answer (Migrating work) tool).tool_phase (actor_took plan Apply answer (Migrating work) tool)).tool_phase
@@ -262,4 +276,4 @@ module _ (plan : PlanData) where
       let taken : Tool = actor_took plan Apply answer (Migrating work) tool in
       let same : SameCutOver work tool.turns taken = apply_same answer work tool before at calm in
       subst (λ (n : ℕ). HasTry tasks.CutOver n (drains plan taken.tool_phase taken).tool_phase) same.turn
-      (drain_tried taken.tool_phase taken same.next turns same.at (ap (λ (c : CutOver). c.phase) same.same ∙ phase) (last ∙ ap (λ (c : CutOver). c.drain_limit) (sym same.same)) behind still)
+      (drain_tried taken.tool_phase taken same.next turns same.at (ap (λ (c : CutOver). turns_in c.phase) same.same ∙ phase) (last ∙ ap (λ (c : CutOver). c.drain_limit) (sym same.same)) behind still)

@@ -41,7 +41,7 @@ use Rattle.proof_migration.proofs.Attempt.Verdicts.Reasons.{ToolPhaseHolds}
 use Rattle.proof_migration.proofs.Attempt.Verdicts.Standing.{all_held}
 use Rattle.proof_migration.proofs.Program.Turns.Follows.{kept_front, kept_run}
 use Rattle.proof_migration.proofs.ToolPhase.ToolPhaseTurns.{gives_asked}
-use Rattle.proof_order.proofs.Orders.{InspectorNeverWaits}
+use Rattle.proof_migration.specs.InspectorWaits.{SetsCounter, IsSettingCounter, InspectorsWaitToSet}
 use Rattle.proof_order.proofs.LeastCauses.BadTurns.{IsBadTurn, Why, IsLastTry, last_try, call_uncut, poll_uncut, final, bad_turn, not_command, lost_taken, took_by, drained_so}
 use Rattle.proof_order.proofs.LeastCauses.CountedTries.{HasTry, Grows, ActorRises, asked_grows, drains_calm}
 use Rattle.proof_order.proofs.LeastCauses.FailedTries.{MayFail, failed_setup, failed_chunk, failed_batch, drained_batch, failed_role, failed_drain}
@@ -88,24 +88,6 @@ may_fail role (Ending clearing) at rests = absurd (false≢true at)
 may_fail role (Finishing clearing) at rests = absurd (false≢true at)
 may_fail role Finished at rests = absurd (false≢true at)
 
-drained_stage : (stage : Stage) (turns : ℕ) → turns_in (Attempting stage) ≡ Some turns → Attempting stage ≡ Attempting (Draining turns)
-drained_stage (Draining other) turns is = let same : other ≡ turns = cc in ap (λ (n : ℕ). Attempting (Draining n)) same
-drained_stage Guarding turns is = absurd cc
-drained_stage Locking turns is = absurd cc
-drained_stage Hinting turns is = absurd cc
-drained_stage Drained turns is = absurd cc
-drained_stage Showing turns is = absurd cc
-drained_stage Dropping turns is = absurd cc
-drained_stage Unlocking turns is = absurd cc
-drained_stage Exchanging turns is = absurd cc
-
-drained_phase : (phase : Phase) (turns : ℕ) → turns_in phase ≡ Some turns → phase ≡ Attempting (Draining turns)
-drained_phase (Attempting stage) turns is = drained_stage stage turns is
-drained_phase Resting turns is = absurd cc
-drained_phase (Ending clearing) turns is = absurd cc
-drained_phase (Finishing clearing) turns is = absurd cc
-drained_phase Finished turns is = absurd cc
-
 free_of : (standing : Standing) → standing.busy ≡ false → standing.locked ≡ [] → standing.waits ≡ None → standing ≡ free
 free_of standing busy locked waits =
     ap (λ (b : Bool). record { busy = b; locked = standing.locked; waits = standing.waits }) busy ∙ ap (λ (l : List (List ℕ)). record { busy = false; locked = l; waits = standing.waits }) locked
@@ -113,7 +95,7 @@ free_of standing busy locked waits =
 
 -- THE LAST TURN
 
-module _ (never : InspectorNeverWaits) (plan : PlanData) (runs : IsRunnable plan) (serial : IsSerialPlan plan) (reads : ReadsRise plan) (journal : List Entry) (entry : Entry) (kept_more : IsKept plan (journal ++ entry ∷ [])) (before : (moment plan journal).tool.reason ≡ None) (calm : (moment plan (journal ++ entry ∷ [])).tool.reason ≡ None) where
+module _ (waits : InspectorsWaitToSet) (plan : PlanData) (runs : IsRunnable plan) (serial : IsSerialPlan plan) (reads : ReadsRise plan) (journal : List Entry) (entry : Entry) (kept_more : IsKept plan (journal ++ entry ∷ [])) (before : (moment plan journal).tool.reason ≡ None) (calm : (moment plan (journal ++ entry ∷ [])).tool.reason ≡ None) where
   abbrev more : List Entry
   more = journal ++ entry ∷ []
 
@@ -230,8 +212,14 @@ module _ (never : InspectorNeverWaits) (plan : PlanData) (runs : IsRunnable plan
     inspector_idle : entry.actor ≡ Insp → work.cutover.phase ≡ Resting → IsBadTurn plan journal entry → ⊥
     unfolding given attempts.next
     inspector_idle who resting turn =
-        idle_turn Insp who (λ same. cc) refl (free_of (has Insp) stands.inspector.busy stands.inspector.locked (never plan journal runs serial kept))
-        (λ request call. some_none request (sym (ap (λ (p : ToolPhase). tool_call plan now.server journal now.tool p Insp) at ∙ ap (attempts.inspector_call work.cutover) resting) ∙ call)) turn
+        idle_turn Insp who (λ same. cc) refl (free_of (has Insp) stands.inspector.busy stands.inspector.locked (unwaited (has Insp).waits refl))
+        (λ request call. some_none request (sym (ap (λ (p : ToolPhase). tool_call plan now.server journal now.tool p Insp) at ∙ ap (attempts.inspector_call work.cutover) resting) ∙ call)) turn where
+          sets_none : (request : Request) → IsSettingCounter plan now.tool.tool_phase request → ⊥
+          sets_none request sets = subst (λ (p : Phase). SetsCounter plan p request) resting (subst (λ (p : ToolPhase). IsSettingCounter plan p request) at sets)
+
+          unwaited : (waiting : Option Request) → (has Insp).waits ≡ waiting → (has Insp).waits ≡ None
+          unwaited None none = none
+          unwaited (Some request) some = absurd (sets_none request (waits plan journal request runs serial kept some))
 
     renamer_idle : entry.actor ≡ Ren → work.cutover.phase ≡ Resting → IsBadTurn plan journal entry → ⊥
     unfolding given attempts.next
@@ -260,7 +248,7 @@ module _ (never : InspectorNeverWaits) (plan : PlanData) (runs : IsRunnable plan
     undrained_counted : IsUndrained plan more tool.turns entry now → HasTry tasks.CutOver tool.turns (moment plan more).tool.tool_phase
     undrained_counted un =
         counted_by tasks.CutOver (drains plan after.tool_phase after) same
-        (λ still. failed_drain plan entry.answer work un.turns tool before at (drains_calm plan after.tool_phase after still) (drained_phase work.cutover.phase un.turns (sym (ap drained_for at) ∙ un.drained)) (un.last ∙ sym limit)
+        (λ still. failed_drain plan entry.answer work un.turns tool before at (drains_calm plan after.tool_phase after still) (sym (ap drained_for at) ∙ un.drained) (un.last ∙ sym limit)
         (ap (λ (t : Tool). has_passed t.tool_phase) (sym same) ∙ ap (λ (turns : List Entry). has_passed (moment plan turns).tool.tool_phase) (sym (whole tool.turns (ap (λ (n : ℕ). n + 1) together.turns))) ∙ un.following) still) where
           after : Tool
           after = actor_took plan Apply entry.answer (Migrating work) tool

@@ -33,7 +33,7 @@ use Rattle.proof_migration.proofs.Program.Turns.Follows.{kept_front, kept_run}
 use Rattle.proof_order.specs.LeastCauses.{last_of, last_turn, rank, IsNoLater}
 use Rattle.proof_order.proofs.Least.{IsSplit, split, stays, stood_by, unrenamed, panic_reverts}
 use Rattle.proof_order.proofs.LeastUnfit.{no_cut, applier_reverted, unfit_reverts, concerned_by}
-use Rattle.proof_order.proofs.Orders.{InspectorNeverWaits}
+use Rattle.proof_migration.specs.InspectorWaits.{InspectorsWaitToSet}
 use Rattle.proof_order.proofs.LeastCauses.BadTurns.{IsBadTurn, Why, IsLastTry, last_try, call_uncut, poll_uncut, final, bad_turn, not_command, lost_taken, heard_taken, took_by}
 use Rattle.proof_order.proofs.LeastCauses.Ranks.{AtMost, rank_of, cause_rank, setup_answer, copy_answer, apply_answer, panic_most, drain_stays}
 use Rattle.proof_order.proofs.LeastCauses.CountedTries.{HasTry, IsCounted, Grows, tries_of, not_over, actor_grows}
@@ -133,7 +133,7 @@ calm_place most reason calm = subst (AtMost most) (sym calm) tt
 
 -- A TURN OF EACH KIND
 
-module _ (never : InspectorNeverWaits) (plan : PlanData) (runs : IsRunnable plan) (serial : IsSerialPlan plan) (reads : ReadsRise plan) (some : 1 ≤ plan.options.default_retries) (left : TriesLeft plan) where
+module _ (waits : InspectorsWaitToSet) (plan : PlanData) (runs : IsRunnable plan) (serial : IsSerialPlan plan) (reads : ReadsRise plan) (some : 1 ≤ plan.options.default_retries) (left : TriesLeft plan) where
   module _ (before : List Entry) (entry : Entry) (kept : IsKept plan (before ++ entry ∷ [])) (calm : (moment plan before).tool.reason ≡ None) where
     abbrev now : Moment
     now = moment plan before
@@ -223,7 +223,7 @@ module _ (never : InspectorNeverWaits) (plan : PlanData) (runs : IsRunnable plan
         earlier : (turn : ℕ) → turn ≤ length before → IsFailedTry plan ((before ++ entry ∷ []) ++ rest) task turn → IsIn turn (tries_of task taken.tool_phase)
         earlier turn within is =
             counted turn (grows task turn
-            (subst (IsCounted task turn) at (all_counted never plan runs serial reads before front_kept calm task turn
+            (subst (IsCounted task turn) at (all_counted waits plan runs serial reads before front_kept calm task turn
             (front_try plan before (entry ∷ rest) turn within task (subst (λ (j : List Entry). IsFailedTry plan j task turn) (append_assoc before (entry ∷ []) rest) is)))))
 
         at_turn : (turn : ℕ) → turn ≤ last_of turns → IsFailedTry plan ((before ++ entry ∷ []) ++ rest) task turn → IsIn turn (tries_of task taken.tool_phase)
@@ -306,7 +306,7 @@ module _ (never : InspectorNeverWaits) (plan : PlanData) (runs : IsRunnable plan
 
       spent_turns : (task : Task) → IsSpent plan whole task turns → IsFailedTry plan (before ++ entry ∷ []) task (last_of turns) → is_renamed last.tool_phase ≡ false → IsTurning plan before entry (rank (causes.Spent task turns))
       spent_turns task spent try still_off = record {
-        reverts = spent_reverts never plan runs serial reads some left task turns before entry rest kept long spent still_off;
+        reverts = spent_reverts waits plan runs serial reads some left task turns before entry rest kept long spent still_off;
         place = spent_place task spent (last_try plan before entry together run task (last_of turns) (sym long) try);
       }
 

@@ -155,7 +155,7 @@ calm_took role cutover answer good begins = by role refl where
 
   inspector : (phase : Phase) → is_failure phase (cutovers.inspector_phase cutover phase answer) ≡ false
   inspector Resting = refl
-  inspector (Attempting stage) = unbad (Attempting (cutovers.inspector_stage stage answer)) (is_bad answer) good refl
+  inspector (Attempting stage) = unbad (Attempting (cutovers.inspector_stage cutover.has_counter stage answer)) (is_bad answer) good refl
   inspector (Ending clearing) = refl
   inspector (Finishing clearing) = refl
   inspector Finished = refl

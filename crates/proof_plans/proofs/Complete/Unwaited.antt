@@ -19,7 +19,8 @@ use Rattle.server_model.specs.Entries.{same_actor, is_client}
 use Rattle.server_model.specs.Blockers.{blocker, need}
 use Rattle.server_model.specs.PlainServer.{called_unless, calls, serves}
 use Rattle.server_model.specs.States.{State, names_in}
-use Rattle.plan_data.specs.PlanData.{PlanData}
+use Rattle.plan_data.specs.PlanData.{PlanData, has_counter}
+use Rattle.proof_plans.proofs.Complete.Uncarried.{is_carrying, none_carried}
 use Rattle.base_values.specs.ToolNames.{log_name, old_name}
 use Rattle.tool_program.specs.JournalWords.Journals.{opens, state_at}
 use Rattle.tool_program.specs.JournalWords.Sessions.{live_session, session_in, session_left}
@@ -35,7 +36,7 @@ use Rattle.tool_program.specs.declared.cutover_core.cutover.Hold.{Hold}
 use Rattle.tool_program.specs.declared.cutover_core.cutover.Hold.TheVariants.{Nothing, WaitsToGuard, WaitsToLock, Locks}
 use Rattle.tool_program.specs.declared.cutover_core.cutover.Phase.{Phase}
 use Rattle.tool_program.specs.declared.cutover_core.cutover.Phase.TheVariants.{Resting, Attempting, Ending, Finishing, Finished}
-use Rattle.tool_program.specs.declared.cutover_core.cutover.Stage.TheVariants.{Locking, Hinting, Showing, Dropping, Unlocking}
+use Rattle.tool_program.specs.declared.cutover_core.cutover.Stage.TheVariants.{Locking, Hinting, ReadingCounter, SettingCounter, Showing, Dropping, Unlocking}
 use Rattle.tool_program.specs.Programs.{apply_call, rolls_back, tool_call}
 use Rattle.tool_program.specs.Tools.{Work, ToolPhase, SettingUp, Migrating, Moment, is_renamed, is_reverting, moment}
 use Rattle.proof_journals.specs.Plans.{limits_of, scene_of}
@@ -138,7 +139,7 @@ locked_off_log table = (Rattle.tool_program.proofs.OnlineCalls.Naming.not_log ta
 
 -- ONE TURN
 
-module _ (plan : PlanData) (journal : List Entry) (entry : Entry) (is : IsStanding plan journal) (none : (moment plan journal).tool.reason ≡ None) (on : gives_up (moment plan journal).tool.tool_phase ≡ false) (going : is_renamed (moment plan journal).tool.tool_phase ≡ false) (run : IsRun plan journal entry) (asks : Asking plan journal entry.actor entry.asked)
+module _ (plan : PlanData) (journal : List Entry) (entry : Entry) (uncounted : has_counter plan ≡ false) (is : IsStanding plan journal) (none : (moment plan journal).tool.reason ≡ None) (on : gives_up (moment plan journal).tool.tool_phase ≡ false) (going : is_renamed (moment plan journal).tool.tool_phase ≡ false) (run : IsRun plan journal entry) (asks : Asking plan journal entry.actor entry.asked)
     (uncut : entry.asked ≢ Cut) (unlost : entry.side ≡ None) (nobody : Nobody journal) (living : Living journal (state_at plan journal)) (owned : AllOwned plan journal) (lively : NoneWaits (state_at plan journal)) (holds : JournalHolds (limits_of plan) (scene_of plan journal) journal)
     (reads : ReadsOn (moment plan journal).tool.tool_phase) (chosen : Chosen (moment plan journal).tool.tool_phase) (waits : Unwaited plan journal) where
   abbrev now : Moment
@@ -294,6 +295,8 @@ module _ (plan : PlanData) (journal : List Entry) (entry : Entry) (is : IsStandi
       by : (phase : Phase) → work.cutover.phase ≡ phase → attempts.inspector_call work.cutover phase ≡ Some one.request → is_wait entry.answer ≡ false
       by Resting phase call = no_request one.request call
       by (Attempting Hinting) phase call = hinting phase (let same : attempts.writes_hint work.cutover.table work.cutover.attempts ≡ one.request = cc in same)
+      by (Attempting (ReadingCounter drain)) phase call = absurd (true≢false (sym (ap is_carrying phase) ∙ none_carried plan uncounted journal work eq))
+      by (Attempting (SettingCounter number drain)) phase call = absurd (true≢false (sym (ap is_carrying phase) ∙ none_carried plan uncounted journal work eq))
       by (Attempting Showing) phase call = quick other one.request one.asked (let same : requests.ShowWaiting ≡ one.request = cc in ap needs_names (sym same))
       by (Attempting stage) phase call = no_request one.request call
       by (Ending clearing) phase call = absurd (true≢false (sym (ap is_ending phase) ∙ ap gives_up (sym eq) ∙ on))

@@ -1,5 +1,5 @@
--- In a quiet run no wait but the renamer's is over: so one that is within limits is done.
-use Rattle.std.proofs.Common.{◌≡◌, ◌≢◌, ℕ, ◌+◌, Bool, true, false, List, [], ◌∷◌, ◌++◌, None, refl, sym, ap, ◌∙◌, subst, append_assoc, append-nil}
+-- In a quiet run no wait but the renamer's is over, where the migrated table has no counter: so one that is within limits is done.
+use Rattle.std.proofs.Common.{◌≡◌, ◌≢◌, ℕ, ◌+◌, Bool, true, false, List, [], ◌∷◌, ◌++◌, None, refl, sym, ap, ◌∙◌, subst, inl, inr, append_assoc, append-nil}
 use Rattle.std.proofs.lemmas.Bool.{true≢false}
 use Rattle.base_values.specs.Laws.{StoresAgain}
 use Rattle.base_script.specs.declared.actor.Actor.{Actor}
@@ -10,7 +10,7 @@ use Rattle.server_model.specs.declared.answer.Answer.TheVariants as answers
 use Rattle.server_model.specs.declared.entry.Asked.TheVariants.{Cut}
 use Rattle.server_model.specs.declared.entry.Entry.{Entry}
 use Rattle.server_model.specs.Entries.{same_actor}
-use Rattle.plan_data.specs.PlanData.{PlanData}
+use Rattle.plan_data.specs.PlanData.{PlanData, has_counter}
 use Rattle.tool_program.specs.JournalWords.Journals.{state_after}
 use Rattle.tool_program.specs.JournalWords.Sessions.{live_session}
 use Rattle.tool_program.specs.ChunkCopier.Copiers as copiers
@@ -113,8 +113,8 @@ module _ (plan : PlanData) (journal : List Entry) (entry : Entry) (uncut : entry
 
 record IsIdleSo (plan : PlanData) (journal : List Entry) : Type 0 where
   quiet : IsQuietSo plan journal
-  waits : is_renamed (moment plan journal).tool.tool_phase ≡ false → Unwaited plan journal
-  chosen : is_renamed (moment plan journal).tool.tool_phase ≡ false → Chosen (moment plan journal).tool.tool_phase
+  waits : has_counter plan ≡ false → is_renamed (moment plan journal).tool.tool_phase ≡ false → Unwaited plan journal
+  chosen : has_counter plan ≡ false → is_renamed (moment plan journal).tool.tool_phase ≡ false → Chosen (moment plan journal).tool.tool_phase
 
 module _ (again : StoresAgain) (plan : PlanData) (quiet : IsQuiet plan) (converted_rows : RowsHaveConvertedRows plan) (runs : IsRunnable plan) (serial : IsSerialPlan plan) (journal : List Entry) (entry : Entry) (kept : IsKept plan (journal ++ entry ∷ [])) (is : IsIdleSo plan journal) where
   earlier : IsKept plan journal
@@ -136,26 +136,27 @@ module _ (again : StoresAgain) (plan : PlanData) (quiet : IsQuiet plan) (convert
     scene : IsUntouched plan journal
     scene = untouched plan journal runs serial earlier (unaltered plan journal runs serial earlier going is.quiet.calm.on.on) is.quiet.nobody (is.quiet.nothing going journal is.quiet.nobody)
 
-    in_time : same_actor entry.actor Ren ≡ false → is_timed_out entry.answer ≡ false
-    in_time = untimed plan journal entry is.quiet.calm.stands is.quiet.calm.on.none is.quiet.calm.on.on going here asked uncut heard is.quiet.nobody (all_living plan journal earlier.faithful earlier.sessions) (together_owned plan journal earlier.faithful earlier.follows).owned (all_waits plan journal earlier.faithful earlier.sessions)
-        (journal_holds (limits_of plan) (scene_of plan journal) journal scene.scene) (is.quiet.reads going) (is.chosen going) (is.waits going)
+    in_time : has_counter plan ≡ false → same_actor entry.actor Ren ≡ false → is_timed_out entry.answer ≡ false
+    in_time uncounted = untimed plan journal entry uncounted is.quiet.calm.stands is.quiet.calm.on.none is.quiet.calm.on.on going here asked uncut heard is.quiet.nobody (all_living plan journal earlier.faithful earlier.sessions) (together_owned plan journal earlier.faithful earlier.follows).owned (all_waits plan journal earlier.faithful earlier.sessions)
+        (journal_holds (limits_of plan) (scene_of plan journal) journal scene.scene) (is.quiet.reads going) (is.chosen uncounted going) (is.waits uncounted going)
 
-    waits_now : Unwaited plan (journal ++ entry ∷ [])
-    waits_now = unwaited_more plan journal entry is.quiet.calm.stands is.quiet.calm.on.none is.quiet.calm.on.on going here asked uncut heard is.quiet.nobody (all_living plan journal earlier.faithful earlier.sessions) (together_owned plan journal earlier.faithful earlier.follows).owned (all_waits plan journal earlier.faithful earlier.sessions)
-        (journal_holds (limits_of plan) (scene_of plan journal) journal scene.scene) (is.quiet.reads going) (is.chosen going) (is.waits going)
+    waits_now : has_counter plan ≡ false → Unwaited plan (journal ++ entry ∷ [])
+    waits_now uncounted = unwaited_more plan journal entry uncounted is.quiet.calm.stands is.quiet.calm.on.none is.quiet.calm.on.on going here asked uncut heard is.quiet.nobody (all_living plan journal earlier.faithful earlier.sessions) (together_owned plan journal earlier.faithful earlier.follows).owned (all_waits plan journal earlier.faithful earlier.sessions)
+        (journal_holds (limits_of plan) (scene_of plan journal) journal scene.scene) (is.quiet.reads going) (is.chosen uncounted going) (is.waits uncounted going)
 
-    copies_left : (work : Work) → (moment plan journal).tool.tool_phase ≡ Migrating work → entry.actor ≡ Copy → work.copier.is_copied ≡ false
-    copies_left = copy_left plan journal entry is.quiet.calm.stands is.quiet.calm.on.none is.quiet.calm.on.on going here asked uncut heard is.quiet.nobody (all_living plan journal earlier.faithful earlier.sessions) (together_owned plan journal earlier.faithful earlier.follows).owned (all_waits plan journal earlier.faithful earlier.sessions)
-        (journal_holds (limits_of plan) (scene_of plan journal) journal scene.scene) (is.quiet.reads going) (is.chosen going) (is.waits going)
+    copies_left : has_counter plan ≡ false → (work : Work) → (moment plan journal).tool.tool_phase ≡ Migrating work → entry.actor ≡ Copy → work.copier.is_copied ≡ false
+    copies_left uncounted = copy_left plan journal entry uncounted is.quiet.calm.stands is.quiet.calm.on.none is.quiet.calm.on.on going here asked uncut heard is.quiet.nobody (all_living plan journal earlier.faithful earlier.sessions) (together_owned plan journal earlier.faithful earlier.follows).owned (all_waits plan journal earlier.faithful earlier.sessions)
+        (journal_holds (limits_of plan) (scene_of plan journal) journal scene.scene) (is.quiet.reads going) (is.chosen uncounted going) (is.waits uncounted going)
 
     bounded : IsWithin plan journal entry → IsBounded plan journal entry
-    bounded within = record { timed = by (same_actor entry.actor Ren) refl; drained = within.drained } where
-      by : (b : Bool) → same_actor entry.actor Ren ≡ b → is_timed_out entry.answer ≡ false
-      by true same = within.timed (same_actor_is entry.actor Ren same)
-      by false other = in_time other
+    bounded within = record { timed = by (has_counter plan) refl (same_actor entry.actor Ren) refl; drained = within.drained } where
+      by : (a : Bool) → has_counter plan ≡ a → (b : Bool) → same_actor entry.actor Ren ≡ b → is_timed_out entry.answer ≡ false
+      by true counted b other = within.timed (inr counted)
+      by false uncounted true same = within.timed (inl (same_actor_is entry.actor Ren same))
+      by false uncounted false other = in_time uncounted other
 
     going_more : IsWithin plan journal entry → IsIdleSo plan (journal ++ entry ∷ [])
-    going_more within = record { quiet = next; waits = λ later. waits_now; chosen = λ later. chosen_more plan journal entry uncut copies_left (is.chosen going) (ap is_reverting next.calm.on.none) } where
+    going_more within = record { quiet = next; waits = λ uncounted later. waits_now uncounted; chosen = λ uncounted later. chosen_more plan journal entry uncut (copies_left uncounted) (is.chosen uncounted going) (ap is_reverting next.calm.on.none) } where
       next : IsQuietSo plan (journal ++ entry ∷ [])
       next = quiet_more again plan quiet converted_rows runs serial journal entry kept is.quiet (λ same. bounded within)
 
@@ -165,8 +166,8 @@ module _ (again : StoresAgain) (plan : PlanData) (quiet : IsQuiet plan) (convert
     by false going = going_more going (within going)
     by true done = record {
       quiet = quiet_more again plan quiet converted_rows runs serial journal entry kept is.quiet (λ going. absurd (true≢false (sym done ∙ going)));
-      waits = λ later. absurd (true≢false (sym (renamed_more plan journal entry done is.quiet.calm.on.none).done ∙ later));
-      chosen = λ later. absurd (true≢false (sym (renamed_more plan journal entry done is.quiet.calm.on.none).done ∙ later));
+      waits = λ uncounted later. absurd (true≢false (sym (renamed_more plan journal entry done is.quiet.calm.on.none).done ∙ later));
+      chosen = λ uncounted later. absurd (true≢false (sym (renamed_more plan journal entry done is.quiet.calm.on.none).done ∙ later));
     }
 
 -- WHOLE JOURNALS
@@ -188,7 +189,7 @@ none_begins plan a other = refl
 
 idle_begins : (plan : PlanData) → IsRunnable plan → IsIdleSo plan []
 unfolding moment
-idle_begins plan runs = record { quiet = quiet_begins plan runs; waits = λ going. none_begins plan; chosen = λ going. tt }
+idle_begins plan runs = record { quiet = quiet_begins plan runs; waits = λ uncounted going. none_begins plan; chosen = λ uncounted going. tt }
 
 -- *Quiet runs are done*
 pub quiet_are_done : StoresAgain → VerdictsTellTheAlter → QuietRunsAreDone

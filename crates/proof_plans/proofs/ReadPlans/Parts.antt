@@ -29,7 +29,7 @@ pub record IsReadPlan (plan : PlanData) : Type 0 where
   pub orders : OrderData
   pub ordered : orders_of (length clients) keys.texts ≡ Ok orders
   pub same : plan_of keys opening clients orders ≡ plan
-  pub all_built : is_built keys plan ≡ true
+  pub all_built : is_built keys ≡ true
 
 keys_are : (members : Members) (keys : KeyData) → keys_in members ≡ Ok keys → keys_of members ≡ Ok keys
 unfolding keys_in
@@ -45,7 +45,7 @@ document_is members plan is =
     let opening = bind_ok (opening_of keys.0) _ plan keys.2 in
     let clients = bind_ok (clients_of keys.0.texts.table keys.0.texts.clients) _ plan opening.2 in
     let orders = bind_ok (orders_of (length clients.0) keys.0.texts) (λ orders. built keys.0 (plan_of keys.0 opening.0 clients.0 orders)) plan clients.2 in
-    let all = let_through (is_built keys.0 (plan_of keys.0 opening.0 clients.0 orders.0)) (plan_of keys.0 opening.0 clients.0 orders.0) plan NotBuilt orders.2 in
+    let all = let_through (is_built keys.0) (plan_of keys.0 opening.0 clients.0 orders.0) plan NotBuilt orders.2 in
     record {
       members = members;
       keys = keys.0;
@@ -57,7 +57,7 @@ document_is members plan is =
       orders = orders.0;
       ordered = orders.1;
       same = all.1;
-      all_built = subst (λ (p : PlanData). is_built keys.0 p ≡ true) all.1 all.0;
+      all_built = all.0;
     }
 
 -- *Read plans, part by part*

@@ -3,7 +3,7 @@ use Rattle.server_model.specs.States.{is_of_tool}
 use Rattle.server_model.proofs.Filling.{filled_case, numbered_table}
 use Rattle.server_model.specs.Drawing.{numbered}
 use Rattle.std.proofs.Common.{◌≡◌, ℕ, Bool, true, false, not, ◌&&◌, List, [], ◌∷◌, cond, Option, Some, None, Result, Ok, Err, refl, sym, ap, ◌∙◌, subst}
-use Rattle.std.specs.Prelude.{is_some}
+use Rattle.std.specs.Prelude.{is_some, unwrap_or}
 use Rattle.std.specs.List.{list_all, list_any}
 use Rattle.std.specs.Option.{option_map}
 use Rattle.std.specs.Str.{bytes_eq}
@@ -25,8 +25,9 @@ use Rattle.server_model.specs.Operations.{Operation, after_events, copy_from, co
 use Rattle.server_model.specs.Blockers.{blocker, need, need_within}
 use Rattle.server_model.specs.PlainServer.{called_unless, calls, does, done, did, is_over, polled_of, polled_over, polled_unless, polls, without_waiting}
 use Rattle.server_model.specs.Listings.{events_read}
-use Rattle.server_model.specs.States.{State, is_in_transaction, session_of, view, waiting_of, writes_of}
+use Rattle.server_model.specs.States.{State, is_in_transaction, next_of, session_of, view, waiting_of, writes_of}
 use Rattle.server_model.specs.declared.answer.Answer.TheVariants as answers
+use Rattle.server_model.specs.Answers.{ok}
 use Rattle.server_model.specs.declared.need.Need.{Need}
 use Rattle.server_model.specs.declared.request.Request.{Request}
 use Rattle.server_model.specs.declared.request.Request.TheVariants as requests
@@ -146,6 +147,9 @@ module _ (name : List ℕ) where
   within_other busy seen state number (requests.ReadLog position limit tables) sees stands alone = refl
   within_other busy seen state number requests.ShowTables sees stands alone = refl
   within_other busy seen state number requests.ShowWaiting sees stands alone = refl
+  within_other busy seen state number (requests.ShowCounter table) sees stands alone =
+      other_if (λ found. IsOther (of_table found (λ t. answers.At (unwrap_or (next_of table state.counters) 0)))) state.tables table (first_is name table true alone).0 stands (λ found. refl)
+  within_other busy seen state number (requests.SetCounter table least) sees stands alone = other_if (λ found. IsOther (of_table found (λ t. ok))) state.tables table (first_is name table true alone).0 stands (λ found. refl)
 
   did_other : (state : State) (number : ℕ) (request : Request) → Stands name state.tables → names_alone name request ≡ true → IsOther (did state number request).answer
   unfolding did

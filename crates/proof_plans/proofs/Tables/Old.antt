@@ -26,7 +26,7 @@ use Rattle.tool_program.specs.declared.cutover_core.cutover.Hold.TheVariants.{Lo
 use Rattle.tool_program.specs.declared.cutover_core.cutover.Phase.{Phase}
 use Rattle.tool_program.specs.declared.cutover_core.cutover.Phase.TheVariants.{Attempting, Ending, Finished, Finishing, Resting}
 use Rattle.tool_program.specs.declared.cutover_core.cutover.Role.TheVariants.{Renamer}
-use Rattle.tool_program.specs.declared.cutover_core.cutover.Stage.TheVariants.{Draining, Drained, Dropping, Exchanging, Guarding, Hinting, Locking, Showing, Unlocking}
+use Rattle.tool_program.specs.declared.cutover_core.cutover.Stage.TheVariants.{ReadingCounter, SettingCounter, Draining, Drained, Dropping, Exchanging, Guarding, Hinting, Locking, Showing, Unlocking}
 use Rattle.tool_program.specs.JournalWords.Histories as histories
 use Rattle.tool_program.specs.JournalWords.Histories.{Alter, alters, entry_adds, history, is_alter, answer_in}
 use Rattle.tool_program.specs.JournalWords.Journals.{may_lose, state_at}
@@ -103,6 +103,8 @@ waiting_rests table phase hold fits = by phase hold fits where
   by (Attempting Guarding) hold fits = absurd (true≢false fits.1)
   by (Attempting Locking) hold fits = absurd (true≢false fits.1)
   by (Attempting Hinting) hold fits = absurd (true≢false fits.1)
+  by (Attempting (ReadingCounter drain)) hold fits = absurd (true≢false fits.1)
+  by (Attempting (SettingCounter number drain)) hold fits = absurd (true≢false fits.1)
   by (Attempting (Draining turns)) hold fits = absurd (true≢false fits.1)
   by (Attempting Drained) hold fits = absurd (true≢false fits.1)
   by (Attempting Showing) hold fits = is hold Locks fits.0 tt

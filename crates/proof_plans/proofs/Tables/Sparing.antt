@@ -165,6 +165,8 @@ module _ (name : List ℕ) where
   within_spared busy seen state number (requests.ReadLog position limit tables) off all = rested (requests.ReadLog position limit tables) _ state all
   within_spared busy seen state number requests.ShowTables off all = rested requests.ShowTables _ state all
   within_spared busy seen state number requests.ShowWaiting off all = rested requests.ShowWaiting _ state all
+  within_spared busy seen state number (requests.ShowCounter table) off all = rested (requests.ShowCounter table) _ state all
+  within_spared busy seen state number (requests.SetCounter table least) off all = rested (requests.SetCounter table least) _ state all
 
   did_spared : (state : State) (number : ℕ) (request : Request) → WritesNo name request → Unwritten name state.sessions → Spared name state.tables request (did state number request)
   unfolding did

@@ -1,5 +1,5 @@
 -- What holds of a run of a plan with nobody but the tool.
-use Rattle.std.specs.Prelude.{◌≡◌, Bool, true, false, List, [], ◌∷◌, ◌++◌, Option, Some, None, Ok}
+use Rattle.std.specs.Prelude.{◌≡◌, ◌⊎◌, Bool, true, false, List, [], ◌∷◌, ◌++◌, Option, Some, None, Ok}
 use Rattle.std.specs.List.{AllByRecursion, list_any}
 use Rattle.base_values.specs.declared.value.Value.{Value}
 use Rattle.base_values.specs.RowConversion.ConvertedRows.{converted_row}
@@ -10,7 +10,7 @@ use Rattle.server_model.specs.declared.answer.Answer.{Answer}
 use Rattle.server_model.specs.declared.answer.Answer.TheVariants as answers
 use Rattle.server_model.specs.declared.entry.Entry.{Entry}
 use Rattle.server_model.specs.declared.outcome.Verdict.TheVariants.{Done}
-use Rattle.plan_data.specs.PlanData.{PlanData, new_map}
+use Rattle.plan_data.specs.PlanData.{PlanData, has_counter, new_map}
 use Rattle.tool_program.specs.Orders.{actors, is_ready}
 use Rattle.tool_program.specs.Online.{attempt_goes_on}
 use Rattle.tool_program.specs.Tools.{is_renamed, moment}
@@ -43,9 +43,10 @@ abbrev pub is_timed_out : Answer → Bool
 is_timed_out (answers.TimedOut waited) = true
 is_timed_out answer = false
 
--- *Within limits*: in this turn the renamer's wait isn't over, and no attempt has spent its turns for the drain.
+-- *Within limits*: in this turn the renamer's wait isn't over, and where the migrated table has a counter, which may have to wait to be
+-- set, no other's is; and no attempt has spent its turns for the drain.
 pub record IsWithin (plan : PlanData) (before : List Entry) (entry : Entry) : Type 0 where
-  pub timed : entry.actor ≡ Ren → is_timed_out entry.answer ≡ false
+  pub timed : (entry.actor ≡ Ren) ⊎ (has_counter plan ≡ true) → is_timed_out entry.answer ≡ false
   pub drained : entry.actor ≡ Apply → attempt_goes_on (moment plan before).tool.tool_phase ≡ true → gives_up (moment plan (before ++ entry ∷ [])).tool.tool_phase ≡ false
 
 -- *A run within limits*: each turn is, until the tool knows that the RENAME was done.

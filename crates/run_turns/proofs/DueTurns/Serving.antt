@@ -40,6 +40,8 @@ counted_numbered made state number (Some requests.LogEnd) answer = refl
 counted_numbered made state number (Some (requests.ReadLog position limit tables)) answer = refl
 counted_numbered made state number (Some requests.ShowTables) answer = refl
 counted_numbered made state number (Some requests.ShowWaiting) answer = refl
+counted_numbered made state number (Some (requests.ShowCounter table)) answer = refl
+counted_numbered made state number (Some (requests.SetCounter table least)) answer = refl
 
 counters_numbered : (side : Option Side) (made : ℕ) (state : State) (number : ℕ) (asked : Asked) → counters_left side (numbered made state) number asked ≡ counters_left side state number asked
 counters_numbered (Some Before) made state number asked = refl

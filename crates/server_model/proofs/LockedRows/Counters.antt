@@ -34,7 +34,7 @@ use Rattle.server_model.specs.declared.counter.Counter.{Counter}
 use Rattle.server_model.specs.States.{State, session_of, is_of_tool, next_of, is_counter_of, counters_from, after_number, after_value}
 use Rattle.server_model.specs.Drawing.{numbered, offered_of, offered_in}
 use Rattle.server_model.specs.Effects.{is_outside}
-use Rattle.server_model.specs.Counting.{is_answered, drawn_if, offered_inside, offered_to, drawn_by, set_in, gives, given_by, gives_in, after_drawn, counts, counted}
+use Rattle.server_model.specs.Counting.{is_answered, drawn_if, offered_inside, offered_to, drawn_by, set_in, gives, given_by, gives_in, after_drawn, counts, counts_if, counted}
 use Rattle.server_model.specs.LockedRows.Counters.{IsBelow, PutsBelow, is_copy, NewRowsAreBelow, keeps_names, NoLess, CountersNeverFall, IsBehind, DrawnSo, NumbersAreCounters}
 
 le_then : (a b c : ℕ) → a ≤ b → b ≤ c → a ≤ c
@@ -167,6 +167,11 @@ counts_less (Some table) drawn statement answer counters name =
     less_then (next_of name counters) (next_of name (counters_from table.schema.name (after_drawn drawn) counters)) _ (from_found table.schema.name name (after_drawn drawn) counters)
     (from_found table.schema.name name (given_by answer (gives_in table.schema (auto_place table.schema) (numbered drawn statement))) (counters_from table.schema.name (after_drawn drawn) counters))
 
+-- a counter that is set doesn't fall
+set_less : (table name : List ℕ) (n : ℕ) (answer : Answer) (counters : List Counter) → NoLess (next_of name counters) (next_of name (counts_if answer (counters_from table n) counters))
+set_less table name n (answers.Ok count) counters = from_found table name n counters
+set_less table name n answer counters = less_itself (next_of name counters)
+
 pub counters_never_fall : CountersNeverFall
 unfolding counted
 counters_never_fall state number None answer name keeps = less_itself (next_of name state.counters)
@@ -174,6 +179,7 @@ counters_never_fall state number (Some (requests.Do statement)) answer name keep
 counters_never_fall state number (Some (requests.Create schema)) answer name keeps = absurd (false≢true keeps)
 counters_never_fall state number (Some (requests.Drop dropped)) answer name keeps = absurd (false≢true keeps)
 counters_never_fall state number (Some (requests.Rename pairs)) answer name keeps = absurd (false≢true keeps)
+counters_never_fall state number (Some (requests.SetCounter table n)) answer name keeps = set_less table name n answer state.counters
 counters_never_fall state number (Some other) answer name keeps = less_itself (next_of name state.counters)
 
 -- A NUMBER THAT IS DRAWN

@@ -6,7 +6,7 @@ use Rattle.server_model.specs.declared.counter.Counter.{Counter}
 use Rattle.server_model.specs.Counting.{after_drawn, counts_if, drawn_if, is_answered}
 use Rattle.server_model.specs.States.{counters_from}
 use Rattle.server_sessions.specs.declared.live_sessions.counter_moves.CounterMove.{CounterMove}
-use Rattle.server_sessions.specs.declared.live_sessions.counter_moves.CounterMove.TheVariants.{Stay, Raise, Become}
+use Rattle.server_sessions.specs.declared.live_sessions.counter_moves.CounterMove.TheVariants.{Stay, Raise, Become, Set}
 
 -- what the counter is at least after the value that was given, where rows were written or changed
 abbrev pub after_given : Answer → ℕ → ℕ
@@ -18,6 +18,7 @@ abbrev pub moved : CounterMove → Answer → List Counter → List Counter
 moved Stay answer counters = counters
 moved (Raise table drawn given) answer counters = counters_from table.now (after_given answer given) (counters_from table.now (after_drawn (drawn_if (is_answered answer) drawn)) counters)
 moved (Become after) answer counters = counts_if answer (λ before. after.items) counters
+moved (Set table least) answer counters = counts_if answer (counters_from table.now least) counters
 
 -- the number that was drawn
 abbrev pub drawn_in_move : CounterMove → Answer → Option ℕ

@@ -317,6 +317,12 @@ impl Sessions {
                 }
                 None
             }
+            CounterMove::Set { table, number } => {
+                if let Answer::Ok(_) = answer {
+                    raise(&mut self.counters, table, number);
+                }
+                None
+            }
         }
     }
 

@@ -23,6 +23,13 @@ pub enum CounterMove<'a> {
     },
     /// By a definition of tables: they are these once it is done.
     Become(Vec<Counter>),
+    /// The counter of the table of this name is no less than this number, once it is set.
+    Set {
+        /// The table's name.
+        table: &'a Name,
+        /// The number.
+        number: u64,
+    },
 }
 
 /// Whether the statement was answered, and didn't wait in vain.

@@ -41,6 +41,7 @@ pub fn names_blocker(locks: &MetaLocks, number: u32, request: &Request) -> Optio
         Request::LockTables(names) => locks.blocker(number, names, true),
         Request::Create(schema) => locks.name_blocker(number, &schema.name, true),
         Request::Drop(table) => locks.name_blocker(number, table, true),
+        Request::SetCounter { table, .. } => locks.name_blocker(number, table, true),
         Request::Rename(pairs) => blocker_of_pairs(locks, number, pairs.as_slice()),
         _ => None,
     }

@@ -24,6 +24,7 @@ pub fn is_exclusive(request: &Request) -> bool
         Request::Create(_) => true,
         Request::Drop(_) => true,
         Request::Rename(_) => true,
+        Request::SetCounter { .. } => true,
         _ => false,
     }
 }
@@ -67,6 +68,7 @@ pub fn takes(request: &Request, name: &Name) -> bool
         Request::Create(schema) => schema.name == *name,
         Request::Drop(table) => *table == *name,
         Request::Rename(pairs) => is_in_pairs(pairs.as_slice(), name),
+        Request::SetCounter { table, .. } => *table == *name,
         _ => false,
     }
 }
@@ -115,6 +117,7 @@ pub fn names_in(alloc: Global, request: &Request) -> Result<Names, AllocError>
         Request::Create(schema) => one_name(alloc, &schema.name),
         Request::Drop(table) => one_name(alloc, table),
         Request::Rename(pairs) => pair_names(alloc, pairs.as_slice()),
+        Request::SetCounter { table, .. } => one_name(alloc, table),
         _ => Ok(Sequence::new(alloc)),
     }
 }
@@ -156,6 +159,8 @@ fn mentions_other(held: &HeldNames, request: &Request) -> bool
         Request::Drop(table) => !has_locked(held, table),
         Request::Rename(pairs) => pairs_beyond(held, pairs.as_slice()),
         Request::ReadLog { tables, .. } => any_beyond(held, tables),
+        Request::ShowCounter(table) => !has_locked(held, table),
+        Request::SetCounter { table, .. } => !has_locked(held, table),
         _ => false,
     }
 }

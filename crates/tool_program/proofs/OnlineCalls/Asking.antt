@@ -39,6 +39,20 @@ looks plan now = record { writes = refl; names = refl; excludes = refl; guards =
 pub watches : (plan : PlanData) (now : Moment) → AsksWell plan now Insp requests.ShowWaiting
 watches plan now = record { writes = refl; names = refl; excludes = refl; guards = refl; held = refl; copies = refl }
 
+pub shows_counter : (plan : PlanData) (now : Moment) → AsksWell plan now Insp (requests.ShowCounter plan.table)
+shows_counter plan now = record { writes = refl; names = all_one (is_known plan.table) plan.table (known_own plan.table); excludes = refl; guards = refl; held = refl; copies = refl }
+
+pub sets_counter : (plan : PlanData) (now : Moment) (number : ℕ) → AsksWell plan now Insp (requests.SetCounter (ghost_name plan.table) number)
+sets_counter plan now number =
+    record {
+      writes = written_ghost plan.table;
+      names = all_one (is_known plan.table) (ghost_name plan.table) (known_ghost plan.table);
+      excludes = free (list_any (bytes_eq plan.table) (ghost_name plan.table ∷ [])) _ (any_none (bytes_eq plan.table) (ghost_name plan.table) (not_ghost plan.table));
+      guards = refl;
+      held = refl;
+      copies = refl;
+    }
+
 pub marks : (plan : PlanData) (now : Moment) → AsksWell plan now Insp requests.LogEnd
 marks plan now = record { writes = refl; names = refl; excludes = refl; guards = refl; held = refl; copies = refl }
 

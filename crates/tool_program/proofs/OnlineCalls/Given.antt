@@ -36,7 +36,7 @@ use Rattle.tool_program.specs.declared.cutover_core.cutover.Hold.TheVariants.{Lo
 use Rattle.tool_program.specs.declared.cutover_core.cutover.Phase.{Phase}
 use Rattle.tool_program.specs.declared.cutover_core.cutover.Phase.TheVariants.{Resting, Attempting, Ending, Finishing}
 use Rattle.tool_program.specs.declared.cutover_core.cutover.Stage.{Stage}
-use Rattle.tool_program.specs.declared.cutover_core.cutover.Stage.TheVariants.{Locking, Hinting, Drained, Showing, Dropping, Unlocking}
+use Rattle.tool_program.specs.declared.cutover_core.cutover.Stage.TheVariants.{Locking, Hinting, ReadingCounter, SettingCounter, Drained, Showing, Dropping, Unlocking}
 use Rattle.tool_program.specs.declared.cutover_core.cutover.Role.TheVariants.{Inspector, Locker, Renamer}
 use Rattle.tool_program.specs.CutoverCore.Attempts as cutovers
 use Rattle.tool_program.specs.CutoverCore.CutOvers.{stands, is_done, is_resting}
@@ -205,6 +205,11 @@ module _ (plan : PlanData) (now : Moment) (journal : List Entry) where
   inspector_at : (cutover : CutOver) (stage : Stage) (request : Request) → cutover.table ≡ plan.table → cutovers.inspector_at cutover stage ≡ Some request → AsksWell plan now Insp request
   inspector_at cutover Hinting request same is =
       one_call (AsksWell plan now Insp) (cutovers.writes_hint cutover.table cutover.attempts) request is (subst (λ (t : List ℕ). AsksWell plan now Insp (cutovers.writes_hint t cutover.attempts)) (sym same) (well.hints plan now cutover.attempts))
+  inspector_at cutover (ReadingCounter drain) request same is =
+      one_call (AsksWell plan now Insp) (requests.ShowCounter cutover.table) request is (subst (λ (t : List ℕ). AsksWell plan now Insp (requests.ShowCounter t)) (sym same) (well.shows_counter plan now))
+  inspector_at cutover (SettingCounter number drain) request same is =
+      one_call (AsksWell plan now Insp) (requests.SetCounter (ghost_name cutover.table) number) request is
+      (subst (λ (t : List ℕ). AsksWell plan now Insp (requests.SetCounter (ghost_name t) number)) (sym same) (well.sets_counter plan now number))
   inspector_at cutover Showing request same is = one_call (AsksWell plan now Insp) requests.ShowWaiting request is (well.watches plan now)
   inspector_at cutover stage request same is = absurd cc
 

@@ -1,10 +1,10 @@
--- The machines' tables are the plan's, whatever they take.
+-- The machines' tables are the plan's, and so is whether the cut-over has a counter to carry, whatever they take.
 use Rattle.std.proofs.Common.{◌≡◌, ℕ, ◌==◌, Bool, true, false, List, refl, ap, ◌∙◌}
 use Rattle.std.specs.Prelude.{if◌then◌else◌}
 use Rattle.base_values.specs.declared.gho_schema.schema.Schema.{Schema}
 use Rattle.server_model.specs.declared.answer.Answer.{Answer}
 use Rattle.server_model.specs.declared.answer.Answer.TheVariants as answers
-use Rattle.plan_data.specs.PlanData.{PlanData}
+use Rattle.plan_data.specs.PlanData.{PlanData, has_counter}
 use Rattle.base_values.specs.ToolNames.{ghost_name}
 use Rattle.tool_program.specs.declared.chunk_copier.copier.Copier.{Copier}
 use Rattle.tool_program.specs.declared.chunk_copier.copier.CopyStep.{CopyStep}
@@ -27,6 +27,7 @@ pub record IsNamed (plan : PlanData) (work : Work) : Type 0 where
   pub applier : work.applier.table ≡ plan.table
   pub into : work.applier.new_schema.name ≡ ghost_name plan.table
   pub cutover : work.cutover.table ≡ plan.table
+  pub counter : work.cutover.has_counter ≡ has_counter plan
 
 abbrev pub ToolPhaseIsNamed : PlanData → ToolPhase → Type 0
 ToolPhaseIsNamed plan (SettingUp setup tries) = Unit {0}
@@ -76,6 +77,20 @@ cutover_took Inspector cutover answer = refl
 cutover_took Locker cutover answer = refl
 cutover_took Renamer cutover answer = refl
 
+counter_took : (role : Role) (cutover : CutOver) (answer : Answer) → (cutovers.took role cutover answer).has_counter ≡ cutover.has_counter
+unfolding cutovers.took
+counter_took Inspector cutover answer = refl
+counter_took Locker cutover answer = refl
+counter_took Renamer cutover answer = refl
+
+drained_counter : (hint : ℕ) (cutover : CutOver) → (cutovers.applier_turn hint cutover).has_counter ≡ cutover.has_counter
+unfolding cutovers.applier_turn
+drained_counter hint cutover = refl
+
+reverted_counter : (cutover : CutOver) → (cutovers.reverted cutover).has_counter ≡ cutover.has_counter
+unfolding cutovers.reverted
+reverted_counter cutover = refl
+
 drained_table : (hint : ℕ) (cutover : CutOver) → (cutovers.applier_turn hint cutover).table ≡ cutover.table
 unfolding cutovers.applier_turn
 drained_table hint cutover = refl
@@ -86,19 +101,19 @@ reverted_table cutover = refl
 
 stops : (plan : PlanData) (tool_phase : ToolPhase) → ToolPhaseIsNamed plan tool_phase → ToolPhaseIsNamed plan (Rattle.tool_program.specs.Tools.stopped tool_phase)
 stops plan (SettingUp setup tries) at = tt
-stops plan (Migrating work) at = record { copier = at.copier; applier = at.applier; into = at.into; cutover = reverted_table work.cutover ∙ at.cutover }
+stops plan (Migrating work) at = record { copier = at.copier; applier = at.applier; into = at.into; cutover = reverted_table work.cutover ∙ at.cutover; counter = reverted_counter work.cutover ∙ at.counter }
 
 named_keeps : (plan : PlanData) → Keeps plan (ToolPhaseIsNamed plan)
 named_keeps plan = record {
   stops = stops plan;
   sets = λ setup tries. tt;
-  begins = λ size position range. record { copier = refl; applier = refl; into = refl; cutover = refl };
-  copies = λ turn answer work tries at. record { copier = copier_took turn work.copier answer ∙ at.copier; applier = at.applier; into = at.into; cutover = at.cutover };
+  begins = λ size position range. record { copier = refl; applier = refl; into = refl; cutover = refl; counter = refl };
+  copies = λ turn answer work tries at. record { copier = copier_took turn work.copier answer ∙ at.copier; applier = at.applier; into = at.into; cutover = at.cutover; counter = at.counter };
   applies = λ turn answer work tries at.
-      record { copier = at.copier; applier = (applier_took turn work.applier answer).0 ∙ at.applier; into = ap (λ (schema : Schema). schema.name) (applier_took turn work.applier answer).1 ∙ at.into; cutover = at.cutover };
-  cuts = λ role answer work tries at. record { copier = at.copier; applier = at.applier; into = at.into; cutover = cutover_took role work.cutover answer ∙ at.cutover };
-  drained = λ work tries at. record { copier = at.copier; applier = at.applier; into = at.into; cutover = drained_table work.applier.hint work.cutover ∙ at.cutover };
-  resized = λ size work at. record { copier = at.copier; applier = at.applier; into = at.into; cutover = at.cutover };
+      record { copier = at.copier; applier = (applier_took turn work.applier answer).0 ∙ at.applier; into = ap (λ (schema : Schema). schema.name) (applier_took turn work.applier answer).1 ∙ at.into; cutover = at.cutover; counter = at.counter };
+  cuts = λ role answer work tries at. record { copier = at.copier; applier = at.applier; into = at.into; cutover = cutover_took role work.cutover answer ∙ at.cutover; counter = counter_took role work.cutover answer ∙ at.counter };
+  drained = λ work tries at. record { copier = at.copier; applier = at.applier; into = at.into; cutover = drained_table work.applier.hint work.cutover ∙ at.cutover; counter = drained_counter work.applier.hint work.cutover ∙ at.counter };
+  resized = λ size work at. record { copier = at.copier; applier = at.applier; into = at.into; cutover = at.cutover; counter = at.counter };
 }
 
 -- behind every journal the machines' tables are the plan's

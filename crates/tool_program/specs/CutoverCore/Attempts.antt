@@ -1,6 +1,7 @@
 -- *The cut-over*: the attempts to exchange the two tables by one RENAME, and what is cleared up after them. An attempt goes
 -- through its stages in one order: the locker makes the sentry and locks the table and the sentry's name; the inspector writes
--- the hint row; once the applier has passed it the renamer asks for the RENAME, which waits; the inspector sees it wait; the
+-- the hint row, and where the table has an AUTO_INCREMENT column it asks for the number that comes next and sets the new table's
+-- counter to it; once that is done and the applier has passed the hint row, the renamer asks for the RENAME, which waits; the inspector sees it wait; the
 -- locker drops the sentry and unlocks; and the RENAME runs. An attempt that doesn't succeed ends: the locker unlocks, the
 -- RENAME is polled to its answer, and the inspector looks at the tables and drops the sentry where it exists. After the RENAME
 -- the inspector looks, and drops the changelog and, where that is wanted, the old table. (gh-ost, "Cut-over", with its sentry
@@ -15,7 +16,7 @@ use Rattle.server_model.specs.declared.listing.TableName.{TableName}
 use Rattle.tool_program.specs.declared.cutover_core.cutover.Role.{Role}
 use Rattle.tool_program.specs.declared.cutover_core.cutover.Role.TheVariants.{Inspector, Locker, Renamer}
 use Rattle.tool_program.specs.declared.cutover_core.cutover.Stage.{Stage}
-use Rattle.tool_program.specs.declared.cutover_core.cutover.Stage.TheVariants.{Locking, Hinting, Drained, Showing, Dropping, Unlocking}
+use Rattle.tool_program.specs.declared.cutover_core.cutover.Stage.TheVariants.{Locking, Hinting, ReadingCounter, SettingCounter, Drained, Showing, Dropping, Unlocking}
 use Rattle.tool_program.specs.declared.cutover_core.cutover.Leftovers.{Leftovers}
 use Rattle.tool_program.specs.declared.cutover_core.cutover.Clearing.{Clearing}
 use Rattle.tool_program.specs.declared.cutover_core.cutover.Clearing.TheVariants.{Looking, Drops}
@@ -29,9 +30,9 @@ use Rattle.tool_changelog.specs.ToolTables.{sentry_comment, sentry_schema}
 use Rattle.tool_changelog.specs.Hints.{hint_row}
 
 -- a cut-over at its start
-abbrev pub new_cutover : List ℕ → ℕ → Bool → CutOver
-new_cutover table drain_limit drops_old =
-    record { table = table; drain_limit = drain_limit; drops_old = drops_old; attempts = 0; phase = Resting; hold = Nothing; renamer_waits = false; is_asked = false; is_stopped = false }
+abbrev pub new_cutover : List ℕ → ℕ → Bool → Bool → CutOver
+new_cutover table drain_limit drops_old has_counter =
+    record { table = table; drain_limit = drain_limit; drops_old = drops_old; has_counter = has_counter; attempts = 0; phase = Resting; hold = Nothing; renamer_waits = false; is_asked = false; is_stopped = false }
 
 -- nothing is left to be dropped
 abbrev pub is_clear : Leftovers → Bool
@@ -83,6 +84,8 @@ writes_hint table attempt = requests.Do (statements.Insert (log_name table) None
 
 abbrev pub inspector_at : CutOver → Stage → Option Request
 inspector_at cutover Hinting = Some (writes_hint cutover.table cutover.attempts)
+inspector_at cutover (ReadingCounter drain) = Some (requests.ShowCounter cutover.table)
+inspector_at cutover (SettingCounter number drain) = Some (requests.SetCounter (ghost_name cutover.table) number)
 inspector_at cutover Showing = Some requests.ShowWaiting
 inspector_at cutover stage = None
 

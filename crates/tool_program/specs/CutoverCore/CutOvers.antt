@@ -1,5 +1,5 @@
 -- *The cut-over*: what it makes of an answer, of an applier's turn and of a revert.
-use Rattle.std.specs.Prelude.{ℕ, ◌+◌, ◌==◌, nat_le, Bool, true, false, ◌&&◌, not, if◌then◌else◌, List}
+use Rattle.std.specs.Prelude.{ℕ, ◌+◌, ◌==◌, nat_le, Bool, true, false, ◌&&◌, not, if◌then◌else◌, List, Option, Some, None}
 use Rattle.std.specs.List.{list_any}
 use Rattle.server_model.specs.declared.answer.Answer.{Answer}
 use Rattle.server_model.specs.declared.listing.TableName.{TableName}
@@ -11,7 +11,9 @@ use Rattle.base_values.specs.ToolNames.{ghost_name, log_name, old_name}
 use Rattle.tool_program.specs.declared.cutover_core.cutover.Role.{Role}
 use Rattle.tool_program.specs.declared.cutover_core.cutover.Role.TheVariants.{Inspector, Locker, Renamer}
 use Rattle.tool_program.specs.declared.cutover_core.cutover.Stage.{Stage}
-use Rattle.tool_program.specs.declared.cutover_core.cutover.Stage.TheVariants.{Guarding, Locking, Hinting, Draining, Drained, Showing, Dropping, Unlocking, Exchanging}
+use Rattle.tool_program.specs.declared.cutover_core.cutover.Stage.TheVariants.{Guarding, Locking, Hinting, ReadingCounter, SettingCounter, Draining, Drained, Showing, Dropping, Unlocking, Exchanging}
+use Rattle.tool_program.specs.declared.cutover_core.cutover.Drain.{Drain}
+use Rattle.tool_program.specs.declared.cutover_core.cutover.Drain.TheVariants.{Turns, Passed}
 use Rattle.tool_program.specs.declared.cutover_core.cutover.Leftovers.{Leftovers}
 use Rattle.tool_program.specs.declared.cutover_core.cutover.Clearing.{Clearing}
 use Rattle.tool_program.specs.declared.cutover_core.cutover.Clearing.TheVariants.{Looking, Drops}
@@ -121,10 +123,22 @@ seen cutover tables =
 abbrev pub shows_wait : List ShownWaiter → Bool
 shows_wait waiters = list_any (λ waiter. not (waiter.by == 0)) waiters
 
-abbrev pub inspector_stage : Stage → Answer → Stage
-inspector_stage Hinting (answers.Ok count) = Draining 0
-inspector_stage Showing (answers.Waiting waiters) = if shows_wait waiters then Dropping else Showing
-inspector_stage stage answer = stage
+-- the stage once no counter is to be carried any more
+abbrev pub drain_stage : Drain → Stage
+drain_stage (Turns turns) = Draining turns
+drain_stage Passed = Drained
+
+-- after the hint row the counter comes next, where the table has one
+abbrev pub hinted : Bool → Stage
+hinted true = ReadingCounter (Turns 0)
+hinted false = Draining 0
+
+abbrev pub inspector_stage : Bool → Stage → Answer → Stage
+inspector_stage has_counter Hinting (answers.Ok count) = hinted has_counter
+inspector_stage has_counter (ReadingCounter drain) (answers.At number) = SettingCounter number drain
+inspector_stage has_counter (SettingCounter number drain) (answers.Ok count) = drain_stage drain
+inspector_stage has_counter Showing (answers.Waiting waiters) = if shows_wait waiters then Dropping else Showing
+inspector_stage has_counter stage answer = stage
 
 -- the inspector's answer while an attempt ends
 abbrev pub ending_after : CutOver → Clearing → Answer → Phase
@@ -142,7 +156,7 @@ finishing_after cutover (Drops left) (answers.Ok count) = finishing (without_fir
 finishing_after cutover clearing answer = Finishing clearing
 
 abbrev pub inspector_phase : CutOver → Phase → Answer → Phase
-inspector_phase cutover (Attempting stage) answer = if is_bad answer then Ending Looking else Attempting (inspector_stage stage answer)
+inspector_phase cutover (Attempting stage) answer = if is_bad answer then Ending Looking else Attempting (inspector_stage cutover.has_counter stage answer)
 inspector_phase cutover (Ending clearing) answer = ending_after cutover clearing answer
 inspector_phase cutover (Finishing clearing) answer = finishing_after cutover clearing answer
 inspector_phase cutover phase answer = phase
@@ -195,11 +209,28 @@ is_done phase = false
 
 -- AFTER AN APPLIER'S TURN
 
+-- how far the applier is with the events before the hint row, from when that is written until it is known that it has passed it
+abbrev pub drain_of : Stage → Option Drain
+drain_of (ReadingCounter drain) = Some drain
+drain_of (SettingCounter number drain) = Some drain
+drain_of (Draining turns) = Some (Turns turns)
+drain_of stage = None
+
+abbrev pub with_drain : Stage → Drain → Stage
+with_drain (ReadingCounter before) drain = ReadingCounter drain
+with_drain (SettingCounter number before) drain = SettingCounter number drain
+with_drain (Draining turns) drain = drain_stage drain
+with_drain stage drain = stage
+
 -- the attempt is drained where the applier has passed its hint row, and fails where it hasn't in this many turns
+abbrev pub drains_to : CutOver → ℕ → Stage → Option Drain → Phase
+drains_to cutover hint stage (Some (Turns turns)) =
+    if hint == cutover.attempts then Attempting (with_drain stage Passed)
+    else if nat_le cutover.drain_limit (turns + 1) then Ending Looking else Attempting (with_drain stage (Turns (turns + 1)))
+drains_to cutover hint stage drain = Attempting stage
+
 abbrev pub drained : CutOver → ℕ → Phase → Phase
-drained cutover hint (Attempting (Draining turns)) =
-    if hint == cutover.attempts then Attempting Drained
-    else if nat_le cutover.drain_limit (turns + 1) then Ending Looking else Attempting (Draining (turns + 1))
+drained cutover hint (Attempting stage) = drains_to cutover hint stage (drain_of stage)
 drained cutover hint phase = phase
 
 -- *Applier's turn*: after each turn of the applier but a loss between calls, with the attempt of the last hint row that its

@@ -1,9 +1,9 @@
 -- *Bound*: a number of turns for each plan. A run that hasn't ended has fewer (`law_journals::bounds`). (This project's rule; no
 -- fairness is asked of the order of turns.)
-use Rattle.std.specs.Prelude.{ℕ, ◌+◌, ◌*◌, length, map, sum, unwrap_or}
+use Rattle.std.specs.Prelude.{ℕ, ◌+◌, ◌*◌, length, map, sum, unwrap_or, if◌then◌else◌}
 use Rattle.std.specs.Option.{option_map}
 use Rattle.table_store.specs.Databases.{find_table}
-use Rattle.plan_data.specs.PlanData.{PlanData}
+use Rattle.plan_data.specs.PlanData.{PlanData, has_counter}
 use Rattle.tool_program.specs.JournalWords.KeptPlans.{words_of}
 
 -- what the bound is made of
@@ -18,6 +18,8 @@ pub record Measures : Type 0 where
   pub tool_wait : ℕ
   pub client_wait : ℕ
   pub batch : ℕ
+  -- 1 where the migrated table has an AUTO_INCREMENT column, else 0
+  pub counters : ℕ
 
 unfoldable pub measures : PlanData → Measures
 measures plan =
@@ -30,6 +32,7 @@ measures plan =
       tool_wait = plan.options.tool_wait;
       client_wait = plan.options.client_wait;
       batch = plan.options.dml_batch_size;
+      counters = if has_counter plan then 1 else 0;
     }
 
 -- at most this many rows are ever there, and this many events and chunks
@@ -42,7 +45,8 @@ events m = m.lines * (keys m + 9)
 abbrev pub chunks : Measures → ℕ
 chunks m = m.rows + events m + 1
 
--- the turns of clients, setup, chunks, batches, attempts, and of losses with what is cleared up
+-- the turns of clients, setup, chunks, batches, attempts (each of which shows the counter and sets it, where there is one), and of
+-- losses with what is cleared up
 abbrev pub client_turns : Measures → ℕ
 client_turns m = m.lines * (1 + m.client_wait)
 
@@ -56,7 +60,7 @@ abbrev pub batch_turns : Measures → ℕ
 batch_turns m = (events m + m.tries) * m.tries * (3 * m.batch * (1 + m.tool_wait) + 3)
 
 abbrev pub attempt_turns : Measures → ℕ
-attempt_turns m = m.tries * (2 * m.tool_wait + 10)
+attempt_turns m = m.tries * ((2 + m.counters) * m.tool_wait + 10 + 2 * m.counters)
 
 abbrev pub clearing_turns : Measures → ℕ
 clearing_turns m = 6 * m.losses + 5

@@ -4,23 +4,25 @@ ghost use Rattle.std.specs.Prelude.{◌≡◌, ◌+◌, ◌<◌, ◌≤◌};
 ghost use Rattle.tool_program.specs.CutoverCore.Attempts.{new_cutover};
 ghost use Rattle.tool_program.specs.CutoverCore.CutOvers.{left_at_end, seen, ending_after, finishing_after, inspector_phase, took, applier_turn, reverted, progress};
 
-use crate::cutover_core::cutover::{Clearing, CutOver, Hold, Leftovers, Phase, Role, Stage};
+use crate::cutover_core::cutover::{Clearing, CutOver, Drain, Hold, Leftovers, Phase, Role, Stage};
 use crate::cutover_core::listing::{lists_log, lists_new_table, lists_old_table, lists_sentry};
 use crate::cutover_core::stages::{
-    finishing, hold_after, inspector_stage, is_bad, is_wait, locker_phase, renamer_phase, task_of,
+    drain_of, finishing, hold_after, inspector_stage, is_bad, is_wait, locker_phase, renamer_phase,
+    task_of, with_drain,
 };
 use base_values::Name;
 use server_model::{Answer, Progress, TableNames};
 
 impl CutOver {
     /// A cut-over at its start.
-    pub fn new(table: Name, drain_limit: u32, drops_old: bool) -> CutOver
-        ensures { result ≡ new_cutover table drain_limit drops_old }
+    pub fn new(table: Name, drain_limit: u32, drops_old: bool, has_counter: bool) -> CutOver
+        ensures { result ≡ new_cutover table drain_limit drops_old has_counter }
     {
         CutOver {
             table,
             drain_limit,
             drops_old,
+            has_counter,
             attempts: 0,
             phase: Phase::Resting,
             hold: Hold::Nothing,
@@ -87,7 +89,7 @@ impl CutOver {
                 if is_bad(answer) {
                     Phase::Ending(Clearing::Looking)
                 } else {
-                    Phase::Attempting(inspector_stage(stage, answer))
+                    Phase::Attempting(inspector_stage(self.has_counter, stage, answer))
                 }
             }
             Phase::Ending(clearing) => self.ending_after(clearing, answer),
@@ -144,13 +146,16 @@ impl CutOver {
     pub fn applier_turn(&mut self, hint: u128)
         ensures { self.new ≡ applier_turn hint self.old }
     {
-        if let Phase::Attempting(Stage::Draining(turns)) = self.phase {
+        let Phase::Attempting(stage) = self.phase else {
+            return;
+        };
+        if let Some(Drain::Turns(turns)) = drain_of(stage) {
             self.phase = if hint == u128::from(self.attempts) {
-                Phase::Attempting(Stage::Drained)
+                Phase::Attempting(with_drain(stage, Drain::Passed))
             } else if turns >= self.drain_limit || turns + 1 == self.drain_limit {
                 Phase::Ending(Clearing::Looking)
             } else {
-                Phase::Attempting(Stage::Draining(turns + 1))
+                Phase::Attempting(with_drain(stage, Drain::Turns(turns + 1)))
             };
         }
     }

@@ -88,6 +88,11 @@ impl CutOver {
     {
         match stage {
             Stage::Hinting => Ok(Some(writes_hint(alloc, &self.table, self.attempts)?)),
+            Stage::ReadingCounter(_) => Ok(Some(Request::ShowCounter(self.table.copy()?))),
+            Stage::SettingCounter { number, .. } => Ok(Some(Request::SetCounter {
+                table: ghost_name(alloc, &self.table)?,
+                number,
+            })),
             Stage::Showing => Ok(Some(Request::ShowWaiting)),
             _ => Ok(None),
         }
@@ -147,7 +152,15 @@ impl CutOver {
                 Phase::Attempting(Stage::Locking | Stage::Dropping | Stage::Unlocking),
             ) => true,
             (Role::Locker, Phase::Ending(_)) => matches!(self.hold, Hold::Locks),
-            (Role::Inspector, Phase::Attempting(Stage::Hinting | Stage::Showing)) => true,
+            (
+                Role::Inspector,
+                Phase::Attempting(
+                    Stage::Hinting
+                    | Stage::ReadingCounter(_)
+                    | Stage::SettingCounter { .. }
+                    | Stage::Showing,
+                ),
+            ) => true,
             (Role::Inspector, Phase::Ending(_)) => self.is_free(),
             (Role::Inspector, Phase::Finishing(_)) => true,
             (Role::Renamer, Phase::Attempting(Stage::Drained)) => true,

@@ -13,6 +13,15 @@ pub enum Role {
     Renamer,
 }
 
+/// How far the applier is with the events before the hint row.
+#[derive(Clone, Copy)]
+pub enum Drain {
+    /// It took this many turns since the hint row was written, and hasn't passed it.
+    Turns(u32),
+    /// It is past the hint row.
+    Passed,
+}
+
 /// How far an attempt is that may yet succeed.
 #[derive(Clone, Copy)]
 pub enum Stage {
@@ -22,7 +31,17 @@ pub enum Stage {
     Locking,
     /// The hint row comes next.
     Hinting,
-    /// The hint row is written; the applier took this many turns since and hasn't passed it.
+    /// The hint row is written, and the table has an AUTO_INCREMENT column: the number that it gets next is asked for.
+    ReadingCounter(Drain),
+    /// That number is known: the new table's counter is set to it next, or waits to be.
+    SettingCounter {
+        /// The number.
+        number: u64,
+        /// How far the applier is meanwhile.
+        drain: Drain,
+    },
+    /// The hint row is written, and the counter is set where there is one; the applier took this many turns since the hint row and
+    /// hasn't passed it.
     Draining(u32),
     /// The applier is past the hint row: the RENAME comes next.
     Drained,
@@ -93,6 +112,8 @@ pub struct CutOver {
     pub drain_limit: u32,
     /// Whether the old table is dropped at the end.
     pub drops_old: bool,
+    /// Whether the migrated table has an AUTO_INCREMENT column, whose counter goes to the new table.
+    pub has_counter: bool,
     /// How many attempts were begun.
     pub attempts: u64,
     /// How far it is with its attempts.

@@ -1,9 +1,9 @@
 //! What an answer makes of an attempt's stage, of the locker's hold and of the phases. Nothing here takes memory.
 
 ghost use Rattle.std.specs.Prelude.{◌≡◌};
-ghost use Rattle.tool_program.specs.CutoverCore.CutOvers.{is_bad, is_wait, shows_wait, locker_stage, begun, locker_phase, hold_after, renamer_phase, inspector_stage, finishing, task_of, stands, may_succeed, is_done};
+ghost use Rattle.tool_program.specs.CutoverCore.CutOvers.{is_bad, is_wait, shows_wait, locker_stage, begun, locker_phase, hold_after, renamer_phase, drain_of, drain_stage, with_drain, inspector_stage, finishing, task_of, stands, may_succeed, is_done};
 
-use crate::cutover_core::cutover::{Clearing, Hold, Leftovers, Phase, Stage};
+use crate::cutover_core::cutover::{Clearing, Drain, Hold, Leftovers, Phase, Stage};
 use server_model::{Answer, Progress, ShownWaiters};
 
 /// Whether the session was lost, or its wait timed out.
@@ -104,11 +104,54 @@ pub(crate) fn renamer_phase(phase: Phase, answer: &Answer) -> Phase
     }
 }
 
-pub(crate) fn inspector_stage(stage: Stage, answer: &Answer) -> Stage
-    ensures { result ≡ inspector_stage stage answer.now }
+/// The stage after the hint row, where no counter is carried, or is set already.
+fn drain_stage(drain: Drain) -> Stage
+    ensures { result ≡ drain_stage drain }
+{
+    match drain {
+        Drain::Turns(turns) => Stage::Draining(turns),
+        Drain::Passed => Stage::Drained,
+    }
+}
+
+/// How far the applier is with the events before the hint row, from when that is written until it is known that it has passed it.
+pub(crate) fn drain_of(stage: Stage) -> Option<Drain>
+    ensures { result ≡ drain_of stage }
+{
+    match stage {
+        Stage::ReadingCounter(drain) | Stage::SettingCounter { drain, .. } => Some(drain),
+        Stage::Draining(turns) => Some(Drain::Turns(turns)),
+        _ => None,
+    }
+}
+
+pub(crate) fn with_drain(stage: Stage, drain: Drain) -> Stage
+    ensures { result ≡ with_drain stage drain }
+{
+    match stage {
+        Stage::ReadingCounter(_) => Stage::ReadingCounter(drain),
+        Stage::SettingCounter { number, .. } => Stage::SettingCounter { number, drain },
+        Stage::Draining(_) => drain_stage(drain),
+        stage => stage,
+    }
+}
+
+pub(crate) fn inspector_stage(has_counter: bool, stage: Stage, answer: &Answer) -> Stage
+    ensures { result ≡ inspector_stage has_counter stage answer.now }
 {
     match (stage, answer) {
-        (Stage::Hinting, Answer::Ok(_)) => Stage::Draining(0),
+        (Stage::Hinting, Answer::Ok(_)) => {
+            if has_counter {
+                Stage::ReadingCounter(Drain::Turns(0))
+            } else {
+                Stage::Draining(0)
+            }
+        }
+        (Stage::ReadingCounter(drain), Answer::At(number)) => Stage::SettingCounter {
+            number: *number,
+            drain,
+        },
+        (Stage::SettingCounter { drain, .. }, Answer::Ok(_)) => drain_stage(drain),
         (Stage::Showing, Answer::Waiting(waiters)) => {
             if shows_wait(waiters) {
                 Stage::Dropping

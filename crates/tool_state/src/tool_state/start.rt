@@ -15,7 +15,7 @@ use std::alloc::{AllocError, Global};
 use tool_program::chunk_copier::{Copier, CopyRange};
 use tool_program::cutover_core::CutOver;
 use tool_program::event_applier::Applier;
-use tool_program::tool_setup::{Operator, Setup, new_map, new_table};
+use tool_program::tool_setup::{Operator, Setup, has_counter, new_map, new_table};
 
 /// The range of a setup, as the copier has it.
 fn copy_range(range: Option<KeyRange>) -> Option<CopyRange>
@@ -74,7 +74,12 @@ impl Work {
                 chunk_tries,
                 applier,
                 batch_tries,
-                cutover: CutOver::new(table, options.drain_limit, options.ok_to_drop_table),
+                cutover: CutOver::new(
+                    table,
+                    options.drain_limit,
+                    options.ok_to_drop_table,
+                    has_counter(plan),
+                ),
                 attempt_tries,
             }),
             Err(error) => {

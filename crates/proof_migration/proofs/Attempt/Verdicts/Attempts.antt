@@ -1,5 +1,5 @@
 -- Why an attempt fails: by a loss, a time-out, a refused sentry, or the drain's last turn.
-use Rattle.std.proofs.Common.{◌≡◌, ◌⊎◌, ℕ, ◌+◌, ◌<◌, ◌≤◌, ◌==◌, Bool, true, false, cond, not, ◌||◌, Option, refl, inl, inr}
+use Rattle.std.proofs.Common.{◌≡◌, ◌⊎◌, ℕ, ◌+◌, ◌<◌, ◌≤◌, ◌==◌, Bool, true, false, cond, not, ◌||◌, Option, refl, inl, inr, Some, None}
 use Rattle.std.specs.Prelude.{nat_le}
 use Rattle.std.proofs.lemmas.Bool.{false≢true, leb-true, leb-false}
 use Rattle.base_values.specs.declared.gho_schema.schema.Schema.{Schema}
@@ -15,12 +15,14 @@ use Rattle.tool_program.specs.declared.cutover_core.cutover.Phase.TheVariants.{R
 use Rattle.tool_program.specs.declared.cutover_core.cutover.Role.TheVariants.{Inspector, Locker, Renamer}
 use Rattle.tool_program.specs.declared.cutover_core.cutover.Role.{Role}
 use Rattle.tool_program.specs.declared.cutover_core.cutover.Stage.{Stage}
-use Rattle.tool_program.specs.declared.cutover_core.cutover.Stage.TheVariants.{Guarding, Locking, Hinting, Draining, Drained, Showing, Dropping, Unlocking, Exchanging}
+use Rattle.tool_program.specs.declared.cutover_core.cutover.Stage.TheVariants.{Guarding, Locking, Hinting, Draining, Drained, Showing, Dropping, Unlocking, Exchanging, ReadingCounter, SettingCounter}
 use Rattle.base_values.specs.ToolNames.{ghost_name}
 use Rattle.tool_program.specs.CutoverCore.Attempts.{is_clear, without_first, has_name, has_sentry}
 use Rattle.tool_program.specs.CutoverCore.CutOvers as cutovers
-use Rattle.tool_program.specs.CutoverCore.CutOvers.{failed, is_bad, locker_stage, begun, locker_phase, is_resting, finishing, seen, inspector_stage, ending_after, finishing_after, inspector_phase, waits_phase, renamer_phase, may_succeed, drained, ended, is_ending}
+use Rattle.tool_program.specs.CutoverCore.CutOvers.{failed, is_bad, locker_stage, begun, locker_phase, is_resting, finishing, seen, inspector_stage, ending_after, finishing_after, inspector_phase, waits_phase, renamer_phase, may_succeed, drained, ended, is_ending, drain_of, with_drain, drains_to}
 use Rattle.tool_program.specs.Tools.{is_failure}
+use Rattle.tool_program.specs.declared.cutover_core.cutover.Drain.TheVariants.{Turns, Passed}
+use Rattle.tool_program.specs.declared.cutover_core.cutover.Drain.{Drain}
 use Rattle.proof_journals.specs.Machine.Standings.{answers_to}
 
 -- an attempt that fails stood, or was to begin
@@ -51,7 +53,7 @@ locker_fails Finished answer fails = absurd (false≢true fails)
 inspector_fails : (cutover : CutOver) (phase : Phase) (answer : Answer) → is_failure phase (inspector_phase cutover phase answer) ≡ true → is_bad answer ≡ true
 inspector_fails cutover Resting answer fails = absurd (false≢true fails)
 inspector_fails cutover (Attempting stage) answer fails = by (is_bad answer) refl fails where
-  by : (b : Bool) → is_bad answer ≡ b → is_failure (Attempting stage) (cond b (Ending Looking) (Attempting (inspector_stage stage answer))) ≡ true → is_bad answer ≡ true
+  by : (b : Bool) → is_bad answer ≡ b → is_failure (Attempting stage) (cond b (Ending Looking) (Attempting (inspector_stage cutover.has_counter stage answer))) ≡ true → is_bad answer ≡ true
   by true bad fails = bad
   by false good fails = absurd (false≢true fails)
 inspector_fails cutover (Ending clearing) answer fails = absurd (false≢true fails)
@@ -105,27 +107,37 @@ sentry_fails schema answer fits ends = absurd cc
 -- THE DRAIN
 
 -- an attempt that drains has turns left, where it had one at first
+abbrev pub DrainLeft : ℕ → Option Drain → Type 0
+DrainLeft limit (Some (Turns turns)) = 0 < limit → turns < limit
+DrainLeft limit drain = Unit {0}
+
 abbrev pub TurnsLeft : ℕ → Phase → Type 0
-TurnsLeft limit (Attempting (Draining turns)) = 0 < limit → turns < limit
+TurnsLeft limit (Attempting stage) = DrainLeft limit (drain_of stage)
 TurnsLeft limit phase = Unit {0}
 
 pub record IsLastDrain (cutover : CutOver) (hint : ℕ) : Type 0 where
   pub turns : ℕ
-  pub phase : cutover.phase ≡ Attempting (Draining turns)
+  pub stage : Stage
+  pub phase : cutover.phase ≡ Attempting stage
+  pub drain : drain_of stage ≡ Some (Turns turns)
   pub last : cutover.drain_limit ≤ turns + 1
   pub following : (hint == cutover.attempts) ≡ false
 
 pub drain_fails : (cutover : CutOver) (hint : ℕ) → is_failure cutover.phase (drained cutover hint cutover.phase) ≡ true → IsLastDrain cutover hint
 drain_fails cutover hint fails = by cutover.phase refl fails where
-  draining : (turns : ℕ) → cutover.phase ≡ Attempting (Draining turns) → (a : Bool) → (hint == cutover.attempts) ≡ a → (b : Bool) → nat_le cutover.drain_limit (turns + 1) ≡ b
-      → is_failure (Attempting (Draining turns)) (cond a (Attempting Drained) (cond b (Ending Looking) (Attempting (Draining (turns + 1))))) ≡ true → IsLastDrain cutover hint
-  draining turns at true passed b last fails = absurd (false≢true fails)
-  draining turns at false following true last fails = record { turns = turns; phase = at; last = leb-true cutover.drain_limit (turns + 1) last; following = following }
-  draining turns at false following false more fails = absurd (false≢true fails)
+  draining : (stage : Stage) (turns : ℕ) → cutover.phase ≡ Attempting stage → drain_of stage ≡ Some (Turns turns) → (a : Bool) → (hint == cutover.attempts) ≡ a → (b : Bool) → nat_le cutover.drain_limit (turns + 1) ≡ b
+      → is_failure (Attempting stage) (cond a (Attempting (with_drain stage Passed)) (cond b (Ending Looking) (Attempting (with_drain stage (Turns (turns + 1)))))) ≡ true → IsLastDrain cutover hint
+  draining stage turns at drain true passed b last fails = absurd (false≢true fails)
+  draining stage turns at drain false following true last fails = record { turns = turns; stage = stage; phase = at; drain = drain; last = leb-true cutover.drain_limit (turns + 1) last; following = following }
+  draining stage turns at drain false following false more fails = absurd (false≢true fails)
+
+  staged : (stage : Stage) → cutover.phase ≡ Attempting stage → (drain : Option Drain) → drain_of stage ≡ drain → is_failure (Attempting stage) (drains_to cutover hint stage drain) ≡ true → IsLastDrain cutover hint
+  staged stage at (Some (Turns turns)) is fails = draining stage turns at is (hint == cutover.attempts) refl (nat_le cutover.drain_limit (turns + 1)) refl fails
+  staged stage at (Some Passed) is fails = absurd (false≢true fails)
+  staged stage at None is fails = absurd (false≢true fails)
 
   by : (phase : Phase) → cutover.phase ≡ phase → is_failure phase (drained cutover hint phase) ≡ true → IsLastDrain cutover hint
-  by (Attempting (Draining turns)) at fails = draining turns at (hint == cutover.attempts) refl (nat_le cutover.drain_limit (turns + 1)) refl fails
-  by (Attempting stage) at fails = absurd (false≢true fails)
+  by (Attempting stage) at fails = staged stage at (drain_of stage) refl fails
   by Resting at fails = absurd (false≢true fails)
   by (Ending clearing) at fails = absurd (false≢true fails)
   by (Finishing clearing) at fails = absurd (false≢true fails)
@@ -169,12 +181,19 @@ module _ (limit : ℕ) where
     shown true = tt
     shown false = tt
 
-    staged : (stage : Stage) (answer : Answer) → Left (Attempting stage) → Left (Attempting (inspector_stage stage answer))
-    staged Hinting (answers.Ok count) is = λ some. some
+    hinted : (counter : Bool) → Left (Attempting (cutovers.hinted counter))
+    hinted true = λ some. some
+    hinted false = λ some. some
+
+    staged : (stage : Stage) (answer : Answer) → Left (Attempting stage) → Left (Attempting (inspector_stage cutover.has_counter stage answer))
+    staged Hinting (answers.Ok count) is = hinted cutover.has_counter
+    staged (ReadingCounter drain) (answers.At number) is = is
+    staged (SettingCounter number (Turns turns)) (answers.Ok count) is = is
+    staged (SettingCounter number Passed) (answers.Ok count) is = tt
     staged Showing (answers.Waiting waiters) is = shown (cutovers.shows_wait waiters)
     staged stage answer is = is
 
-    by : (b : Bool) → Left (cond b (Ending Looking) (Attempting (inspector_stage stage answer)))
+    by : (b : Bool) → Left (cond b (Ending Looking) (Attempting (inspector_stage cutover.has_counter stage answer)))
     by true = tt
     by false = staged stage answer is
   inspector_left cutover (Ending clearing) answer is = by clearing answer where
@@ -238,14 +257,32 @@ module _ (limit : ℕ) where
 
 pub drained_left : (cutover : CutOver) (hint : ℕ) → TurnsLeft cutover.drain_limit cutover.phase → TurnsLeft cutover.drain_limit (drained cutover hint cutover.phase)
 drained_left cutover hint is = by cutover.phase is where
-  draining : (turns : ℕ) (a b : Bool) → nat_le cutover.drain_limit (turns + 1) ≡ b → TurnsLeft cutover.drain_limit (cond a (Attempting Drained) (cond b (Ending Looking) (Attempting (Draining (turns + 1)))))
-  draining turns true b last = tt
-  draining turns false true last = tt
-  draining turns false false more = λ some. leb-false cutover.drain_limit (turns + 1) more
+  goes_on : (stage : Stage) (drain : Drain) → DrainLeft cutover.drain_limit (Some drain) → TurnsLeft cutover.drain_limit (Attempting (with_drain stage drain))
+  goes_on (ReadingCounter before) drain left = left
+  goes_on (SettingCounter number before) drain left = left
+  goes_on (Draining before) (Turns turns) left = left
+  goes_on (Draining before) Passed left = tt
+  goes_on Guarding drain left = tt
+  goes_on Locking drain left = tt
+  goes_on Hinting drain left = tt
+  goes_on Drained drain left = tt
+  goes_on Showing drain left = tt
+  goes_on Dropping drain left = tt
+  goes_on Unlocking drain left = tt
+  goes_on Exchanging drain left = tt
+
+  draining : (stage : Stage) (turns : ℕ) (a b : Bool) → nat_le cutover.drain_limit (turns + 1) ≡ b → TurnsLeft cutover.drain_limit (cond a (Attempting (with_drain stage Passed)) (cond b (Ending Looking) (Attempting (with_drain stage (Turns (turns + 1))))))
+  draining stage turns true b last = goes_on stage Passed tt
+  draining stage turns false true last = tt
+  draining stage turns false false more = goes_on stage (Turns (turns + 1)) (λ some. leb-false cutover.drain_limit (turns + 1) more)
+
+  staged : (stage : Stage) (drain : Option Drain) → drain_of stage ≡ drain → TurnsLeft cutover.drain_limit (Attempting stage) → TurnsLeft cutover.drain_limit (drains_to cutover hint stage drain)
+  staged stage (Some (Turns turns)) same is = draining stage turns (hint == cutover.attempts) (nat_le cutover.drain_limit (turns + 1)) refl
+  staged stage (Some Passed) same is = is
+  staged stage None same is = is
 
   by : (phase : Phase) → TurnsLeft cutover.drain_limit phase → TurnsLeft cutover.drain_limit (drained cutover hint phase)
-  by (Attempting (Draining turns)) is = draining turns (hint == cutover.attempts) (nat_le cutover.drain_limit (turns + 1)) refl
-  by (Attempting stage) is = is
+  by (Attempting stage) is = staged stage (drain_of stage) refl is
   by Resting is = tt
   by (Ending clearing) is = tt
   by (Finishing clearing) is = tt

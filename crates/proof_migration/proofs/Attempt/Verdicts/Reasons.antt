@@ -35,18 +35,20 @@ use Rattle.base_values.specs.declared.event.RowEvent.{RowEvent}
 use Rattle.tool_changelog.specs.ToolTables.{sentry_schema}
 use Rattle.tool_program.specs.CutoverCore.Attempts as attempts
 use Rattle.tool_program.specs.CutoverCore.CutOvers as cutovers
-use Rattle.tool_program.specs.CutoverCore.CutOvers.{is_bad, is_resting}
+use Rattle.tool_program.specs.CutoverCore.CutOvers.{is_bad, is_resting, drain_of}
 use Rattle.tool_program.specs.declared.cutover_core.cutover.Phase.{Phase}
 use Rattle.tool_program.specs.declared.cutover_core.cutover.Phase.TheVariants.{Resting, Attempting, Ending, Finishing, Finished}
 use Rattle.tool_program.specs.declared.cutover_core.cutover.Stage.TheVariants.{Draining, Unlocking, Exchanging}
 use Rattle.tool_program.specs.declared.cutover_core.cutover.CutOver.{CutOver}
 use Rattle.tool_program.specs.declared.cutover_core.cutover.Role.{Role}
 use Rattle.tool_program.specs.declared.cutover_core.cutover.Role.TheVariants.{Inspector, Locker, Renamer}
-use Rattle.tool_program.specs.Failures.{turns_in as drain_turns, is_actor_of, is_at, drained_for, has_passed, IsBad, IsFailedTry, IsPanic, IsSpent, waited_for}
+use Rattle.tool_program.specs.Failures.{turns_in as drain_turns, turns_of, is_actor_of, is_at, drained_for, has_passed, IsBad, IsFailedTry, IsPanic, IsSpent, waited_for}
 use Rattle.tool_program.specs.Programs.{given, may_begin, tool_call}
 use Rattle.tool_program.specs.Operators.{commanded}
 use Rattle.tool_program.specs.Setups.{Setup, Listing, Clearing, MakingLog, MakingGhost, Marking, Reaching, Ready, setup_after}
 use Rattle.tool_program.specs.Tools.{Work, ToolPhase, SettingUp, Migrating, Reason, CopyUnfit, ApplyUnfit, Spent, Panicked, Tool, Moment, first_reason, stopped, is_renamed, reverts, spends, is_reverting, working, copy_after, copy_took, apply_after, apply_took, attempt_after, is_failure, cutover_took, drains, tool_phase_of, setup_took, actor_took, turn_counts, resizes, panics, command_took, asked_took, took, moment}
+use Rattle.tool_program.specs.declared.cutover_core.cutover.Drain.TheVariants.{Turns}
+use Rattle.tool_program.specs.declared.cutover_core.cutover.Stage.{Stage}
 use Rattle.proof_journals.specs.Run.Laws.{Living}
 use Rattle.proof_migration.proofs.ToolPhase.ToolPhaseTurns.{gives_asked}
 use Rattle.proof_journals.specs.Machine.Machines.{ToolPhaseStands, WorkStands, PhaseHolds, held}
@@ -57,7 +59,7 @@ use Rattle.proof_journals.proofs.Machine.Seated.{IsServed, own_given, own_fits}
 use Rattle.proof_journals.proofs.Sentry.Inductions.{moment_more}
 use Rattle.server_model.proofs.LockedRows.Tests.{same_number, are_one}
 use Rattle.proof_migration.specs.Attempt.Verdicts.{rests, IsFailedAttempt, IsSpentOn}
-use Rattle.proof_migration.proofs.Attempt.Verdicts.Attempts.{failing_at, took_fails, IsRefusal, sentry_fails, TurnsLeft, IsLastDrain, drain_fails, took_left, ended_left, drained_left}
+use Rattle.proof_migration.proofs.Attempt.Verdicts.Attempts.{failing_at, took_fails, IsRefusal, sentry_fails, TurnsLeft, IsLastDrain, drain_fails, took_left, ended_left, drained_left, DrainLeft}
 use Rattle.proof_migration.proofs.Attempt.Verdicts.Tries.{TaskTries, AttemptTries, no_tries, panic_more, spent_more, attempts_spent_more, tries_more, attempts_more, tries_last, attempts_last, is_turn, spent_so, attempts_spent_so}
 use Rattle.proof_migration.proofs.Attempt.Verdicts.Waits.{WaitsCount, turns_in, IsOverdue, wait_is_over}
 
@@ -503,20 +505,23 @@ module _ (plan : PlanData) (journal : List Entry) (entry : Entry) (together : Is
 
   abbrev FromBefore : ToolPhase → Type 0
   FromBefore (SettingUp setup tries) = Unit {0}
-  FromBefore (Migrating work) = (turns : ℕ) → work.cutover.phase ≡ Attempting (Draining turns) → IsSameDrain work
+  FromBefore (Migrating work) = (stage : Stage) (turns : ℕ) → work.cutover.phase ≡ Attempting stage → drain_of stage ≡ Some (Turns turns) → IsSameDrain work
 
   stopped_from : (tool_phase : ToolPhase) → FromBefore (stopped tool_phase)
   unfolding cutovers.reverted
   stopped_from (SettingUp setup tries) = tt
-  stopped_from (Migrating work) = λ turns at. absurd (by work.cutover.phase turns at) where
-    by : (phase : Phase) (turns : ℕ) → cutovers.ended phase ≡ Attempting (Draining turns) → ⊥
-    by (Attempting Unlocking) turns at = cc
-    by (Attempting Exchanging) turns at = cc
-    by (Attempting stage) turns at = cc
-    by Resting turns at = cc
-    by (Ending clearing) turns at = cc
-    by (Finishing clearing) turns at = cc
-    by Finished turns at = cc
+  stopped_from (Migrating work) = λ stage turns at drain. absurd (by work.cutover.phase stage turns at drain) where
+    none : (stage other : Stage) (turns : ℕ) → stage ≡ other → drain_of stage ≡ None → drain_of other ≡ Some (Turns turns) → ⊥
+    none stage other turns same empty drain = let no : None ≡ Some (Turns turns) = sym empty ∙ ap drain_of same ∙ drain in cc
+
+    by : (phase : Phase) (stage : Stage) (turns : ℕ) → cutovers.ended phase ≡ Attempting stage → drain_of stage ≡ Some (Turns turns) → ⊥
+    by (Attempting Unlocking) stage turns at drain = let same : Unlocking ≡ stage = cc in none Unlocking stage turns same refl drain
+    by (Attempting Exchanging) stage turns at drain = let same : Exchanging ≡ stage = cc in none Exchanging stage turns same refl drain
+    by (Attempting other) stage turns at drain = cc
+    by Resting stage turns at drain = cc
+    by (Ending clearing) stage turns at drain = cc
+    by (Finishing clearing) stage turns at drain = cc
+    by Finished stage turns at drain = cc
 
   reverts_from : (reason : Reason) (other : Tool) → FromBefore other.tool_phase → FromBefore (reverts reason other).tool_phase
   reverts_from reason other from = by (is_renamed other.tool_phase) where
@@ -537,14 +542,14 @@ module _ (plan : PlanData) (journal : List Entry) (entry : Entry) (together : Is
     applier = appliers.took tool.turns work.applier answer
 
     here : FromBefore tool.tool_phase
-    here = subst FromBefore (sym same) (λ turns at. record { old = work; same = same; phase = refl; tries = refl })
+    here = subst FromBefore (sym same) (λ stage turns at drain. record { old = work; same = same; phase = refl; tries = refl })
 
     reported : (progress : Progress) → FromBefore (apply_after plan work progress applier tool).tool_phase
-    reported Going = λ turns at. record { old = work; same = same; phase = refl; tries = refl }
-    reported TaskDone = λ turns at. record { old = work; same = same; phase = refl; tries = refl }
+    reported Going = λ stage turns at drain. record { old = work; same = same; phase = refl; tries = refl }
+    reported TaskDone = λ stage turns at drain. record { old = work; same = same; phase = refl; tries = refl }
     reported TaskFailed =
         spends_from (tasks.Batch applier.position) (work.batch_tries ++ tool.turns ∷ []) (working (record work { applier = applier; batch_tries = work.batch_tries ++ tool.turns ∷ [] }) tool)
-        (λ turns at. record { old = work; same = same; phase = refl; tries = refl })
+        (λ stage turns at drain. record { old = work; same = same; phase = refl; tries = refl })
     reported (Unfit place number) = reverts_from (ApplyUnfit tool.turns place number) tool here
 
     by : (b : Bool) → FromBefore (cond b tool (apply_took plan answer work tool)).tool_phase
@@ -574,18 +579,18 @@ module _ (plan : PlanData) (journal : List Entry) (entry : Entry) (together : Is
       → is_failure work.cutover.phase (cutovers.applier_turn work.applier.hint work.cutover).phase ≡ true → IsLastDrain work.cutover work.applier.hint → IsFailedAttempt plan more tool.turns
   drain_failed who uncut other work at final from holds some fails drain =
       inl (record { entry = entry; before = now; is = is_turn plan journal entry tool.turns turn_is; at = stood; why = inr (refl, record { actor = who; called = uncut; turns = drain.turns; drained = drained; last = last; following = following }) }) where
-        phase : from.old.cutover.phase ≡ Attempting (Draining drain.turns)
+        phase : from.old.cutover.phase ≡ Attempting drain.stage
         phase = from.phase ∙ drain.phase
 
         stood : is_at tasks.CutOver now.tool.tool_phase ≡ true
         stood = ap (is_at tasks.CutOver) from.same ∙ ap (λ (p : Phase). cutovers.may_succeed p || is_resting p) phase
 
         drained : drained_for now.tool.tool_phase ≡ Some drain.turns
-        drained = ap drained_for from.same ∙ ap drain_turns phase
+        drained = ap drained_for from.same ∙ ap drain_turns phase ∙ ap turns_of drain.drain
 
         last : drain.turns + 1 ≡ plan.options.drain_limit
         last =
-            let below : drain.turns < plan.options.drain_limit = subst (TurnsLeft plan.options.drain_limit) drain.phase holds.left some in
+            let below : drain.turns < plan.options.drain_limit = subst (DrainLeft plan.options.drain_limit) drain.drain (subst (TurnsLeft plan.options.drain_limit) drain.phase holds.left) some in
             let above : work.cutover.drain_limit ≤ drain.turns + 1 = drain.last in
             let limit : work.cutover.drain_limit ≡ plan.options.drain_limit = holds.limit in
             omega (arith, below, above, limit)
@@ -615,7 +620,7 @@ module _ (plan : PlanData) (journal : List Entry) (entry : Entry) (together : Is
         tried : is_failure work.cutover.phase turned.phase ≡ true → 0 < plan.options.drain_limit → AttemptTries plan more (work.attempt_tries ++ other.turns ∷ [])
         tried fails some =
             let drain : IsLastDrain work.cutover work.applier.hint = turn_fails work.applier.hint work.cutover fails in
-            let same : IsSameDrain work = subst FromBefore at from drain.turns drain.phase in
+            let same : IsSameDrain work = subst FromBefore at from drain.stage drain.turns drain.phase drain.drain in
             let turns : other.turns ≡ tool.turns = holds.turns ∙ length-append journal (entry ∷ []) ∙ sym turn_is in
             subst (λ (tries : List ℕ). AttemptTries plan more (tries ++ other.turns ∷ [])) same.tries
             (subst (λ (n : ℕ). AttemptTries plan more (same.old.attempt_tries ++ n ∷ [])) (sym turns)

@@ -10,7 +10,7 @@ use Rattle.server_model.specs.declared.entry.Asked.TheVariants.{Call, Poll, Cut}
 use Rattle.server_model.specs.declared.entry.Entry.{Entry}
 use Rattle.server_model.specs.declared.request.Request.{Request}
 use Rattle.server_model.specs.declared.request.Request.TheVariants as requests
-use Rattle.server_model.specs.States.{State, is_exclusive}
+use Rattle.server_model.specs.States.{State}
 use Rattle.plan_data.specs.PlanData.{PlanData}
 use Rattle.tool_program.specs.declared.chunk_copier.copier.Copier.{Copier}
 use Rattle.tool_program.specs.declared.chunk_copier.copier.CopyStep.{CopyStep}
@@ -25,6 +25,7 @@ use Rattle.tool_program.specs.Operators.{is_throttled}
 use Rattle.tool_program.specs.Programs.{Follows, apply_call, copy_call, given, in_transaction, rolls_back, tool_call}
 use Rattle.tool_program.specs.Setups.{Setup, Listing, Clearing, MakingLog, MakingGhost, Marking, Reaching, Ready, setup_after}
 use Rattle.tool_program.specs.Tools.{ToolPhase, Migrating, SettingUp, Tool, Work, tool_phase_of, is_reverting, moment, stopped}
+use Rattle.proof_journals.specs.ServerTurns.Others.{takes_names}
 use Rattle.proof_journals.specs.Machine.Machines.{ApplierStands, ToolPhaseStands, applier_asks, copier_asks}
 use Rattle.proof_journals.specs.Machine.Runnable.{IsRunnable}
 use Rattle.proof_journals.specs.Machine.Standings.{standing_of}
@@ -92,18 +93,18 @@ back_rests b (Migrating work) at = at
 -- NO NAME IS ASKED FOR EXCLUSIVELY
 
 abbrev pub FreeAt : Actor → Request → Type 0
-FreeAt Copy request = is_exclusive request ≡ false
-FreeAt Apply request = is_exclusive request ≡ false
+FreeAt Copy request = takes_names request ≡ false
+FreeAt Apply request = takes_names request ≡ false
 FreeAt actor request = Unit {0}
 
-copier_free : (step : CopyStep) (request : Request) → copier_asks step request ≡ true → is_exclusive request ≡ false
+copier_free : (step : CopyStep) (request : Request) → copier_asks step request ≡ true → takes_names request ≡ false
 copier_free copying.Choosing (requests.ChunkEnd table low top size) kind = refl
 copier_free (copying.Spanning reported most) (requests.BeginSpan table span size) kind = refl
 copier_free (copying.Copying chunk copied) (requests.CopyRow from into columns key) kind = refl
 copier_free (copying.Committing chunk) requests.Commit kind = refl
 copier_free step request kind = absurd (false≢true kind)
 
-applier_free : (step : ApplyStep) (request : Request) → applier_asks step request ≡ true → is_exclusive request ≡ false
+applier_free : (step : ApplyStep) (request : Request) → applier_asks step request ≡ true → takes_names request ≡ false
 applier_free applying.Reading (requests.ReadLog position limit tables) kind = refl
 applier_free (applying.Beginning batch) requests.Begin kind = refl
 applier_free (applying.Applying batch done part) (requests.Do statement) kind = refl
@@ -117,25 +118,25 @@ module _ (plan : PlanData) (journal : List Entry) (is : IsTogether plan journal)
   abbrev server : State
   server = (moment plan journal).server
 
-  back_free : (actor : Actor) (request : Request) → rolls_back server (live_session journal actor) ≡ Some request → is_exclusive request ≡ false
-  back_free actor request back = ap is_exclusive (back_quiet (in_transaction server (live_session journal actor)) request back)
+  back_free : (actor : Actor) (request : Request) → rolls_back server (live_session journal actor) ≡ Some request → takes_names request ≡ false
+  back_free actor request back = ap takes_names (back_quiet (in_transaction server (live_session journal actor)) request back)
 
-  copy_free : (request : Request) (tool_phase : ToolPhase) → tool_call plan server journal then tool_phase Copy ≡ Some request → is_exclusive request ≡ false
+  copy_free : (request : Request) (tool_phase : ToolPhase) → tool_call plan server journal then tool_phase Copy ≡ Some request → takes_names request ≡ false
   copy_free request (SettingUp setup tries) call = absurd cc
   copy_free request (Migrating work) call =
-      reverting_or (is_exclusive request ≡ false) (is_reverting then.reason) (rolls_back server (live_session journal Copy)) (copy_call plan server journal then work) request call (λ reverting back. back_free Copy request back)
+      reverting_or (takes_names request ≡ false) (is_reverting then.reason) (rolls_back server (live_session journal Copy)) (copy_call plan server journal then work) request call (λ reverting back. back_free Copy request back)
       (λ going asks. copier_free work.copier.step request (copier_next journal work.copier request (unless_called (copiers.starts work.copier && is_throttled plan server then.operator) (copiers.next journal work.copier) request asks)))
 
-  apply_free : (request : Request) (tool_phase : ToolPhase) → ToolPhaseStands journal (standing_of plan journal) (is_reverting then.reason) tool_phase → tool_call plan server journal then tool_phase Apply ≡ Some request → is_exclusive request ≡ false
+  apply_free : (request : Request) (tool_phase : ToolPhase) → ToolPhaseStands journal (standing_of plan journal) (is_reverting then.reason) tool_phase → tool_call plan server journal then tool_phase Apply ≡ Some request → takes_names request ≡ false
   unfolding appliers.next
   apply_free request (SettingUp setup tries) at call = absurd cc
   apply_free request (Migrating work) at call =
-      reverting_or (is_exclusive request ≡ false) (is_reverting then.reason) (rolls_back server (live_session journal Apply)) (apply_call plan server journal then work) request call (λ reverting back. back_free Apply request back) (λ going asks. by at.applier going asks) where
-        by : (is_reverting then.reason ≡ true) ⊎ ApplierStands journal work.applier (standing_of plan journal Apply) → is_reverting then.reason ≡ false → apply_call plan server journal then work ≡ Some request → is_exclusive request ≡ false
+      reverting_or (takes_names request ≡ false) (is_reverting then.reason) (rolls_back server (live_session journal Apply)) (apply_call plan server journal then work) request call (λ reverting back. back_free Apply request back) (λ going asks. by at.applier going asks) where
+        by : (is_reverting then.reason ≡ true) ⊎ ApplierStands journal work.applier (standing_of plan journal Apply) → is_reverting then.reason ≡ false → apply_call plan server journal then work ≡ Some request → takes_names request ≡ false
         by (inl reverting) going asks = absurd (true≢false (sym reverting ∙ going))
         by (inr stands) going asks = applier_free work.applier.step request (ap (applier_asks work.applier.step) (apply_called plan journal work request asks) ∙ applier_next journal work.applier work.applier.step stands.known)
 
-  tool_free : (actor : Actor) (request : Request) → Asking plan journal actor (Call request) → (tool_call plan server journal then then.tool_phase actor ≡ Some request → is_exclusive request ≡ false) → is_exclusive request ≡ false
+  tool_free : (actor : Actor) (request : Request) → Asking plan journal actor (Call request) → (tool_call plan server journal then then.tool_phase actor ≡ Some request → takes_names request ≡ false) → takes_names request ≡ false
   tool_free actor request (calls_so other same idle call) then_free = let one : other ≡ request = cc in then_free (call ∙ ap Some one)
   tool_free actor request (polls_so other same some) then_free = absurd (no same) where
     no : Call request ≡ Poll → ⊥

@@ -12,7 +12,7 @@ use Rattle.server_model.specs.declared.entry.Asked.TheVariants.{Call, Poll, Comm
 use Rattle.server_model.specs.declared.entry.Entry.{Entry}
 use Rattle.server_model.specs.declared.request.Request.{Request}
 use Rattle.server_model.specs.Entries.{is_command, same_actor}
-use Rattle.server_model.specs.States.{State, has_work, is_exclusive}
+use Rattle.server_model.specs.States.{State, has_work}
 use Rattle.plan_data.specs.PlanData.{PlanData}
 use Rattle.tool_program.specs.EventApplier.Appliers.{events_of}
 use Rattle.tool_program.specs.JournalWords.Journals.{opens, state_at}
@@ -23,7 +23,7 @@ use Rattle.tool_program.proofs.OnlineCalls.Machines.{ToolPhaseIsNamed, named}
 use Rattle.proof_journals.specs.Plans.{IsSerialPlan, limits_of, scene_of}
 use Rattle.proof_journals.specs.Turns.{about}
 use Rattle.proof_journals.proofs.PlanJournals.{plan_runs_are_scene_runs}
-use Rattle.proof_journals.specs.ServerTurns.Others.{EntriesAreTurns, TurnOf, asks_exclusive}
+use Rattle.proof_journals.specs.ServerTurns.Others.{EntriesAreTurns, TurnOf, asks_names, takes_names}
 use Rattle.proof_journals.specs.Run.Kept.{IsKept}
 use Rattle.proof_journals.specs.Machine.Runnable.{IsRunnable}
 use Rattle.proof_journals.specs.Machine.Standings.{IsAbout, answers_to, is_called, is_polled, standing_of}
@@ -108,13 +108,13 @@ module _ (entries_are_turns : EntriesAreTurns) (plan : PlanData) (journal : List
     by Cut asks gives is = waited (ap is_command asks) is
     by (Command word) asks gives is = absurd cc
 
-  about_free : ((request : Request) → FreeAt entry.actor request → is_exclusive request ≡ false) → asks_exclusive (about (opens entry before) entry.session entry.asked) ≡ false
+  about_free : ((request : Request) → FreeAt entry.actor request → takes_names request ≡ false) → asks_names (about (opens entry before) entry.session entry.asked) ≡ false
   about_free of = by (about (opens entry before) entry.session entry.asked) refl where
-    by : (asks : Option Request) → about (opens entry before) entry.session entry.asked ≡ asks → asks_exclusive asks ≡ false
+    by : (asks : Option Request) → about (opens entry before) entry.session entry.asked ≡ asks → asks_names asks ≡ false
     by None is = refl
     by (Some request) is = of request (asked_free request is)
 
-  turn_free : ((request : Request) → FreeAt entry.actor request → is_exclusive request ≡ false) → TurnOf false entry.session before after
+  turn_free : ((request : Request) → FreeAt entry.actor request → takes_names request ≡ false) → TurnOf false entry.session before after
   turn_free of =
       subst (λ (b : Bool). TurnOf b entry.session before after) (about_free of) (entries_are_turns (limits_of plan) (scene_of plan journal) journal entry (plan_runs_are_scene_runs plan journal (unaltered_runs plan journal runs serial front front_off)))
 
@@ -130,7 +130,7 @@ module _ (entries_are_turns : EntriesAreTurns) (plan : PlanData) (journal : List
     by Cut asks gives = ap is_command asks
     by (Command word) asks gives = absurd (uncommanded other word gives)
 
-  others : (entry.actor ≡ Op → ⊥) → same_actor entry.actor Lock ≡ false → same_actor entry.actor Ren ≡ false → ((request : Request) → FreeAt entry.actor request → is_exclusive request ≡ false) → OtherTurn plan before after locker renamer entry.session
+  others : (entry.actor ≡ Op → ⊥) → same_actor entry.actor Lock ≡ false → same_actor entry.actor Ren ≡ false → ((request : Request) → FreeAt entry.actor request → takes_names request ≡ false) → OtherTurn plan before after locker renamer entry.session
   others other lock ren of =
       other_says plan before after locker renamer entry.session (kept_differs plan journal entry kept (called other) Lock lock) (kept_differs plan journal entry kept (called other) Ren ren) (turn_free of)
 

@@ -16,7 +16,7 @@ use Rattle.server_model.specs.Entries.{is_command, is_cut, same_actor, is_client
 use Rattle.server_model.specs.Operations.{table_of}
 use Rattle.server_model.specs.States.{State}
 use Rattle.plan_data.specs.PlanData.{PlanData}
-use Rattle.base_values.specs.ToolNames.{is_tool_name, log_name}
+use Rattle.base_values.specs.ToolNames.{is_tool_name, log_name, ghost_name}
 use Rattle.tool_program.specs.JournalWords.Journals.{may_lose, opens, state_at}
 use Rattle.tool_program.specs.declared.cutover_core.cutover.Clearing.{Clearing}
 use Rattle.tool_program.specs.declared.cutover_core.cutover.Clearing.TheVariants.{Looking, Drops}
@@ -24,7 +24,7 @@ use Rattle.tool_program.specs.declared.cutover_core.cutover.CutOver.{CutOver}
 use Rattle.tool_program.specs.declared.cutover_core.cutover.Phase.{Phase}
 use Rattle.tool_program.specs.declared.cutover_core.cutover.Phase.TheVariants.{Resting, Attempting, Ending, Finishing, Finished}
 use Rattle.tool_program.specs.declared.cutover_core.cutover.Role.TheVariants.{Inspector}
-use Rattle.tool_program.specs.declared.cutover_core.cutover.Stage.TheVariants.{Hinting, Showing}
+use Rattle.tool_program.specs.declared.cutover_core.cutover.Stage.TheVariants.{Hinting, Showing, ReadingCounter, SettingCounter}
 use Rattle.tool_program.specs.CutoverCore.Attempts as cutovers
 use Rattle.tool_program.specs.Programs.{IsGiven, given, tool_call}
 use Rattle.tool_program.specs.Setups.{Setup, Listing, Clearing as Clears, MakingLog, MakingGhost, Marking, Reaching, Ready, setup_call}
@@ -71,6 +71,8 @@ insp_called t cutover request own is = by cutover.phase is where
 
   by : (phase : Phase) → cutovers.inspector_call cutover phase ≡ Some request → AsksHint t cutover.attempts phase request
   by (Attempting Hinting) is = some_request (AsksHint t cutover.attempts (Attempting Hinting)) (cutovers.writes_hint cutover.table cutover.attempts) request is (ap (λ (n : List ℕ). hint_insert n cutover.attempts) own, refl)
+  by (Attempting (ReadingCounter drain)) is = some_request (AsksHint t cutover.attempts (Attempting (ReadingCounter drain))) (requests.ShowCounter cutover.table) request is tt
+  by (Attempting (SettingCounter number drain)) is = some_request (AsksHint t cutover.attempts (Attempting (SettingCounter number drain))) (requests.SetCounter (ghost_name cutover.table) number) request is tt
   by (Attempting Showing) is = some_request (AsksHint t cutover.attempts (Attempting Showing)) requests.ShowWaiting request is tt
   by (Attempting stage) is = absurd cc
   by (Ending clearing) is = ends (cutovers.is_free cutover.hold cutover.renamer_waits) clearing is

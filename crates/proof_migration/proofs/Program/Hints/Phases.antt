@@ -18,9 +18,11 @@ use Rattle.tool_program.specs.declared.cutover_core.cutover.Leftovers.{Leftovers
 use Rattle.tool_program.specs.declared.cutover_core.cutover.Phase.{Phase}
 use Rattle.tool_program.specs.declared.cutover_core.cutover.Phase.TheVariants.{Resting, Attempting, Ending, Finishing, Finished}
 use Rattle.tool_program.specs.declared.cutover_core.cutover.Stage.{Stage}
-use Rattle.tool_program.specs.declared.cutover_core.cutover.Stage.TheVariants.{Guarding, Locking, Hinting, Draining, Drained, Showing, Dropping, Unlocking, Exchanging}
+use Rattle.tool_program.specs.declared.cutover_core.cutover.Stage.TheVariants.{Guarding, Locking, Hinting, Draining, Drained, Showing, Dropping, Unlocking, Exchanging, ReadingCounter, SettingCounter}
 use Rattle.tool_program.specs.CutoverCore.Attempts.{has_name, has_sentry, is_clear, without_first}
-use Rattle.tool_program.specs.CutoverCore.CutOvers.{attempts_after, begun, drained, ended, ending_after, failed, finishing, finishing_after, inspector_phase, inspector_stage, is_bad, left_at_end, locker_phase, locker_stage, renamer_phase, seen, sentry_alone, shows_wait, waits_phase}
+use Rattle.tool_program.specs.CutoverCore.CutOvers.{attempts_after, begun, drained, ended, ending_after, failed, finishing, finishing_after, hinted, inspector_phase, inspector_stage, is_bad, left_at_end, locker_phase, locker_stage, renamer_phase, seen, sentry_alone, shows_wait, waits_phase}
+use Rattle.tool_program.specs.declared.cutover_core.cutover.Drain.TheVariants.{Turns, Passed}
+use Rattle.proof_journals.proofs.Machine.CuttingOver.{drain_cases, drain_cases_off}
 use Rattle.proof_journals.specs.Sentry.Sentries.{IsDraining}
 use Rattle.proof_journals.proofs.Sentry.Draining.{Knows}
 use Rattle.proof_journals.proofs.Sentry.Hinting.{HintsBelow}
@@ -148,6 +150,12 @@ drain_passes cutover hint (Attempting (Draining turns)) = by (hint == cutover.at
   by true b = record { unhinted = λ is. absurd (false≢true is); may = λ is. absurd (false≢true is) }
   by false true = ends (Draining turns)
   by false false = record { unhinted = λ is. absurd (false≢true is); may = λ is. absurd (false≢true is) }
+drain_passes cutover hint (Attempting (ReadingCounter (Turns turns))) =
+    drain_cases (Passes (Attempting (ReadingCounter (Turns turns)))) cutover hint turns (ReadingCounter (Turns turns)) (λ same. record { unhinted = λ is. absurd (false≢true is); may = λ is. absurd (false≢true is) }) (ends (ReadingCounter (Turns turns)))
+    (record { unhinted = λ is. absurd (false≢true is); may = λ is. absurd (false≢true is) })
+drain_passes cutover hint (Attempting (SettingCounter number (Turns turns))) =
+    drain_cases (Passes (Attempting (SettingCounter number (Turns turns)))) cutover hint turns (SettingCounter number (Turns turns)) (λ same. record { unhinted = λ is. absurd (false≢true is); may = λ is. absurd (false≢true is) }) (ends (SettingCounter number (Turns turns)))
+    (record { unhinted = λ is. absurd (false≢true is); may = λ is. absurd (false≢true is) })
 drain_passes cutover hint phase = stays phase
 
 pub end_passes : (phase : Phase) → Passes phase (ended phase)
@@ -185,19 +193,22 @@ finish_hinted cutover Looking (answers.Tables tables) = finishing_hinted (left_a
 finish_hinted cutover (Drops left) (answers.Ok count) = finishing_hinted (without_first left)
 finish_hinted cutover clearing answer = refl
 
-stage_unhinted : (stage : Stage) (answer : Answer) → is_unhinted (Attempting (inspector_stage stage answer)) ≡ true → is_unhinted (Attempting stage) ≡ true
-stage_unhinted Hinting answer is = refl
-stage_unhinted Showing (answers.Waiting waiters) is = absurd (by (shows_wait waiters) is) where
+stage_unhinted : (counter : Bool) (stage : Stage) (answer : Answer) → is_unhinted (Attempting (inspector_stage counter stage answer)) ≡ true → is_unhinted (Attempting stage) ≡ true
+stage_unhinted counter Hinting answer is = refl
+stage_unhinted counter (ReadingCounter drain) (answers.At number) is = is
+stage_unhinted counter (SettingCounter number (Turns turns)) (answers.Ok count) is = is
+stage_unhinted counter (SettingCounter number Passed) (answers.Ok count) is = is
+stage_unhinted counter Showing (answers.Waiting waiters) is = absurd (by (shows_wait waiters) is) where
   by : (b : Bool) → is_unhinted (Attempting (cond b Dropping Showing)) ≡ true → ⊥
   by true is = false≢true is
   by false is = false≢true is
-stage_unhinted stage answer is = is
+stage_unhinted counter stage answer is = is
 
 insp_unhinted : (cutover : CutOver) (phase : Phase) (answer : Answer) → is_unhinted (inspector_phase cutover phase answer) ≡ true → is_unhinted phase ≡ true
 insp_unhinted cutover (Attempting stage) answer is = by (is_bad answer) is where
-  by : (b : Bool) → is_unhinted (cond b (Ending Looking) (Attempting (inspector_stage stage answer))) ≡ true → is_unhinted (Attempting stage) ≡ true
+  by : (b : Bool) → is_unhinted (cond b (Ending Looking) (Attempting (inspector_stage cutover.has_counter stage answer))) ≡ true → is_unhinted (Attempting stage) ≡ true
   by true is = absurd (false≢true is)
-  by false is = stage_unhinted stage answer is
+  by false is = stage_unhinted cutover.has_counter stage answer is
 insp_unhinted cutover (Ending clearing) answer is = absurd (true≢false (sym is ∙ ending_hinted cutover clearing answer))
 insp_unhinted cutover (Finishing clearing) answer is = absurd (true≢false (sym is ∙ finish_hinted cutover clearing answer))
 insp_unhinted cutover Resting answer is = is
@@ -207,7 +218,10 @@ insp_unhinted cutover Finished answer is = is
 hint_hinted : (cutover : CutOver) (phase : Phase) (answer : Answer) → may_hint phase ≡ true → (answer ≡ answers.Ok 1) ⊎ (answer ≡ answers.Lost) → is_unhinted (inspector_phase cutover phase answer) ≡ false
 hint_hinted cutover phase answer may (inl is) = subst (λ (a : Answer). is_unhinted (inspector_phase cutover phase a) ≡ false) (sym is) (by phase may) where
   by : (phase : Phase) → may_hint phase ≡ true → is_unhinted (inspector_phase cutover phase (answers.Ok 1)) ≡ false
-  by (Attempting Hinting) may = refl
+  by (Attempting Hinting) may = hints cutover.has_counter where
+    hints : (counter : Bool) → is_unhinted (Attempting (hinted counter)) ≡ false
+    hints true = refl
+    hints false = refl
   by (Ending clearing) may = ending_hinted cutover clearing (answers.Ok 1)
   by (Finishing clearing) may = finish_hinted cutover clearing (answers.Ok 1)
   by Finished may = refl
@@ -224,6 +238,8 @@ hint_hinted cutover phase answer may (inr is) = subst (λ (a : Answer). is_unhin
 waits_same : (cutover : CutOver) (phase : Phase) (by : ℕ) → inspector_phase cutover phase (answers.Waits by) ≡ phase
 waits_same cutover (Attempting Hinting) by = refl
 waits_same cutover (Attempting Showing) by = refl
+waits_same cutover (Attempting (ReadingCounter drain)) by = refl
+waits_same cutover (Attempting (SettingCounter number drain)) by = refl
 waits_same cutover (Attempting stage) by = refl
 waits_same cutover (Ending Looking) by = refl
 waits_same cutover (Ending (Drops left)) by = refl
@@ -260,6 +276,8 @@ locker_drains hint attempts Resting answer ahead drains = absurd (never answer d
 locker_drains hint attempts (Attempting stage) answer ahead drains = ahead (by (is_bad answer) drains) where
   still : (stage : Stage) → IsDraining (Attempting (locker_stage stage answer)) → IsDraining (Attempting stage)
   still (Draining turns) is = tt
+  still (ReadingCounter drain) is = is
+  still (SettingCounter number drain) is = is
   still stage is = by_answer stage answer is where
     by_answer : (stage : Stage) (answer : Answer) → IsDraining (Attempting (locker_stage stage answer)) → IsDraining (Attempting stage)
     by_answer Guarding (answers.Ok count) is = is
@@ -304,20 +322,27 @@ drain_ahead cutover hint (Attempting (Draining turns)) drains = by (hint == cuto
   by true is b drains = absurd drains
   by false is true drains = absurd drains
   by false is false drains = λ same. absurd (grind (arith, nat_tests, is, same))
+drain_ahead cutover hint (Attempting (ReadingCounter (Turns turns))) drains =
+    drain_cases_off (λ (p : Phase). IsDraining p → hint ≢ cutover.attempts) cutover hint turns (ReadingCounter (Turns turns)) (λ passed drains. absurd drains) (λ drains. absurd drains) (λ other drains. other) drains
+drain_ahead cutover hint (Attempting (SettingCounter number (Turns turns))) drains =
+    drain_cases_off (λ (p : Phase). IsDraining p → hint ≢ cutover.attempts) cutover hint turns (SettingCounter number (Turns turns)) (λ passed drains. absurd drains) (λ drains. absurd drains) (λ other drains. other) drains
 drain_ahead cutover hint phase drains = absurd drains
 
 -- behind the inspector's turn: it was drained before, or the hint row was written now
 pub insp_drains : (cutover : CutOver) (phase : Phase) (answer : Answer) → IsDraining (inspector_phase cutover phase answer) → IsDraining phase ⊎ (phase ≡ Attempting Hinting)
 insp_drains cutover (Attempting stage) answer is = by (is_bad answer) is where
-  staged : (stage : Stage) (answer : Answer) → IsDraining (Attempting (inspector_stage stage answer)) → IsDraining (Attempting stage) ⊎ (Attempting stage ≡ Attempting Hinting)
+  staged : (stage : Stage) (answer : Answer) → IsDraining (Attempting (inspector_stage cutover.has_counter stage answer)) → IsDraining (Attempting stage) ⊎ (Attempting stage ≡ Attempting Hinting)
   staged Hinting answer is = inr refl
+  staged (ReadingCounter drain) (answers.At number) is = inl is
+  staged (SettingCounter number (Turns turns)) (answers.Ok count) is = inl is
+  staged (SettingCounter number Passed) (answers.Ok count) is = absurd is
   staged Showing (answers.Waiting waiters) is = absurd (shown (shows_wait waiters) is) where
     shown : (b : Bool) → IsDraining (Attempting (cond b Dropping Showing)) → ⊥
     shown true is = is
     shown false is = is
   staged stage answer is = inl is
 
-  by : (b : Bool) → IsDraining (cond b (Ending Looking) (Attempting (inspector_stage stage answer))) → IsDraining (Attempting stage) ⊎ (Attempting stage ≡ Attempting Hinting)
+  by : (b : Bool) → IsDraining (cond b (Ending Looking) (Attempting (inspector_stage cutover.has_counter stage answer))) → IsDraining (Attempting stage) ⊎ (Attempting stage ≡ Attempting Hinting)
   by true is = absurd is
   by false is = staged stage answer is
 insp_drains cutover (Ending clearing) answer is = absurd (ending clearing answer is) where

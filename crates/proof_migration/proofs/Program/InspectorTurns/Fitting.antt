@@ -4,7 +4,6 @@ use Rattle.std.specs.Prelude.{nat_le}
 use Rattle.std.specs.Str.{bytes_eq}
 use Rattle.std.proofs.lemmas.Bool.{true≢false}
 use Rattle.std.proofs.lemmas.List.{append_cancel_left}
-use Rattle.server_model.specs.States.{is_exclusive}
 use Rattle.server_model.specs.declared.answer.Answer.{Answer}
 use Rattle.server_model.specs.declared.answer.Answer.TheVariants as answers
 use Rattle.server_model.specs.declared.listing.TableName.{TableName}
@@ -13,7 +12,7 @@ use Rattle.server_model.specs.declared.request.Request.TheVariants as requests
 use Rattle.base_values.specs.ToolNames.{ghost_name, log_name, old_name}
 use Rattle.tool_changelog.specs.ToolTables.{sentry_schema}
 use Rattle.tool_program.specs.CutoverCore.Attempts.{clears, first_name, has_name, has_sentry, inspector_call, is_clear, is_free, without_first, writes_hint}
-use Rattle.tool_program.specs.CutoverCore.CutOvers.{attempts_after, drained, ended, failed, finishing, inspector_phase, inspector_stage, is_bad, is_done, left_at_end, locker_phase, renamer_phase, seen, sentry_alone, waits_phase}
+use Rattle.tool_program.specs.CutoverCore.CutOvers.{attempts_after, drained, ended, failed, finishing, inspector_phase, inspector_stage, is_bad, is_done, left_at_end, locker_phase, renamer_phase, seen, sentry_alone, waits_phase, drain_of, drains_to}
 use Rattle.tool_program.specs.declared.cutover_core.cutover.Clearing.TheVariants.{Drops, Looking}
 use Rattle.tool_program.specs.declared.cutover_core.cutover.CutOver.{CutOver}
 use Rattle.tool_program.specs.declared.cutover_core.cutover.Hold.{Hold}
@@ -21,15 +20,18 @@ use Rattle.tool_program.specs.declared.cutover_core.cutover.Hold.TheVariants.{No
 use Rattle.tool_program.specs.declared.cutover_core.cutover.Leftovers.{Leftovers}
 use Rattle.tool_program.specs.declared.cutover_core.cutover.Phase.{Phase}
 use Rattle.tool_program.specs.declared.cutover_core.cutover.Phase.TheVariants.{Attempting, Ending, Finished, Finishing, Resting}
-use Rattle.tool_program.specs.declared.cutover_core.cutover.Stage.TheVariants.{Drained, Draining, Dropping, Exchanging, Hinting, Locking, Showing, Unlocking}
+use Rattle.tool_program.specs.declared.cutover_core.cutover.Stage.TheVariants.{Drained, Draining, Dropping, Exchanging, Hinting, Locking, Showing, Unlocking, ReadingCounter, SettingCounter}
 use Rattle.server_model.proofs.LockedRows.Tests.{are_same, same_bytes, turned_bytes}
+use Rattle.proof_journals.specs.ServerTurns.Others.{takes_names}
 use Rattle.proof_journals.specs.Machine.Machines.{both_names}
 use Rattle.proof_journals.specs.Machine.Standings.{answers_to}
 use Rattle.proof_journals.proofs.Machine.Asking.{some_request}
-use Rattle.proof_journals.proofs.Machine.CuttingOver.{LockerAsks}
+use Rattle.proof_journals.proofs.Machine.CuttingOver.{LockerAsks, drain_cases}
 use Rattle.proof_journals.proofs.Machine.Marks.{ghost_not_log}
 use Rattle.proof_journals.proofs.Machine.Schemas.{keeps_table}
 use Rattle.tool_program.specs.declared.cutover_core.cutover.Hold.TheVariants.{Locks, WaitsToGuard, WaitsToLock}
+use Rattle.tool_program.specs.declared.cutover_core.cutover.Drain.TheVariants.{Turns, Passed}
+use Rattle.tool_program.specs.declared.cutover_core.cutover.Drain.{Drain}
 
 -- NAMES
 
@@ -47,7 +49,7 @@ old_not_log table = by (bytes_eq (front ++ codes "_del") (front ++ codes "_ghc")
 abbrev pub KeepsLog : List ℕ → Request → Type 0
 KeepsLog table request = keeps_table (log_name table) request ≡ true
 
-pub shared_keeps : (name : List ℕ) (request : Request) → is_exclusive request ≡ false → keeps_table name request ≡ true
+pub shared_keeps : (name : List ℕ) (request : Request) → takes_names request ≡ false → keeps_table name request ≡ true
 shared_keeps name (requests.Create schema) off = absurd (true≢false off)
 shared_keeps name (requests.Drop dropped) off = absurd (true≢false off)
 shared_keeps name (requests.Rename pairs) off = absurd (true≢false off)
@@ -86,10 +88,12 @@ first_keeps_log table left none = ap not (by left.log left.new_table none) where
 -- what it asks, by a call or by a poll
 abbrev pub AsksAt : Request → List ℕ → ℕ → Phase → Type 0
 AsksAt request table attempt (Attempting Hinting) = request ≡ writes_hint table attempt
+AsksAt request table attempt (Attempting (ReadingCounter drain)) = request ≡ requests.ShowCounter table
+AsksAt request table attempt (Attempting (SettingCounter number drain)) = request ≡ requests.SetCounter (ghost_name table) number
 AsksAt request table attempt (Attempting Showing) = request ≡ requests.ShowWaiting
 AsksAt request table attempt (Attempting stage) = ⊥
 AsksAt request table attempt Resting = ⊥
-AsksAt request table attempt (Ending Looking) = is_exclusive request ≡ false
+AsksAt request table attempt (Ending Looking) = takes_names request ≡ false
 AsksAt request table attempt (Ending (Drops left)) = request ≡ requests.Drop (first_name table left)
 AsksAt request table attempt (Finishing clearing) = Unit {0}
 AsksAt request table attempt Finished = Unit {0}
@@ -98,9 +102,10 @@ AsksAt request table attempt Finished = Unit {0}
 abbrev pub WaitsAt : Option Request → List ℕ → ℕ → Phase → Type 0
 WaitsAt None table attempt phase = Unit {0}
 WaitsAt (Some request) table attempt (Attempting Hinting) = request ≡ writes_hint table attempt
+WaitsAt (Some request) table attempt (Attempting (SettingCounter number drain)) = request ≡ requests.SetCounter (ghost_name table) number
 WaitsAt (Some request) table attempt (Attempting stage) = ⊥
 WaitsAt (Some request) table attempt Resting = ⊥
-WaitsAt (Some request) table attempt (Ending Looking) = is_exclusive request ≡ false
+WaitsAt (Some request) table attempt (Ending Looking) = takes_names request ≡ false
 WaitsAt (Some request) table attempt (Ending (Drops left)) = request ≡ requests.Drop (first_name table left)
 WaitsAt (Some request) table attempt (Finishing clearing) = Unit {0}
 WaitsAt (Some request) table attempt Finished = Unit {0}
@@ -113,6 +118,7 @@ SparesLog phase = Unit {0}
 -- what waits is asked
 pub waits_asks : (request : Request) (table : List ℕ) (attempt : ℕ) (phase : Phase) → WaitsAt (Some request) table attempt phase → AsksAt request table attempt phase
 waits_asks request table attempt (Attempting Hinting) at = at
+waits_asks request table attempt (Attempting (SettingCounter number drain)) at = at
 waits_asks request table attempt (Attempting stage) at = absurd at
 waits_asks request table attempt Resting at = absurd at
 waits_asks request table attempt (Ending Looking) at = at
@@ -123,12 +129,14 @@ waits_asks request table attempt Finished at = tt
 -- so is what is called
 pub call_asks : (cutover : CutOver) (phase : Phase) (request : Request) → inspector_call cutover phase ≡ Some request → AsksAt request cutover.table cutover.attempts phase
 call_asks cutover (Attempting Hinting) request is = some_request (λ (r : Request). r ≡ writes_hint cutover.table cutover.attempts) _ request is refl
+call_asks cutover (Attempting (ReadingCounter drain)) request is = some_request (λ (r : Request). r ≡ requests.ShowCounter cutover.table) _ request is refl
+call_asks cutover (Attempting (SettingCounter number drain)) request is = some_request (λ (r : Request). r ≡ requests.SetCounter (ghost_name cutover.table) number) _ request is refl
 call_asks cutover (Attempting Showing) request is = some_request (λ (r : Request). r ≡ requests.ShowWaiting) _ request is refl
 call_asks cutover (Attempting stage) request is = absurd cc
 call_asks cutover Resting request is = absurd cc
 call_asks cutover (Ending Looking) request is = by (is_free cutover.hold cutover.renamer_waits) is where
-  by : (b : Bool) → cond b (clears cutover.table Looking) None ≡ Some request → is_exclusive request ≡ false
-  by true is = some_request (λ (r : Request). is_exclusive r ≡ false) _ request is refl
+  by : (b : Bool) → cond b (clears cutover.table Looking) None ≡ Some request → takes_names request ≡ false
+  by true is = some_request (λ (r : Request). takes_names r ≡ false) _ request is refl
   by false is = absurd cc
 call_asks cutover (Ending (Drops left)) request is = by (is_free cutover.hold cutover.renamer_waits) is where
   by : (b : Bool) → cond b (clears cutover.table (Drops left)) None ≡ Some request → request ≡ requests.Drop (first_name cutover.table left)
@@ -140,6 +148,8 @@ call_asks cutover Finished request is = tt
 -- what is asked leaves the changelog, until the RENAME was done
 pub asks_keep : (request : Request) (table : List ℕ) (attempt : ℕ) (phase : Phase) → is_done phase ≡ false → SparesLog phase → AsksAt request table attempt phase → KeepsLog table request
 asks_keep request table attempt (Attempting Hinting) undone spares at = ap (keeps_table (log_name table)) at
+asks_keep request table attempt (Attempting (ReadingCounter drain)) undone spares at = ap (keeps_table (log_name table)) at
+asks_keep request table attempt (Attempting (SettingCounter number drain)) undone spares at = ap (keeps_table (log_name table)) at
 asks_keep request table attempt (Attempting Showing) undone spares at = ap (keeps_table (log_name table)) at
 asks_keep request table attempt (Attempting stage) undone spares at = absurd at
 asks_keep request table attempt Resting undone spares at = absurd at
@@ -153,6 +163,8 @@ asks_keep request table attempt Finished undone spares at = absurd (true≢false
 -- it waits
 pub asked_waits : (cutover : CutOver) (request : Request) (table : List ℕ) (attempt by : ℕ) (phase : Phase) → AsksAt request table attempt phase → answers_to request (answers.Waits by) ≡ true → WaitsAt (Some request) table attempt (inspector_phase cutover phase (answers.Waits by))
 asked_waits cutover request table attempt by (Attempting Hinting) at may = at
+asked_waits cutover request table attempt by (Attempting (ReadingCounter drain)) at may = absurd (true≢false (sym may ∙ ap (λ (r : Request). answers_to r (answers.Waits by)) at))
+asked_waits cutover request table attempt by (Attempting (SettingCounter number drain)) at may = at
 asked_waits cutover request table attempt by (Attempting Showing) at may = absurd (true≢false (sym may ∙ ap (λ (r : Request). answers_to r (answers.Waits by)) at))
 asked_waits cutover request table attempt by (Attempting stage) at may = absurd at
 asked_waits cutover request table attempt by Resting at may = absurd at
@@ -177,7 +189,7 @@ seen_spares cutover tables = by (not (has_name (ghost_name cutover.table) tables
 
 pub inspector_spares : (cutover : CutOver) (phase : Phase) (answer : Answer) → SparesLog phase → SparesLog (inspector_phase cutover phase answer)
 inspector_spares cutover (Attempting stage) answer at = by (is_bad answer) where
-  by : (b : Bool) → SparesLog (cond b (Ending Looking) (Attempting (inspector_stage stage answer)))
+  by : (b : Bool) → SparesLog (cond b (Ending Looking) (Attempting (inspector_stage cutover.has_counter stage answer)))
   by true = tt
   by false = tt
 inspector_spares cutover (Ending clearing) answers.Lost at = tt
@@ -215,7 +227,11 @@ pub locker_waits : (waits : Option Request) (table : List ℕ) (attempt : ℕ) (
 locker_waits None table attempt phase answer at = tt
 locker_waits (Some request) table attempt (Attempting Hinting) answer at = by (is_bad answer) where
   by : (b : Bool) → WaitsAt (Some request) table attempt (cond b (Ending Looking) (Attempting Hinting))
-  by true = ap is_exclusive at
+  by true = ap takes_names at
+  by false = at
+locker_waits (Some request) table attempt (Attempting (SettingCounter number drain)) answer at = by (is_bad answer) where
+  by : (b : Bool) → WaitsAt (Some request) table attempt (cond b (Ending Looking) (Attempting (SettingCounter number drain)))
+  by true = ap takes_names at
   by false = at
 locker_waits (Some request) table attempt (Attempting stage) answer at = absurd at
 locker_waits (Some request) table attempt Resting answer at = absurd at
@@ -233,7 +249,8 @@ failed_spares Finished at = tt
 
 failed_waits : (waits : Option Request) (table : List ℕ) (attempt : ℕ) (phase : Phase) → WaitsAt waits table attempt phase → WaitsAt waits table attempt (failed phase)
 failed_waits None table attempt phase at = tt
-failed_waits (Some request) table attempt (Attempting Hinting) at = ap is_exclusive at
+failed_waits (Some request) table attempt (Attempting Hinting) at = ap takes_names at
+failed_waits (Some request) table attempt (Attempting (SettingCounter number drain)) at = ap takes_names at
 failed_waits (Some request) table attempt (Attempting stage) at = absurd at
 failed_waits (Some request) table attempt Resting at = absurd at
 failed_waits (Some request) table attempt (Ending clearing) at = at
@@ -251,6 +268,7 @@ shown_spares Finished at = tt
 shown_waits : (waits : Option Request) (table : List ℕ) (attempt : ℕ) (phase : Phase) → WaitsAt waits table attempt phase → WaitsAt waits table attempt (waits_phase phase)
 shown_waits None table attempt phase at = tt
 shown_waits (Some request) table attempt (Attempting Hinting) at = at
+shown_waits (Some request) table attempt (Attempting (SettingCounter number drain)) at = at
 shown_waits (Some request) table attempt (Attempting stage) at = absurd at
 shown_waits (Some request) table attempt Resting at = absurd at
 shown_waits (Some request) table attempt (Ending clearing) at = at
@@ -283,7 +301,8 @@ ended_spares Finished at = tt
 
 pub ended_waits : (waits : Option Request) (table : List ℕ) (attempt : ℕ) (phase : Phase) → WaitsAt waits table attempt phase → WaitsAt waits table attempt (ended phase)
 ended_waits None table attempt phase at = tt
-ended_waits (Some request) table attempt (Attempting Hinting) at = ap is_exclusive at
+ended_waits (Some request) table attempt (Attempting Hinting) at = ap takes_names at
+ended_waits (Some request) table attempt (Attempting (SettingCounter number drain)) at = ap takes_names at
 ended_waits (Some request) table attempt (Attempting stage) at = absurd at
 ended_waits (Some request) table attempt Resting at = absurd at
 ended_waits (Some request) table attempt (Ending clearing) at = at
@@ -291,12 +310,10 @@ ended_waits (Some request) table attempt (Finishing clearing) at = tt
 ended_waits (Some request) table attempt Finished at = tt
 
 pub drained_spares : (cutover : CutOver) (hint : ℕ) (phase : Phase) → SparesLog phase → SparesLog (drained cutover hint phase)
-drained_spares cutover hint (Attempting (Draining turns)) at = by (hint == cutover.attempts) (nat_le cutover.drain_limit (turns + 1)) where
-  by : (a b : Bool) → SparesLog (cond a (Attempting Drained) (cond b (Ending Looking) (Attempting (Draining (turns + 1)))))
-  by true b = tt
-  by false true = tt
-  by false false = tt
-drained_spares cutover hint (Attempting stage) at = tt
+drained_spares cutover hint (Attempting stage) at = by (drain_of stage) where
+  by : (drain : Option Drain) → SparesLog (drains_to cutover hint stage drain)
+  by (Some (Turns turns)) = drain_cases SparesLog cutover hint turns stage (λ same. tt) tt tt
+  by drain = tt
 drained_spares cutover hint Resting at = tt
 drained_spares cutover hint (Ending clearing) at = at
 drained_spares cutover hint (Finishing clearing) at = tt
@@ -305,6 +322,8 @@ drained_spares cutover hint Finished at = tt
 pub drained_waits : (cutover : CutOver) (hint : ℕ) (waits : Option Request) (table : List ℕ) (attempt : ℕ) (phase : Phase) → WaitsAt waits table attempt phase → WaitsAt waits table attempt (drained cutover hint phase)
 drained_waits cutover hint None table attempt phase at = tt
 drained_waits cutover hint (Some request) table attempt (Attempting Hinting) at = at
+drained_waits cutover hint (Some request) table attempt (Attempting (SettingCounter number (Turns turns))) at = drain_cases (WaitsAt (Some request) table attempt) cutover hint turns (SettingCounter number (Turns turns)) (λ same. at) (ap takes_names at) at
+drained_waits cutover hint (Some request) table attempt (Attempting (SettingCounter number Passed)) at = at
 drained_waits cutover hint (Some request) table attempt (Attempting stage) at = absurd at
 drained_waits cutover hint (Some request) table attempt Resting at = absurd at
 drained_waits cutover hint (Some request) table attempt (Ending clearing) at = at

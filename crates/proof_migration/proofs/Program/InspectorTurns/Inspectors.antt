@@ -11,7 +11,7 @@ use Rattle.base_script.specs.declared.actor.Actor.{Actor}
 use Rattle.base_script.specs.declared.actor.Actor.TheVariants.{Insp, Lock, Ren}
 use Rattle.base_script.specs.declared.operator.OperatorWord.{OperatorWord}
 use Rattle.server_model.specs.Entries.{is_client, is_command, is_cut, same_actor}
-use Rattle.server_model.specs.States.{State, has_work, is_exclusive, waiting_of}
+use Rattle.server_model.specs.States.{State, has_work, waiting_of}
 use Rattle.server_model.specs.declared.answer.Answer.{Answer}
 use Rattle.server_model.specs.declared.answer.Answer.TheVariants as answers
 use Rattle.server_model.specs.declared.entry.Asked.{Asked}
@@ -32,7 +32,7 @@ use Rattle.tool_program.specs.declared.cutover_core.cutover.Hold.TheVariants.{Lo
 use Rattle.tool_changelog.specs.Hints.{last_hint}
 use Rattle.tool_program.specs.declared.cutover_core.cutover.Phase.{Phase}
 use Rattle.tool_program.specs.declared.cutover_core.cutover.Phase.TheVariants.{Attempting, Ending, Finished, Finishing, Resting}
-use Rattle.tool_program.specs.declared.cutover_core.cutover.Stage.TheVariants.{Hinting, Showing}
+use Rattle.tool_program.specs.declared.cutover_core.cutover.Stage.TheVariants.{Hinting, Showing, ReadingCounter, SettingCounter}
 use Rattle.tool_program.specs.JournalWords.Journals.{opens, state_at}
 use Rattle.tool_program.specs.Programs.{IsGiven, given, tool_call}
 use Rattle.tool_program.specs.Tools.{ToolPhase, Migrating, SettingUp, Work, is_reverting, moment}
@@ -40,7 +40,7 @@ use Rattle.tool_program.proofs.OnlineCalls.Machines.{ToolPhaseIsNamed, named}
 use Rattle.proof_journals.specs.Plans.{IsSerialPlan}
 use Rattle.proof_journals.specs.Turns.{about, request_of}
 use Rattle.proof_journals.proofs.Journals.{opened_waits}
-use Rattle.proof_journals.specs.ServerTurns.Others.{EntriesAreTurns, TurnOf, asks_exclusive, held_at}
+use Rattle.proof_journals.specs.ServerTurns.Others.{EntriesAreTurns, TurnOf, asks_names, held_at, takes_names}
 use Rattle.proof_journals.specs.Run.Kept.{IsKept}
 use Rattle.proof_journals.specs.Machine.Machines.{WorkStands, inspector_waits}
 use Rattle.proof_journals.specs.Machine.Runnable.{IsRunnable}
@@ -67,13 +67,15 @@ use Rattle.proof_migration.proofs.Program.InspectorTurns.Keeping.{ToolPhaseFits,
 
 -- while an attempt may succeed, and where its end is looked at, it asks nothing that makes or drops a table
 abbrev IsShared : Request → Phase → Type 0
-IsShared request (Attempting stage) = is_exclusive request ≡ false
-IsShared request (Ending Looking) = is_exclusive request ≡ false
+IsShared request (Attempting stage) = takes_names request ≡ false
+IsShared request (Ending Looking) = takes_names request ≡ false
 IsShared request phase = Unit {0}
 
 asks_shared : (request : Request) (table : List ℕ) (attempt : ℕ) (phase : Phase) → AsksAt request table attempt phase → IsShared request phase
-asks_shared request table attempt (Attempting Hinting) at = ap is_exclusive at
-asks_shared request table attempt (Attempting Showing) at = ap is_exclusive at
+asks_shared request table attempt (Attempting Hinting) at = ap takes_names at
+asks_shared request table attempt (Attempting Showing) at = ap takes_names at
+asks_shared request table attempt (Attempting (ReadingCounter drain)) at = ap takes_names at
+asks_shared request table attempt (Attempting (SettingCounter number drain)) at = ap takes_names at
 asks_shared request table attempt (Attempting stage) at = absurd at
 asks_shared request table attempt (Ending Looking) at = at
 asks_shared request table attempt (Ending (Drops left)) at = tt
@@ -106,6 +108,7 @@ no_listing (requests.Do statement) tables kind fits = cc
 no_listing (requests.Ends table) tables kind fits = cc
 no_listing (requests.Create schema) tables kind fits = cc
 no_listing (requests.Drop name) tables kind fits = cc
+no_listing (requests.SetCounter table least) tables kind fits = cc
 no_listing request tables kind fits = cc
 
 polled_may : (phase : Phase) (hold : Hold) (waits : Bool) (request : Request) (answer : Answer) → inspector_waits request ≡ true → answers_to request answer ≡ true → InspectorMay phase hold waits answer
@@ -190,10 +193,10 @@ module _ (entries_are_turns : EntriesAreTurns) (plan : PlanData) (journal : List
     renames = kept_differs plan journal entry kept called Ren (ap (λ (a : Actor). same_actor a Ren) inspects);
   }
 
-  turn : TurnOf (asks_exclusive (about now entry.session entry.asked)) entry.session before after
+  turn : TurnOf (asks_names (about now entry.session entry.asked)) entry.session before after
   turn = entries.turn entries_are_turns plan journal entry runs serial kept off
 
-  shared_turn : asks_exclusive (about now entry.session entry.asked) ≡ false → OthersTurn plan.table renamer entry.session (scene before) (scene after)
+  shared_turn : asks_names (about now entry.session entry.asked) ≡ false → OthersTurn plan.table renamer entry.session (scene before) (scene after)
   shared_turn shared = others_turn plan.table renamer entry.session before after apart.renames (subst (λ (takes : Bool). TurnOf takes entry.session before after) shared turn)
 
   module _ (work : Work) (tool_phase : (moment plan journal).tool.tool_phase ≡ Migrating work) where
@@ -216,10 +219,10 @@ module _ (entries_are_turns : EntriesAreTurns) (plan : PlanData) (journal : List
     turns_so : (phase : Phase) → ((request : Request) → about now entry.session entry.asked ≡ Some request → IsShared request phase) → InspectorTurns plan.table renamer entry.session phase (scene before) (scene after)
     turns_so phase shared = by (about now entry.session entry.asked) refl phase shared where
       none : about now entry.session entry.asked ≡ None → OthersTurn plan.table renamer entry.session (scene before) (scene after)
-      none is = shared_turn (ap asks_exclusive is)
+      none is = shared_turn (ap asks_names is)
 
-      one : (request : Request) → about now entry.session entry.asked ≡ Some request → is_exclusive request ≡ false → OthersTurn plan.table renamer entry.session (scene before) (scene after)
-      one request is off = shared_turn (ap asks_exclusive is ∙ off)
+      one : (request : Request) → about now entry.session entry.asked ≡ Some request → takes_names request ≡ false → OthersTurn plan.table renamer entry.session (scene before) (scene after)
+      one request is off = shared_turn (ap asks_names is ∙ off)
 
       by : (asks : Option Request) → about now entry.session entry.asked ≡ asks → (phase : Phase) → ((request : Request) → about now entry.session entry.asked ≡ Some request → IsShared request phase) → InspectorTurns plan.table renamer entry.session phase (scene before) (scene after)
       by None is (Attempting stage) shared = none is
@@ -278,7 +281,7 @@ module _ (entries_are_turns : EntriesAreTurns) (plan : PlanData) (journal : List
           let left : after ≡ recounted (counters_left None now entry.session entry.asked) (entries.served entries_are_turns plan journal entry runs serial kept off).after = entries.after_is entries_are_turns plan journal entry runs serial kept off None (heard count is) in
           record {
             earlier = unhinted work tool_phase hints;
-            tables = (shared_turn (ap asks_exclusive (about_here ∙ ap Some asked_row))).old_stays;
+            tables = (shared_turn (ap asks_names (about_here ∙ ap Some asked_row))).old_stays;
             held = ap held_at left ∙ done.held ∙ entries.held_now entries_are_turns plan journal entry runs serial kept off;
             log = ap (λ (s : State). s.log) left ∙ done.log ∙ ap (λ (log : List RowEvent). log ++ Rattle.proof_migration.proofs.Program.InspectorTurns.Hints.hint_event plan.table work.cutover.attempts ∷ []) (entries.log_now entries_are_turns plan journal entry runs serial kept off);
           }

@@ -36,7 +36,7 @@ use Rattle.proof_journals.proofs.Faces.{faces_opened, writes_face}
 use Rattle.proof_journals.proofs.Joined.{reported_answer, reported_missed, reported_draw}
 use Rattle.proof_journals.proofs.Journals.{JournalHolds, journal_holds, stored_opened}
 use Rattle.proof_journals.proofs.PlanJournals.{plan_runs_are_scene_runs}
-use Rattle.proof_journals.specs.ServerTurns.Others.{DefinitionsAreDone, EntriesAreTurns, ExclusiveIsAlone, LocksAreTaken, TurnOf, asks_exclusive, held_at}
+use Rattle.proof_journals.specs.ServerTurns.Others.{DefinitionsAreDone, EntriesAreTurns, ExclusiveIsAlone, LocksAreTaken, TurnOf, asks_names, held_at}
 use Rattle.proof_journals.proofs.ServerTurns.Others.{Held, held_from, holds_from}
 use Rattle.proof_journals.proofs.ServerTurns.Alone.{held_opened}
 use Rattle.proof_journals.specs.Run.Kept.{IsKept}
@@ -117,7 +117,7 @@ module _ (entries_are_turns : EntriesAreTurns) (plan : PlanData) (journal : List
   reported = record { answer = reported_answer before entry run.answered; missed = reported_missed before entry run.answered; draw = reported_draw before entry run.answered }
 
   -- *The turn, as others see it*
-  pub turn : TurnOf (asks_exclusive (about now entry.session entry.asked)) entry.session before after
+  pub turn : TurnOf (asks_names (about now entry.session entry.asked)) entry.session before after
   turn = entries_are_turns (limits_of plan) (scene_of plan journal) journal entry scene_run
 
   pub others_hold : (table : List ℕ) → OthersHold table entry.session (held_at before) (held_at after)
@@ -295,20 +295,20 @@ module _ (entries_are_turns : EntriesAreTurns) (plan : PlanData) (journal : List
 
       drop_leaves : (name : List ℕ) → request ≡ requests.Drop name → (answer : Answer) → entry.answer ≡ answer → IsPrompt answer → DropLeaves name entry.session answer before after
       drop_leaves name asks (answers.Ok count) is prompt = record {
-        takes = asks_exclusive (about now entry.session entry.asked);
+        takes = asks_names (about now entry.session entry.asked);
         turn = turn;
         tables = dropped_leaves (has_table name before.tables) name before.tables after.tables
             (definitions_are_done (limits_of plan) (scene_of plan journal) journal entry (requests.Drop name) (dropped (has_table name before.tables) name before.tables) reported (about_here ∙ ap Some asks) refl (was_done count is));
         names = quiet_names (done_ok count is).0 (ap defines asks) (ap is_late is);
         logs = quiet_log;
       }
-      drop_leaves name asks answers.Lost is prompt = record { takes = asks_exclusive (about now entry.session entry.asked); turn = turn; logs = quiet_log }
+      drop_leaves name asks answers.Lost is prompt = record { takes = asks_names (about now entry.session entry.asked); turn = turn; logs = quiet_log }
       drop_leaves name asks (answers.TimedOut waited) is prompt = absurd prompt
       drop_leaves name asks (answers.Waits by) is prompt = absurd prompt
       drop_leaves name asks answer is prompt =
           let no_side : entry.side ≡ None = heard_side (λ lost. let no : answers.Lost ≡ answer = sym lost ∙ is in cc) in
           record {
-            takes = asks_exclusive (about now entry.session entry.asked);
+            takes = asks_names (about now entry.session entry.asked);
             turn = turn;
             logs = quiet_log;
             defines = λ other. ap (has_table other) (quiet_undone no_side (ap is_ok is));
@@ -316,8 +316,8 @@ module _ (entries_are_turns : EntriesAreTurns) (plan : PlanData) (journal : List
           }
 
       unlock_leaves : request ≡ requests.Unlock → (answer : Answer) → entry.answer ≡ answer → answers_to requests.Unlock answer ≡ true → UnlockLeaves entry.session answer before after
-      unlock_leaves asks (answers.Ok count) is fits = record { takes = asks_exclusive (about now entry.session entry.asked); turn = turn; logs = quiet_log; defines = stays (ap defines asks) }
-      unlock_leaves asks answers.Lost is fits = record { takes = asks_exclusive (about now entry.session entry.asked); turn = turn; logs = quiet_log; defines = stays (ap defines asks) }
+      unlock_leaves asks (answers.Ok count) is fits = record { takes = asks_names (about now entry.session entry.asked); turn = turn; logs = quiet_log; defines = stays (ap defines asks) }
+      unlock_leaves asks answers.Lost is fits = record { takes = asks_names (about now entry.session entry.asked); turn = turn; logs = quiet_log; defines = stays (ap defines asks) }
       unlock_leaves asks answer is fits = absurd cc
 
       pub call_leaves : answers_to request entry.answer ≡ true → ((name : List ℕ) → request ≡ requests.Drop name → IsPrompt entry.answer) → CallLeaves entry.session request entry.answer before after

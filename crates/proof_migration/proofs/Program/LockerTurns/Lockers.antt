@@ -25,7 +25,8 @@ use Rattle.tool_program.specs.declared.cutover_core.cutover.Hold.{Hold}
 use Rattle.tool_program.specs.declared.cutover_core.cutover.Hold.TheVariants.{Locks, Nothing, WaitsToGuard, WaitsToLock}
 use Rattle.tool_program.specs.declared.cutover_core.cutover.Phase.{Phase}
 use Rattle.tool_program.specs.declared.cutover_core.cutover.Phase.TheVariants.{Attempting, Ending, Finished, Finishing, Resting}
-use Rattle.tool_program.specs.declared.cutover_core.cutover.Stage.TheVariants.{Drained, Draining, Dropping, Exchanging, Guarding, Hinting, Locking, Showing, Unlocking}
+use Rattle.tool_program.specs.declared.cutover_core.cutover.Stage.TheVariants.{Drained, ReadingCounter, SettingCounter, Draining, Dropping, Exchanging, Guarding, Hinting, Locking, Showing, Unlocking}
+use Rattle.tool_program.specs.declared.cutover_core.cutover.Drain.TheVariants.{Turns}
 use Rattle.tool_program.specs.JournalWords.Journals.{state_at}
 use Rattle.tool_program.specs.JournalWords.Sessions.{live_session}
 use Rattle.tool_program.specs.Programs.{IsGiven, given}
@@ -85,6 +86,8 @@ steps t l r WaitsToGuard (Attempting Locking) request answer before after apart 
 steps t l r WaitsToGuard (Attempting Locking) request answer before after apart (inr at) asks left = absurd cc
 steps t l r WaitsToGuard (Attempting Hinting) request answer before after apart at asks left = absurd (let no : WaitsToGuard ≡ Locks = at in cc)
 steps t l r WaitsToGuard (Attempting (Draining turns)) request answer before after apart at asks left = absurd (let no : WaitsToGuard ≡ Locks = at in cc)
+steps t l r WaitsToGuard (Attempting (ReadingCounter drain)) request answer before after apart at asks left = absurd (let no : WaitsToGuard ≡ Locks = at in cc)
+steps t l r WaitsToGuard (Attempting (SettingCounter number drain)) request answer before after apart at asks left = absurd (let no : WaitsToGuard ≡ Locks = at in cc)
 steps t l r WaitsToGuard (Attempting Drained) request answer before after apart at asks left = absurd (let no : WaitsToGuard ≡ Locks = at in cc)
 steps t l r WaitsToGuard (Attempting Showing) request answer before after apart at asks left = absurd (let no : WaitsToGuard ≡ Locks = at in cc)
 steps t l r WaitsToGuard (Attempting Dropping) request answer before after apart at asks left = absurd (let no : WaitsToGuard ≡ Locks = at in cc)
@@ -100,6 +103,8 @@ steps t l r WaitsToLock (Attempting Guarding) request answer before after apart 
 steps t l r WaitsToLock (Attempting Guarding) request answer before after apart (inr at) asks left = absurd cc
 steps t l r WaitsToLock (Attempting Hinting) request answer before after apart at asks left = absurd (let no : WaitsToLock ≡ Locks = at in cc)
 steps t l r WaitsToLock (Attempting (Draining turns)) request answer before after apart at asks left = absurd (let no : WaitsToLock ≡ Locks = at in cc)
+steps t l r WaitsToLock (Attempting (ReadingCounter drain)) request answer before after apart at asks left = absurd (let no : WaitsToLock ≡ Locks = at in cc)
+steps t l r WaitsToLock (Attempting (SettingCounter number drain)) request answer before after apart at asks left = absurd (let no : WaitsToLock ≡ Locks = at in cc)
 steps t l r WaitsToLock (Attempting Drained) request answer before after apart at asks left = absurd (let no : WaitsToLock ≡ Locks = at in cc)
 steps t l r WaitsToLock (Attempting Showing) request answer before after apart at asks left = absurd (let no : WaitsToLock ≡ Locks = at in cc)
 steps t l r WaitsToLock (Attempting Dropping) request answer before after apart at asks left = absurd (let no : WaitsToLock ≡ Locks = at in cc)
@@ -117,6 +122,8 @@ lost_may (Attempting Guarding) hold = tt
 lost_may (Attempting Locking) hold = tt
 lost_may (Attempting Hinting) hold = refl
 lost_may (Attempting (Draining turns)) hold = refl
+lost_may (Attempting (ReadingCounter drain)) hold = refl
+lost_may (Attempting (SettingCounter number drain)) hold = refl
 lost_may (Attempting Drained) hold = refl
 lost_may (Attempting Showing) hold = refl
 lost_may (Attempting Dropping) hold = tt
@@ -136,6 +143,8 @@ lost_serves t l r (Attempting Locking) hold before after only = tt
 lost_serves t l r (Attempting Dropping) hold before after only = only.frees
 lost_serves t l r (Attempting Hinting) hold before after only = only
 lost_serves t l r (Attempting (Draining turns)) hold before after only = only
+lost_serves t l r (Attempting (ReadingCounter drain)) hold before after only = only
+lost_serves t l r (Attempting (SettingCounter number drain)) hold before after only = only
 lost_serves t l r (Attempting Drained) hold before after only = only
 lost_serves t l r (Attempting Showing) hold before after only = only
 lost_serves t l r (Attempting Unlocking) hold before after only = only

@@ -144,6 +144,8 @@ module _ (table : List ℕ) where
   effect_unlocks false busy seen state (requests.ReadLog position limit tables) none = tt
   effect_unlocks false busy seen state requests.ShowTables none = tt
   effect_unlocks false busy seen state requests.ShowWaiting none = tt
+  effect_unlocks false busy seen state (requests.ShowCounter table) none = tt
+  effect_unlocks false busy seen state (requests.SetCounter table least) none = tt
 
   did_spared : (state : State) (number : ℕ) (request : Request) → is_lock request ≡ false → IsSpared table state → IsSpared table (did state number request).after
   unfolding did

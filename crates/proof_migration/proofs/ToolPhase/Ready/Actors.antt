@@ -38,7 +38,7 @@ use Rattle.tool_program.specs.declared.cutover_core.cutover.Phase.{Phase}
 use Rattle.tool_program.specs.declared.cutover_core.cutover.Phase.TheVariants.{Resting, Attempting, Ending, Finishing, Finished}
 use Rattle.tool_program.specs.declared.cutover_core.cutover.Clearing.{Clearing as Cleared}
 use Rattle.tool_program.specs.declared.cutover_core.cutover.Clearing.TheVariants.{Looking, Drops}
-use Rattle.tool_program.specs.declared.cutover_core.cutover.Stage.TheVariants.{Guarding, Locking, Hinting, Draining, Drained, Showing, Dropping, Unlocking, Exchanging}
+use Rattle.tool_program.specs.declared.cutover_core.cutover.Stage.TheVariants.{Guarding, Locking, Hinting, Draining, Drained, Showing, Dropping, Unlocking, Exchanging, ReadingCounter, SettingCounter}
 use Rattle.tool_program.specs.CutoverCore.Attempts as attempts
 use Rattle.tool_program.specs.CutoverCore.CutOvers as cutovers
 use Rattle.tool_program.specs.Operators.{is_left, is_throttled, is_postponed}
@@ -438,6 +438,8 @@ module _ (plan : PlanData) (journal : List Entry) (going : IsGoing plan journal)
       migrating (Attempting Guarding) at = guarding work.cutover.hold refl (in_phase (Attempting Guarding) at)
       migrating (Attempting Locking) at = inl (locker_calls (Attempting Locking) at refl refl)
       migrating (Attempting Hinting) at = inl (inspector_calls (Attempting Hinting) at refl)
+      migrating (Attempting (ReadingCounter drain)) at = inl (inspector_calls (Attempting (ReadingCounter drain)) at refl)
+      migrating (Attempting (SettingCounter number drain)) at = inl (inspector_calls (Attempting (SettingCounter number drain)) at refl)
       migrating (Attempting (Draining turns)) at = draining turns at
       migrating (Attempting Drained) at = inl (renamer_calls (Attempting Drained) at refl)
       migrating (Attempting Showing) at = inl (inspector_calls (Attempting Showing) at refl)

@@ -34,7 +34,7 @@ use Rattle.tool_program.specs.declared.cutover_core.cutover.Leftovers.{Leftovers
 use Rattle.tool_program.specs.declared.cutover_core.cutover.Phase.{Phase}
 use Rattle.tool_program.specs.declared.cutover_core.cutover.Phase.TheVariants.{Resting, Attempting, Ending, Finishing, Finished}
 use Rattle.tool_program.specs.declared.cutover_core.cutover.Role.TheVariants.{Inspector, Locker, Renamer}
-use Rattle.tool_program.specs.declared.cutover_core.cutover.Stage.TheVariants.{Draining, Drained, Unlocking, Exchanging}
+use Rattle.tool_program.specs.declared.cutover_core.cutover.Stage.TheVariants.{ReadingCounter, SettingCounter, Draining, Drained, Unlocking, Exchanging}
 use Rattle.tool_program.specs.CutoverCore.Attempts as attempts
 use Rattle.tool_program.specs.CutoverCore.Attempts.{is_clear, has_name, has_sentry}
 use Rattle.tool_program.specs.CutoverCore.CutOvers as cutovers
@@ -70,6 +70,8 @@ ended_twice Finished = refl
 drained_ended : (cutover : CutOver) (hint : ℕ) (phase : Phase) → IsEnded phase → IsEnded (drained cutover hint phase)
 drained_ended cutover hint Resting is = refl
 drained_ended cutover hint (Attempting (Draining turns)) is = absurd cc
+drained_ended cutover hint (Attempting (ReadingCounter drain)) is = absurd cc
+drained_ended cutover hint (Attempting (SettingCounter number drain)) is = absurd cc
 drained_ended cutover hint (Attempting stage) is = is
 drained_ended cutover hint (Ending clearing) is = refl
 drained_ended cutover hint (Finishing clearing) is = refl

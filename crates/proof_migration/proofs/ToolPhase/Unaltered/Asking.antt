@@ -38,7 +38,7 @@ use Rattle.tool_program.specs.declared.cutover_core.cutover.Hold.TheVariants.{Lo
 use Rattle.tool_program.specs.declared.cutover_core.cutover.Phase.{Phase}
 use Rattle.tool_program.specs.declared.cutover_core.cutover.Phase.TheVariants.{Resting, Attempting, Ending, Finishing, Finished}
 use Rattle.tool_program.specs.declared.cutover_core.cutover.Role.TheVariants.{Inspector, Locker}
-use Rattle.tool_program.specs.declared.cutover_core.cutover.Stage.TheVariants.{Locking, Hinting, Showing, Dropping, Unlocking}
+use Rattle.tool_program.specs.declared.cutover_core.cutover.Stage.TheVariants.{Locking, Hinting, Showing, Dropping, Unlocking, ReadingCounter, SettingCounter}
 use Rattle.tool_program.specs.CutoverCore.Attempts as cutovers
 use Rattle.tool_program.specs.CutoverCore.CutOvers.{is_resting}
 use Rattle.tool_program.specs.Online.{may_exclude, attempt_goes_on}
@@ -158,6 +158,8 @@ inspector_rows plan cutover request own is = by cutover.phase is where
 
   by : (phase : Phase) → cutovers.inspector_call cutover phase ≡ Some request → RowCall plan Insp request
   by (Attempting Hinting) is = some_request (RowCall plan Insp) (cutovers.writes_hint cutover.table cutover.attempts) request is (ap log_name own)
+  by (Attempting (ReadingCounter drain)) is = some_request (RowCall plan Insp) (requests.ShowCounter cutover.table) request is tt
+  by (Attempting (SettingCounter number drain)) is = some_request (RowCall plan Insp) (requests.SetCounter (ghost_name cutover.table) number) request is tt
   by (Attempting Showing) is = some_request (RowCall plan Insp) requests.ShowWaiting request is tt
   by (Attempting stage) is = absurd cc
   by (Ending clearing) is = ends (cutovers.is_free cutover.hold cutover.renamer_waits) clearing is

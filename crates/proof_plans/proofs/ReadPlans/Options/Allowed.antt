@@ -98,7 +98,7 @@ allowed_at members plan is =
     let opening = bind_ok (opening_of found.0) _ plan found.2 in
     let clients = bind_ok (clients_of found.0.texts.table found.0.texts.clients) _ plan opening.2 in
     let orders = bind_ok (orders_of (length clients.0) found.0.texts) (λ orders. built found.0 (plan_of found.0 opening.0 clients.0 orders)) plan clients.2 in
-    let all = let_through (is_built found.0 (plan_of found.0 opening.0 clients.0 orders.0)) (plan_of found.0 opening.0 clients.0 orders.0) plan plans.NotBuilt orders.2 in
+    let all = let_through (is_built found.0) (plan_of found.0 opening.0 clients.0 orders.0) plan plans.NotBuilt orders.2 in
     subst (λ (p : PlanData). IsAllowed p.options) all.1
     (allowed_given (keys_of members) found.0 (allowed_keys members) found.1)
 

@@ -122,7 +122,7 @@ document_is laws members plan is =
     let opening = bind_ok (opening_of keys.0) _ plan keys.2 in
     let clients = bind_ok (clients_of keys.0.texts.table keys.0.texts.clients) _ plan opening.2 in
     let orders = bind_ok (orders_of (length clients.0) keys.0.texts) (λ orders. built keys.0 (plan_of keys.0 opening.0 clients.0 orders)) plan clients.2 in
-    let all = let_through (is_built keys.0 (plan_of keys.0 opening.0 clients.0 orders.0)) (plan_of keys.0 opening.0 clients.0 orders.0) plan NotBuilt orders.2 in
+    let all = let_through (is_built keys.0) (plan_of keys.0 opening.0 clients.0 orders.0) plan NotBuilt orders.2 in
     subst IsAccepted all.1
     (parts_are laws keys.0 opening.0 clients.0 orders.0 (keys_few members keys.0 keys.1) opening.1 clients.1)
 

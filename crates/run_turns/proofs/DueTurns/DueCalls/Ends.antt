@@ -30,7 +30,7 @@ use Rattle.tool_program.specs.declared.cutover_core.cutover.Hold.TheVariants.{No
 use Rattle.tool_program.specs.declared.cutover_core.cutover.Phase.{Phase}
 use Rattle.tool_program.specs.declared.cutover_core.cutover.Phase.TheVariants.{Resting, Attempting, Ending, Finishing, Finished}
 use Rattle.tool_program.specs.declared.cutover_core.cutover.Role.TheVariants.{Inspector, Locker}
-use Rattle.tool_program.specs.declared.cutover_core.cutover.Stage.TheVariants.{Locking, Hinting, Showing, Dropping, Unlocking}
+use Rattle.tool_program.specs.declared.cutover_core.cutover.Stage.TheVariants.{Locking, Hinting, Showing, Dropping, Unlocking, ReadingCounter, SettingCounter}
 use Rattle.tool_program.specs.CutoverCore.Attempts as cutovers
 use Rattle.tool_program.specs.CutoverCore.Attempts.{clears, is_free, unlocks, exchange}
 use Rattle.tool_program.specs.CutoverCore.CutOvers.{is_resting}
@@ -102,6 +102,8 @@ inspector_quiet cutover request is = by cutover.phase is
   where
     by : (phase : Phase) → cutovers.inspector_call cutover phase ≡ Some request → is_no_ends request ≡ true
     by (Attempting Hinting) is = some_request (λ r. is_no_ends r ≡ true) _ request is refl
+    by (Attempting (ReadingCounter drain)) is = some_request (λ r. is_no_ends r ≡ true) _ request is refl
+    by (Attempting (SettingCounter number drain)) is = some_request (λ r. is_no_ends r ≡ true) _ request is refl
     by (Attempting Showing) is = some_request (λ r. is_no_ends r ≡ true) _ request is refl
     by (Attempting stage) is = absurd cc
     by (Ending clearing) is = at (is_free cutover.hold cutover.renamer_waits) is

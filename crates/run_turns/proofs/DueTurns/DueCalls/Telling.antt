@@ -140,6 +140,8 @@ module _ (plan : PlanData) (actor : Actor) (tables : Database) where
   reported_by (requests.ReadLog position limit tables) (answers.Ends range) asks tells fits = absurd cc
   reported_by requests.ShowTables (answers.Ends range) asks tells fits = absurd cc
   reported_by requests.ShowWaiting (answers.Ends range) asks tells fits = absurd cc
+  reported_by (requests.ShowCounter table) (answers.Ends range) asks tells fits = absurd cc
+  reported_by (requests.SetCounter table least) (answers.Ends range) asks tells fits = absurd cc
   reported_by request answer asks tells fits = tt
 
 module _ (plan : PlanData) (journal : List Entry) (entry : Entry) (is : AllTogether plan journal) (waits : AllWaits (AsksEnds plan) plan journal) (run : IsRun plan journal entry) where

@@ -6,7 +6,7 @@ use Rattle.server_model.specs.Drawing.{offered}
 use Rattle.server_model.specs.Effects.{is_outside}
 use Rattle.server_model.specs.States.{State, session_of}
 use Rattle.server.specs.Parts.{state_of}
-use Rattle.server.proofs.CounterMoves.{created_counted, dropped_counted, none_missing, others_draw, others_stay, renamed_counted, statement_counted}
+use Rattle.server.proofs.CounterMoves.{created_counted, dropped_counted, none_missing, others_draw, others_stay, renamed_counted, set_counted, statement_counted}
 use Rattle.server.proofs.counters.counter_move.Goals as goal
 
 pub statement_move-requires : goal.statement_move-requires
@@ -37,10 +37,15 @@ returns-in_ok-counters_renamed-in-Rename-clause-counters g c = λ answer.
     let state : State = state_of (g.D.Data.committed c.args.store.now) c.args.all_sessions.now in
     rw c.in-Rename.is (renamed_counted state c.args.session c.in-Rename.pairs answer c.in_ok-counters_renamed-in-Rename.field-0.items c.in_ok-counters_renamed-in-Rename.ensures)
 
+pub returns-in-SetCounter-clause-counters : goal.returns-in-SetCounter-clause-counters
+returns-in-SetCounter-clause-counters g c = λ answer.
+    let state : State = state_of (g.D.Data.committed c.args.store.now) c.args.all_sessions.now in
+    rw c.in-SetCounter.is (set_counted state c.args.session c.in-SetCounter.table.now c.in-SetCounter.number answer)
+
 pub returns-in_default : goal.returns-in_default
 returns-in_default g c =
     let state : State = state_of (g.D.Data.committed c.args.store.now) c.args.all_sessions.now in
     record {
-      counters = λ answer. others_stay state c.args.session c.args.request.now answer c.in_default.not-Do c.in_default.not-Create c.in_default.not-Drop c.in_default.not-Rename;
+      counters = λ answer. others_stay state c.args.session c.args.request.now answer c.in_default.not-Do c.in_default.not-Create c.in_default.not-Drop c.in_default.not-Rename c.in_default.not-SetCounter;
       drawn = λ answer. others_draw state c.args.session c.args.request.now answer c.in_default.not-Do;
     }

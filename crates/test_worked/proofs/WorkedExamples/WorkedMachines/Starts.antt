@@ -41,6 +41,6 @@ unfolding applier.next log_name
 first_read schema = refl
 
 -- a cut-over: the locker makes the sentry
-first_lock : cutover.next Locker (cutover.new_cutover (codes "t") 10 false) ≡ Some (requests.Create (sentry_schema (codes "t")))
+first_lock : cutover.next Locker (cutover.new_cutover (codes "t") 10 false false) ≡ Some (requests.Create (sentry_schema (codes "t")))
 unfolding cutover.next
 first_lock = refl
