@@ -440,13 +440,12 @@ module _ (plan : PlanData) (may : MayWait plan) (runs : IsRunnable plan) (journa
         let apart : same_actor entry.actor Insp ≡ false = ap (λ (a : Actor). same_actor a Insp) same in
         let pays = locker_pays w c (live_at journal) renames work.cutover.table request (waited_by plan journal Lock) hold phase entry.answer stands.phase at.renamer (guarded work eq).hold (hold_done plan journal is.counted going work eq) kind lock_most (λ locking. (goes work eq called uncut).locks locking same) (λ dropping. (goes work eq called uncut).drops dropping same) in
         let inspects = locked_inspects w c (live_at journal) hold renames (inspects_at plan journal) work.cutover.table request phase entry.answer stands.phase inspects_so kind in
-        let waits : waited_by plan more Lock ≡ waits_after entry.answer (waited_by plan journal Lock) = ap (waited_by plan more) (sym same) ∙ own_waits called uncut ∙ ap (λ (a : Actor). waits_after entry.answer (waited_by plan journal a)) same in
-        (
+        let waits : waited_by plan more Lock ≡ waits_after entry.answer (waited_by plan journal Lock) = ap (waited_by plan more) (sym same) ∙ own_waits called uncut ∙ ap (λ (a : Actor). waits_after entry.answer (waited_by plan journal a)) same in (
           waits_locked plan runs journal entry kept run going work same eq entry.answer tries,
           rw (live_there apart, inspects_there apart, waits)
-          (lock_join (turns_at plan journal) (turns_at plan more) (attempt_left w c (live_at journal) (hold_after hold phase entry.answer) renames (locker_phase phase entry.answer)) (inspect_left w (inspects_at plan journal) (locker_phase phase entry.answer)) (attempt_left w c (live_at journal) hold renames phase)
-          (inspect_left w (inspects_at plan journal) phase) (begun_left w c phase) (work.cutover.attempts * whole_left w c) (attempts_after phase work.cutover.attempts * whole_left w c) (waited_by plan journal Lock) (waited_by plan journal Ren) (waited_by plan journal Insp) (waits_after entry.answer (waited_by plan journal Lock))
-          (waited_by plan more Ren) (waited_by plan more Insp) one_more pays inspects old_paid (begun_times w c work.cutover.attempts phase) (waits_there Ren (ap (λ (a : Actor). same_actor a Ren) same)) (waits_there Insp apart)),
+              (lock_join (turns_at plan journal) (turns_at plan more) (attempt_left w c (live_at journal) (hold_after hold phase entry.answer) renames (locker_phase phase entry.answer)) (inspect_left w (inspects_at plan journal) (locker_phase phase entry.answer)) (attempt_left w c (live_at journal) hold renames phase)
+              (inspect_left w (inspects_at plan journal) phase) (begun_left w c phase) (work.cutover.attempts * whole_left w c) (attempts_after phase work.cutover.attempts * whole_left w c) (waited_by plan journal Lock) (waited_by plan journal Ren) (waited_by plan journal Insp) (waits_after entry.answer (waited_by plan journal Lock))
+              (waited_by plan more Ren) (waited_by plan more Insp) one_more pays inspects old_paid (begun_times w c work.cutover.attempts phase) (waits_there Ren (ap (λ (a : Actor). same_actor a Ren) same)) (waits_there Insp apart)),
         ))
 
     lost_join : (t s x y b a k l r i l' r' i' : ℕ) → s ≡ t → x + l ≤ y + b → t + y ≤ a + (l + r + i) → k ≡ a + b → l' ≡ 0 → r' ≡ r → i' ≡ i → s + x ≤ k + (l' + r' + i')
@@ -457,13 +456,12 @@ module _ (plan : PlanData) (may : MayWait plan) (runs : IsRunnable plan) (journa
     lock_lost same cut tries =
         let apart : same_actor entry.actor Insp ≡ false = ap (λ (a : Actor). same_actor a Insp) same in
         let pays = locker_gone w c (live_at journal) hold renames (inspects_at plan journal) work.cutover.table phase (waited_by plan journal Lock) stands.phase (guarded work eq).hold (hold_done plan journal is.counted going work eq) lock_most inspects_so in
-        let over : waited_by plan more Lock ≡ 0 = ap (waited_by plan more) (sym same) ∙ cut_waits cut in
-        (
+        let over : waited_by plan more Lock ≡ 0 = ap (waited_by plan more) (sym same) ∙ cut_waits cut in (
           waits_locked plan runs journal entry kept run going work same eq answers.Lost tries,
           rw (live_there apart, inspects_there apart)
-          (lost_join (turns_at plan journal) (turns_at plan more) (attempt_left w c (live_at journal) (hold_after hold phase answers.Lost) renames (locker_phase phase answers.Lost) + inspect_left w (inspects_at plan journal) (locker_phase phase answers.Lost)) (all_left w c (live_at journal) hold renames (inspects_at plan journal) phase)
-          (begun_left w c phase) (work.cutover.attempts * whole_left w c) (attempts_after phase work.cutover.attempts * whole_left w c) (waited_by plan journal Lock) (waited_by plan journal Ren) (waited_by plan journal Insp) (waited_by plan more Lock) (waited_by plan more Ren) (waited_by plan more Insp)
-          (cut_same cut) pays old_paid (begun_times w c work.cutover.attempts phase) over (waits_there Ren (ap (λ (a : Actor). same_actor a Ren) same)) (waits_there Insp apart)),
+              (lost_join (turns_at plan journal) (turns_at plan more) (attempt_left w c (live_at journal) (hold_after hold phase answers.Lost) renames (locker_phase phase answers.Lost) + inspect_left w (inspects_at plan journal) (locker_phase phase answers.Lost)) (all_left w c (live_at journal) hold renames (inspects_at plan journal) phase)
+              (begun_left w c phase) (work.cutover.attempts * whole_left w c) (attempts_after phase work.cutover.attempts * whole_left w c) (waited_by plan journal Lock) (waited_by plan journal Ren) (waited_by plan journal Insp) (waited_by plan more Lock) (waited_by plan more Ren) (waited_by plan more Insp)
+              (cut_same cut) pays old_paid (begun_times w c work.cutover.attempts phase) over (waits_there Ren (ap (λ (a : Actor). same_actor a Ren) same)) (waits_there Insp apart)),
         )
 
     -- THE RENAMER
@@ -487,13 +485,12 @@ module _ (plan : PlanData) (may : MayWait plan) (runs : IsRunnable plan) (journa
     ren_turn same called uncut asks tries =
         let apart : same_actor entry.actor Insp ≡ false = ap (λ (a : Actor). same_actor a Insp) same in
         let pays = renamer_pays w c (live_at journal) hold (waited_by plan journal Ren) renames phase entry.answer at.renamer (asks_at plan journal entry going.standing run work eq asks) (renames_done plan journal is.counted going work eq) ren_most (λ drained. (goes work eq called uncut).renames drained same) in
-        let waits : waited_by plan more Ren ≡ waits_after entry.answer (waited_by plan journal Ren) = ap (waited_by plan more) (sym same) ∙ own_waits called uncut ∙ ap (λ (a : Actor). waits_after entry.answer (waited_by plan journal a)) same in
-        (
+        let waits : waited_by plan more Ren ≡ waits_after entry.answer (waited_by plan journal Ren) = ap (waited_by plan more) (sym same) ∙ own_waits called uncut ∙ ap (λ (a : Actor). waits_after entry.answer (waited_by plan journal a)) same in (
           waits_renamed plan runs journal entry kept run going work same eq asks tries,
           rw (live_there apart, inspects_there apart, waits)
-          (ren_join (turns_at plan journal) (turns_at plan more) (attempt_left w c (live_at journal) hold (is_wait entry.answer) (renamer_phase phase entry.answer)) (inspect_left w (inspects_at plan journal) (renamer_phase phase entry.answer)) (attempt_left w c (live_at journal) hold renames phase)
-          (inspect_left w (inspects_at plan journal) phase) (work.cutover.attempts * whole_left w c) (waited_by plan journal Lock) (waited_by plan journal Ren) (waited_by plan journal Insp) (waited_by plan more Lock) (waits_after entry.answer (waited_by plan journal Ren)) (waited_by plan more Insp)
-          one_more pays (off_inspects w (inspects_at plan journal) (renamer_phase phase entry.answer) (ren_inspects asks)) old_paid (waits_there Lock (ap (λ (a : Actor). same_actor a Lock) same)) (waits_there Insp apart)),
+              (ren_join (turns_at plan journal) (turns_at plan more) (attempt_left w c (live_at journal) hold (is_wait entry.answer) (renamer_phase phase entry.answer)) (inspect_left w (inspects_at plan journal) (renamer_phase phase entry.answer)) (attempt_left w c (live_at journal) hold renames phase)
+              (inspect_left w (inspects_at plan journal) phase) (work.cutover.attempts * whole_left w c) (waited_by plan journal Lock) (waited_by plan journal Ren) (waited_by plan journal Insp) (waited_by plan more Lock) (waits_after entry.answer (waited_by plan journal Ren)) (waited_by plan more Insp)
+              one_more pays (off_inspects w (inspects_at plan journal) (renamer_phase phase entry.answer) (ren_inspects asks)) old_paid (waits_there Lock (ap (λ (a : Actor). same_actor a Lock) same)) (waits_there Insp apart)),
         )
 
     gone_join : (t s x y a l r i l' r' i' : ℕ) → s ≡ t → x + r ≤ y → t + y ≤ a + (l + r + i) → l' ≡ l → r' ≡ 0 → i' ≡ i → s + x ≤ a + (l' + r' + i')
@@ -504,12 +501,11 @@ module _ (plan : PlanData) (may : MayWait plan) (runs : IsRunnable plan) (journa
     ren_lost same cut tries =
         let apart : same_actor entry.actor Insp ≡ false = ap (λ (a : Actor). same_actor a Insp) same in
         let pays = renamer_gone w c (live_at journal) hold renames (inspects_at plan journal) phase (waited_by plan journal Ren) at.renamer (renames_done plan journal is.counted going work eq) ren_most inspects_so in
-        let over : waited_by plan more Ren ≡ 0 = ap (waited_by plan more) (sym same) ∙ cut_waits cut in
-        (
+        let over : waited_by plan more Ren ≡ 0 = ap (waited_by plan more) (sym same) ∙ cut_waits cut in (
           waits_unrenamed plan runs journal entry kept run going work same eq tries,
           rw (live_there apart, inspects_there apart)
-          (gone_join (turns_at plan journal) (turns_at plan more) (attempt_left w c (live_at journal) hold false (failed phase) + inspect_left w (inspects_at plan journal) (failed phase)) (all_left w c (live_at journal) hold renames (inspects_at plan journal) phase) (work.cutover.attempts * whole_left w c)
-          (waited_by plan journal Lock) (waited_by plan journal Ren) (waited_by plan journal Insp) (waited_by plan more Lock) (waited_by plan more Ren) (waited_by plan more Insp) (cut_same cut) pays old_paid (waits_there Lock (ap (λ (a : Actor). same_actor a Lock) same)) over (waits_there Insp apart)),
+              (gone_join (turns_at plan journal) (turns_at plan more) (attempt_left w c (live_at journal) hold false (failed phase) + inspect_left w (inspects_at plan journal) (failed phase)) (all_left w c (live_at journal) hold renames (inspects_at plan journal) phase) (work.cutover.attempts * whole_left w c)
+              (waited_by plan journal Lock) (waited_by plan journal Ren) (waited_by plan journal Insp) (waited_by plan more Lock) (waited_by plan more Ren) (waited_by plan more Insp) (cut_same cut) pays old_paid (waits_there Lock (ap (λ (a : Actor). same_actor a Lock) same)) over (waits_there Insp apart)),
         )
 
     -- THE INSPECTOR
@@ -984,32 +980,26 @@ attempt_turns_few plan journal may tries runs serial kept = by (moment plan jour
   join : (t y a k l r i h n m : ℕ) → t + y ≤ a + (l + r + i) → a ≤ k → l ≤ h → r ≤ n → i ≤ m → h + n + m ≤ y → t ≤ k
   join t y a k l r i h n m paid most lock ren insp left = omega (arith, paid, most, lock, ren, insp, left)
 
-  abbrev w : ℕ
-  w = plan.options.tool_wait
-
-  abbrev c : Bool
-  c = has_counter plan
-
   -- the bound's words for the same
   whole_is : (w : ℕ) (b : Bool) → whole_left w b ≡ (2 + cond b 1 0) * w + 10 + 2 * cond b 1 0
   whole_is w true = omega arith
   whole_is w false = omega arith
 
-  bounded : turns_at plan journal ≤ plan.options.default_retries * whole_left w c → turns_at plan journal ≤ plan.options.default_retries * ((2 + cond c 1 0) * w + 10 + 2 * cond c 1 0)
-  bounded less = subst (λ (n : ℕ). turns_at plan journal ≤ plan.options.default_retries * n) (whole_is w c) less
+  bounded : turns_at plan journal ≤ plan.options.default_retries * whole_left plan.options.tool_wait (has_counter plan) → turns_at plan journal ≤ plan.options.default_retries * ((2 + cond (has_counter plan) 1 0) * plan.options.tool_wait + 10 + 2 * cond (has_counter plan) 1 0)
+  bounded less = subst (λ (n : ℕ). turns_at plan journal ≤ plan.options.default_retries * n) (whole_is plan.options.tool_wait (has_counter plan)) less
 
-  by : (tool_phase : ToolPhase) → (moment plan journal).tool.tool_phase ≡ tool_phase → Paid plan (turns_at plan journal) (live_at journal) (inspects_at plan journal) (waited_at plan journal) tool_phase → turns_at plan journal ≤ plan.options.default_retries * ((2 + cond c 1 0) * w + 10 + 2 * cond c 1 0)
+  by : (tool_phase : ToolPhase) → (moment plan journal).tool.tool_phase ≡ tool_phase → Paid plan (turns_at plan journal) (live_at journal) (inspects_at plan journal) (waited_at plan journal) tool_phase → turns_at plan journal ≤ plan.options.default_retries * ((2 + cond (has_counter plan) 1 0) * plan.options.tool_wait + 10 + 2 * cond (has_counter plan) 1 0)
   by (SettingUp setup tries) eq paid =
       let stands = setup_stands setup tries eq in
       let lock = idle plan journal is.counted going Lock (ap (λ (s : Standing). s.waits) stands.locker) in
       let ren = idle plan journal is.counted going Ren (ap (λ (s : Standing). s.waits) stands.renamer) in
       let insp = idle plan journal is.counted going Insp (none_waits (standing_of plan journal Insp).waits (subst (WaitsFor plan (standing_of plan journal Insp).waits) eq going.waits)) in
-      bounded (none_of (turns_at plan journal) (waited_by plan journal Lock) (waited_by plan journal Ren) (waited_by plan journal Insp) (plan.options.default_retries * whole_left w c) paid lock ren insp) where
+      bounded (none_of (turns_at plan journal) (waited_by plan journal Lock) (waited_by plan journal Ren) (waited_by plan journal Insp) (plan.options.default_retries * whole_left plan.options.tool_wait (has_counter plan)) paid lock ren insp) where
         none_of : (t l r i k : ℕ) → t ≤ l + r + i → l ≤ 0 → r ≤ 0 → i ≤ 0 → t ≤ k
         none_of t l r i k paid lock ren insp = omega (arith, paid, lock, ren, insp)
   by (Migrating work) eq paid =
-      let most = times work.cutover.attempts plan.options.default_retries (whole_left w c) (attempts_few plan journal work tries.some kept.faithful kept.follows eq) in
-      bounded (join (turns_at plan journal) (all_left w c (live_at journal) work.cutover.hold work.cutover.renamer_waits (inspects_at plan journal) work.cutover.phase) (work.cutover.attempts * whole_left w c) (plan.options.default_retries * whole_left w c)
-      (waited_by plan journal Lock) (waited_by plan journal Ren) (waited_by plan journal Insp) (hold_waits w work.cutover.hold) (rename_waits w work.cutover.renamer_waits) (rename_waits w (inspects_at plan journal))
+      let most = times work.cutover.attempts plan.options.default_retries (whole_left plan.options.tool_wait (has_counter plan)) (attempts_few plan journal work tries.some kept.faithful kept.follows eq) in
+      bounded (join (turns_at plan journal) (all_left plan.options.tool_wait (has_counter plan) (live_at journal) work.cutover.hold work.cutover.renamer_waits (inspects_at plan journal) work.cutover.phase) (work.cutover.attempts * whole_left plan.options.tool_wait (has_counter plan)) (plan.options.default_retries * whole_left plan.options.tool_wait (has_counter plan))
+      (waited_by plan journal Lock) (waited_by plan journal Ren) (waited_by plan journal Insp) (hold_waits plan.options.tool_wait work.cutover.hold) (rename_waits plan.options.tool_wait work.cutover.renamer_waits) (rename_waits plan.options.tool_wait (inspects_at plan journal))
       paid most (lock_waits plan journal is.counted going work eq) (ren_waits plan journal is.counted going work eq) (insp_waited_most plan journal is.counted going)
-      (waits_all w c (live_at journal) work.cutover.hold work.cutover.renamer_waits (inspects_at plan journal) work.cutover.phase (work_stands plan journal is.counted going work eq).phase (work_at plan journal is.counted going work eq).renamer (sentries_made plan journal work runs serial kept eq).hold (hold_done plan journal is.counted going work eq) (renames_done plan journal is.counted going work eq) (inspects_in plan journal is.counted going work eq)))
+      (waits_all plan.options.tool_wait (has_counter plan) (live_at journal) work.cutover.hold work.cutover.renamer_waits (inspects_at plan journal) work.cutover.phase (work_stands plan journal is.counted going work eq).phase (work_at plan journal is.counted going work eq).renamer (sentries_made plan journal work runs serial kept eq).hold (hold_done plan journal is.counted going work eq) (renames_done plan journal is.counted going work eq) (inspects_in plan journal is.counted going work eq)))

@@ -152,17 +152,14 @@ module _ (plan : PlanData) (runs : IsRunnable plan) (serial : IsSerialPlan plan)
     sets : (number : ℕ) (drain : Drain) → phase ≡ Attempting (SettingCounter number drain) → entry.actor ≡ Insp → IsNotRefused entry.answer
     unfolding attempts.next
     sets number drain setting same = by (insp_asking same) where
-      abbrev SetsIt : Request → Type 0
-      SetsIt request = request ≡ requests.SetCounter (ghost_name plan.table) number
-
-      goes : (request : Request) → SetsIt request → IsAbout request (has Insp) entry.asked → IsNotRefused entry.answer
+      goes : (request : Request) → request ≡ requests.SetCounter (ghost_name plan.table) number → IsAbout request (has Insp) entry.asked → IsNotRefused entry.answer
       goes request is_it about =
           sets_go plan runs journal entry kept run going guarded sentry work eq called number drain setting same
           (about_own plan journal entry going.standing run Insp (requests.SetCounter (ghost_name plan.table) number) same (subst (λ (r : Request). IsAbout r (has Insp) entry.asked) is_it about))
 
-      called_it : (request : Request) → attempts.inspector_call work.cutover phase ≡ Some request → SetsIt request
+      called_it : (request : Request) → attempts.inspector_call work.cutover phase ≡ Some request → request ≡ requests.SetCounter (ghost_name plan.table) number
       called_it request call =
-          some_request SetsIt (requests.SetCounter (ghost_name work.cutover.table) number) request (subst (λ (p : Phase). attempts.inspector_call work.cutover p ≡ Some request) setting call)
+          some_request (λ (r : Request). r ≡ requests.SetCounter (ghost_name plan.table) number) (requests.SetCounter (ghost_name work.cutover.table) number) request (subst (λ (p : Phase). attempts.inspector_call work.cutover p ≡ Some request) setting call)
           (ap (λ (t : List ℕ). requests.SetCounter (ghost_name t) number) own_table)
 
       by : Asking plan journal Insp entry.asked → IsNotRefused entry.answer
