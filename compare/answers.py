@@ -2,6 +2,7 @@
 import re
 
 END = ("done", "reverted ", "unfinished")
+WAITS = re.compile(r" waits (\d+)$")
 # A REPLACE by an equal row counts 1 in the server, and 2 in the model.
 EQUAL_ROW = "answers of a REPLACE by an equal row, which counts 1 in the server"
 
@@ -32,20 +33,52 @@ def lines_of(turns):
     return lines
 
 
-def printed_lines(text):
-    """The same of what `trace` printed; none where it printed no trace. A number that was drawn is left out where the server doesn't
-    tell it: of a statement that was refused, or whose answer was lost."""
+def journal(text):
+    """What `trace` printed of each turn: its line, and the rows that a client read, sorted. None where it printed no trace."""
     _, found, rest = text.rpartition("\n#journal\n")
     if not found:
         return None
     lines, given = [], rest.split("\n")
     while given and not given[0].startswith(END):
-        line = re.sub(r" waits \d+$", " waits", given.pop(0))
-        line = re.sub(r" (error \d+|lost done) id \d+$", r" \1", line)
+        line = given.pop(0)
         count = int(line.rpartition(" ")[2]) if re.search(r" rows \d+$", line) else 0
         lines.append((line, *sorted(given[:count])))
         del given[:count]
     return lines
+
+
+def printed_lines(text):
+    """The same of what `trace` printed; none where it printed no trace. A number that was drawn is left out where the server doesn't
+    tell it: of a statement that was refused, or whose answer was lost."""
+    lines = journal(text)
+    return None if lines is None else [(told_alike(line), *rows) for line, *rows in lines]
+
+
+def told_alike(line):
+    return re.sub(r" (error \d+|lost done) id \d+$", r" \1", re.sub(WAITS, " waits", line))
+
+
+def blockers_compared(turns, text):
+    """For whom a session waits: at how many turns the program names one of those that the server names; at how many the server names
+    others, which are all numbered behind that one, as the program names the first of all that are in the way; and the first turn at
+    which neither is so, in words. Sessions are numbered as they are opened, and one that was lost is opened anew."""
+    live, opened, same, behind = {}, 0, 0, 0
+    for turn, (line, *_) in zip(turns, journal(text)):
+        if turn.actor != "op" and turn.actor not in live:
+            opened += 1
+            live[turn.actor] = opened
+        found = re.search(WAITS, line)
+        if found and turn.blockers is not None:
+            ours, theirs = int(found[1]), [live.get(it, 0) for it in turn.blockers]
+            if ours in theirs:
+                same += 1
+            elif theirs and ours < min(theirs):
+                behind += 1
+            else:
+                return same, behind, f"{line}, {turn.line}: the program waits for {[it for it in live if live[it] == ours]}, the server for {sorted(turn.blockers)}"
+        if turn.note in ("lost", "cut"):
+            live.pop(turn.actor, None)
+    return same, behind, None
 
 
 def is_equal_row(turn, ours, theirs):

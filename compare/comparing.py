@@ -156,19 +156,24 @@ def compare(program, plans, tells_all):
     return 1 if comparison.unexplained else 0
 
 
+SAME = "the same on both sides: "
+
+
 def show_rules(program, plans):
-    """Each example begins with the rule that it shows, and differs by that rule alone; and each rule has an example."""
-    wrong, shown = [], set()
+    """Each example begins with the rule that it shows, and differs by that rule alone, or with what is the same on both sides, and
+    differs in nothing; and each rule has an example."""
+    wrong, shown, same = [], set(), 0
     with Server() as server:
         for plan, check, replay, turns in printed_by(program, plans):
             with open(plan.name, encoding="utf-8") as file:
                 wanted = file.readline().removeprefix("# ").strip()
             found = {difference.rule for difference in Comparison(server).plan(plan, check, replay, turns)}
             shown |= found
-            if found != {wanted}:
+            same += wanted.startswith(SAME)
+            if found != (set() if wanted.startswith(SAME) else {wanted}):
                 wrong.append(f"{plan.name} shows {found or 'no difference'}, and not: {wanted}")
     wrong += [f"no example shows: {rule.name}" for rule in [*OWN, *OWN_OF_STATEMENTS, *REPHRASINGS] if rule.name not in shown]
-    print("\n".join(wrong) if wrong else f"{len(plans)} plans show {len(shown)} rules")
+    print("\n".join(wrong) if wrong else f"{len(plans) - same} plans show {len(shown)} rules, {same} what is the same on both sides")
     return 1 if wrong else 0
 
 

@@ -8,8 +8,9 @@ import re
 import tomllib
 from collections import Counter
 
-from answers import EQUAL_ROW, compared, printed_lines
+from answers import EQUAL_ROW, blockers_compared, compared, printed_lines
 from binlog import OPTIONS as LOG_OPTIONS
+from cutover import NAMES_SEEN
 from migration import equal
 from program import TOP
 from rehearsal import Rehearsal, Stop, Turn, in_other_order
@@ -339,8 +340,11 @@ class Pair:
             same, equal, other = compared(turns, text)
             self.counts["turns whose answer is the trace's"] += same
             self.counts.update({EQUAL_ROW: equal} if equal else {})
-            if other:
-                return "UNEXPLAINED", f"{toml(rehearsal.ordered(turns))}--- {other}"
+            named, behind, another = blockers_compared(turns, text)
+            self.counts["waits for a session that the server names too"] += named
+            self.counts["waits for a session that is numbered before those that the server names"] += behind
+            if other or another:
+                return "UNEXPLAINED", f"{toml(rehearsal.ordered(turns))}--- {other or another}"
         self.counts[f"verdict {rehearsal.verdict_kind.split()[0]}"] += 1
         for end, text in (("toml", toml(rehearsal.ordered(turns))), ("report", masked(rehearsal.report(turns)))) if self.keep else ():
             with open(f"{self.keep}/{name.replace(' ', '_').removesuffix('.toml')}.{end}", "w", encoding="utf-8") as file:
@@ -481,12 +485,19 @@ def other_number(rehearsal):
     rehearsal.told = next_but_one
 
 
+def other_blockers(rehearsal):
+    """In place of those for whom a session waits all others."""
+    blockers = rehearsal.blockers
+    rehearsal.blockers = lambda talk: {it for it, other in rehearsal.talks.items() if other is not talk} - blockers(talk)
+
+
 FAULTS = {
     "another DEFAULT in the new table": another_default,
     "an applier without DELETE": no_removal,
     "LOCK TABLES without the table": no_lock,
     "two rows in the answer to the hint": other_answer,
     "another number where a client draws one": other_number,
+    "a wait for other sessions": other_blockers,
 }
 
 
@@ -506,7 +517,7 @@ def plant_faults(program):
 
 
 def show_classes(program):
-    """Each plan of the folder begins with the class that it shows."""
+    """Each plan of the folder begins with the class that it shows, or with `same`."""
     wrong, shown = [], set()
     with Server(*log_options()) as server:
         for name, tree in plans_of_folder(CLASSES):
@@ -514,7 +525,7 @@ def show_classes(program):
                 wanted, second = file.readline().removeprefix("# ").strip(), file.readline()
             pair = Pair(program, server, cuts if second.startswith("# with INSERT IGNORE") else None)
             kind = pair.rehearse(name, tree)[0]
-            shown.add(wanted)
+            shown |= {wanted} - {"same"}
             if wanted != kind and not (kind == "same" and wanted in pair.counts):
                 wrong.append(f"{name} shows {kind}, and not: {wanted}")
     print("\n".join(wrong) if wrong else f"{len(shown)} classes are shown")
@@ -561,4 +572,4 @@ def is_explained(kind):
 
 
 def log_options():
-    return ("--log-bin=log", *LOG_OPTIONS)
+    return ("--log-bin=log", *LOG_OPTIONS, *NAMES_SEEN)

@@ -26,6 +26,13 @@ LOCK = """SELECT r.lock_mode, r.lock_index, r.lock_data, b.lock_mode, o.trx_mysq
     JOIN information_schema.INNODB_TRX t ON t.trx_id = w.requesting_trx_id JOIN information_schema.INNODB_TRX o ON o.trx_id = w.blocking_trx_id
     JOIN information_schema.INNODB_LOCKS r ON r.lock_id = w.requested_lock_id JOIN information_schema.INNODB_LOCKS b ON b.lock_id = w.blocking_lock_id
     WHERE t.trx_mysql_thread_id = {0}"""
+ROW_BLOCKERS = """SELECT o.trx_mysql_thread_id FROM information_schema.INNODB_LOCK_WAITS w JOIN information_schema.INNODB_TRX t ON t.trx_id = w.requesting_trx_id
+    JOIN information_schema.INNODB_TRX o ON o.trx_id = w.blocking_trx_id WHERE t.trx_mysql_thread_id = {0}"""
+# Of the name that it waits for: who has it or asks for it, and how; and how it asks itself.
+NAME_BLOCKERS = """SELECT o.PROCESSLIST_ID, h.LOCK_TYPE, l.LOCK_TYPE FROM performance_schema.metadata_locks l JOIN performance_schema.threads t ON t.THREAD_ID = l.OWNER_THREAD_ID
+    JOIN performance_schema.metadata_locks h ON h.OBJECT_SCHEMA = l.OBJECT_SCHEMA AND h.OBJECT_NAME = l.OBJECT_NAME JOIN performance_schema.threads o ON o.THREAD_ID = h.OWNER_THREAD_ID
+    WHERE t.PROCESSLIST_ID = {0} AND o.PROCESSLIST_ID <> {0} AND l.LOCK_STATUS = 'PENDING'"""
+SHARED = ("SHARED_READ", "SHARED_WRITE")
 # A server tells anew which transactions wait where nobody has asked for a tenth of a second.
 APART = 0.12
 PATIENCE = 20
@@ -59,6 +66,7 @@ class Turn:
     by_rows: bool = False
     what: str = ""
     answer: str = ""
+    blockers: set = None  # for whom it waits, as the server says; none where it doesn't wait there
 
 
 class Talk:
@@ -72,6 +80,7 @@ class Talk:
         self.is_open = self.is_locked = False
         self.polls, self.wait, self.seen_at, self.asked_at = 0, 0, None, None
         self.number = None  # the number that a client's statement drew, once it was asked for
+        self.blocked_at, self.blockers = None, None
 
     def begin(self, call):
         self.number = None
@@ -325,6 +334,16 @@ class Rehearsal:
             return f"row {data} of {index}", by
         return "a name", "?"
 
+    def blockers(self, talk):
+        """For whom a session waits, as the server says: it is asked anew where a lock was given free, or another began to wait."""
+        at = self.releases, self.waits_begun
+        if talk.blocked_at != at:
+            is_name = talk.seen_at and talk.seen_at[1] == "name"
+            rows = self.monitor.need((NAME_BLOCKERS if is_name else ROW_BLOCKERS).format(talk.session.number)).rows
+            numbers = {int(row[0]) for row in rows if not is_name or not {row[1], row[2]} <= set(SHARED)}
+            talk.blocked_at, talk.blockers = at, {it for it, other in self.talks.items() if other.session.number in numbers}
+        return talk.blockers
+
     def is_beyond_chunk(self, what, by):
         """Whether that is the row after a chunk, which a server locks as well."""
         if by != "copy" or not what.startswith("row ") or not self.tool.copier.keys:
@@ -531,6 +550,7 @@ class Rehearsal:
             if talk.call.what == "rename":
                 self.tool.rename_waits()
         entry.wait, entry.note, entry.answer = talk.wait, "waits", "waits"
+        entry.blockers = None if actor in self.early else self.blockers(talk)
         talk.polls += polls
         if talk.polls == self.longest_wait(actor):
             entry.answer = f"timeout {talk.polls}"

@@ -33,7 +33,7 @@ tables t
 
 
 def turn(actor, answer, **named):
-    return types.SimpleNamespace(**{"actor": actor, "answer": answer, "note": "", "side": "", "wait": 0, "reply": None, "line": "", "what": "", **named})
+    return types.SimpleNamespace(**{"actor": actor, "answer": answer, "note": "", "side": "", "wait": 0, "reply": None, "line": "", "what": "", "blockers": None, **named})
 
 
 def turns():
@@ -65,6 +65,22 @@ class Answers(unittest.TestCase):
         for file in TOP.glob("tools/tests/traces/*.trace"):
             lines = ANSWERS.printed_lines(file.read_text())
             self.assertEqual([int(line[0].split()[0]) for line in lines], list(range(1, len(lines) + 1)), file)
+
+    def test_blockers(self):
+        """Sessions are numbered as they are opened: insp, c1, copy, apply, ren, and lock, c2 behind them."""
+        for first, second, told in (
+            (None, None, (0, 0, None)),
+            ({"apply"}, {"apply", "c1"}, (2, 0, None)),
+            ({"apply"}, {"ren", "c9"}, (1, 0, "7 ren poll waits 4")),
+            ({"ren"}, {"apply"}, (1, 1, None)),
+            ({"c1"}, None, (0, 0, "6 ren rename waits 4")),
+            (set(), None, (0, 0, "6 ren rename waits 4")),
+        ):
+            given = turns()
+            given[5].blockers, given[6].blockers = first, second
+            with self.subTest(told):
+                same, behind, other = ANSWERS.blockers_compared(given, TRACE)
+                self.assertEqual((same, behind, other and other.partition(",")[0]), told)
 
     def test_other_answers(self):
         for at, change, told in (

@@ -1,3 +1,5 @@
 pub mod Accepted
 pub mod Alters
 pub mod Draws
+pub mod PlanActors
+pub mod PrintedRuns

@@ -2,14 +2,18 @@
 #![tactic(auto)]
 
 ghost use Rattle.law_traces.specs.Laws.{TracesAreAudited};
+ghost use Rattle.law_traces.specs.Printed.{PrintedTracesAreAudited};
 ghost use Rattle.proof_audit.specs.AuditedTraces.{AuditsNameTheFirst, AuditsSayYes, LinesDecideTables};
 ghost use Rattle.proof_audit.specs.Laws.{LinesTellClients, LinesTellSessions};
 
 use law_journals::cut_over::renames_come_once;
 use law_journals::marked::marked_journals_are_runs;
-use law_journals::plans::{read_plans_are_runnable, read_plans_are_serial, read_plans_are_worded};
+use law_journals::plans::{
+    read_plans_are_accepted, read_plans_are_runnable, read_plans_are_serial, read_plans_are_worded,
+};
 use law_journals::reverts::renames_find_the_altered;
 use law_journals::runs::{accepted_runs_are_serial, accepted_runs_go_on};
+use law_texts::traces::printed_traces_are_read;
 
 /// The lines of a run's trace tell how far each client is, and which actors have a session.
 pub fn lines_tell_actors()
@@ -46,4 +50,14 @@ pub fn traces_are_audited()
     read_plans_are_runnable();
     read_plans_are_serial();
     read_plans_are_worded();
+}
+
+/// The text that `trace` prints of such a run, where no name has a line feed and it isn't longer than traces may be, is read as the
+/// plan and the run's trace, which is audited yes.
+pub fn printed_traces_are_audited()
+    ensures { PrintedTracesAreAudited }
+{
+    read_plans_are_accepted();
+    printed_traces_are_read();
+    traces_are_audited();
 }

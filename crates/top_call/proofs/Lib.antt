@@ -1,3 +1,4 @@
+mod AlteringPlans
 mod Comings
 mod Endings
 mod Faulty
@@ -5,9 +6,12 @@ mod Headline
 mod LogReads
 mod MarkedRuns
 mod Numbers
+mod ReadTraces
+mod ReadTurns
 mod Rebuilt
 mod RestedServers
 mod Taken
+mod TraceBytes
 mod Unread
 mod Words
 mod Worked

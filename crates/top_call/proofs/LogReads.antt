@@ -1,5 +1,5 @@
 -- A session of its own reads a table's events in the log of a server.
-use Rattle.std.proofs.Common.{◌≡◌, ℕ, ◌+◌, ◌≤◌, Bool, true, false, ◌||◌, cond, List, [], ◌∷◌, map, take, Option, Some, None, is_some, refl, sym, ap, ◌∙◌, subst}
+use Rattle.std.proofs.Common.{◌≡◌, ℕ, ◌+◌, ◌≤◌, Bool, true, false, ◌||◌, cond, List, [], ◌∷◌, map, take, Option, Some, is_some, refl, sym, ap, ◌∙◌, subst}
 use Rattle.std.proofs.lemmas.List.{take-map}
 use Rattle.std.specs.Str.{bytes_eq}
 use Rattle.base_values.specs.declared.event.RowEvent.{RowEvent}
@@ -10,7 +10,7 @@ use Rattle.server_model.specs.declared.request.Request.TheVariants as requests
 use Rattle.server_model.specs.declared.session.Session.{Session}
 use Rattle.server_model.specs.Conditions.{MayCall}
 use Rattle.server_model.specs.Effects.{effect_unless, is_outside}
-use Rattle.server_model.specs.Listings.{ReadEvent, events_given, events_read, read_from}
+use Rattle.server_model.specs.Listings.{ReadEvent, events_read, read_from}
 use Rattle.server_model.specs.PlainServer.{called_unless, calls, did, does}
 use Rattle.server_model.specs.States.{State, connected, is_in_transaction, new_session, session_of, view}
 use Rattle.proof_journals.proofs.Ghost.Reading.{read_is}

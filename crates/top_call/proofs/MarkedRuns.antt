@@ -1,5 +1,5 @@
 -- What the rebuild of a run in which the RENAME was done prints.
-use Rattle.std.proofs.Common.{◌≡◌, ℕ, ◌+◌, zero, suc, Bool, true, false, ◌||◌, cond, List, [], ◌∷◌, ◌++◌, length, map, take, filter, count_by, unwrap_or, Option, Some, None, IfSome, Result, Ok, Err, option_map, refl, sym, ap, ◌∙◌, subst, append_assoc, append-nil, arith}
+use Rattle.std.proofs.Common.{◌≡◌, ℕ, ◌+◌, Bool, true, false, ◌||◌, cond, List, [], ◌∷◌, ◌++◌, length, take, count_by, unwrap_or, Option, Some, None, IfSome, option_map, refl, sym, ap, ◌∙◌, subst, append_assoc, arith}
 use Rattle.std.specs.List.{list_any}
 use Rattle.std.specs.Str.{bytes_eq}
 use Rattle.std.proofs.lemmas.List.Elements.{filter-append}
@@ -27,7 +27,6 @@ use Rattle.proof_rebuild.specs.Shards.{UnfitRow, first_unfit, rows_seen}
 use Rattle.run_rebuild.specs.Rebuilds.{changes_of}
 use Rattle.run_replay.specs.WholeReplay.Marks.{at_mark, logged_at_mark, turns_to_mark}
 use Rattle.law_rebuild.specs.Laws.{AcceptedMarksAreRebuilt, IsRebuiltOf}
-use Rattle.law_rebuild.specs.Marks.{changes_logged}
 use Rattle.law_rebuild.proofs.Growing as growing
 use Rattle.top_endings.specs.declared.printed.Printed.{Printed}
 use Rattle.top_endings.specs.declared.status.Status.TheVariants as statuses

@@ -1,5 +1,5 @@
 -- A rebuilt table, and what a rebuild prints of a run.
-use Rattle.std.proofs.Common.{◌≡◌, ℕ, ◌+◌, ◌<◌, ◌≤◌, ◌^◌, Bool, true, false, cond, List, [], ◌∷◌, length, Option, Some, None, IfSome, Result, Ok, Err, refl, sym, ap, ◌∙◌, subst, arith}
+use Rattle.std.proofs.Common.{◌≡◌, ℕ, ◌<◌, ◌≤◌, Bool, true, false, cond, List, [], ◌∷◌, length, Option, Some, None, IfSome, refl, sym, ap, ◌∙◌, subst, arith}
 use Rattle.std.specs.List.{list_any}
 use Rattle.base_values.specs.declared.event.Change.{Change}
 use Rattle.base_values.specs.declared.event.RowEvent.{RowEvent}
@@ -17,7 +17,7 @@ use Rattle.plan_data.specs.PlanData.{PlanData}
 use Rattle.plan_data.specs.declared.plan.AlteredSchema.{AlteredSchema}
 use Rattle.tool_program.specs.JournalWords.Histories.{history, is_alter}
 use Rattle.tool_program.specs.Tools.{Reason, moment}
-use Rattle.tool_program.specs.Verdicts.{ended_so, has_ended, reverted_by, verdict_of}
+use Rattle.tool_program.specs.Verdicts.{has_ended, reverted_by, verdict_of}
 use Rattle.proof_plans.specs.ReadPlans.Laws.{WasRead}
 use Rattle.proof_rebuild.specs.Shards.{UnfitRow, first_unfit, rows_seen}
 use Rattle.run_replay.specs.WholeReplay.Marks.{logged_at_mark}

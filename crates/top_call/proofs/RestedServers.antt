@@ -1,5 +1,5 @@
 -- A server after a run is rested: no more sessions were made than turns were taken.
-use Rattle.std.proofs.Common.{◌≡◌, ℕ, ◌+◌, ◌<◌, ◌≤◌, ◌^◌, Bool, true, false, cond, max, List, [], ◌∷◌, ◌++◌, length, Option, Some, None, option_map, refl, sym, ap, ◌∙◌, subst, arith}
+use Rattle.std.proofs.Common.{◌≡◌, ℕ, ◌+◌, ◌<◌, ◌≤◌, ◌^◌, Bool, true, false, cond, max, List, [], ◌∷◌, ◌++◌, length, Option, Some, None, option_map, refl, sym, subst, arith}
 use Rattle.std.proofs.lemmas.List.{length-append}
 use Rattle.server_model.specs.Along.{Along-both, Along-keeps}
 use Rattle.server_model.specs.declared.entry.Asked.{Asked}
@@ -7,7 +7,7 @@ use Rattle.server_model.specs.declared.entry.Asked.TheVariants.{Call, Poll, Comm
 use Rattle.server_model.specs.declared.entry.Entry.{Entry}
 use Rattle.server_model.specs.declared.session.Session.{Session}
 use Rattle.server_model.specs.Entries.{is_command, is_cut}
-use Rattle.server_model.specs.States.{State, session_of}
+use Rattle.server_model.specs.States.{session_of}
 use Rattle.plan_data.specs.PlanData.{PlanData}
 use Rattle.tool_program.specs.JournalWords.Journals.{state_at}
 use Rattle.tool_program.specs.JournalWords.Sessions.{IsNumbered, IsSeated, KeepsSessions, NumbersSessions, live_session, sessions_named}

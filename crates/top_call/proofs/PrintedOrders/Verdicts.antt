@@ -1,5 +1,5 @@
 -- The history, the verdict and the report of a journal are the same whatever order of turns its plan asks for.
-use Rattle.std.proofs.Common.{◌≡◌, ℕ, nat_le, ◌+◌, Bool, true, false, ◌&&◌, ◌||◌, if◌then◌else◌, List, [], ◌∷◌, ◌++◌, length, Option, Some, None, refl, ap, ap₂, ◌∙◌}
+use Rattle.std.proofs.Common.{◌≡◌, ℕ, nat_le, ◌+◌, Bool, false, ◌&&◌, ◌||◌, if◌then◌else◌, List, [], ◌∷◌, ◌++◌, length, Option, Some, None, refl, ap, ap₂, ◌∙◌}
 use Rattle.std.specs.Prelude.{codes}
 use Rattle.std.specs.List.{flat_map, list_any}
 use Rattle.base_values.specs.declared.value.Value.{Value}
@@ -7,7 +7,7 @@ use Rattle.base_script.specs.declared.actor.Actor.{Actor}
 use Rattle.base_script.specs.declared.actor.Actor.TheVariants.{Op, Insp, Copy, Apply, Lock, Ren, Client}
 use Rattle.base_script.specs.declared.script.ScriptLine.{ScriptLine}
 use Rattle.table_store.specs.Databases.{Database}
-use Rattle.server_model.specs.Along.{Along, gathered}
+use Rattle.server_model.specs.Along.{gathered}
 use Rattle.server_model.specs.declared.request.Request.{Request}
 use Rattle.server_model.specs.declared.answer.Answer.{Answer}
 use Rattle.server_model.specs.declared.answer.Answer.TheVariants as answers

@@ -1,4 +1,4 @@
-use Rattle.std.proofs.Common.{◌∷◌, [], ap, ◌∙◌}
+use Rattle.std.proofs.Common.{ap, ◌∙◌}
 use Rattle.server_model.specs.States.{State}
 use Rattle.server_model.specs.declared.outcome.Verdict.{Verdict}
 use Rattle.run_turns.specs.Runs.{RunView}

@@ -1,0 +1,126 @@
+-- The turns of a journal that is kept are of the plan's actors.
+use Rattle.std.proofs.Common.{◌≡◌, ◌≢◌, ◌≤◌, ◌<◌, ℕ, ◌+◌, ◌-◌, ◌==◌, nat_le, nat_lt, Bool, true, false, ◌&&◌, if◌then◌else◌, cond, List, [], ◌∷◌, ◌++◌, length, fold, Option, Some, None, refl, sym, ap, ◌∙◌, subst, arith}
+use Rattle.std.specs.Prelude.{is_some, unwrap_or}
+use Rattle.std.specs.List.{AllByRecursion, slice_get}
+use Rattle.std.proofs.lemmas.Bool.{true≢false}
+use Rattle.std.proofs.lemmas.Bool.Decides.{nat_tests}
+use Rattle.std.proofs.lemmas.Option.{none-some, same_Some, slice_get_past}
+use Rattle.base_script.specs.declared.actor.Actor.{Actor}
+use Rattle.base_script.specs.declared.actor.Actor.TheVariants.{Op, Insp, Copy, Apply, Lock, Ren, Client}
+use Rattle.base_script.specs.declared.loss.Loss.{Loss}
+use Rattle.base_script.specs.declared.loss.Loss.TheVariants.{Nth, Turn}
+use Rattle.base_script.specs.declared.script.ScriptLine.{ScriptLine}
+use Rattle.server_model.specs.declared.entry.Asked.{Asked}
+use Rattle.server_model.specs.declared.entry.Asked.TheVariants.{Call, Poll, Command, Cut}
+use Rattle.server_model.specs.declared.entry.Entry.{Entry}
+use Rattle.server_model.specs.Entries.{same_actor}
+use Rattle.plan_data.specs.PlanData.{PlanData}
+use Rattle.tool_program.specs.JournalWords.Clients.{after_turn, client_asks, client_at, line_asks, new_client, script_of, Reached}
+use Rattle.tool_program.specs.JournalWords.KeptPlans.{IsPlanned, IsStruck, TakesNext, cut_among, cut_by, cut_due, or_first}
+use Rattle.tool_program.specs.JournalWords.Sessions.{live_session, session_in}
+use Rattle.proof_journals.proofs.Actors.{same_actor_is}
+use Rattle.law_texts.specs.TurnOrders.{IsOf}
+
+module _ (plan : PlanData) where
+  abbrev IsIts : Actor → Type 0
+  IsIts actor = IsOf (length plan.clients) actor
+
+  abbrev AreIts : List Entry → Type 0
+  AreIts journal = AllByRecursion (λ entry. IsIts entry.actor) journal
+
+  -- ---- actors that had no turn
+
+  -- no turn is of an actor that the plan hasn't
+  other : (entry : Entry) (actor : Actor) → IsIts entry.actor → (IsIts actor → ⊥) → same_actor entry.actor actor ≡ false
+  other entry actor its not = by (same_actor entry.actor actor) refl where
+    by : (b : Bool) → same_actor entry.actor actor ≡ b → b ≡ false
+    by true same = absurd (not (subst IsIts (same_actor_is entry.actor actor same) its))
+    by false same = refl
+
+  unchanged : {A : Type 0} (step : A → Entry → A) (actor : Actor) → ((a : A) (entry : Entry) → same_actor entry.actor actor ≡ false → step a entry ≡ a) → (IsIts actor → ⊥) → (a : A) (journal : List Entry) → AreIts journal → fold step a journal ≡ a
+  unchanged step actor stays not a [] its = refl
+  unchanged step actor stays not a (entry ∷ journal) its = ap (λ one. fold step one journal) (stays a entry (other entry actor its.0 not)) ∙ unchanged step actor stays not a journal its.1
+
+  no_session : (actor : Actor) → (IsIts actor → ⊥) → (journal : List Entry) → AreIts journal → live_session journal actor ≡ None
+  unfolding live_session
+  no_session actor not journal its = unchanged (session_in actor) actor stays not None journal its where
+    stays : (old : Option ℕ) (entry : Entry) → same_actor entry.actor actor ≡ false → session_in actor old entry ≡ old
+    stays old entry differs = rw differs refl
+
+  no_script : (number : ℕ) → (IsIts (Client number) → ⊥) → unwrap_or (script_of number plan) [] ≡ []
+  no_script zero not = refl
+  no_script (suc number) not = by (nat_lt number (length plan.clients)) refl where
+    by : (b : Bool) → nat_lt number (length plan.clients) ≡ b → unwrap_or (slice_get plan.clients number) [] ≡ []
+    by true within = absurd (not (omega arith, grind (arith, nat_tests, within)))
+    by false past = ap (λ (script : Option (List ScriptLine)). unwrap_or script []) (slice_get_past plan.clients number (grind (arith, nat_tests, past)))
+
+  no_turn : (number : ℕ) → (IsIts (Client number) → ⊥) → (journal : List Entry) → AreIts journal → client_at plan journal number ≡ new_client []
+  unfolding client_at
+  no_turn number not journal its = unchanged (after_turn number) (Client number) stays not (new_client (unwrap_or (script_of number plan) [])) journal its ∙ ap new_client (no_script number not) where
+    stays : (client : Reached) (entry : Entry) → same_actor entry.actor (Client number) ≡ false → after_turn number client entry ≡ client
+    stays client entry differs = rw differs refl
+
+  asks_none : (number : ℕ) → (IsIts (Client number) → ⊥) → (journal : List Entry) → AreIts journal → client_asks plan journal number ≡ None
+  unfolding client_asks
+  asks_none number not journal its =
+      let at = no_turn number not journal its in ap (λ (client : Reached). if client.is_lost then None else line_asks client.waits client.left) at
+
+  -- ---- the next turn
+
+  -- who loses a session had one
+  cut_had : (before : List Entry) (turn : ℕ) (loss : Loss) (actor : Actor) → cut_by before turn loss ≡ Some actor → is_some (live_session before actor) ≡ true
+  cut_had before turn (Nth one n side) actor is = absurd cc
+  cut_had before turn (Turn number one) actor = by (number == turn) (is_some (live_session before one)) refl where
+    by : (at has : Bool) → is_some (live_session before one) ≡ has → (if at && has then Some one else None) ≡ Some actor → is_some (live_session before actor) ≡ true
+    by true true had is = subst (λ (a : Actor). is_some (live_session before a) ≡ true) (same_Some one actor is) had
+    by true false had is = absurd cc
+    by false has had is = absurd cc
+
+  first_had : (before : List Entry) (first later : Option Actor) (actor : Actor) → (first ≡ Some actor → is_some (live_session before actor) ≡ true) → (later ≡ Some actor → is_some (live_session before actor) ≡ true) → or_first first later ≡ Some actor → is_some (live_session before actor) ≡ true
+  first_had before None later actor one other is = other is
+  first_had before (Some first) later actor one other is = one is
+
+  all_had : (before : List Entry) (losses : List Loss) (actor : Actor) → cut_among before losses ≡ Some actor → is_some (live_session before actor) ≡ true
+  unfolding cut_among
+  all_had before [] actor is = absurd cc
+  all_had before (loss ∷ losses) actor is =
+      first_had before (cut_by before (length before + 1) loss) (cut_among before losses) actor (cut_had before (length before + 1) loss actor) (all_had before losses actor) is
+
+  -- whether the plan has an actor is known
+  decide : (actor : Actor) (P : Type 0) → (IsIts actor → P) → ((IsIts actor → ⊥) → P) → P
+  decide Op P yes no = yes tt
+  decide Insp P yes no = yes tt
+  decide Copy P yes no = yes tt
+  decide Apply P yes no = yes tt
+  decide Lock P yes no = yes tt
+  decide Ren P yes no = yes tt
+  decide (Client number) P yes no = by (nat_lt 0 number) (nat_le number (length plan.clients)) refl refl where
+    by : (some few : Bool) → nat_lt 0 number ≡ some → nat_le number (length plan.clients) ≡ few → P
+    by true true lower upper = yes (grind (arith, nat_tests, lower), grind (arith, nat_tests, upper))
+    by true false lower upper = no (λ its. absurd (let most : number ≤ length plan.clients = its.1 in grind (arith, nat_tests, upper, most)))
+    by false few lower upper = no (λ its. absurd (let least : 0 < number = its.0 in grind (arith, nat_tests, lower, least)))
+
+  lost_its : (before : List Entry) (actor : Actor) → AreIts before → is_some (live_session before actor) ≡ true → IsIts actor
+  lost_its before actor its had = decide actor (IsIts actor) (λ yes. yes) (λ not. absurd (true≢false (sym had ∙ ap (λ (s : Option ℕ). is_some s) (no_session actor not before its))))
+
+  asks_its : (before : List Entry) (number : ℕ) (asked : Asked) → AreIts before → client_asks plan before number ≡ Some asked → IsIts (Client number)
+  asks_its before number asked its asks = decide (Client number) (IsIts (Client number)) (λ yes. yes) (λ not. absurd (none-some asked (sym (asks_none number not before its) ∙ asks)))
+
+  takes_its : (before : List Entry) (actor : Actor) (asked : Asked) → AreIts before → asked ≢ Cut → TakesNext plan before actor asked → IsIts actor
+  takes_its before Op asked its going takes = tt
+  takes_its before Insp asked its going takes = tt
+  takes_its before Copy asked its going takes = tt
+  takes_its before Apply asked its going takes = tt
+  takes_its before Lock asked its going takes = tt
+  takes_its before Ren asked its going takes = tt
+  takes_its before (Client number) Cut its going takes = absurd (going refl)
+  takes_its before (Client number) (Call request) its going takes = asks_its before number (Call request) its takes
+  takes_its before (Client number) Poll its going takes = asks_its before number Poll its takes
+  takes_its before (Client number) (Command word) its going takes = asks_its before number (Command word) its takes
+
+  struck_its : (before : List Entry) (entry : Entry) (due : Option Actor) → cut_due plan before ≡ due → AreIts before → TakesNext plan before entry.actor entry.asked → IsStruck plan before entry due → IsIts entry.actor
+  struck_its before entry (Some actor) is its takes struck = subst IsIts (sym struck.0) (lost_its before actor its (all_had before plan.faults actor is))
+  struck_its before entry None is its takes struck = takes_its before entry.actor entry.asked its struck.0 takes
+
+  pub next_its : (before : List Entry) (entry : Entry) → AreIts before → IsPlanned plan before entry → IsIts entry.actor
+  next_its before entry its planned = struck_its before entry (cut_due plan before) refl its planned.next planned.struck

@@ -1,0 +1,171 @@
+-- The text of a run's trace is read as that trace.
+use Rattle.std.proofs.Common.{◌≡◌, ◌≢◌, ◌≤◌, ◌<◌, ℕ, ◌+◌, ◌^◌, Bool, true, false, not, ◌&&◌, codes, List, [], ◌∷◌, ◌++◌, length, map, Option, Some, None, Ok, refl, sym, ap, ◌∙◌, subst, arith, append_assoc, append-nil}
+use Rattle.std.specs.Fmt.{decimal}
+use Rattle.std.specs.List.{AllByRecursion, flat_map}
+use Rattle.std.specs.Str.{IsUtf8}
+use Rattle.std.proofs.lemmas.List.{length-append, length-map}
+use Rattle.base_script.specs.declared.actor.Actor.{Actor}
+use Rattle.base_script.specs.declared.actor.Actor.TheVariants.{Op, Insp, Copy, Apply, Lock, Ren, Client}
+use Rattle.base_script.specs.declared.actor.Side.{Side}
+use Rattle.base_script.specs.declared.actor.Side.TheVariants.{Before, After}
+use Rattle.base_values.proofs.SchemaRules.Lists.{All-append}
+use Rattle.server_model.specs.declared.answer.Answer.{Answer}
+use Rattle.server_model.specs.declared.answer.Answer.TheVariants as answers
+use Rattle.server_model.specs.declared.entry.Asked.{Asked}
+use Rattle.server_model.specs.declared.entry.Asked.TheVariants.{Call, Poll, Command, Cut}
+use Rattle.server_model.specs.declared.entry.Entry.{Entry}
+use Rattle.server_model.specs.declared.request.Request.{Request}
+use Rattle.server_model.specs.declared.request.Request.TheVariants as requests
+use Rattle.server_model.specs.Entries.{is_client}
+use Rattle.plan_data.specs.PlanData.{PlanData}
+use Rattle.plan_reader.specs.Plans.{read}
+use Rattle.table_print.specs.Names.{names_line}
+use Rattle.tool_program.specs.JournalWords.Journals.{IsAnswered, state_at}
+use Rattle.tool_program.specs.JournalWords.Serials.{tables_left}
+use Rattle.tool_program.specs.Verdicts.{verdict_of}
+use Rattle.proof_journals.specs.Run.Kept.{IsKept}
+use Rattle.proof_plans.specs.ReadPlans.Laws.{WasRead}
+use Rattle.proof_plans.specs.ReadPlans.Schemas.{ReadPlansAreAccepted}
+use Rattle.proof_audit.proofs.Rules.{planned_next, run_next}
+use Rattle.run_audit.specs.declared.line.TraceLine.{TraceLine}
+use Rattle.run_audit.specs.declared.trace.Trace.{Trace}
+use Rattle.run_audit.specs.Lines.{asked_of, heard_answer, line_answer, line_of, lines_of, missed_answer, printed_table, trace_of}
+use Rattle.top_report.specs.Turns.{actor_word}
+use Rattle.top_report.specs.Verdicts.{verdict_line}
+use Rattle.top_trace.specs.Texts.{answer_text, asked_text, drawn_text, journal_line, journal_text, read_rows_text, side_text, trace_text, turn_line, turns_text}
+use Rattle.top_trace_reader.specs.declared.whole.TheConstants.{TRACE_LIMIT}
+use Rattle.top_trace_reader.specs.Traces.{read_trace}
+use Rattle.top_trace_reader.specs.Turns.{fits, fits_actor, was_missed}
+use Rattle.law_texts.specs.PrintedTraces.{CanDraw, CanHaveSide, CanPrintAnswer, CanPrintTrace, CanPrintTurn, PrintedTracesAreRead, text_of}
+use Rattle.law_traces.specs.Laws.{TracesAreAudited}
+use Rattle.law_traces.specs.Printed.{HasPlainValues, PrintedTracesAreAudited, tables_at, text_at, trace_at}
+use Rattle.law_traces.proofs.PlanActors.{AreIts, next_its}
+
+-- ---- a turn
+
+beside_call : (request : Request) (side : Option Side) → CanHaveSide (asked_of (Call request)) side
+beside_call (requests.Rename pairs) side = tt
+beside_call request side = tt
+
+beside : (asked : Asked) (side : Option Side) → (asked ≡ Cut → side ≡ None) → ((word : _) → asked ≡ Command word → side ≡ None) → CanHaveSide (asked_of asked) side
+beside (Call request) side cut command = beside_call request side
+beside Poll side cut command = tt
+beside (Command word) side cut command = command word refl
+beside Cut side cut command = cut refl
+
+-- an answer that was heard, of this actor
+heard_fits : (actor : Actor) (answer : Answer) → (not (was_missed (heard_answer (is_client actor) answer)) && fits_actor actor (heard_answer (is_client actor) answer)) ≡ true
+heard_fits actor (answers.Ok count) = refl
+heard_fits actor (answers.Refused number column) = refl
+heard_fits Op (answers.Rows rows) = refl
+heard_fits Insp (answers.Rows rows) = refl
+heard_fits Copy (answers.Rows rows) = refl
+heard_fits Apply (answers.Rows rows) = refl
+heard_fits Lock (answers.Rows rows) = refl
+heard_fits Ren (answers.Rows rows) = refl
+heard_fits (Client number) (answers.Rows rows) = refl
+heard_fits actor (answers.Waits by) = refl
+heard_fits actor (answers.TimedOut waited) = refl
+heard_fits actor answers.Lost = refl
+heard_fits actor answer = refl
+
+-- an answer that was missed
+missed_fits : (actor : Actor) (missed : Option Answer) → (was_missed (missed_answer missed) && fits_actor actor (missed_answer missed)) ≡ true
+missed_fits actor (Some (answers.Waits by)) = refl
+missed_fits actor (Some (answers.Refused number column)) = refl
+missed_fits actor (Some (answers.TimedOut waited)) = refl
+missed_fits actor missed = refl
+
+answer_fits : (actor : Actor) (side : Option Side) (answer : Answer) (missed : Option Answer) → fits actor side (line_answer (is_client actor) side answer missed) ≡ true
+answer_fits actor None answer missed = heard_fits actor answer
+answer_fits actor (Some Before) answer missed = heard_fits actor answer
+answer_fits actor (Some After) answer missed = missed_fits actor missed
+
+-- ---- all turns
+
+module _ (plan : PlanData) where
+  abbrev HasPlain : TraceLine → Type 0
+  HasPlain line = CanPrintAnswer line.answer × CanDraw line.answer line.drawn
+
+  turn_prints : (before : List Entry) (entry : Entry) (later : List Entry) → IsKept plan (before ++ entry ∷ later) → AreIts plan before → HasPlain (line_of entry) → CanPrintTurn (length plan.clients) (line_of entry)
+  turn_prints before entry later kept its plain =
+      let answered : IsAnswered (state_at plan before) entry = (run_next plan before entry later kept).answered in
+      record {
+        its = next_its plan before entry its (planned_next plan before entry later kept);
+        beside = beside entry.asked entry.side (λ cut. answered.sides (ap _ cut)) (λ word command. answered.sides (ap _ command));
+        fitting = answer_fits entry.actor entry.side entry.answer entry.missed;
+        numbers = plain.0;
+        draw = plain.1;
+      }
+
+  turns_print : (before later : List Entry) → IsKept plan (before ++ later) → AreIts plan before → AllByRecursion HasPlain (lines_of later) → AllByRecursion (CanPrintTurn (length plan.clients)) (lines_of later)
+  turns_print before [] kept its plain = tt
+  turns_print before (entry ∷ later) kept its plain =
+      let turn = turn_prints before entry later kept its plain.0 in (
+        turn,
+        turns_print (before ++ entry ∷ []) later (subst (IsKept plan) (sym (append_assoc before (entry ∷ []) later)) kept) (All-append (λ (one : Entry). _) before (entry ∷ []) its (turn.its, tt)) plain.1,
+      )
+
+-- ---- lengths
+
+front_short : {A : Type 0} (front back : List A) → length front ≤ length (front ++ back)
+front_short front back = let both = length-append front back in omega (arith, both)
+
+back_short : {A : Type 0} (front back : List A) → length back ≤ length (front ++ back)
+back_short front back = let both = length-append front back in omega (arith, both)
+
+-- each turn has a byte at least
+turn_long : (turn : ℕ) (line : TraceLine) → 1 ≤ length (turn_line turn line)
+unfolding turn_line
+turn_long turn line =
+    let rest : List ℕ = codes " " ++ actor_word line.actor ++ codes " " ++ asked_text line.asked ++ side_text line.side ++ codes " " ++ answer_text line.answer ++ drawn_text line.drawn ++ codes "\n" in
+    let some : 1 ≤ length rest = omega arith in
+    let both : length rest ≤ length (decimal turn ++ rest) = back_short (decimal turn) rest in
+    omega (arith, some, both)
+
+turns_short : (turn : ℕ) (lines : List TraceLine) → length lines ≤ length (turns_text turn lines)
+unfolding turns_text
+turns_short turn [] = omega arith
+turns_short turn (line ∷ lines) =
+    let others : length lines ≤ length (turns_text (turn + 1) lines) = turns_short (turn + 1) lines in
+    let some : 1 ≤ length (turn_line turn line) = turn_long turn line in
+    let one = length-append (turn_line turn line) (read_rows_text line.answer ++ turns_text (turn + 1) lines) in
+    let two : length (turns_text (turn + 1) lines) ≤ length (read_rows_text line.answer ++ turns_text (turn + 1) lines) = back_short (read_rows_text line.answer) (turns_text (turn + 1) lines) in
+    omega (arith, others, some, one, two)
+
+lines_short : (bytes : List ℕ) (trace : Trace) (names : List ℕ) → length trace.lines ≤ length (bytes ++ codes "\n" ++ journal_text trace names)
+unfolding journal_text
+lines_short bytes trace names =
+    let after : List ℕ = verdict_line trace.verdict ++ flat_map (λ table. table) trace.tables ++ names in
+    let one : length trace.lines ≤ length (turns_text 1 trace.lines) = turns_short 1 trace.lines in
+    let two : length (turns_text 1 trace.lines) ≤ length (turns_text 1 trace.lines ++ after) = front_short (turns_text 1 trace.lines) after in
+    let three : length (turns_text 1 trace.lines ++ after) ≤ length (journal_line ++ turns_text 1 trace.lines ++ after) = back_short journal_line (turns_text 1 trace.lines ++ after) in
+    let four : length (journal_line ++ turns_text 1 trace.lines ++ after) ≤ length (bytes ++ codes "\n" ++ journal_line ++ turns_text 1 trace.lines ++ after) = back_short (bytes ++ codes "\n") (journal_line ++ turns_text 1 trace.lines ++ after) in
+    omega (arith, one, two, three, four)
+
+-- ---- the law
+
+same_text : (bytes : List ℕ) (plan : PlanData) (journal : List Entry) → text_of bytes (trace_at plan journal) (tables_at plan journal) ≡ text_at bytes plan journal
+unfolding trace_text
+same_text bytes plan journal = refl
+
+trace_prints : (bytes : List ℕ) (plan : PlanData) (journal : List Entry) → length plan.clients ≤ 64 → IsKept plan journal → HasPlainValues plan journal → length (text_at bytes plan journal) ≤ TRACE_LIMIT → CanPrintTrace plan (trace_at plan journal) (tables_left plan (tables_at plan journal))
+unfolding trace_of trace_text
+trace_prints bytes plan journal clients kept plain short = record {
+  few = omega (arith, clients);
+  short = let lines = lines_short bytes (trace_at plan journal) (names_line (tables_at plan journal)) in omega (arith, lines, short);
+  turns = turns_print plan [] journal kept tt plain.answers;
+  ended = plain.verdict;
+  printed = refl;
+  tables = plain.tables;
+}
+
+-- *Printed traces are audited yes*
+pub printed_audited : ReadPlansAreAccepted → PrintedTracesAreRead → TracesAreAudited → PrintedTracesAreAudited
+printed_audited accepted reads audits = λ bytes plan journal is text kept within plain utf8 short.
+    let same = same_text bytes plan journal in (
+      subst (λ (printed : List ℕ). read_trace printed ≡ Ok (plan, trace_at plan journal)) same
+          (reads bytes plan (trace_at plan journal) (tables_left plan (tables_at plan journal)) (tables_at plan journal) is (trace_prints bytes plan journal (accepted bytes plan is).few kept plain short) plain.names
+          (subst IsUtf8 (sym same) utf8) (subst (λ (printed : List ℕ). length printed ≤ TRACE_LIMIT) (sym same) short)),
+      audits plan journal (record { bytes = bytes; is = is; text = text }) kept within,
+    )

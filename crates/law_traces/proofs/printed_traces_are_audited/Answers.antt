@@ -1,0 +1,5 @@
+use Rattle.law_traces.proofs.PrintedRuns.{printed_audited}
+use Rattle.law_traces.proofs.printed_traces_are_audited.Goals as goal
+
+pub returns : goal.returns
+returns c = printed_audited c.read_plans_are_accepted.ensures c.printed_traces_are_read.ensures c.traces_are_audited.ensures

@@ -1,0 +1,47 @@
+-- What holds of the text that is printed of a run of an accepted plan turn by turn. (This project's rule.)
+use Rattle.std.specs.Prelude.{◌≡◌, ◌≤◌, ℕ, List, length, Ok}
+use Rattle.std.specs.List.{AllByRecursion}
+use Rattle.std.specs.Str.{IsUtf8}
+use Rattle.server_model.specs.declared.entry.Entry.{Entry}
+use Rattle.plan_data.specs.PlanData.{PlanData}
+use Rattle.plan_reader.specs.Plans.{read}
+use Rattle.table_store.specs.Databases.{Database}
+use Rattle.tool_program.specs.JournalWords.Journals.{state_at}
+use Rattle.tool_program.specs.JournalWords.Serials.{tables_left}
+use Rattle.tool_program.specs.Verdicts.{verdict_of}
+use Rattle.proof_journals.specs.Run.Kept.{IsKept}
+use Rattle.run_audit.specs.declared.trace.Audit.TheVariants.{Yes}
+use Rattle.run_audit.specs.declared.trace.Trace.{Trace}
+use Rattle.run_audit.specs.Audits.{audited}
+use Rattle.run_audit.specs.Lines.{trace_of}
+use Rattle.top_trace.specs.Texts.{trace_text}
+use Rattle.top_trace_reader.specs.declared.whole.TheConstants.{TRACE_LIMIT}
+use Rattle.top_trace_reader.specs.Traces.{read_trace}
+use Rattle.law_texts.specs.PrintedTraces.{CanDraw, CanPrintAnswer, CanPrintTable, CanPrintVerdict, IsOneLine}
+
+-- the tables at the end of a run, and its trace, of which `trace` prints the text
+abbrev pub tables_at : PlanData → List Entry → Database
+tables_at plan journal = (state_at plan journal).tables
+
+abbrev pub trace_at : PlanData → List Entry → Trace
+trace_at plan journal = trace_of plan journal (verdict_of plan journal) (tables_at plan journal)
+
+abbrev pub text_at : List ℕ → PlanData → List Entry → List ℕ
+text_at bytes plan journal = trace_text bytes plan journal (verdict_of plan journal) (tables_at plan journal)
+
+-- *Has plain values*: the numbers of a run have 64 bits, its bytes are bytes, each row has a value, a number is drawn by what was
+-- done or refused, a task that was tried in vain names a turn, and no name has a line feed.
+pub record HasPlainValues (plan : PlanData) (journal : List Entry) : Type 0 where
+  pub answers : AllByRecursion (λ line. CanPrintAnswer line.answer × CanDraw line.answer line.drawn) (trace_at plan journal).lines
+  pub verdict : CanPrintVerdict (verdict_of plan journal)
+  pub tables : AllByRecursion CanPrintTable (tables_left plan (tables_at plan journal))
+  pub names : AllByRecursion (λ table. IsOneLine table.schema.name) (tables_at plan journal)
+
+-- *Printed traces are audited yes*: the text that `trace` prints of a run with such values, where it isn't longer than traces may
+-- be, is read as the plan and the run's trace, which is audited yes.
+abbrev pub PrintedTracesAreAudited : Type 0
+PrintedTracesAreAudited =
+    (bytes : List ℕ) (plan : PlanData) (journal : List Entry)
+    → read bytes ≡ Ok plan → IsUtf8 plan.table → IsKept plan journal → length journal ≤ plan.options.turn_limit → HasPlainValues plan journal
+    → IsUtf8 (text_at bytes plan journal) → length (text_at bytes plan journal) ≤ TRACE_LIMIT
+    → (read_trace (text_at bytes plan journal) ≡ Ok (plan, trace_at plan journal)) × (audited plan (trace_at plan journal) ≡ Yes)
