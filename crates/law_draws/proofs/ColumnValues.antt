@@ -334,6 +334,8 @@ module _ (name : List ℕ) (schema : Schema) (place next m number : ℕ) (state 
   within_below (requests.ReadLog position limit tables) leaves given = tt
   within_below requests.ShowTables leaves given = tt
   within_below requests.ShowWaiting leaves given = tt
+  within_below (requests.ShowCounter table) leaves given = tt
+  within_below (requests.SetCounter table least) leaves given = tt
 
   -- WHAT IS DONE
 
@@ -409,6 +411,8 @@ module _ (name : List ℕ) (schema : Schema) (place next m number : ℕ) (state 
   done_below (requests.ReadLog position limit tables) leaves given = did_below (requests.ReadLog position limit tables) leaves (λ i. tt)
   done_below requests.ShowTables leaves given = did_below requests.ShowTables leaves (λ i. tt)
   done_below requests.ShowWaiting leaves given = did_below requests.ShowWaiting leaves (λ i. tt)
+  done_below (requests.ShowCounter table) leaves given = did_below (requests.ShowCounter table) leaves (λ i. tt)
+  done_below (requests.SetCounter table least) leaves given = did_below (requests.SetCounter table least) leaves (λ i. tt)
 
   counts_below : (count : ℕ) → AllByRecursion (λ session. EventsBelow name place m session.writes) (with_session number (counting count) state.sessions)
   counts_below count = all_with (λ session. EventsBelow name place m session.writes) number (counting count) state.sessions (λ session all. all) kept.writes

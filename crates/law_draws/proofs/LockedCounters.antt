@@ -85,6 +85,8 @@ other_stays name state number (requests.Drop dropped) answer leaves off =
     if_counted (λ (c : List Counter). next_of name c ≡ next_of name state.counters) answer _ state.counters refl (next_without name dropped state.counters (nor_left (bytes_eq name dropped) false leaves))
 other_stays name state number (requests.Rename pairs) answer leaves off =
     if_counted (λ (c : List Counter). next_of name c ≡ next_of name state.counters) answer _ state.counters refl (next_renamed name pairs state.counters leaves)
+other_stays name state number (requests.SetCounter table least) answer leaves off =
+    if_counted (λ (c : List Counter). next_of name c ≡ next_of name state.counters) answer _ state.counters refl (next_from name table least state.counters leaves)
 other_stays name state number request answer leaves off = refl
 
 -- what is about no request

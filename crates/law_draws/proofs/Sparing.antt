@@ -71,6 +71,7 @@ tool_spares plan name (requests.Drop dropped) off is = record { counter = off_al
 tool_spares plan name (requests.Rename pairs) off is = record { counter = off_all plan name (tables_named (requests.Rename pairs)) off is; copies = tt }
 tool_spares plan name (requests.CopyRow from into map key) off is =
     record { counter = tt; copies = turned_bytes name into (off_one plan name into off (first_of (own plan into) true (second_of (own plan from) _ is))) }
+tool_spares plan name (requests.SetCounter table least) off is = record { counter = off_one plan name table off (first_of (own plan table) true is); copies = tt }
 tool_spares plan name request off is = record { counter = tt; copies = tt }
 
 word_spares : (name : List ℕ) (word : ScriptWord) → Spares name (Some (word_asks word))

@@ -20,7 +20,7 @@ pub fn numbers_are_above()
 {}
 
 /// While a session holds a table's name exclusively no other session's turn moves the table's counter, but one that makes, drops or renames
-/// a table of that name.
+/// a table of that name, or sets its counter.
 pub fn locked_counters_stay()
     ensures { LockedCountersStay }
 {}
