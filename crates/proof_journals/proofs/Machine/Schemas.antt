@@ -2,8 +2,7 @@
 use Rattle.server_model.proofs.Filling.{filled_case}
 use Rattle.server_model.specs.States.{is_of_tool}
 use Rattle.server_model.specs.Drawing.{numbered}
-use Rattle.std.proofs.Common.{◌≡◌, ℕ, Bool, true, false, not, List, [], ◌∷◌, ◌++◌, cond, Option, Some, None, Result, Ok, Err, refl, sym, ap, ◌∙◌, subst}
-use Rattle.std.specs.List.{list_any}
+use Rattle.std.proofs.Common.{◌≡◌, ℕ, Bool, true, false, not, List, [], ◌∷◌, ◌++◌, cond, Option, Some, None, refl, sym, ap, ◌∙◌, subst}
 use Rattle.std.specs.Option.{option_map}
 use Rattle.std.specs.Str.{bytes_eq}
 use Rattle.std.proofs.lemmas.Bool.{not-true, true≢false, false≢true}
@@ -11,9 +10,7 @@ use Rattle.base_values.specs.declared.event.RowEvent.{RowEvent}
 use Rattle.base_values.specs.declared.event.Change.{Change}
 use Rattle.base_values.specs.declared.gho_schema.schema.Schema.{Schema}
 use Rattle.base_values.specs.declared.mysql_errors.TheConstants.{ER_TABLE_EXISTS_ERROR, ER_TABLE_NOT_LOCKED}
-use Rattle.table_store.specs.Databases.{TableRows, Database, find_table, has_table, is_named, rename_tables, with_change}
-use Rattle.table_store.specs.declared.renames.NotRenamed.{NotRenamed}
-use Rattle.table_store.specs.declared.renames.Pair.{Pair}
+use Rattle.table_store.specs.Databases.{TableRows, Database, find_table, has_table, is_named, with_change}
 use Rattle.base_script.specs.declared.actor.Side.{Side}
 use Rattle.base_script.specs.declared.actor.Side.TheVariants.{Before, After}
 use Rattle.server_model.specs.declared.answer.Answer.TheVariants as answers
@@ -27,16 +24,16 @@ use Rattle.server_model.specs.declared.session.Waiting.{Waiting}
 use Rattle.server_model.specs.declared.work.StatementResult.{StatementResult}
 use Rattle.server_model.specs.Entries.{is_client, is_command}
 use Rattle.server_model.specs.Operations.{statement_result, operation_result, copy_operation, after_events, change_table}
-use Rattle.server_model.specs.States.{State, session_of, is_in_transaction, pair_names, view, waiting_of, writes_of}
+use Rattle.server_model.specs.States.{State, session_of, is_in_transaction, view, waiting_of, writes_of}
 use Rattle.server_model.specs.Blockers.{need, need_within, blocker}
-use Rattle.server_model.specs.Effects.{result_effect, begins, all_exist, locks_if, created, dropped, renamed_or, defined, effect_within, effect_unless, is_outside}
+use Rattle.server_model.specs.Effects.{result_effect, begins, all_exist, locks_if, created, dropped, defined, effect_within, effect_unless, is_outside}
 use Rattle.server_model.specs.PlainServer.{Served, does, done, did, called_unless, calls, is_over, polled_over, polled_unless, polled_of, polls, loses, leaves, serves, without_waiting}
 use Rattle.plan_data.specs.PlanData.{PlanData}
 use Rattle.tool_program.specs.JournalWords.Journals.{opens, state_at, may_lose}
 use Rattle.proof_journals.specs.Scenes.{Stored}
 use Rattle.proof_journals.specs.Turns.{request_of}
 use Rattle.proof_journals.proofs.Journals.{stored_opened, opened_waits}
-use Rattle.proof_journals.proofs.Moves.{after_other, drop_moves, rename_moves}
+use Rattle.proof_journals.proofs.Moves.{after_other, drop_moves}
 use Rattle.server_model.proofs.LockedRows.Finding.{change_if, found_after}
 use Rattle.server_model.proofs.LockedRows.Tests.{same_bytes, nor_left, nor_right}
 use Rattle.proof_journals.specs.Machine.MigrationTables.{schema_of}
@@ -47,7 +44,7 @@ use Rattle.proof_journals.proofs.Machine.Seated.{IsServed, state_more}
 abbrev pub keeps_table : List ℕ → Request → Bool
 keeps_table name (requests.Create schema) = not (bytes_eq schema.name name)
 keeps_table name (requests.Drop dropped) = not (bytes_eq name dropped)
-keeps_table name (requests.Rename pairs) = not (list_any (bytes_eq name) (pair_names pairs))
+keeps_table name (requests.Rename pairs) = false
 keeps_table name request = true
 
 -- it makes, drops and renames no table
@@ -110,10 +107,6 @@ dropped_keeps : (name dropped_name : List ℕ) (state : State) (number : ℕ) �
 dropped_keeps name dropped_name state number off false = refl
 dropped_keeps name dropped_name state number off true = ap (option_map (λ table. table.schema)) ((drop_moves dropped_name state.tables).others name (rw off refl))
 
-renamed_keeps : (name : List ℕ) (pairs : List Pair) (state : State) (number : ℕ) (renamed : Result Database NotRenamed) → rename_tables pairs state.tables ≡ renamed → list_any (bytes_eq name) (pair_names pairs) ≡ false → Same name state (does (defined (renamed_or renamed)) state number)
-renamed_keeps name pairs state number (Ok tables) is off = ap (option_map (λ table. table.schema)) ((rename_moves pairs state.tables tables is).others name off)
-renamed_keeps name pairs state number (Err reason) is off = refl
-
 within_same : (name : List ℕ) (state : State) (number : ℕ) (request : Request) → keeps_table name request ≡ true → Same name state (does (effect_within (is_in_transaction (session_of number state.sessions)) (view number state) state request) state number)
 within_same name state number requests.Begin keeps = refl
 within_same name state number requests.Commit keeps = schema_events name state.tables (writes_of (session_of number state.sessions) ++ [])
@@ -134,7 +127,7 @@ within_same name state number (requests.LockTables names) keeps = at (all_exist 
 within_same name state number requests.Unlock keeps = refl
 within_same name state number (requests.Create schema) keeps = created_keeps name schema state number (not-true (bytes_eq schema.name name) keeps) (has_table schema.name state.tables)
 within_same name state number (requests.Drop dropped_name) keeps = dropped_keeps name dropped_name state number (not-true (bytes_eq name dropped_name) keeps) (has_table dropped_name state.tables)
-within_same name state number (requests.Rename pairs) keeps = renamed_keeps name pairs state number (rename_tables pairs state.tables) refl (not-true (list_any (bytes_eq name) (pair_names pairs)) keeps)
+within_same name state number (requests.Rename pairs) keeps = absurd (false≢true keeps)
 within_same name state number requests.LogEnd keeps = refl
 within_same name state number (requests.ReadLog position limit tables) keeps = refl
 within_same name state number requests.ShowTables keeps = refl

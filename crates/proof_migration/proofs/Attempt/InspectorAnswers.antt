@@ -29,6 +29,7 @@ use Rattle.tool_program.specs.declared.cutover_core.cutover.Phase.TheVariants.{R
 use Rattle.tool_program.specs.declared.cutover_core.cutover.Stage.{Stage}
 use Rattle.tool_program.specs.declared.cutover_core.cutover.Stage.TheVariants.{Guarding, Locking, Hinting, Draining, Drained, Showing, Dropping, Unlocking, Exchanging, ReadingCounter, SettingCounter}
 use Rattle.tool_program.specs.CutoverCore.Attempts.{is_clear, without_first, has_name, has_sentry}
+use Rattle.tool_program.specs.CutoverCore.CutOvers as cutovers
 use Rattle.tool_program.specs.CutoverCore.CutOvers.{is_bad, is_wait, inspector_phase, inspector_stage, shows_wait, ending_after, finishing_after, finishing, left_at_end, sentry_alone, seen}
 use Rattle.tool_program.specs.declared.cutover_core.cutover.Drain.TheVariants.{Turns, Passed}
 use Rattle.tool_program.specs.declared.cutover_core.cutover.Drain.{Drain}

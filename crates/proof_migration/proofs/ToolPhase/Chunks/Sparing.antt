@@ -43,9 +43,10 @@ use Rattle.proof_journals.proofs.Sentry.Holding.{both_none}
 use Rattle.server_model.proofs.LockedRows.Tests.{turned_bytes}
 use Rattle.proof_journals.proofs.Machine.Schemas.{keeps_table}
 
--- the request locks tables
+-- the request locks tables, or one table for its turn alone, to set its counter
 abbrev pub is_lock : Request → Bool
 is_lock (requests.LockTables names) = true
+is_lock (requests.SetCounter table least) = true
 is_lock request = false
 
 -- the request doesn't ask for the table's name exclusively
@@ -251,6 +252,7 @@ names_other table (requests.LockTables names) spares exclusive = absurd (true≢
 names_other table (requests.Create schema) spares exclusive = rw (not-true (bytes_eq schema.name table) spares.keeps) refl
 names_other table (requests.Drop name) spares exclusive = rw (turned_bytes table name (not-true (bytes_eq table name) spares.keeps)) refl
 names_other table (requests.Rename pairs) spares exclusive = absurd (false≢true spares.keeps)
+names_other table (requests.SetCounter other least) spares exclusive = absurd (true≢false spares.unlocks)
 names_other table request spares exclusive = absurd (false≢true exclusive)
 
 one_waits : (table : List ℕ) (number : ℕ) (one : Waiting) (following : List Waiter) → Spares table one.request → least_waiter following number table ≡ None → least_waiter (waits_for one ++ following) number table ≡ None

@@ -27,13 +27,13 @@ use Rattle.tool_program.specs.declared.event_applier.applier.ApplyStep.{ApplySte
 use Rattle.tool_program.specs.declared.event_applier.applier.ApplyStep.TheVariants as applying
 use Rattle.tool_program.specs.Operators.{is_throttled}
 use Rattle.tool_program.specs.Programs.{in_transaction, rolls_back, copy_call, apply_call, tool_call, given, IsGiven}
-use Rattle.tool_program.specs.Setups.{Setup, setup_call}
+use Rattle.tool_program.specs.Setups.{Setup, Listing, Clearing, MakingLog, MakingGhost, Marking, Reaching, Ready, setup_call}
 use Rattle.tool_program.specs.Tools.{Work, ToolPhase, SettingUp, Migrating, Tool, Moment, stopped, is_reverting, moment}
 use Rattle.proof_journals.specs.Machine.Standings.{Standing, standing_of}
 use Rattle.proof_journals.specs.Machine.Machines.{inspector_asks, copier_asks, applier_asks, ApplierStands, ToolPhaseStands}
 use Rattle.proof_journals.specs.Machine.FormedPlans.{IsFitting}
 use Rattle.proof_journals.specs.Machine.MigrationTables.{ToolPhaseTables, WorkTables, TableExists}
-use Rattle.proof_journals.proofs.Machine.Asking.{unless_called, copier_next, applier_next, setup_next}
+use Rattle.proof_journals.proofs.Machine.Asking.{some_request, unless_called, copier_next, applier_next}
 use Rattle.proof_journals.proofs.Machine.Calling.{reverting_or}
 use Rattle.proof_journals.proofs.Machine.Clients.{Next, calls_line, polls_line, client_next}
 use Rattle.proof_journals.proofs.Machine.Forming.{next_call}
@@ -66,9 +66,14 @@ applier_unlocks (applying.Applying batch done part) (requests.Do statement) kind
 applier_unlocks (applying.Committing batch) requests.Commit kind = refl
 applier_unlocks step request kind = absurd cc
 
-inspector_unlocks : (request : Request) → inspector_asks request ≡ true → is_lock request ≡ false
-inspector_unlocks (requests.LockTables names) kind = absurd (false≢true kind)
-inspector_unlocks request kind = refl
+setup_unlocks : (plan : PlanData) (setup : Setup) (request : Request) → setup_call plan setup ≡ Some request → is_lock request ≡ false
+setup_unlocks plan Listing request call = some_request (λ r. is_lock r ≡ false) _ request call refl
+setup_unlocks plan (Clearing left) request call = some_request (λ r. is_lock r ≡ false) _ request call refl
+setup_unlocks plan MakingLog request call = some_request (λ r. is_lock r ≡ false) _ request call refl
+setup_unlocks plan MakingGhost request call = some_request (λ r. is_lock r ≡ false) _ request call refl
+setup_unlocks plan Marking request call = some_request (λ r. is_lock r ≡ false) _ request call refl
+setup_unlocks plan (Reaching position) request call = some_request (λ r. is_lock r ≡ false) _ request call refl
+setup_unlocks plan (Ready position range) request call = absurd cc
 
 word_unlocks : (word : ScriptWord) → is_lock (word_asks word) ≡ false
 word_unlocks words.Begin = refl
@@ -108,7 +113,7 @@ module _ (plan : PlanData) (journal : List Entry) (is : IsTabled plan journal) w
 
   insp_spares : (request : Request) (setup : Setup) → cond (is_reverting then.tool.reason) None (setup_call plan setup) ≡ Some request → Spares plan.table request
   insp_spares request setup call =
-      record { keeps = setup_keeps plan setup request (unless_called (is_reverting then.tool.reason) (setup_call plan setup) request call); unlocks = inspector_unlocks request (setup_next plan (is_reverting then.tool.reason) setup request call) }
+      record { keeps = setup_keeps plan setup request (unless_called (is_reverting then.tool.reason) (setup_call plan setup) request call); unlocks = setup_unlocks plan setup request (unless_called (is_reverting then.tool.reason) (setup_call plan setup) request call) }
 
 module _ (plan : PlanData) (journal : List Entry) (entry : Entry) (is : IsTabled plan journal) (run : IsRun plan journal entry) where
   abbrev now : Moment
