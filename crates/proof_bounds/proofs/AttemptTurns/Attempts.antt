@@ -48,7 +48,7 @@ use Rattle.proof_journals.specs.Plans.{IsSerialPlan}
 use Rattle.proof_journals.specs.Run.Kept.{IsKept}
 use Rattle.proof_journals.specs.Machine.Machines.{ToolPhaseStands, WorkStands, SetupStands, held, renaming}
 use Rattle.proof_journals.specs.Machine.Runnable.{IsRunnable}
-use Rattle.proof_journals.specs.Machine.Standings.{Standing, free, standing_in, standing_of, serves_to, IsAbout, is_called}
+use Rattle.proof_journals.specs.Machine.Standings.{Standing, free, standing_in, standing_of, serves_to, IsAbout, is_called, is_polled}
 use Rattle.proof_journals.proofs.Actors.{live_more, same_actor_is}
 use Rattle.proof_journals.proofs.Machine.Asking.{some_request, idle_stands}
 use Rattle.proof_journals.proofs.Machine.Journals.{IsRun, IsTogether, Asking, calls_so, polls_so, asking, lock_about}
@@ -739,7 +739,7 @@ module _ (plan : PlanData) (may : MayWait plan) (runs : IsRunnable plan) (journa
         unseated : live_at more ≡ false
         unseated =
             ap is_some (live_more journal entry Insp ∙ ap (λ (a : Actor). cond (same_actor a Insp) (session_left entry.asked entry.answer entry.session) (live_session journal Insp)) same ∙ ap (λ (a : Asked). session_left a entry.answer entry.session) cut
-            ∙ ap (λ (a : Answer). session_left Cut a entry.session) lost_cut)
+            ∙ ap (λ (a : Answer). session_left Cut a entry.session) (lost_cut cut))
 
         waits_so : WaitsIn phase
         waits_so = inspects_so on
@@ -863,7 +863,7 @@ module _ (plan : PlanData) (may : MayWait plan) (runs : IsRunnable plan) (journa
     unseated : same_actor entry.actor Insp ≡ true → live_at more ≡ false
     unseated same =
         ap is_some (live_more journal entry Insp ∙ ap (λ (b : Bool). cond b (session_left entry.asked entry.answer entry.session) (live_session journal Insp)) same ∙ ap (λ (a : Asked). session_left a entry.answer entry.session) cut
-        ∙ ap (λ (a : Answer). session_left Cut a entry.session) lost_cut)
+        ∙ ap (λ (a : Answer). session_left Cut a entry.session) (lost_cut cut))
 
     -- the inspector's session had nothing
     had_none : entry.actor ≡ Insp → (has Insp).waits ≡ None

@@ -26,6 +26,7 @@ use Rattle.server_model.specs.declared.entry.Asked.{Asked}
 use Rattle.server_model.specs.declared.entry.Asked.TheVariants.{Call, Poll, Command, Cut}
 use Rattle.server_model.specs.declared.entry.Entry.{Entry}
 use Rattle.server_model.specs.declared.request.Request.{Request}
+use Rattle.server_model.specs.declared.request.Request.TheVariants as requests
 use Rattle.server_model.specs.declared.session.Session.{Session}
 use Rattle.server_model.specs.Effects.{is_outside}
 use Rattle.server_model.specs.Entries.{same_actor, is_client, is_command}
