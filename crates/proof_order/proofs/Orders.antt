@@ -294,8 +294,10 @@ module _ (plan : PlanData) (journal : List Entry) (entry : Entry) (run : IsRun p
         some_request (IsOrderedCall plan journal Ren) (exchange work.cutover.table) request call
         (record {
           drops = refl;
-          renames = and_both (list_any (λ attempt. attempt == attempts_begun journal) (hints_applied plan journal).passed) (is_locked journal && (not (has_counter plan) || is_carried plan journal)) (subst (λ (n : ℕ). list_any (λ one. one == n) told.hints.passed ≡ true) (sym old.begun) passes)
-              (and_both (is_locked journal) (not (has_counter plan) || is_carried plan journal) (locked work eq (subst (λ (p : Phase). PhaseHolds p work.cutover.hold) at (work_has work eq).phase)) (subst Counts at (counts_at (Migrating work) eq)));
+          renames =
+              and_both (list_any (λ attempt. attempt == attempts_begun journal) (hints_applied plan journal).passed && is_locked journal) (not (has_counter plan) || is_carried plan journal)
+              (and_both (list_any (λ attempt. attempt == attempts_begun journal) (hints_applied plan journal).passed) (is_locked journal) (subst (λ (n : ℕ). list_any (λ one. one == n) told.hints.passed ≡ true) (sym old.begun) passes)
+              (locked work eq (subst (λ (p : Phase). PhaseHolds p work.cutover.hold) at (work_has work eq).phase))) (subst Counts at (counts_at (Migrating work) eq));
           reads = refl;
           clears = refl;
           hints = tt;
@@ -360,8 +362,9 @@ module _ (plan : PlanData) (journal : List Entry) (entry : Entry) (run : IsRun p
         clears = refl;
         hints = tt;
         counts =
-            and_both (bytes_eq (ghost_name work.cutover.table) (ghost_name plan.table)) (shown_so plan.table number (last_call Insp journal) (last_reply Insp journal) && is_locked journal) (ap (λ (t : List ℕ). bytes_eq (ghost_name t) (ghost_name plan.table)) (own_table work eq) ∙ same_bytes (ghost_name plan.table))
-            (and_both (shown_so plan.table number (last_call Insp journal) (last_reply Insp journal)) (is_locked journal) ((subst Counts at (counts_at (Migrating work) eq)).shown idle) (locked work eq (subst (λ (p : Phase). PhaseHolds p work.cutover.hold) at (work_has work eq).phase)));
+            and_both (bytes_eq (ghost_name work.cutover.table) (ghost_name plan.table) && shown_so plan.table number (last_call Insp journal) (last_reply Insp journal)) (is_locked journal)
+            (and_both (bytes_eq (ghost_name work.cutover.table) (ghost_name plan.table)) (shown_so plan.table number (last_call Insp journal) (last_reply Insp journal)) (ap (λ (t : List ℕ). bytes_eq (ghost_name t) (ghost_name plan.table)) (own_table work eq) ∙ same_bytes (ghost_name plan.table))
+            ((subst Counts at (counts_at (Migrating work) eq)).shown idle)) (locked work eq (subst (λ (p : Phase). PhaseHolds p work.cutover.hold) at (work_has work eq).phase));
       })
   inspector_calls work eq idle (Attempting Showing) at request call = some_request (IsOrderedCall plan journal Insp) requests.ShowWaiting request call (record { drops = refl; renames = refl; reads = refl; clears = refl; hints = tt; counts = refl })
   inspector_calls work eq idle (Attempting stage) at request call = absurd cc
