@@ -40,7 +40,7 @@ returns-in_ok-counters_renamed-in-Rename-clause-counters g c = λ answer.
 pub returns-in-SetCounter-clause-counters : goal.returns-in-SetCounter-clause-counters
 returns-in-SetCounter-clause-counters g c = λ answer.
     let state : State = state_of (g.D.Data.committed c.args.store.now) c.args.all_sessions.now in
-    rw c.in-SetCounter.is (set_counted state c.args.session c.in-SetCounter.table.now c.in-SetCounter.number answer)
+    rw c.in-SetCounter.is (set_counted state c.args.session c.in-SetCounter.table c.in-SetCounter.number answer)
 
 pub returns-in_default : goal.returns-in_default
 returns-in_default g c =
