@@ -67,6 +67,7 @@ class Turn:
     what: str = ""
     answer: str = ""
     blockers: set = None  # for whom it waits, as the server says; none where it doesn't wait there
+    behind: set = None  # for whom these wait in turn
 
 
 class Talk:
@@ -344,6 +345,16 @@ class Rehearsal:
             talk.blocked_at, talk.blockers = at, {it for it, other in self.talks.items() if other.session.number in numbers}
         return talk.blockers
 
+    def behind(self, actors):
+        """For whom these wait, and those in turn."""
+        found, asked = set(), list(actors)
+        while asked:
+            talk = self.talks[asked.pop()]
+            further = self.blockers(talk) - found if talk.call and talk.seen_at and not talk.is_answered(0) else set()
+            found |= further
+            asked += further
+        return found
+
     def is_beyond_chunk(self, what, by):
         """Whether that is the row after a chunk, which a server locks as well."""
         if by != "copy" or not what.startswith("row ") or not self.tool.copier.keys:
@@ -551,6 +562,7 @@ class Rehearsal:
                 self.tool.rename_waits()
         entry.wait, entry.note, entry.answer = talk.wait, "waits", "waits"
         entry.blockers = None if actor in self.early else self.blockers(talk)
+        entry.behind = self.behind(entry.blockers or ())
         talk.polls += polls
         if talk.polls == self.longest_wait(actor):
             entry.answer = f"timeout {talk.polls}"
