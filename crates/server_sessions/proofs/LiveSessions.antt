@@ -1,4 +1,5 @@
 pub mod HeldLocks
+pub mod HeldNames
 pub mod OpenBytes
 pub mod Polls
 pub mod Ready

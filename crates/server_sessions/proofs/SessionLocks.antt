@@ -1,10 +1,6 @@
--- Who blocks the names that a request mentions: the least session that holds one, or asked earlier for it. Sessions keep the
--- names that they hold; nothing is kept beside them.
+-- The names that a request mentions, who blocks one, and the list of waits.
 pub mod Distinct
-pub mod Leasts
 pub mod Mentioned
-pub mod Names
 pub mod Pairs
 pub mod Places
 pub mod Shown
-pub mod Waiters

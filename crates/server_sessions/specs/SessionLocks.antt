@@ -1,4 +1,3 @@
--- Who blocks the names that a request mentions: the least session that holds one, or asked earlier for it. Sessions keep the
--- names that they hold; nothing is kept beside them.
+-- The names that a request mentions, who blocks one, and the list of waits.
 pub mod Bare
 pub mod Names

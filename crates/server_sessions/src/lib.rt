@@ -1,6 +1,6 @@
 //! What the server keeps of its sessions and of the requests that wait. In `session_locks` who blocks the names
-//! that a request mentions; in `live_sessions` the sessions with the table of their row locks, the waits and the log as one value,
-//! and how each call changes it.
+//! that a request mentions; in `live_sessions` the sessions and the waits, with the tables of their locks, and the log as one
+//! value, and how each call changes it.
 #![tactic(auto)]
 
 mod counters;

@@ -8,3 +8,4 @@ mod session_list;
 
 pub use all_sessions::Sessions;
 pub use counter_moves::CounterMove;
+pub use session_list::SessionList;

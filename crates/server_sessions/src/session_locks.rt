@@ -1,11 +1,9 @@
-//! Who blocks the names that a request mentions: the least session that holds one, or asked earlier for it. Sessions keep the
-//! names that they hold; nothing is kept beside them.
+//! Who blocks the names that a request mentions: the least session that holds one, or asked earlier for it. It is asked of the
+//! table of names.
 
 mod blockers;
-mod holders;
 mod listing;
 mod mentions;
-mod waits;
 
 pub use blockers::names_blocker;
 pub use listing::waits_shown;

@@ -1,8 +1,8 @@
 //! Runs the top call over the folders of `data`, and says what isn't as it must be. The file `files` of a folder names the
 //! files that are run.
 //!
-//! `cases` has plans with the status and the text that a call must end with; where turns were taken, the replies and the tables
-//! must also be those that one transaction at a time gives, in the order in which they ended.
+//! `cases` has plans with the status and the text that a call must end with; where that is the report of a run, its replies and
+//! tables must also be those that one transaction at a time gives, in the order in which they ended.
 //!
 //! `orders` has plans with three clients each and no order of their own, which are run in 200 different orders of turns; and
 //! `losses` plans that are run once for each turn and each side of it, with that turn's session lost, and once for each turn and

@@ -14,7 +14,7 @@ use Rattle.plan_reader.specs.declared.limits.TheConstants.{PLAN_LIMIT}
 use Rattle.plan_reader.specs.Plans.{document, plan_at, read}
 use Rattle.top_words.specs.Commands.{command}
 use Rattle.top_words.specs.declared.command.Command.{Command}
-use Rattle.top_words.specs.declared.command.Command.TheVariants.{Check, Replay, Run, Generate, Trace, Rebuild}
+use Rattle.top_words.specs.declared.command.Command.TheVariants.{Check, Replay, Run, Generate, Trace, Audit, Rebuild}
 use Rattle.top_endings.specs.declared.command.PlanCommand.{PlanCommand}
 use Rattle.top_endings.specs.declared.command.PlanCommand.TheVariants as plans
 use Rattle.top_endings.specs.declared.printed.Printed.{Printed}
@@ -26,6 +26,9 @@ use Rattle.top_endings.specs.Checks.{IsSchema}
 use Rattle.top_endings.specs.Rebuilt.{has_second_unique}
 use Rattle.top_endings.specs.Texts.{IsRefusal, usage_text, read_fault_text}
 use Rattle.top_workload.specs.Workloads.{workload}
+use Rattle.top_trace_reader.specs.declared.whole.TheConstants.{TRACE_LIMIT}
+use Rattle.top_trace_reader.specs.Traces.{read_trace}
+use Rattle.top_call.specs.Audits.{IsAuditPrinted, TellsTrace}
 use Rattle.top_call.specs.Comings.{ComesTo, HasNoPlan, IsAccepted, LeavesSource, TellsPlan}
 use Rattle.top_call.specs.Outcomes.{Comes, IsTaken, IsUntaken, RebuildComes, TakesNone, rebuild_at, report_at, trace_at}
 
@@ -41,10 +44,13 @@ nothing_shown Shows = record { untaken = no_turn; shows = tt }
 pub nothing_reported : (source : Taking) → HasNoPlan source None [] []
 nothing_reported source = λ chosen. inr (nothing_shown (IsReadFault source))
 
+fault_shown : (source : Taking) (printed : Printed) → printed ≡ record { status = statuses.ReadFault; text = read_fault_text } → Rose source.faults_before source.faults_after → TakesNone (IsReadFault source) (Some printed) [] []
+fault_shown source printed is rose = record { untaken = no_turn; shows = record { status_is = ap (λ (one : Printed). one.status) is; text_is = ap (λ (one : Printed). one.text) is; rose = rose } }
+
 -- the source failed
 pub fault_reported : (source : Taking) (printed : Option Printed) → IfSome printed (λ one. one ≡ record { status = statuses.ReadFault; text = read_fault_text }) → Rose source.faults_before source.faults_after → HasNoPlan source printed [] []
 fault_reported source None is rose = nothing_reported source
-fault_reported source (Some printed) is rose = λ chosen. inr (record { untaken = no_turn; shows = record { status_is = ap (λ (one : Printed). one.status) is; text_is = ap (λ (one : Printed). one.text) is; rose = rose } })
+fault_reported source (Some printed) is rose = λ chosen. inr (fault_shown source printed is rose)
 
 refusal_comes : (chosen : PlanCommand) (bytes : List ℕ) (refusal : PlanRefusal) (printed : Option Printed) → IfSome printed (IsRefusal (refusals.Plan refusal)) → Comes chosen bytes (Err refusal) printed [] []
 refusal_comes plans.Check bytes refusal printed shows = record { untaken = no_turn; shows = shows }
@@ -102,6 +108,21 @@ plans_are_utf8 bytes plan is = by _ plan_at (is_utf8 bytes) (nat_lt PLAN_LIMIT (
   by document plan_of false true is = absurd cc
   by document plan_of false false is = absurd cc
 
+-- A SOURCE THAT A TRACE IS READ FROM
+
+-- nothing is printed, since memory ran out
+pub no_trace_reported : (source : Taking) → TellsTrace source None [] []
+no_trace_reported source = inr (nothing_shown (IsReadFault source))
+
+-- the source failed
+pub trace_fault_reported : (source : Taking) (printed : Option Printed) → IfSome printed (λ one. one ≡ record { status = statuses.ReadFault; text = read_fault_text }) → Rose source.faults_before source.faults_after → TellsTrace source printed [] []
+trace_fault_reported source None is rose = no_trace_reported source
+trace_fault_reported source (Some printed) is rose = inr (fault_shown source printed is rose)
+
+-- its bytes were judged, or refused
+pub audit_reported : (source : Taking) (printed : Option Printed) (bytes : List ℕ) → ReadsWhole TRACE_LIMIT source.before source.after bytes → IfSome printed (IsAuditPrinted (read_trace bytes)) → TellsTrace source printed [] []
+audit_reported source printed bytes whole shows = inl (record { bytes = bytes; whole = whole; comes = record { untaken = no_turn; shows = shows } })
+
 -- THE WORDS
 
 takes_nothing : (left : Option (List ℕ)) → Consumes left left []
@@ -124,6 +145,7 @@ nothing_comes (Some Replay) left faults = nothing_reported (Unmoved left faults)
 nothing_comes (Some (Run workers)) left faults = nothing_reported (Unmoved left faults) (plans.Run workers)
 nothing_comes (Some (Generate number)) left faults = left_as_it_was left faults _ None (nothing_shown _)
 nothing_comes (Some Trace) left faults = nothing_reported (Unmoved left faults) plans.Trace
+nothing_comes (Some Audit) left faults = no_trace_reported (Unmoved left faults)
 nothing_comes (Some (Rebuild workers)) left faults = nothing_reported (Unmoved left faults) (plans.Rebuild workers)
 
 -- what comes under the commands that read a plan
@@ -138,6 +160,10 @@ replay_comes source printed turns journal tells = tells
 pub trace_comes : (source : Taking) (printed : Option Printed) (turns : List Turn) (journal : List Entry) → TellsPlan plans.Trace source printed turns journal → ComesTo (Some Trace) source printed turns journal
 unfolding ComesTo
 trace_comes source printed turns journal tells = tells
+
+pub audit_comes : (source : Taking) (printed : Option Printed) (turns : List Turn) (journal : List Entry) → TellsTrace source printed turns journal → ComesTo (Some Audit) source printed turns journal
+unfolding ComesTo
+audit_comes source printed turns journal tells = tells
 
 pub rebuild_comes : (workers : ℕ) (source : Taking) (printed : Option Printed) (turns : List Turn) (journal : List Entry) → TellsPlan (plans.Rebuild workers) source printed turns journal → ComesTo (Some (Rebuild workers)) source printed turns journal
 unfolding ComesTo

@@ -1,16 +1,24 @@
 -- How a call ends, from what its words and its source come to and what was given of it.
-use Rattle.std.proofs.Common.{◌≡◌, ℕ, Bool, true, false, cond, List, Option, Some, None, Result, Ok, Err, inl, inr, refl, sym, ap, ◌∙◌, subst}
+use Rattle.std.proofs.Common.{◌≡◌, ◌≢◌, ℕ, Bool, true, false, cond, List, Option, Some, None, Result, Ok, Err, inl, inr, refl, sym, ap, ◌∙◌, subst}
 use Rattle.std.specs.Io.KnownBytes.{Appends}
+use Rattle.base_edges.specs.Whole.{ReadsWhole}
 use Rattle.server_model.specs.declared.entry.Entry.{Entry}
 use Rattle.server_model.specs.declared.outcome.Verdict.{Verdict}
 use Rattle.server_model.specs.declared.outcome.Verdict.TheVariants as verdicts
 use Rattle.plan_data.specs.PlanData.{PlanData}
 use Rattle.plan_reader.specs.declared.fault.PlanRefusal.{PlanRefusal}
+use Rattle.plan_reader.specs.declared.limits.TheConstants.{PLAN_LIMIT}
 use Rattle.plan_reader.specs.Plans.{read}
+use Rattle.run_audit.specs.declared.trace.Audit as audits
+use Rattle.run_audit.specs.declared.trace.Audit.TheVariants as answers
+use Rattle.run_audit.specs.declared.trace.Trace.{Trace}
+use Rattle.run_audit.specs.Audits.{audited}
 use Rattle.tool_program.specs.Verdicts.{verdict_of}
+use Rattle.top_trace_reader.specs.declared.fault.TraceRefusal.{TraceRefusal}
+use Rattle.top_trace_reader.specs.Traces.{read_trace}
 use Rattle.top_words.specs.Commands.{command}
 use Rattle.top_words.specs.declared.command.Command.{Command}
-use Rattle.top_words.specs.declared.command.Command.TheVariants.{Check, Replay, Run, Generate, Trace, Rebuild}
+use Rattle.top_words.specs.declared.command.Command.TheVariants.{Check, Replay, Run, Generate, Trace, Audit, Rebuild}
 use Rattle.top_endings.specs.declared.command.PlanCommand.{PlanCommand}
 use Rattle.top_endings.specs.declared.command.PlanCommand.TheVariants as plans
 use Rattle.top_endings.specs.declared.printed.Printed.{Printed}
@@ -19,14 +27,16 @@ use Rattle.top_endings.specs.declared.refusals.Refusal.TheVariants as refusals
 use Rattle.top_endings.specs.declared.status.Status.{Status}
 use Rattle.top_endings.specs.declared.status.Status.TheVariants as statuses
 use Rattle.top_endings.specs.declared.turn.Turn.{Turn}
-use Rattle.top_endings.specs.Endings.{Taking, Giving, IsReadFault, IsUsage, IsWorkload, Gives, asked, reads_plan}
+use Rattle.top_endings.specs.Endings.{Taking, Giving, IsReadFault, IsUsage, IsWorkload, Gives, asked, reads_source}
+use Rattle.top_endings.specs.Audits.{IsAnswer, answer_status, answer_text}
 use Rattle.top_endings.specs.Checks.{IsSchema}
 use Rattle.top_endings.specs.Rebuilt.{has_second_unique}
 use Rattle.top_endings.specs.Texts.{IsRefusal}
 use Rattle.top_call.specs.WholeReplays.SoundRuns.{IsSoundRun}
+use Rattle.top_call.specs.Audits.{IsAuditPrinted, IsTraceRead, TellsTrace}
 use Rattle.top_call.specs.Comings.{IsRead, TellsPlan, ComesTo, Does}
 use Rattle.top_call.specs.Outcomes.{IsTaken, RebuildComes, TakesNone, Comes, run_text, status_of}
-use Rattle.top_call.specs.Promises.{Ends, EndsUnder, PrintsDone, PrintsReport, refusal_by, refusal_of}
+use Rattle.top_call.specs.Promises.{Ends, EndsUnder, PrintsAnswer, PrintsDone, PrintsReport, limit_of, plan_refusal, refusal_of, trace_refusal}
 use Rattle.top_call.specs.TopLaws.{Laws}
 use Rattle.top_call.proofs.Headline.{runs_of}
 use Rattle.top_call.proofs.Taken.{sound_of, ends_as, is_taken, tells_alter}
@@ -43,12 +53,12 @@ module _ (words : List (List ℕ)) (source : Taking) (sink : Giving) (turns : Li
   text_given : (printed : Printed) (text : List ℕ) → printed.text ≡ text → Gave printed → Appends sink.before sink.after text
   text_given printed text is given = subst (λ (bytes : List ℕ). Appends sink.before sink.after bytes) is given
 
-  reads_by : (chosen : PlanCommand) → command words ≡ Some (asked chosen) → reads_plan (command words) ≡ true
-  reads_by plans.Check is = ap reads_plan is
-  reads_by plans.Replay is = ap reads_plan is
-  reads_by (plans.Run workers) is = ap reads_plan is
-  reads_by plans.Trace is = ap reads_plan is
-  reads_by (plans.Rebuild workers) is = ap reads_plan is
+  reads_by : (chosen : PlanCommand) → command words ≡ Some (asked chosen) → reads_source (command words) ≡ true
+  reads_by plans.Check is = ap reads_source is
+  reads_by plans.Replay is = ap reads_source is
+  reads_by (plans.Run workers) is = ap reads_source is
+  reads_by plans.Trace is = ap reads_source is
+  reads_by (plans.Rebuild workers) is = ap reads_source is
 
   usage_under : (printed : Printed) → command words ≡ None → Gave printed → TakesNone (IsUsage source) (Some printed) turns journal → Under printed.status
   usage_under printed faulty given comes =
@@ -62,18 +72,36 @@ module _ (words : List (List ℕ)) (source : Taking) (sink : Giving) (turns : Li
   workload_under number printed is given comes =
       done_under (Some (Generate number)) printed is comes.shows.status_is (record { untaken = comes.untaken; takes_none = comes.shows.takes_none; given = text_given printed _ comes.shows.text_is given })
 
-  fault_under : (chosen : PlanCommand) (printed : Printed) → command words ≡ Some (asked chosen) → Gave printed → TakesNone (IsReadFault source) (Some printed) turns journal → Under printed.status
-  fault_under chosen printed is given comes =
-      subst Under (sym comes.shows.status_is) (record { reads = reads_by chosen is; untaken = comes.untaken; rose = comes.shows.rose; given = text_given printed _ comes.shows.text_is given })
+  fault_under : (printed : Printed) → reads_source (command words) ≡ true → Gave printed → TakesNone (IsReadFault source) (Some printed) turns journal → Under printed.status
+  fault_under printed reads given comes =
+      subst Under (sym comes.shows.status_is) (record { reads = reads; untaken = comes.untaken; rose = comes.shows.rose; given = text_given printed _ comes.shows.text_is given })
 
-  refusal_under : (chosen : PlanCommand) (printed : Printed) (was : IsRead chosen source (Some printed) turns journal) (refusal : Refusal) → command words ≡ Some (asked chosen) → refusal_of (read was.bytes) (command words) ≡ Some refusal → Gave printed → TakesNone (IsRefusal refusal) (Some printed) turns journal → Under printed.status
+  -- a command that reads a plan has its limit, and refuses its bytes by what they say as a plan
+  limit_by : (chosen : PlanCommand) → limit_of (Some (asked chosen)) ≡ PLAN_LIMIT
+  limit_by plans.Check = refl
+  limit_by plans.Replay = refl
+  limit_by (plans.Run workers) = refl
+  limit_by plans.Trace = refl
+  limit_by (plans.Rebuild workers) = refl
+
+  refusal_by : (chosen : PlanCommand) (bytes : List ℕ) → refusal_of bytes (Some (asked chosen)) ≡ plan_refusal (read bytes) (Some (asked chosen))
+  refusal_by plans.Check bytes = refl
+  refusal_by plans.Replay bytes = refl
+  refusal_by (plans.Run workers) bytes = refl
+  refusal_by plans.Trace bytes = refl
+  refusal_by (plans.Rebuild workers) bytes = refl
+
+  within : (bytes : List ℕ) (limit : ℕ) → limit_of (command words) ≡ limit → ReadsWhole limit source.before source.after bytes → ReadsWhole (limit_of (command words)) source.before source.after bytes
+  within bytes limit is whole = subst (λ (most : ℕ). ReadsWhole most source.before source.after bytes) (sym is) whole
+
+  refusal_under : (chosen : PlanCommand) (printed : Printed) (was : IsRead chosen source (Some printed) turns journal) (refusal : Refusal) → command words ≡ Some (asked chosen) → plan_refusal (read was.bytes) (Some (asked chosen)) ≡ Some refusal → Gave printed → TakesNone (IsRefusal refusal) (Some printed) turns journal → Under printed.status
   refusal_under chosen printed was refusal is said given comes =
       subst Under (sym comes.shows.status_is) (record {
         reads = reads_by chosen is;
         bytes = was.bytes;
-        whole = was.whole;
+        whole = within was.bytes PLAN_LIMIT (ap limit_of is ∙ limit_by chosen) was.whole;
         refusal = refusal;
-        refused = said;
+        refused = ap (refusal_of was.bytes) is ∙ refusal_by chosen was.bytes ∙ said;
         given = text_given printed _ comes.shows.text_is given;
         untaken = comes.untaken;
       })
@@ -132,13 +160,13 @@ module _ (words : List (List ℕ)) (source : Taking) (sink : Giving) (turns : Li
 
   -- a refusal of the plan, whatever the command is
   unread_under : (chosen : PlanCommand) (printed : Printed) (was : IsRead chosen source (Some printed) turns journal) (refusal : PlanRefusal) → command words ≡ Some (asked chosen) → read was.bytes ≡ Err refusal → Gave printed → TakesNone (IsRefusal (refusals.Plan refusal)) (Some printed) turns journal → Under printed.status
-  unread_under chosen printed was refusal is said = refusal_under chosen printed was (refusals.Plan refusal) is (ap (λ (r : Result PlanData PlanRefusal). refusal_of r (command words)) said)
+  unread_under chosen printed was refusal is said = refusal_under chosen printed was (refusals.Plan refusal) is (ap (λ (r : Result PlanData PlanRefusal). plan_refusal r (Some (asked chosen))) said)
 
   -- a plan that was read, under `rebuild`
   rebuild_under : Laws → (workers : ℕ) (printed : Printed) (was : IsRead (plans.Rebuild workers) source (Some printed) turns journal) (plan : PlanData) → command words ≡ Some (Rebuild workers) → read was.bytes ≡ Ok plan → Gave printed → RebuildComes (has_second_unique plan) workers was.bytes plan (Some printed) turns journal → Under printed.status
   rebuild_under laws workers printed was plan is said given = by (has_second_unique plan) refl where
-    refused : has_second_unique plan ≡ true → refusal_of (read was.bytes) (command words) ≡ Some refusals.SecondUnique
-    refused more = ap (λ (r : Result PlanData PlanRefusal). refusal_of r (command words)) said ∙ ap (λ (chosen : Option Command). refusal_by chosen plan) is ∙ ap (λ (b : Bool). cond b (Some refusals.SecondUnique) None) more
+    refused : has_second_unique plan ≡ true → plan_refusal (read was.bytes) (Some (Rebuild workers)) ≡ Some refusals.SecondUnique
+    refused more = ap (λ (r : Result PlanData PlanRefusal). plan_refusal r (Some (Rebuild workers))) said ∙ ap (λ (b : Bool). cond b (Some refusals.SecondUnique) None) more
 
     by : (b : Bool) → has_second_unique plan ≡ b → RebuildComes b workers was.bytes plan (Some printed) turns journal → Under printed.status
     by true more comes = refusal_under (plans.Rebuild workers) printed was refusals.SecondUnique is (refused more) given comes
@@ -158,7 +186,51 @@ module _ (words : List (List ℕ)) (source : Taking) (sink : Giving) (turns : Li
 
   plan_under : Laws → (chosen : PlanCommand) (printed : Printed) → command words ≡ Some (asked chosen) → Gave printed → TellsPlan chosen source (Some printed) turns journal → Under printed.status
   plan_under laws chosen printed is given (inl was) = said_under laws chosen printed was (read was.bytes) is refl given was.comes
-  plan_under laws chosen printed is given (inr fault) = fault_under chosen printed is given fault
+  plan_under laws chosen printed is given (inr fault) = fault_under printed (reads_by chosen is) given fault
+
+  -- a trace that was read, under `audit`
+  module _ (printed : Printed) (was : IsTraceRead source (Some printed) turns journal) (is : command words ≡ Some Audit) (given : Gave printed) where
+    module _ (plan : PlanData) (trace : Trace) (said : read_trace was.bytes ≡ Ok (plan, trace)) (shows : IsAnswer (audited plan trace) printed) where
+      answer_given : (answer : audits.Audit) → audited plan trace ≡ answer → PrintsAnswer answer source sink turns journal
+      answer_given answer same = record {
+        bytes = was.bytes;
+        whole = was.whole;
+        plan = plan;
+        trace = trace;
+        accepted = said;
+        answers = same;
+        given = text_given printed _ (shows.text_is ∙ ap answer_text same) given;
+        untaken = was.comes.untaken;
+      }
+
+      no_under : (answer : audits.Audit) → audited plan trace ≡ answer → answer ≢ answers.Yes → printed.status ≡ statuses.No → Under printed.status
+      no_under answer same no status = subst Under (sym status) (record { command_is = is; answer = answer; no = no; prints = answer_given answer same })
+
+      answer_under : (answer : audits.Audit) → audited plan trace ≡ answer → Under printed.status
+      answer_under answers.Yes same = done_under (Some Audit) printed is (shows.status_is ∙ ap answer_status same) (answer_given answers.Yes same)
+      answer_under (answers.Line turn) same = no_under (answers.Line turn) same (λ yes. absurd cc) (shows.status_is ∙ ap answer_status same)
+      answer_under (answers.Table name) same = no_under (answers.Table name) same (λ yes. absurd cc) (shows.status_is ∙ ap answer_status same)
+      answer_under answers.Verdict same = no_under answers.Verdict same (λ yes. absurd cc) (shows.status_is ∙ ap answer_status same)
+
+    untraced_under : (refusal : TraceRefusal) → read_trace was.bytes ≡ Err refusal → IsRefusal (refusals.Trace refusal) printed → Under printed.status
+    untraced_under refusal said shows =
+        subst Under (sym shows.status_is) (record {
+          reads = ap reads_source is;
+          bytes = was.bytes;
+          whole = within was.bytes _ (ap limit_of is) was.whole;
+          refusal = refusals.Trace refusal;
+          refused = ap (refusal_of was.bytes) is ∙ ap trace_refusal said;
+          given = text_given printed _ shows.text_is given;
+          untaken = was.comes.untaken;
+        })
+
+    judged_under : (said : Result (PlanData × Trace) TraceRefusal) → read_trace was.bytes ≡ said → IsAuditPrinted said printed → Under printed.status
+    judged_under (Ok (plan, trace)) said shows = answer_under plan trace said shows (audited plan trace) refl
+    judged_under (Err refusal) said shows = untraced_under refusal said shows
+
+  trace_under : (printed : Printed) → command words ≡ Some Audit → Gave printed → TellsTrace source (Some printed) turns journal → Under printed.status
+  trace_under printed is given (inl was) = judged_under printed was is given (read_trace was.bytes) refl was.comes.shows
+  trace_under printed is given (inr fault) = fault_under printed (ap reads_source is) given fault
 
   whole_under : Laws → (chosen : Option Command) (printed : Printed) → command words ≡ chosen → Gave printed → ComesTo chosen source (Some printed) turns journal → Under printed.status
   unfolding ComesTo
@@ -168,6 +240,7 @@ module _ (words : List (List ℕ)) (source : Taking) (sink : Giving) (turns : Li
   whole_under laws (Some Check) printed is given comes = plan_under laws plans.Check printed is given comes
   whole_under laws (Some Replay) printed is given comes = plan_under laws plans.Replay printed is given comes
   whole_under laws (Some Trace) printed is given comes = plan_under laws plans.Trace printed is given comes
+  whole_under laws (Some Audit) printed is given comes = trace_under printed is given comes
   whole_under laws (Some (Rebuild workers)) printed is given comes = plan_under laws (plans.Rebuild workers) printed is given comes
 
   given_under : Laws → (printed : Option Printed) (status : Status) → ComesTo (command words) source printed turns journal → Gives printed sink status → Under status

@@ -8,13 +8,14 @@ use Rattle.plan_reader.specs.declared.fault.PlanRefusal.{PlanRefusal}
 use Rattle.plan_reader.specs.Plans.{read}
 use Rattle.top_words.specs.Commands.{command}
 use Rattle.top_words.specs.declared.command.Command.{Command}
-use Rattle.top_words.specs.declared.command.Command.TheVariants.{Check, Replay, Run, Generate, Trace, Rebuild}
+use Rattle.top_words.specs.declared.command.Command.TheVariants.{Check, Replay, Run, Generate, Trace, Audit, Rebuild}
 use Rattle.top_endings.specs.declared.command.PlanCommand.{PlanCommand}
 use Rattle.top_endings.specs.declared.command.PlanCommand.TheVariants as plans
 use Rattle.top_endings.specs.declared.printed.Printed.{Printed}
 use Rattle.top_endings.specs.declared.turn.Turn.{Turn}
 use Rattle.top_endings.specs.Endings.{Taking, Giving}
 use Rattle.top_endings.specs.Rebuilt.{has_second_unique}
+use Rattle.top_call.specs.Audits.{TellsTrace}
 use Rattle.top_call.specs.Comings.{IsRead, TellsPlan, ComesTo, Does}
 use Rattle.top_call.specs.Outcomes.{IsTaken, RebuildComes, TakesNone, Comes, run_text}
 use Rattle.top_call.specs.Promises.{Runs, RunsBy}
@@ -57,6 +58,11 @@ runs_reported : Laws → (chosen : PlanCommand) (source : Taking) (printed : Opt
 runs_reported laws chosen source printed turns journal (inl was) some = runs_said laws chosen source printed turns journal was (read was.bytes) refl was.comes some
 runs_reported laws chosen source printed turns journal (inr fault) some = absurd (none_taken _ printed turns journal fault some)
 
+-- an audit takes no turn
+none_audited : (source : Taking) (printed : Option Printed) (turns : List Turn) (journal : List Entry) → TellsTrace source printed turns journal → (length journal == 0) ≡ false → ⊥
+none_audited source printed turns journal (inl was) some = none_taken _ printed turns journal was.comes some
+none_audited source printed turns journal (inr fault) some = none_taken _ printed turns journal fault some
+
 -- *Where turns were taken, they are a plan's*
 runs_where_taken : Laws → (words : List (List ℕ)) (chosen : Option Command) (source : Taking) (printed : Option Printed) (turns : List Turn) (journal : List Entry) → command words ≡ chosen → ComesTo chosen source printed turns journal → (length journal == 0) ≡ false → RunsBy words source turns journal
 unfolding ComesTo
@@ -66,6 +72,7 @@ runs_where_taken laws words (Some Replay) source printed turns journal is comes 
 runs_where_taken laws words (Some (Run workers)) source printed turns journal is comes some =
     record { chosen = plans.Run workers; command_is = is; runs = runs_reported laws (plans.Run workers) source printed turns journal comes some }
 runs_where_taken laws words (Some Trace) source printed turns journal is comes some = record { chosen = plans.Trace; command_is = is; runs = runs_reported laws plans.Trace source printed turns journal comes some }
+runs_where_taken laws words (Some Audit) source printed turns journal is comes some = absurd (none_audited source printed turns journal comes some)
 runs_where_taken laws words (Some (Rebuild workers)) source printed turns journal is comes some =
     record { chosen = plans.Rebuild workers; command_is = is; runs = runs_reported laws (plans.Rebuild workers) source printed turns journal comes some }
 runs_where_taken laws words (Some (Generate number)) source printed turns journal is comes some = absurd (none_taken _ printed turns journal comes.comes some)

@@ -1,3 +1,5 @@
+mod AlteringPlans
+mod Audits
 mod Comings
 mod Endings
 mod Faulty
@@ -5,6 +7,8 @@ mod Headline
 mod LogReads
 mod MarkedRuns
 mod Numbers
+mod ReadTraces
+mod ReadTurns
 mod Rebuilt
 mod RestedServers
 mod Taken

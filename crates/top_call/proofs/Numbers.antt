@@ -4,7 +4,7 @@ use Rattle.server_model.specs.declared.entry.Entry.{Entry}
 use Rattle.top_words.specs.Commands.{command}
 use Rattle.top_words.specs.declared.command.Command.{Command}
 use Rattle.top_endings.specs.declared.status.Status.{Status}
-use Rattle.top_endings.specs.declared.status.Status.TheVariants.{Done, Usage, Refused, Reverted, ReadFault, WriteFault, NoMemory, TurnsSpent}
+use Rattle.top_endings.specs.declared.status.Status.TheVariants.{Done, Usage, Refused, Reverted, ReadFault, WriteFault, NoMemory, TurnsSpent, No}
 use Rattle.top_endings.specs.declared.turn.Turn.{Turn}
 use Rattle.top_endings.specs.Endings.{Taking, Giving, status_number}
 use Rattle.top_call.specs.Promises.{Ends, EndsUnder, PrintsDone}
@@ -12,7 +12,7 @@ use Rattle.top_call.specs.Promises.{Ends, EndsUnder, PrintsDone}
 abbrev numbered : ℕ → Status
 numbered number =
     if number == 0 then Done else if number == 1 then Usage else if number == 2 then Refused else if number == 3 then Reverted
-    else if number == 4 then ReadFault else if number == 5 then WriteFault else if number == 6 then NoMemory else TurnsSpent
+    else if number == 4 then ReadFault else if number == 5 then WriteFault else if number == 6 then NoMemory else if number == 7 then TurnsSpent else No
 
 number_tells : (status : Status) → numbered (status_number status) ≡ status
 number_tells Done = refl
@@ -23,6 +23,7 @@ number_tells ReadFault = refl
 number_tells WriteFault = refl
 number_tells NoMemory = refl
 number_tells TurnsSpent = refl
+number_tells No = refl
 
 -- *What stands under a status's number*
 pub under : (status : Status) (words : List (List ℕ)) (source : Taking) (sink : Giving) (turns : List Turn) (journal : List Entry) (number : ℕ) → Ends words source sink turns journal number → number ≡ status_number status → EndsUnder status words source sink turns journal

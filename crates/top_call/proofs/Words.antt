@@ -6,7 +6,7 @@ use Rattle.std.proofs.lemmas.Bool.Decides.{nat_tests}
 use Rattle.top_words.specs.Commands.{command, rebuild_by, run_by, generate_of, attached_number, numbered_command, option_command, plain_command}
 use Rattle.top_words.specs.Numbers.{up_to_16, number_of}
 use Rattle.top_words.specs.declared.command.Command.{Command}
-use Rattle.top_words.specs.declared.command.Command.TheVariants.{Check, Replay, Run, Generate, Trace, Rebuild}
+use Rattle.top_words.specs.declared.command.Command.TheVariants.{Check, Replay, Run, Generate, Trace, Audit, Rebuild}
 use Rattle.top_endings.specs.Endings.{HasWorkers}
 
 abbrev IsAllowed : Option Command → Type 0
@@ -47,14 +47,16 @@ usual : (1 ≤ 4) × (4 ≤ 16)
 usual = (omega arith, omega arith)
 
 plainly : (name : List ℕ) → IsAllowed (plain_command name)
-plainly name = by (bytes_eq name (codes "check")) (bytes_eq name (codes "replay")) (bytes_eq name (codes "run")) (bytes_eq name (codes "trace")) (bytes_eq name (codes "rebuild")) where
-  by : (check replay run trace rebuild : Bool) → IsAllowed (if check then Some Check else if replay then Some Replay else if run then Some (Run 4) else if trace then Some Trace else if rebuild then Some (Rebuild 4) else None)
-  by true replay run trace rebuild = tt
-  by false true run trace rebuild = tt
-  by false false true trace rebuild = usual
-  by false false false true rebuild = tt
-  by false false false false true = usual
-  by false false false false false = tt
+plainly name = by (bytes_eq name (codes "check")) (bytes_eq name (codes "replay")) (bytes_eq name (codes "run")) (bytes_eq name (codes "trace")) (bytes_eq name (codes "audit")) (bytes_eq name (codes "rebuild")) where
+  by : (check replay run trace audit rebuild : Bool)
+      → IsAllowed (if check then Some Check else if replay then Some Replay else if run then Some (Run 4) else if trace then Some Trace else if audit then Some Audit else if rebuild then Some (Rebuild 4) else None)
+  by true replay run trace audit rebuild = tt
+  by false true run trace audit rebuild = tt
+  by false false true trace audit rebuild = usual
+  by false false false true audit rebuild = tt
+  by false false false false true rebuild = tt
+  by false false false false false true = usual
+  by false false false false false false = tt
 
 numbered : (name word : List ℕ) → IsAllowed (numbered_command name word)
 numbered name word = by (bytes_eq name (codes "generate")) (bytes_eq name (codes "run")) (bytes_eq name (codes "rebuild")) where

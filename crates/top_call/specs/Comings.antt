@@ -8,13 +8,14 @@ use Rattle.plan_reader.specs.declared.limits.TheConstants.{PLAN_LIMIT}
 use Rattle.plan_reader.specs.Plans.{read}
 use Rattle.top_words.specs.Commands.{command}
 use Rattle.top_words.specs.declared.command.Command.{Command}
-use Rattle.top_words.specs.declared.command.Command.TheVariants.{Check, Replay, Run, Generate, Trace, Rebuild}
+use Rattle.top_words.specs.declared.command.Command.TheVariants.{Check, Replay, Run, Generate, Trace, Audit, Rebuild}
 use Rattle.top_endings.specs.declared.command.PlanCommand.{PlanCommand}
 use Rattle.top_endings.specs.declared.command.PlanCommand.TheVariants as plans
 use Rattle.top_endings.specs.declared.printed.Printed.{Printed}
 use Rattle.top_endings.specs.declared.turn.Turn.{Turn}
 use Rattle.top_endings.specs.declared.status.Status.{Status}
 use Rattle.top_endings.specs.Endings.{Taking, Giving, Gives, IsWorkload, IsUsage, IsReadFault, status_number}
+use Rattle.top_call.specs.Audits.{TellsTrace}
 use Rattle.top_call.specs.Outcomes.{TakesNone, Comes}
 
 -- the source was read to its end or one byte past the limit, and this comes of its bytes under the command
@@ -51,6 +52,7 @@ ComesTo (Some Replay) source = TellsPlan plans.Replay source
 ComesTo (Some (Run workers)) source = TellsPlan (plans.Run workers) source
 ComesTo (Some (Generate number)) source = LeavesSource source (IsWorkload number source)
 ComesTo (Some Trace) source = TellsPlan plans.Trace source
+ComesTo (Some Audit) source = TellsTrace source
 ComesTo (Some (Rebuild workers)) source = TellsPlan (plans.Rebuild workers) source
 
 -- *Does*: what a call did. Its words and the source come to what is printed, with its turns and its journal; of this so much

@@ -1,7 +1,9 @@
+pub mod Audits
 pub mod Comings
 pub mod Outcomes
 pub mod PrintedOrders
 pub mod Promises
+pub mod ReadTraces
 pub mod Rebuilds
 pub mod RestedServers
 pub mod TopLaws

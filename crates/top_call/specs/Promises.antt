@@ -1,5 +1,5 @@
 -- What the top call promises under each status.
-use Rattle.std.specs.Prelude.{◌≡◌, ℕ, ◌==◌, ◌≤◌, ◌<◌, true, false, if◌then◌else◌, List, [], length, Option, Some, None, Result, Ok, Err}
+use Rattle.std.specs.Prelude.{◌≡◌, ◌≢◌, ℕ, ◌==◌, ◌≤◌, ◌<◌, true, false, if◌then◌else◌, List, [], length, Option, Some, None, Result, Ok, Err}
 use Rattle.std.specs.Io.KnownBytes.{Appends, Consumes}
 use Rattle.base_edges.specs.Edges.{Rose}
 use Rattle.base_edges.specs.Whole.{ReadsWhole, GivesPart}
@@ -17,7 +17,14 @@ use Rattle.tool_program.specs.Verdicts.{has_ended, verdict_of}
 use Rattle.proof_journals.specs.Machine.Laws.{TellsAlter}
 use Rattle.proof_plans.specs.Complete.Laws.{IsSmoothRun}
 use Rattle.proof_plans.specs.Complete.Quiet.{IsQuiet, RowsHaveConvertedRows, IsWithinLimits}
+use Rattle.run_audit.specs.declared.trace.Audit.{Audit}
+use Rattle.run_audit.specs.declared.trace.Audit.TheVariants.{Yes}
+use Rattle.run_audit.specs.declared.trace.Trace.{Trace}
+use Rattle.run_audit.specs.Audits.{audited}
 use Rattle.run_turns.specs.Runs.{is_over}
+use Rattle.top_trace_reader.specs.declared.fault.TraceRefusal.{TraceRefusal}
+use Rattle.top_trace_reader.specs.declared.whole.TheConstants.{TRACE_LIMIT}
+use Rattle.top_trace_reader.specs.Traces.{read_trace}
 use Rattle.top_words.specs.Commands.{command}
 use Rattle.top_words.specs.declared.command.Command.{Command}
 use Rattle.top_words.specs.declared.command.Command.TheVariants as commands
@@ -27,10 +34,11 @@ use Rattle.top_endings.specs.declared.printed.Printed.{Printed}
 use Rattle.top_endings.specs.declared.refusals.Refusal.{Refusal}
 use Rattle.top_endings.specs.declared.refusals.Refusal.TheVariants as refusals
 use Rattle.top_endings.specs.declared.status.Status.{Status}
-use Rattle.top_endings.specs.declared.status.Status.TheVariants.{Done, Usage, Refused, Reverted, ReadFault, WriteFault, NoMemory, TurnsSpent}
+use Rattle.top_endings.specs.declared.status.Status.TheVariants.{Done, Usage, Refused, Reverted, ReadFault, WriteFault, NoMemory, TurnsSpent, No}
 use Rattle.top_endings.specs.declared.turn.Turn.{Turn}
+use Rattle.top_endings.specs.Audits.{answer_text}
 use Rattle.top_endings.specs.Checks.{IsSchemaText}
-use Rattle.top_endings.specs.Endings.{Taking, Giving, asked, reads_plan, status_number}
+use Rattle.top_endings.specs.Endings.{Taking, Giving, asked, reads_source, status_number}
 use Rattle.top_endings.specs.Rebuilt.{has_second_unique}
 use Rattle.top_endings.specs.Texts.{refused_text, usage_text, read_fault_text}
 use Rattle.top_workload.specs.Workloads.{workload}
@@ -102,6 +110,18 @@ pub record PrintsWorkload (number : ℕ) (source : Taking) (sink : Giving) (turn
   pub takes_none : Consumes source.before source.after []
   pub given : Appends sink.before sink.after (workload number)
 
+-- `audit`: the source was read whole, its bytes are a trace of an accepted plan, and the answer of its audit is given. No turn is
+-- taken.
+pub record PrintsAnswer (answer : Audit) (source : Taking) (sink : Giving) (turns : List Turn) (journal : List Entry) : Type 0 where
+  pub bytes : List ℕ
+  pub whole : ReadsWhole TRACE_LIMIT source.before source.after bytes
+  pub plan : PlanData
+  pub trace : Trace
+  pub accepted : read_trace bytes ≡ Ok (plan, trace)
+  pub answers : audited plan trace ≡ answer
+  pub given : Appends sink.before sink.after (answer_text answer)
+  pub untaken : IsUntaken turns journal
+
 -- Status 0, command by command
 abbrev pub PrintsDone : Option Command → Taking → Giving → List Turn → List Entry → Type 0
 PrintsDone None source sink turns journal = ⊥
@@ -110,6 +130,7 @@ PrintsDone (Some commands.Replay) source sink turns journal = PrintsReport plans
 PrintsDone (Some (commands.Run workers)) source sink turns journal = PrintsReport (plans.Run workers) verdicts.Done source sink turns journal
 PrintsDone (Some (commands.Generate number)) source sink turns journal = PrintsWorkload number source sink turns journal
 PrintsDone (Some commands.Trace) source sink turns journal = PrintsReport plans.Trace verdicts.Done source sink turns journal
+PrintsDone (Some commands.Audit) source sink turns journal = PrintsAnswer Yes source sink turns journal
 PrintsDone (Some (commands.Rebuild workers)) source sink turns journal = PrintsReport (plans.Rebuild workers) verdicts.Done source sink turns journal
 
 -- Status 1: the words are no command; the usage is given, and nothing is taken.
@@ -119,23 +140,37 @@ pub record PrintsUsage (words : List (List ℕ)) (source : Taking) (sink : Givin
   pub takes_none : Consumes source.before source.after []
   pub given : Appends sink.before sink.after usage_text
 
+-- how many bytes a command reads, and one more where there are more
+abbrev pub limit_of : Option Command → ℕ
+limit_of (Some commands.Audit) = TRACE_LIMIT
+limit_of chosen = PLAN_LIMIT
+
 -- a rebuild refuses a plan whose altered schema has a second unique key
 abbrev pub refusal_by : Option Command → PlanData → Option Refusal
 refusal_by (Some (commands.Rebuild workers)) plan = if has_second_unique plan then Some refusals.SecondUnique else None
 refusal_by chosen plan = None
 
--- *Refusal* of bytes that say this, by the command of a line: the plan's first, and last of all the command's own
-abbrev pub refusal_of : Result PlanData PlanRefusal → Option Command → Option Refusal
-refusal_of (Err refusal) chosen = Some (refusals.Plan refusal)
-refusal_of (Ok plan) chosen = refusal_by chosen plan
+-- of bytes that say this: the plan's first, and last of all the command's own
+abbrev pub plan_refusal : Result PlanData PlanRefusal → Option Command → Option Refusal
+plan_refusal (Err refusal) chosen = Some (refusals.Plan refusal)
+plan_refusal (Ok plan) chosen = refusal_by chosen plan
+
+abbrev pub trace_refusal : Result (PlanData × Trace) TraceRefusal → Option Refusal
+trace_refusal (Err refusal) = Some (refusals.Trace refusal)
+trace_refusal (Ok read) = None
+
+-- *Refusal* of bytes, by the command of a line: what they are read as, or the command, refuses them
+abbrev pub refusal_of : List ℕ → Option Command → Option Refusal
+refusal_of bytes (Some commands.Audit) = trace_refusal (read_trace bytes)
+refusal_of bytes chosen = plan_refusal (read bytes) chosen
 
 -- Status 2: the first refusal of the bytes is given.
 pub record PrintsRefusal (words : List (List ℕ)) (source : Taking) (sink : Giving) (turns : List Turn) (journal : List Entry) : Type 0 where
-  pub reads : reads_plan (command words) ≡ true
+  pub reads : reads_source (command words) ≡ true
   pub bytes : List ℕ
-  pub whole : ReadsWhole PLAN_LIMIT source.before source.after bytes
+  pub whole : ReadsWhole (limit_of (command words)) source.before source.after bytes
   pub refusal : Refusal
-  pub refused : refusal_of (read bytes) (command words) ≡ Some refusal
+  pub refused : refusal_of bytes (command words) ≡ Some refusal
   pub given : Appends sink.before sink.after (refused_text refusal)
   pub untaken : IsUntaken turns journal
 
@@ -150,7 +185,7 @@ pub record PrintsRevert (words : List (List ℕ)) (source : Taking) (sink : Givi
 
 -- Status 4: the source's fault count increased, and that is said.
 pub record PrintsReadFault (words : List (List ℕ)) (source : Taking) (sink : Giving) (turns : List Turn) (journal : List Entry) : Type 0 where
-  pub reads : reads_plan (command words) ≡ true
+  pub reads : reads_source (command words) ≡ true
   pub untaken : IsUntaken turns journal
   pub rose : Rose source.faults_before source.faults_after
   pub given : Appends sink.before sink.after read_fault_text
@@ -173,6 +208,13 @@ pub record PrintsUnfinished (words : List (List ℕ)) (source : Taking) (sink : 
   pub command_is : command words ≡ Some (asked chosen)
   pub prints : PrintsReport chosen verdicts.Unfinished source sink turns journal
 
+-- Status 8: the trace breaks a rule, and the first is given.
+pub record PrintsNo (words : List (List ℕ)) (source : Taking) (sink : Giving) (turns : List Turn) (journal : List Entry) : Type 0 where
+  pub command_is : command words ≡ Some commands.Audit
+  pub answer : Audit
+  pub no : answer ≢ Yes
+  pub prints : PrintsAnswer answer source sink turns journal
+
 -- what stands after a call that ended so
 abbrev pub EndsUnder : Status → List (List ℕ) → Taking → Giving → List Turn → List Entry → Type 0
 EndsUnder Done words source sink turns journal = PrintsDone (command words) source sink turns journal
@@ -183,6 +225,7 @@ EndsUnder ReadFault words source sink turns journal = PrintsReadFault words sour
 EndsUnder WriteFault words source sink turns journal = PrintsPrefix words source sink turns journal
 EndsUnder NoMemory words source sink turns journal = PrintsNone words source sink turns journal
 EndsUnder TurnsSpent words source sink turns journal = PrintsUnfinished words source sink turns journal
+EndsUnder No words source sink turns journal = PrintsNo words source sink turns journal
 
 -- *Ends*: the number is that of a status under which this stands.
 pub record Ends (words : List (List ℕ)) (source : Taking) (sink : Giving) (turns : List Turn) (journal : List Entry) (number : ℕ) : Type 0 where

@@ -3,11 +3,13 @@
 //! which a report printed is replayed.
 #![tactic(auto)]
 
+mod audits;
 pub mod marks;
 mod outcome;
 pub mod plan_rebuilds;
 pub mod plan_works;
 pub mod printed_orders;
+pub mod read_traces;
 mod status;
 mod top;
 mod turns;

@@ -4,15 +4,18 @@ ghost use Rattle.std.specs.Prelude.{◌≡◌, ◌≤◌, ◌==◌, ℕ, true, f
 ghost use Rattle.std.specs.Str.{is_utf8};
 ghost use Rattle.std.specs.Io.KnownBytes.{Consumes};
 ghost use Rattle.top_words.specs.Commands.{command};
-ghost use Rattle.top_words.specs.declared.command.Command.TheVariants.{Check, Generate, Rebuild, Replay, Run, Trace};
+ghost use Rattle.top_words.specs.declared.command.Command.TheVariants.{Audit, Check, Generate, Rebuild, Replay, Run, Trace};
 ghost use Rattle.top_endings.specs.declared.command.PlanCommand.TheVariants as plans;
 ghost use Rattle.server_model.specs.declared.outcome.Verdict.TheVariants as verdicts;
 ghost use Rattle.proof_plans.specs.ReadPlans.Laws.{WasRead};
-ghost use Rattle.top_endings.specs.Endings.{gave, HasWorkers, IsUsageOrLost, reads_plan, took};
+ghost use Rattle.top_endings.specs.Endings.{gave, HasWorkers, IsUsageOrLost, reads_source, took};
+ghost use Rattle.run_audit.specs.declared.trace.Audit.TheVariants as answers;
+ghost use Rattle.top_call.specs.Audits.{TellsTrace};
 ghost use Rattle.top_call.specs.Comings.{ComesTo, Does, HasNoPlan, IsAccepted, TellsPlan};
-ghost use Rattle.top_call.specs.Promises.{Ends, RunsBy, PrintsReport, PrintsSchema, PrintsWorkload, PrintsRevert, PrintsUnfinished, PrintsRefusal, PrintsUsage, PrintsReadFault, PrintsPrefix, PrintsNone};
+ghost use Rattle.top_call.specs.Promises.{Ends, RunsBy, PrintsReport, PrintsSchema, PrintsWorkload, PrintsRevert, PrintsUnfinished, PrintsAnswer, PrintsNo, PrintsRefusal, PrintsUsage, PrintsReadFault, PrintsPrefix, PrintsNone};
 ghost use Rattle.top_call.specs.TopLaws.{Laws};
 
+use crate::audits::trace_audited;
 use crate::outcome::{Outcome, plan_rebuilt, plan_replayed, plan_traced, plan_worked, untaken};
 use base_edges::{Gate, ReadFault, Sink, Source, read_whole};
 use law_journals::completion::{quiet_runs_are_done, smooth_runs_are_done};
@@ -29,6 +32,7 @@ use top_endings::{
     Refusal, Turns, give, has_second_unique, plan_checked, read_fault_shown, refused, usage_shown,
     workload_shown,
 };
+use top_trace_reader::TRACE_LIMIT;
 use top_words::{Command, Line};
 
 /// How a call of `ghost_` ended.
@@ -129,6 +133,19 @@ fn outcome_of_trace<S: Source>(alloc: Global, source: &mut S) -> Outcome
     }
 }
 
+/// What a source comes to under `audit`.
+#[tactic(auto, using(crate::proofs::Comings::no_trace_reported, crate::proofs::Comings::trace_fault_reported, crate::proofs::Comings::audit_reported))]
+fn outcome_of_audit<S: Source>(alloc: Global, source: &mut S) -> Outcome
+    ensures comes { TellsTrace (took S.left S.faults source.old source.new) result.printed result.turns result.journal }
+    ensures never_falls { S.faults source.old ≤ S.faults source.new }
+{
+    match read_whole(alloc, source, TRACE_LIMIT) {
+        Ok(bytes) => untaken(alloc, trace_audited(alloc, bytes.as_slice())),
+        Err(ReadFault::Source) => untaken(alloc, read_fault_shown(alloc)),
+        Err(ReadFault::Memory) => untaken(alloc, None),
+    }
+}
+
 /// What a source comes to under a rebuild by `workers` shards.
 #[tactic(auto, using(crate::proofs::Comings::nothing_reported, crate::proofs::Comings::rebuild_reported, crate::proofs::Comings::second_unique_reported))]
 fn outcome_of_rebuild<R: Threads + Sync, S: Source, G: Gate + Sync>(
@@ -177,7 +194,7 @@ fn outcome_of_run<R: Threads + Wait + Sync, S: Source, G: Gate + Sync>(
 }
 
 /// What the words and the source come to, where the words are this command or none; of `run` the number of workers.
-#[tactic(auto, using(crate::proofs::Comings::check_comes, crate::proofs::Comings::replay_comes, crate::proofs::Comings::trace_comes, crate::proofs::Comings::rebuild_comes, crate::proofs::Comings::faulty_comes, crate::proofs::Comings::workload_comes))]
+#[tactic(auto, using(crate::proofs::Comings::check_comes, crate::proofs::Comings::replay_comes, crate::proofs::Comings::trace_comes, crate::proofs::Comings::audit_comes, crate::proofs::Comings::rebuild_comes, crate::proofs::Comings::faulty_comes, crate::proofs::Comings::workload_comes))]
 fn outcome_of_command<R: Threads + Sync, S: Source, G: Gate + Sync>(
     rt: &R,
     alloc: Global,
@@ -196,6 +213,7 @@ fn outcome_of_command<R: Threads + Sync, S: Source, G: Gate + Sync>(
         Some(Command::Replay) => Ok(outcome_of_replay(alloc, source)),
         Some(Command::Run(workers)) => Err(workers),
         Some(Command::Trace) => Ok(outcome_of_trace(alloc, source)),
+        Some(Command::Audit) => Ok(outcome_of_audit(alloc, source)),
         Some(Command::Rebuild(workers)) => {
             Ok(outcome_of_rebuild(rt, alloc, workers, source, gate))
         }
@@ -289,7 +307,7 @@ fn ending<R: Threads + Wait + Sync, S: Source, K: Sink, G: Gate + Sync>(
 ) -> Ended
     ensures ends { Ends line.now (took S.left S.faults source.old source.new) (gave K.held K.faults sink.old sink.new) result.turns result.journal result.status }
     ensures runs { (length result.journal == 0) ≡ false → RunsBy line.now (took S.left S.faults source.old source.new) result.turns result.journal }
-    ensures unread { reads_plan (command line.now) ≡ false → Consumes (S.left source.old) (S.left source.new) [] }
+    ensures unread { reads_source (command line.now) ≡ false → Consumes (S.left source.old) (S.left source.new) [] }
     ensures source_never_falls { S.faults source.old ≤ S.faults source.new }
     ensures sink_never_falls { K.faults sink.old ≤ K.faults sink.new }
 {
@@ -301,8 +319,8 @@ fn ending<R: Threads + Wait + Sync, S: Source, K: Sink, G: Gate + Sync>(
 ///
 /// The commands are `check`, which prints the schema that the plan's ALTER leaves; `replay`, which runs the plan on one thread
 /// and prints the report; `run`, by which worker threads do so, 4 where their number isn't said; `generate`, which prints
-/// the plan of a number and reads nothing; `trace`, which runs the plan as `replay` does, and prints the plan and each turn; and
-/// `rebuild`, which runs it so too, and prints the table that threads make anew from the log. The gate is told before and after
+/// the plan of a number and reads nothing; `trace`, which runs the plan as `replay` does, and prints the plan and each turn; `audit`,
+/// which reads such a text and says whether it breaks a rule, and the first; and `rebuild`, which runs it so too, and prints the table that threads make anew from the log. The gate is told before and after
 /// each turn of a worker's, and never while one is held; and before and after each shard of a rebuild. Workers wait for each other's
 /// turns; every other command goes through `outcome_without_waits`, which waits for nothing.
 pub fn ghost_<R: Threads + Wait + Sync, S: Source, K: Sink, G: Gate + Sync>(
@@ -320,13 +338,14 @@ pub fn ghost_<R: Threads + Wait + Sync, S: Source, K: Sink, G: Gate + Sync>(
     ensures runs { (length result.journal == 0) ≡ false → RunsBy line.now (took S.left S.faults source.old source.new) result.turns result.journal }
 
     // Under `generate` and faulty words nothing is taken from the source: whatever the status.
-    ensures unread { reads_plan (command line.now) ≡ false → Consumes (S.left source.old) (S.left source.new) [] }
+    ensures unread { reads_source (command line.now) ≡ false → Consumes (S.left source.old) (S.left source.new) [] }
 
     ensures done { result.status ≡ 0 → command line.now ≡ Some Replay → PrintsReport plans.Replay verdicts.Done (took S.left S.faults source.old source.new) (gave K.held K.faults sink.old sink.new) result.turns result.journal }
     ensures done_by_workers { (workers : ℕ) → result.status ≡ 0 → command line.now ≡ Some (Run workers) → PrintsReport (plans.Run workers) verdicts.Done (took S.left S.faults source.old source.new) (gave K.held K.faults sink.old sink.new) result.turns result.journal }
     ensures checked { result.status ≡ 0 → command line.now ≡ Some Check → PrintsSchema (took S.left S.faults source.old source.new) (gave K.held K.faults sink.old sink.new) result.turns result.journal }
     ensures generated { (number : ℕ) → result.status ≡ 0 → command line.now ≡ Some (Generate number) → PrintsWorkload number (took S.left S.faults source.old source.new) (gave K.held K.faults sink.old sink.new) result.turns result.journal }
     ensures traced { result.status ≡ 0 → command line.now ≡ Some Trace → PrintsReport plans.Trace verdicts.Done (took S.left S.faults source.old source.new) (gave K.held K.faults sink.old sink.new) result.turns result.journal }
+    ensures audited { result.status ≡ 0 → command line.now ≡ Some Audit → PrintsAnswer answers.Yes (took S.left S.faults source.old source.new) (gave K.held K.faults sink.old sink.new) result.turns result.journal }
     ensures rebuilt { (workers : ℕ) → result.status ≡ 0 → command line.now ≡ Some (Rebuild workers) → PrintsReport (plans.Rebuild workers) verdicts.Done (took S.left S.faults source.old source.new) (gave K.held K.faults sink.old sink.new) result.turns result.journal }
     ensures usage { result.status ≡ 1 → PrintsUsage line.now (took S.left S.faults source.old source.new) (gave K.held K.faults sink.old sink.new) result.turns result.journal }
     ensures usage_at_faulty_words { command line.now ≡ None → IsUsageOrLost result.status }
@@ -336,6 +355,7 @@ pub fn ghost_<R: Threads + Wait + Sync, S: Source, K: Sink, G: Gate + Sync>(
     ensures write_fault { result.status ≡ 5 → PrintsPrefix line.now (took S.left S.faults source.old source.new) (gave K.held K.faults sink.old sink.new) result.turns result.journal }
     ensures no_memory { result.status ≡ 6 → PrintsNone line.now (took S.left S.faults source.old source.new) (gave K.held K.faults sink.old sink.new) result.turns result.journal }
     ensures turns_spent { result.status ≡ 7 → PrintsUnfinished line.now (took S.left S.faults source.old source.new) (gave K.held K.faults sink.old sink.new) result.turns result.journal }
+    ensures no { result.status ≡ 8 → PrintsNo line.now (took S.left S.faults source.old source.new) (gave K.held K.faults sink.old sink.new) result.turns result.journal }
 {
     ending(rt, alloc, line, source, sink, gate)
 }

@@ -4,12 +4,12 @@ use Rattle.std.specs.Io.KnownBytes.{Appends, Consumes}
 use Rattle.base_edges.specs.Edges.{Rose}
 use Rattle.base_edges.specs.Whole.{GivesPart}
 use Rattle.top_words.specs.declared.command.Command.{Command}
-use Rattle.top_words.specs.declared.command.Command.TheVariants.{Check, Replay, Run, Trace, Rebuild}
+use Rattle.top_words.specs.declared.command.Command.TheVariants.{Check, Replay, Run, Trace, Audit, Rebuild}
 use Rattle.top_endings.specs.declared.command.PlanCommand.{PlanCommand}
 use Rattle.top_endings.specs.declared.command.PlanCommand.TheVariants as plans
 use Rattle.top_endings.specs.declared.printed.Printed.{Printed}
 use Rattle.top_endings.specs.declared.status.Status.{Status}
-use Rattle.top_endings.specs.declared.status.Status.TheVariants.{Done, Usage, Refused, Reverted, ReadFault, WriteFault, NoMemory, TurnsSpent}
+use Rattle.top_endings.specs.declared.status.Status.TheVariants.{Done, Usage, Refused, Reverted, ReadFault, WriteFault, NoMemory, TurnsSpent, No}
 use Rattle.top_endings.specs.Texts.{usage_text, read_fault_text}
 use Rattle.top_workload.specs.Workloads.{workload}
 
@@ -23,6 +23,7 @@ status_number ReadFault = 4
 status_number WriteFault = 5
 status_number NoMemory = 6
 status_number TurnsSpent = 7
+status_number No = 8
 
 -- what a call did to the source: the bytes that it had left, where it tells them, and its count of faults
 pub record Taking : Type 0 where
@@ -97,14 +98,15 @@ HasWorkers (Run workers) = (1 ≤ workers) × (workers ≤ 16)
 HasWorkers (Rebuild workers) = (1 ≤ workers) × (workers ≤ 16)
 HasWorkers chosen = Unit {0}
 
--- the words are a command that reads a plan
-abbrev pub reads_plan : Option Command → Bool
-reads_plan (Some Check) = true
-reads_plan (Some Replay) = true
-reads_plan (Some (Run workers)) = true
-reads_plan (Some Trace) = true
-reads_plan (Some (Rebuild workers)) = true
-reads_plan chosen = false
+-- the words are a command that reads the source: a plan, or of `audit` a trace
+abbrev pub reads_source : Option Command → Bool
+reads_source (Some Check) = true
+reads_source (Some Replay) = true
+reads_source (Some (Run workers)) = true
+reads_source (Some Trace) = true
+reads_source (Some Audit) = true
+reads_source (Some (Rebuild workers)) = true
+reads_source chosen = false
 
 -- the number is 1, 5 or 6
 abbrev pub IsUsageOrLost : ℕ → Type 0

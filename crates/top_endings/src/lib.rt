@@ -1,6 +1,7 @@
 //! How a call of the program ends: its status, and what it prints, takes and gives where no plan is run.
 #![tactic(auto)]
 
+mod audits;
 mod checks;
 mod command;
 mod output;
@@ -10,6 +11,7 @@ mod refusals;
 mod status;
 mod turn;
 
+pub use audits::answer_shown;
 pub use checks::plan_checked;
 pub use command::PlanCommand;
 pub use output::give;

@@ -37,7 +37,7 @@ pub fn usage_shown(alloc: Global) -> Option<Printed>
     shown(
         alloc,
         Status::Usage,
-        "usage: check | replay | run [--workers N] | generate N | trace | rebuild [--workers N]\n",
+        "usage: check | replay | run [--workers N] | generate N | trace | audit | rebuild [--workers N]\n",
     )
 }
 

@@ -22,6 +22,8 @@ pub enum Status {
     NoMemory,
     /// The journal is full, and the run hasn't ended.
     TurnsSpent,
+    /// The trace breaks a rule.
+    No,
 }
 
 impl Status {
@@ -38,6 +40,7 @@ impl Status {
             Status::WriteFault => 5,
             Status::NoMemory => 6,
             Status::TurnsSpent => 7,
+            Status::No => 8,
         }
     }
 }

@@ -3,10 +3,10 @@
 ghost use Rattle.std.specs.Prelude.{◌≡◌, map};
 ghost use Rattle.top_trace_reader.specs.Turns.{alone, answer_in, drawing_answer, drawn_answer, may_draw, missed_answer, numbered_answer, paired_answer, single_answer, with_drawn};
 
-use crate::numbers::number_of;
 use base_values::Sequence;
 use run_audit::LineAnswer;
 use std::alloc::Global;
+use top_words::number_of;
 
 /// An answer as a turn's own line has it.
 #[derive(Drop)]

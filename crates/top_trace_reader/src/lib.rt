@@ -6,7 +6,6 @@ mod answers;
 mod fault;
 mod lines;
 mod literals;
-mod numbers;
 mod reading;
 mod turns;
 mod verdicts;

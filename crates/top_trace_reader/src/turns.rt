@@ -6,11 +6,11 @@ ghost use Rattle.plan_orders.specs.Actors.{actor_among};
 ghost use Rattle.top_trace_reader.specs.Turns.{asked_in, fits, fits_actor, fits_side, is_number, turn_in, turn_of, turn_read, was_missed};
 
 use crate::answers::{AnswerRead, answer_in};
-use crate::numbers::number_of;
 use base_script::{Actor, Side};
 use plan_orders::{actor_of, is_among};
 use run_audit::{LineAnswer, LineAsked, TraceLine};
 use std::alloc::Global;
+use top_words::number_of;
 
 /// A turn's own line.
 #[derive(Drop)]

@@ -8,7 +8,7 @@ use Rattle.std.specs.Str.{bytes_eq}
 use Rattle.clap.specs.Words.{Text, subcommand_of, takes}
 use Rattle.clap.proofs.OnLiterals.{clap_on_literals}
 use Rattle.top_words.specs.declared.command.Command.{Command}
-use Rattle.top_words.specs.declared.command.Command.TheVariants.{Check, Replay, Run, Generate, Trace, Rebuild}
+use Rattle.top_words.specs.declared.command.Command.TheVariants.{Check, Replay, Run, Generate, Trace, Audit, Rebuild}
 use Rattle.top_words.specs.Numbers.{number_of, workers_of, up_to_16}
 use Rattle.top_words.specs.Commands.{attached_number, command, generate_of, numbered_command, option_command, plain_command, rebuild_by, run_by}
 use Rattle.top_words.specs.Matches.{program, chosen, is_escape}
@@ -37,6 +37,10 @@ run_taken = record { taken = refl; tells = refl; plain = refl }
 trace_taken : IsTaken (codes "trace" ∷ []) (Some Trace)
 unfolding clap_on_literals
 trace_taken = record { taken = refl; tells = refl; plain = refl }
+
+audit_taken : IsTaken (codes "audit" ∷ []) (Some Audit)
+unfolding clap_on_literals
+audit_taken = record { taken = refl; tells = refl; plain = refl }
 
 rebuild_taken : IsTaken (codes "rebuild" ∷ []) (Some (Rebuild 4))
 unfolding clap_on_literals
@@ -120,9 +124,11 @@ plain_taken name c = named (λ name. plain_command name ≡ Some c → IsTaken (
     (λ is. subst (IsTaken (codes "run" ∷ [])) is run_taken)
     (λ n2. named (λ name. plain_command name ≡ Some c → IsTaken (name ∷ []) (Some c)) name (codes "trace")
     (λ is. subst (IsTaken (codes "trace" ∷ [])) is trace_taken)
-    (λ n3. named (λ name. plain_command name ≡ Some c → IsTaken (name ∷ []) (Some c)) name (codes "rebuild")
+    (λ n3. named (λ name. plain_command name ≡ Some c → IsTaken (name ∷ []) (Some c)) name (codes "audit")
+    (λ is. subst (IsTaken (codes "audit" ∷ [])) is audit_taken)
+    (λ n4. named (λ name. plain_command name ≡ Some c → IsTaken (name ∷ []) (Some c)) name (codes "rebuild")
     (λ is. subst (IsTaken (codes "rebuild" ∷ [])) is rebuild_taken)
-    (λ n4 is. let none : plain_command name ≡ None = rw (n0, n1, n2, n3, n4) refl in absurd (cc (sym none ∙ is)))))))
+    (λ n5 is. let none : plain_command name ≡ None = rw (n0, n1, n2, n3, n4, n5) refl in absurd (cc (sym none ∙ is))))))))
 
 some_mapped : {A B : Type 0} (f : A → B) (o : Option A) (y : B) → option_map f o ≡ Some y → (x : A) × (o ≡ Some x)
 some_mapped f None y is = absurd (cc)

@@ -1,9 +1,9 @@
--- *Command* of a command line: `check`, `replay`, `run`, `run --workers N`, `run --workers=N`, `generate N`, `trace`, or `rebuild`
--- with or without a number as `run` has it. This project's rule.
+-- *Command* of a command line: `check`, `replay`, `run`, `run --workers N`, `run --workers=N`, `generate N`, `trace`, `audit`, or
+-- `rebuild` with or without a number as `run` has it. This project's rule.
 use Rattle.std.specs.Prelude.{codes, ℕ, ◌&&◌, if◌then◌else◌, List, [], ◌∷◌, take, drop, Option, Some, None, option_and_then, option_map}
 use Rattle.std.specs.Str.{bytes_eq}
 use Rattle.top_words.specs.declared.command.Command.{Command}
-use Rattle.top_words.specs.declared.command.Command.TheVariants.{Check, Replay, Run, Generate, Trace, Rebuild}
+use Rattle.top_words.specs.declared.command.Command.TheVariants.{Check, Replay, Run, Generate, Trace, Audit, Rebuild}
 use Rattle.top_words.specs.Numbers.{number_of, workers_of}
 
 -- a command without a number; a run and a rebuild have 4 workers where it doesn't say
@@ -13,6 +13,7 @@ plain_command name =
     else if bytes_eq name (codes "replay") then Some Replay
     else if bytes_eq name (codes "run") then Some (Run 4)
     else if bytes_eq name (codes "trace") then Some Trace
+    else if bytes_eq name (codes "audit") then Some Audit
     else if bytes_eq name (codes "rebuild") then Some (Rebuild 4)
     else None
 

@@ -4,7 +4,7 @@ use Rattle.std.specs.Str.{bytes_eq}
 use Rattle.clap.specs.Words.{App, Row, Rule, Text, first_of, new_app, new_rule}
 use Rattle.clap.specs.Simple.{on_top, with_rule, with_subcommand}
 use Rattle.top_words.specs.declared.command.Command.{Command}
-use Rattle.top_words.specs.declared.command.Command.TheVariants.{Check, Replay, Run, Trace, Rebuild}
+use Rattle.top_words.specs.declared.command.Command.TheVariants.{Check, Replay, Run, Trace, Audit, Rebuild}
 use Rattle.top_words.specs.Commands.{generate_of, rebuild_by, run_by}
 
 -- one level of subcommands, and no binary's name among the words
@@ -25,8 +25,10 @@ abbrev pub program : App
 program =
     with_subcommand
     (with_subcommand
+    (with_subcommand
     (with_subcommand (with_subcommand (with_subcommand (with_subcommand bare_app (new_app (codes "check")).top) (new_app (codes "replay")).top) (workers_app (codes "run")).top) generate_app.top)
     (new_app (codes "trace")).top)
+    (new_app (codes "audit")).top)
     (workers_app (codes "rebuild")).top
 
 -- a run has 4 workers where no number was given
@@ -47,6 +49,7 @@ command_chosen name workers number =
     else if bytes_eq name (codes "run") then run_chosen workers
     else if bytes_eq name (codes "generate") then option_and_then generate_of number
     else if bytes_eq name (codes "trace") then Some Trace
+    else if bytes_eq name (codes "audit") then Some Audit
     else if bytes_eq name (codes "rebuild") then rebuild_chosen workers
     else None
 

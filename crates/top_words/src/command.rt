@@ -13,6 +13,8 @@ pub enum Command {
     Generate(u64),
     /// `trace`: a plan's run, on one thread, turn by turn.
     Trace,
+    /// `audit`: a trace, judged. No plan is run.
+    Audit,
     /// `rebuild`: a plan's run, on one thread, and its table made anew from the log by this many threads, 1 to 16.
     Rebuild(u32),
 }

@@ -17,7 +17,12 @@ fn attached_number(word: &str) -> Option<&str>
 fn is_plain(name: &str) -> bool
     ensures { result ≡ is_some (plain_command name.now) }
 {
-    name == "check" || name == "replay" || name == "run" || name == "trace" || name == "rebuild"
+    name == "check"
+        || name == "replay"
+        || name == "run"
+        || name == "trace"
+        || name == "audit"
+        || name == "rebuild"
 }
 
 fn has_attached_number(word: &str) -> bool

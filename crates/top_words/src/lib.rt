@@ -9,3 +9,4 @@ mod numbers;
 
 pub use command::Command;
 pub use line::Line;
+pub use numbers::number_of;

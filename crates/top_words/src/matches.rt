@@ -55,6 +55,7 @@ pub(crate) fn program<'a>(alloc: Global) -> Result<Parser<'a>, AllocError>
         .subcommand(workers_parser(alloc, "run")?)?
         .subcommand(generate_parser(alloc)?)?
         .subcommand(Parser::new(alloc, "trace"))?
+        .subcommand(Parser::new(alloc, "audit"))?
         .subcommand(workers_parser(alloc, "rebuild")?)
 }
 
@@ -107,6 +108,8 @@ fn command_chosen(name: &str, workers: Option<&str>, number: Option<&str>) -> Op
         generate_of(number?)
     } else if name == "trace" {
         Some(Command::Trace)
+    } else if name == "audit" {
+        Some(Command::Audit)
     } else if name == "rebuild" {
         rebuild_chosen(workers)
     } else {

@@ -1,4 +1,4 @@
-//! The numbers of a command line.
+//! The numbers of a command line; those of a trace are spelled so too.
 
 ghost use Rattle.std.specs.Prelude.{◌≡◌};
 ghost use Rattle.std.specs.Char.{is_ascii_digit};
@@ -25,7 +25,7 @@ fn is_number(word: &[u8]) -> bool
 }
 
 /// The number below 2^64 that a word is.
-pub(crate) fn number_of(word: &str) -> Option<u64>
+pub fn number_of(word: &str) -> Option<u64>
     ensures { result ≡ number_of word.now }
 {
     if is_number(word.as_bytes()) {

@@ -1,5 +1,5 @@
--- The table keeps the row locks that the sessions hold, while sessions change.
-use Rattle.std.proofs.Common.{◌≡◌, ◌⊎◌, inl, inr, ℕ, ◌+◌, ◌≤◌, Bool, true, false, not, cond, List, [], ◌∷◌, ◌++◌, map, filter, is_some, Some, Result, Ok, Err, OnOk, OnErr, refl, sym, ap, subst, arith}
+-- The tables keep the locks that the sessions hold, while sessions change.
+use Rattle.std.proofs.Common.{◌≡◌, ◌⊎◌, inl, inr, ℕ, ◌+◌, ◌≤◌, Bool, true, false, not, cond, List, [], ◌∷◌, ◌++◌, map, filter, is_some, Some, refl, sym, ap, subst, arith}
 use Rattle.std.specs.Prelude.{◌==◌}
 use Rattle.std.specs.List.{AllByRecursion}
 use Rattle.std.proofs.lemmas.Bool.{true≢false, ne_eqb}
@@ -7,12 +7,16 @@ use Rattle.base_values.specs.declared.event.RowEvent.{RowEvent}
 use Rattle.server_locks.specs.declared.row_locks.lock.HeldLock.{HeldLock}
 use Rattle.server_locks.specs.RowLocks.LockTable.{LockTable, held_by, freed}
 use Rattle.server_locks.specs.RowLocks.SameLocks.{HasLock}
+use Rattle.server_locks.specs.MetadataLocks.LockTable.{NameTable}
+use Rattle.server_locks.specs.MetadataLocks.SameNames.{SameNames}
 use Rattle.server_locks.proofs.LeastSession.Kept.{both, kept}
 use Rattle.server_model.specs.declared.need.Need.{Need}
 use Rattle.server_model.specs.declared.session.Session.{Session}
+use Rattle.server_model.specs.declared.session.Waiting.{Waiting}
 use Rattle.server_model.specs.PlainServer.{at_rest, holding}
-use Rattle.server_model.specs.States.{locks_held, new_session, session_of, with_session}
-use Rattle.server_sessions.specs.LiveSessions.SessionLists.{Differ, HaveLocks, NumberedSessions}
+use Rattle.server_model.specs.States.{locks_held, names_held, new_session, session_of, with_session}
+use Rattle.server_sessions.specs.LiveSessions.SessionLists.{AreInTables, Differ, HaveLocks, NumberedSessions}
+use Rattle.server_sessions.proofs.LiveSessions.HeldNames.{same_names}
 use Rattle.server_sessions.proofs.LiveSessions.HeldLocks.{has_first, has_second, has_either, freed_there, freed_here, rested_there, rested_here, without, left_there, left_here, grown_old, grown_new, grown_parts, same_locks, joined_locks}
 
 -- Numbers.
@@ -117,11 +121,6 @@ have_grown made number need events sessions held live have =
     here one (inl old) = has_first held (map (held_by number) need.locks) one (have.locks.here one old)
     here one (inr new) = has_second held (map (held_by number) need.locks) one new
 
--- a change that was made or wasn't
-pub have_either : {A E : Type 0} (result : Result A E) (made : ℕ) (old changed new : List Session) (held : List HeldLock) → OnOk result (new ≡ changed) → OnErr result (new ≡ old) → HaveLocks made changed held → HaveLocks made old held → HaveLocks made new held
-have_either (Ok done) made old changed new held ok err then now = rw ok then
-have_either (Err fault) made old changed new held ok err then now = rw err now
-
 -- where no session has the number, nothing is changed
 pub not_live : (number : ℕ) (change : Session → Session) (sessions : List Session) → is_some (session_of number sessions) ≡ false → sessions ≡ with_session number change sessions
 unfolding with_session
@@ -131,5 +130,11 @@ not_live number change (session ∷ sessions) none = at (session.number == numbe
   at true none rest = absurd (true≢false none)
   at false none rest = ap (λ (ss : List Session). session ∷ ss) (rest none)
 
-pub unchanged : (number : ℕ) (change : Session → Session) (list : NumberedSessions) → is_some (session_of number list.sessions) ≡ false → list ≡ record { made = list.made; sessions = with_session number change list.sessions }
+pub unchanged : (number : ℕ) (change : Session → Session) (list : NumberedSessions) → is_some (session_of number list.sessions) ≡ false → list ≡ record list { sessions = with_session number change list.sessions }
 unchanged number change list none = ap (λ (sessions : List Session). record list { sessions = sessions }) (not_live number change list.sessions none)
+
+-- THE TABLES OF ROW LOCKS AND OF NAMES
+
+-- the table of names has the same locks as all sessions
+pub are_same : (made : ℕ) (sessions : List Session) (waiting : List Waiting) (locks : List HeldLock) (names : NameTable) → AreInTables made sessions waiting locks names → SameNames names.held (names_held sessions)
+are_same made sessions waiting locks names are = same_names sessions names.held are.rows.differ are.names

@@ -13,11 +13,10 @@ ghost use Rattle.server_sessions.specs.LiveSessions.Rooms.{logs};
 use crate::live_sessions::counter_moves::{CounterMove, after_drawn, after_given, drawn_by};
 use crate::live_sessions::room::{give_back, make_room};
 use crate::live_sessions::session_list::SessionList;
-use crate::session_locks::{is_exclusive, is_outside, names_blocker, names_in, waits_shown};
+use crate::session_locks::{is_exclusive, is_outside, names_in, waits_shown};
 use crate::{
-    begin_wait, counters_renamed, counters_with, counters_without, end_wait, holds_tables,
-    is_in_transaction, is_live, is_of_tool, is_waiting, next_of, polls_of, raise, session_of,
-    waiting_of, writes_of,
+    counters_renamed, counters_with, counters_without, holds_tables, is_in_transaction, is_live,
+    is_of_tool, is_waiting, next_of, polls_of, raise, session_of, waiting_of, writes_of,
 };
 use base_values::gho_schema::Schema;
 use base_values::{Duplicate, Events, Name, Names, Sequence};
@@ -35,7 +34,6 @@ pub struct Sessions {
     alloc: Global,
     limits: Limits,
     log: Log,
-    waiting: Vec<Waiting>,
     sessions: SessionList,
     counters: Vec<Counter>,
 }
@@ -47,12 +45,10 @@ impl Drop for Sessions {
             alloc: _,
             limits: _,
             log,
-            waiting,
             sessions,
             counters,
         } = self;
         drop(log);
-        drop(waiting);
         drop(sessions);
         drop(counters);
     }
@@ -65,7 +61,7 @@ impl Model for Sessions {
 
     ghost Value = { State };
 
-    ghost view = { λ d. record { limits = d.limits; made = d.sessions.made; tables = []; log = d.log.events; waiting = d.waiting.items; sessions = d.sessions.sessions; counters = d.counters.items } };
+    ghost view = { λ d. record { limits = d.limits; made = d.sessions.made; tables = []; log = d.log.events; waiting = d.sessions.waiting; sessions = d.sessions.sessions; counters = d.counters.items } };
 
     ghost invariant = { λ d. IsReady d.limits d.sessions.sessions d.log.spare };
 }
@@ -92,7 +88,6 @@ impl Sessions {
             alloc,
             limits,
             log: Log::new(alloc, watched),
-            waiting: Vec::new(alloc),
             sessions: SessionList::new(alloc),
             counters,
         }
@@ -118,7 +113,7 @@ impl Sessions {
     pub fn lose(&mut self, session: u32)
         ensures { self.new ≡ loses session self.old }
     {
-        end_wait(&mut self.waiting, session);
+        self.sessions.end_wait(session);
         let writes = writes_of(self.sessions.as_slice(), session);
         give_back(&mut self.log, writes);
         self.sessions.disconnect(session);
@@ -195,7 +190,7 @@ impl Sessions {
         ensures ok { OnOk result (self.new ≡ record self.old { waiting = self.old.waiting ++ record { session = session; request = request.now } ∷ []; sessions = with_session session (counting 0) self.old.sessions }) }
         ensures err { OnErr result (self.new ≡ self.old) }
     {
-        begin_wait(&mut self.waiting, session, request)?;
+        self.sessions.begin_wait(self.alloc, session, request)?;
         self.sessions.count_polls(session, 0);
         Ok(())
     }
@@ -204,7 +199,7 @@ impl Sessions {
     pub fn end_wait(&mut self, session: u32)
         ensures { self.new ≡ without_waiting session self.old }
     {
-        end_wait(&mut self.waiting, session);
+        self.sessions.end_wait(session);
     }
 
     /// How often the session may be polled.
@@ -227,7 +222,7 @@ impl Sessions {
         let polls = polls_of(self.sessions.as_slice(), session);
         let waited = polls + 1;
         if waited == limit {
-            end_wait(&mut self.waiting, session);
+            self.sessions.end_wait(session);
             self.forget(session);
             Answer::TimedOut { waited }
         } else {
@@ -247,7 +242,7 @@ impl Sessions {
     pub fn is_waiting(&self, session: u32) -> bool
         ensures { result ≡ is_waiting self.now session }
     {
-        is_waiting(self.waiting.as_slice(), session)
+        is_waiting(self.sessions.waiting(), session)
     }
 
     /// Whether the session is in a transaction.
@@ -329,7 +324,7 @@ impl Sessions {
     pub fn waiting(&self, session: u32) -> Option<&Waiting>
         ensures { option_copied result ≡ waiting_of session self.now.waiting }
     {
-        waiting_of(self.waiting.as_slice(), session)
+        waiting_of(self.sessions.waiting(), session)
     }
 
     /// Whether the session holds LOCK TABLES and the request names a table that it hasn't locked.
@@ -346,12 +341,7 @@ impl Sessions {
     pub fn blocker(&self, session: u32, request: &Request, locks: &[Lock]) -> Option<u32>
         ensures { result ≡ blocker self.now session (record { exclusive = is_exclusive request.now; names = names_in request.now; locks = locks.now }) }
     {
-        let names = names_blocker(
-            self.sessions.as_slice(),
-            self.waiting.as_slice(),
-            session,
-            request,
-        );
+        let names = self.sessions.names_blocker(session, request);
         least(names, self.sessions.blocker(session, locks))
     }
 
@@ -383,10 +373,6 @@ impl Sessions {
     pub fn waits_shown(&self) -> Result<ShownWaiters, AllocError>
         ensures { IfOk result (λ shown. shown ≡ waits_shown self.now) }
     {
-        waits_shown(
-            self.alloc,
-            self.sessions.as_slice(),
-            self.waiting.as_slice(),
-        )
+        waits_shown(self.alloc, &self.sessions)
     }
 }

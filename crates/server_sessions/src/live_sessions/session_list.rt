@@ -1,23 +1,33 @@
-//! The sessions, with the table of the row locks that they hold.
+//! The sessions and the requests that wait, with the tables of the locks that they hold and wait for.
 
-ghost use Rattle.std.specs.Prelude.{◌≡◌, ◌==◌, ◌+◌, ◌<◌, ◌++◌, [], ◌∷◌, not, filter, IfOk, OnOk, OnErr};
+ghost use Rattle.std.specs.Prelude.{◌≡◌, ◌==◌, ◌+◌, ◌<◌, ◌++◌, [], ◌∷◌, false, not, filter, IfOk, OnOk, OnErr};
 ghost use Rattle.server_locks.specs.RowLocks.Grants.{blocker_of_set};
-ghost use Rattle.server_model.specs.States.{locks_held, new_session, session_of, with_session, writes_of};
+ghost use Rattle.server_locks.specs.RowLocks.LockTable.{granted};
+ghost use Rattle.server_locks.specs.MetadataLocks.Grants.{blocker_of_names};
+ghost use Rattle.server_locks.specs.MetadataLocks.LockTable as name_table;
+ghost use Rattle.server_model.specs.States.{is_exclusive, locks_held, names_held, names_in, waiters, new_session, session_of, with_session, writes_of};
 ghost use Rattle.server_model.specs.PlainServer.{at_rest, counting, holding, locking, unlocking};
 
-use crate::{connect, count_polls, disconnect, hold, is_live, lock_tables, rest, unlock_tables};
+use crate::session_locks::{is_exclusive, names_blocker, names_in};
+use crate::{
+    begin_wait, connect, count_polls, disconnect, end_wait, hold, is_live, lock_tables, rest,
+    unlock_tables,
+};
 use base_values::{Events, Names};
+use server_locks::metadata_locks::MetaLocks;
 use server_locks::row_locks::{Lock, RowLocks};
-use server_model::{Need, Session};
+use server_model::{Need, Request, Session, Waiting};
 use std::alloc::{AllocError, Global};
 use std::marker::Model;
 
-/// The live sessions, and the greatest number that one was given. Who refuses a row lock is asked of the table of all row locks,
-/// which has just those that the sessions hold.
+/// The live sessions, the greatest number that one was given, and the requests that wait. Who refuses a row lock or a name is
+/// asked of the tables of all locks, which have just those that the sessions hold, and the requests for exclusive names that wait.
 pub struct SessionList {
     made: u32,
     sessions: Vec<Session>,
+    waiting: Vec<Waiting>,
     locks: RowLocks,
+    names: MetaLocks,
 }
 
 // By hand, so that the sessions' owner drops it as one call.
@@ -26,32 +36,60 @@ impl Drop for SessionList {
         let SessionList {
             made: _,
             sessions,
+            waiting,
             locks,
+            names,
         } = self;
         drop(sessions);
+        drop(waiting);
         drop(locks);
+        drop(names);
     }
 }
 
 impl Model for SessionList {
-    ghost use Rattle.server_sessions.specs.LiveSessions.SessionLists.{NumberedSessions, HaveLocks};
+    ghost use Rattle.server_sessions.specs.LiveSessions.SessionLists.{NumberedSessions, AreInTables};
 
     ghost Value = { NumberedSessions };
 
-    ghost view = { λ l. record { made = l.made; sessions = l.sessions.items } };
+    ghost view = { λ l. record { made = l.made; sessions = l.sessions.items; waiting = l.waiting.items } };
 
-    ghost invariant = { λ l. HaveLocks l.made l.sessions.items l.locks.held };
+    ghost invariant = { λ l. AreInTables l.made l.sessions.items l.waiting.items l.locks.held l.names };
+}
+
+/// Gives the session the row locks that it needs, and the names shared; none where there is no memory.
+fn grant(
+    locks: &mut RowLocks,
+    names: &mut MetaLocks,
+    number: u32,
+    need: &Need,
+) -> Result<(), AllocError>
+    ensures rows { OnOk result (locks.new ≡ granted locks.old number need.now.locks) }
+    ensures names { OnOk result (names.new ≡ name_table.granted names.old number false need.now.names) }
+    ensures no_rows { OnErr result (locks.new.held ≡ locks.old.held) }
+    ensures no_names { OnErr result (names.new ≡ names.old) }
+{
+    locks.grant(number, &need.locks)?;
+    match names.grant(number, &need.names, false) {
+        Ok(()) => Ok(()),
+        Err(error) => {
+            locks.undo(number);
+            Err(error)
+        }
+    }
 }
 
 impl SessionList {
     /// No session.
     pub fn new(alloc: Global) -> SessionList
-        ensures { result ≡ record { made = 0; sessions = [] } }
+        ensures { result ≡ record { made = 0; sessions = []; waiting = [] } }
     {
         SessionList {
             made: 0,
             sessions: Vec::new(alloc),
+            waiting: Vec::new(alloc),
             locks: RowLocks::new(alloc),
+            names: MetaLocks::new(alloc),
         }
     }
 
@@ -60,6 +98,20 @@ impl SessionList {
         ensures value { result.now ≡ self.now.sessions }
     {
         self.sessions.as_slice()
+    }
+
+    /// The requests that wait, in the order in which they came.
+    pub fn waiting(&self) -> &[Waiting]
+        ensures value { result.now ≡ self.now.waiting }
+    {
+        self.waiting.as_slice()
+    }
+
+    /// The least session that refuses one of the names that the request mentions.
+    pub fn names_blocker(&self, number: u32, request: &Request) -> Option<u32>
+        ensures { result ≡ blocker_of_names (names_held self.now.sessions) (waiters self.now.waiting) number (is_exclusive request.now) (names_in request.now) }
+    {
+        names_blocker(&self.names, number, request)
     }
 
     /// The least session that refuses one of the row locks.
@@ -73,7 +125,7 @@ impl SessionList {
     pub fn connect(&mut self, alloc: Global, is_tool: bool) -> Result<u32, AllocError>
         requires { self.old.made < u32.MAX }
         ensures number { IfOk result (λ number. number ≡ self.old.made + 1) }
-        ensures ok { OnOk result (self.new ≡ record { made = self.old.made + 1; sessions = self.old.sessions ++ new_session (self.old.made + 1) is_tool ∷ [] }) }
+        ensures ok { OnOk result (self.new ≡ record self.old { made = self.old.made + 1; sessions = self.old.sessions ++ new_session (self.old.made + 1) is_tool ∷ [] }) }
         ensures err { OnErr result (self.new ≡ self.old) }
     {
         // Numbers rise, and need not be next to one another in a journal: a session that was made for a turn without memory
@@ -90,6 +142,8 @@ impl SessionList {
     {
         disconnect(&mut self.sessions, number);
         self.locks.free(number);
+        self.names.let_go(number, true);
+        self.names.let_go(number, false);
     }
 
     /// The session's transaction goes on with what was granted and these events; all is as before where there is no memory.
@@ -106,11 +160,12 @@ impl SessionList {
         if !is_live(self.sessions.as_slice(), number) {
             return Ok(());
         }
-        self.locks.grant(number, &need.locks)?;
+        grant(&mut self.locks, &mut self.names, number, &need)?;
         match hold(alloc, &mut self.sessions, number, need, events) {
             Ok(()) => Ok(()),
             Err(error) => {
                 self.locks.undo(number);
+                self.names.undo(number);
                 Err(error)
             }
         }
@@ -122,6 +177,7 @@ impl SessionList {
         ensures writes { result ≡ writes_of (session_of number self.old.sessions) }
     {
         self.locks.free(number);
+        self.names.let_go(number, false);
         rest(alloc, &mut self.sessions, number)
     }
 
@@ -130,7 +186,17 @@ impl SessionList {
         ensures ok { OnOk result (self.new ≡ record self.old { sessions = with_session number (locking names) self.old.sessions }) }
         ensures err { OnErr result (self.new ≡ self.old) }
     {
-        lock_tables(&mut self.sessions, number, names)
+        if !is_live(self.sessions.as_slice(), number) {
+            return Ok(());
+        }
+        self.names.grant(number, &names, true)?;
+        match lock_tables(&mut self.sessions, number, names) {
+            Ok(()) => Ok(()),
+            Err(error) => {
+                self.names.undo(number);
+                Err(error)
+            }
+        }
     }
 
     /// The session holds no name exclusively from now on.
@@ -138,6 +204,39 @@ impl SessionList {
         ensures { self.new ≡ record self.old { sessions = with_session number unlocking self.old.sessions } }
     {
         unlock_tables(&mut self.sessions, number);
+        self.names.let_go(number, true);
+    }
+
+    /// The session's request waits after all others; all is as before where there is no memory.
+    pub fn begin_wait(
+        &mut self,
+        alloc: Global,
+        number: u32,
+        request: &Request,
+    ) -> Result<(), AllocError>
+        ensures ok { OnOk result (self.new ≡ record self.old { waiting = self.old.waiting ++ record { session = number; request = request.now } ∷ [] }) }
+        ensures err { OnErr result (self.new ≡ self.old) }
+    {
+        if !is_exclusive(request) {
+            return begin_wait(&mut self.waiting, number, request);
+        }
+        let names = names_in(alloc, request)?;
+        self.names.line_up(number, names)?;
+        match begin_wait(&mut self.waiting, number, request) {
+            Ok(()) => Ok(()),
+            Err(error) => {
+                self.names.undo(number);
+                Err(error)
+            }
+        }
+    }
+
+    /// The session's request waits no more.
+    pub fn end_wait(&mut self, number: u32)
+        ensures { self.new ≡ record self.old { waiting = filter (λ one. not (one.session == number)) self.old.waiting } }
+    {
+        end_wait(&mut self.waiting, number);
+        self.names.end_waits(number);
     }
 
     /// The session's request was polled so often.

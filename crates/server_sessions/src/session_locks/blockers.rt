@@ -1,107 +1,24 @@
-//! Who blocks the locks that a request needs.
+//! Who blocks the names that a request mentions.
 
-ghost use Rattle.std.specs.Prelude.{◌≡◌, true, false};
-ghost use Rattle.server_locks.specs.MetadataLocks.Grants.{blocker_of_name, blocker_of_names};
-ghost use Rattle.server_model.specs.States.{is_exclusive, names_held, names_in, pair_names, waiters};
+ghost use Rattle.std.specs.Prelude.{◌≡◌, true};
+ghost use Rattle.server_locks.specs.MetadataLocks.Grants.{blocker_of_names};
+ghost use Rattle.server_model.specs.States.{is_exclusive, names_in, pair_names};
 
-use crate::session_locks::holders::{holds, least_holder};
 use crate::session_locks::mentions::table_of;
-use crate::session_locks::waits::{ahead_of, least_waiter};
-use base_values::Name;
 use server_locks::least_session::least;
-use server_model::{Request, Session, Waiting};
+use server_locks::metadata_locks::MetaLocks;
+use server_model::Request;
 use table_store::Pair;
-
-/// The least session that refuses a shared lock on the name.
-#[tactic(auto, using(crate::proofs::SessionLocks::Names::holds_each), unfolding(server_locks::specs::MetadataLocks::Grants::blocker_of_name))]
-fn blocker_of_shared(
-    sessions: &[Session],
-    waiting: &[Waiting],
-    number: u32,
-    name: &Name,
-) -> Option<u32>
-    ensures { result ≡ blocker_of_name (names_held sessions.now) (waiters waiting.now) number name.now false }
-{
-    let holder = least_holder(sessions, number, name, true);
-    if holds(sessions, number, name, false) {
-        holder
-    } else {
-        least(holder, least_waiter(waiting, number, name))
-    }
-}
-
-/// The least session that refuses an exclusive lock on the name.
-#[tactic(auto, using(crate::proofs::SessionLocks::Names::holds_each), unfolding(server_locks::specs::MetadataLocks::Grants::blocker_of_name))]
-fn blocker_of_exclusive(
-    sessions: &[Session],
-    waiting: &[Waiting],
-    number: u32,
-    name: &Name,
-) -> Option<u32>
-    ensures { result ≡ blocker_of_name (names_held sessions.now) (waiters waiting.now) number name.now true }
-{
-    if holds(sessions, number, name, true) {
-        return None;
-    }
-    let holder = least_holder(sessions, number, name, false);
-    least(
-        holder,
-        least_waiter(ahead_of(waiting, number), number, name),
-    )
-}
-
-/// The least session that refuses a lock on the name.
-fn blocker_of_name(
-    sessions: &[Session],
-    waiting: &[Waiting],
-    number: u32,
-    name: &Name,
-    exclusive: bool,
-) -> Option<u32>
-    ensures { result ≡ blocker_of_name (names_held sessions.now) (waiters waiting.now) number name.now exclusive }
-{
-    if exclusive {
-        blocker_of_exclusive(sessions, waiting, number, name)
-    } else {
-        blocker_of_shared(sessions, waiting, number, name)
-    }
-}
-
-/// The least session that refuses one of the names.
-#[tactic(auto, using(crate::proofs::SessionLocks::Names::steps), unfolding(server_locks::specs::MetadataLocks::Grants::blocker_of_names))]
-fn blocker_of_names(
-    sessions: &[Session],
-    waiting: &[Waiting],
-    number: u32,
-    exclusive: bool,
-    names: &[Name],
-) -> Option<u32>
-    ensures { result ≡ blocker_of_names (names_held sessions.now) (waiters waiting.now) number exclusive names.now }
-{
-    let mut by = None;
-    for name in names {
-        by = least(
-            by,
-            blocker_of_name(sessions, waiting, number, name, exclusive),
-        );
-    }
-    by
-}
 
 /// The least session that refuses one of the names of the pairs exclusively.
 #[tactic(auto, using(crate::proofs::SessionLocks::Pairs::steps))]
-fn blocker_of_pairs(
-    sessions: &[Session],
-    waiting: &[Waiting],
-    number: u32,
-    pairs: &[Pair],
-) -> Option<u32>
-    ensures { result ≡ blocker_of_names (names_held sessions.now) (waiters waiting.now) number true (pair_names pairs.now) }
+fn blocker_of_pairs(locks: &MetaLocks, number: u32, pairs: &[Pair]) -> Option<u32>
+    ensures { result ≡ blocker_of_names locks.now.held locks.now.waiting number true (pair_names pairs.now) }
 {
     let mut by = None;
     for pair in pairs {
-        let old = blocker_of_exclusive(sessions, waiting, number, &pair.old);
-        let new = blocker_of_exclusive(sessions, waiting, number, &pair.new);
+        let old = locks.name_blocker(number, &pair.old, true);
+        let new = locks.name_blocker(number, &pair.new, true);
         by = least(by, least(old, new));
     }
     by
@@ -109,31 +26,22 @@ fn blocker_of_pairs(
 
 /// The least session that refuses one of the names that the request mentions.
 #[tactic(auto, using(crate::proofs::SessionLocks::Pairs::steps))]
-pub fn names_blocker(
-    sessions: &[Session],
-    waiting: &[Waiting],
-    number: u32,
-    request: &Request,
-) -> Option<u32>
-    ensures { result ≡ blocker_of_names (names_held sessions.now) (waiters waiting.now) number (is_exclusive request.now) (names_in request.now) }
+pub fn names_blocker(locks: &MetaLocks, number: u32, request: &Request) -> Option<u32>
+    ensures { result ≡ blocker_of_names locks.now.held locks.now.waiting number (is_exclusive request.now) (names_in request.now) }
 {
     match request {
-        Request::Do(statement) => {
-            blocker_of_shared(sessions, waiting, number, table_of(statement))
-        }
-        Request::Ends(table) => blocker_of_shared(sessions, waiting, number, table),
-        Request::ChunkEnd { table, .. } => blocker_of_shared(sessions, waiting, number, table),
-        Request::BeginSpan { table, .. } => blocker_of_shared(sessions, waiting, number, table),
+        Request::Do(statement) => locks.name_blocker(number, table_of(statement), false),
+        Request::Ends(table) => locks.name_blocker(number, table, false),
+        Request::ChunkEnd { table, .. } => locks.name_blocker(number, table, false),
+        Request::BeginSpan { table, .. } => locks.name_blocker(number, table, false),
         Request::CopyRow { from, into, .. } => least(
-            blocker_of_shared(sessions, waiting, number, from),
-            blocker_of_shared(sessions, waiting, number, into),
+            locks.name_blocker(number, from, false),
+            locks.name_blocker(number, into, false),
         ),
-        Request::LockTables(names) => {
-            blocker_of_names(sessions, waiting, number, true, names.as_slice())
-        }
-        Request::Create(schema) => { blocker_of_exclusive(sessions, waiting, number, &schema.name) }
-        Request::Drop(table) => blocker_of_exclusive(sessions, waiting, number, table),
-        Request::Rename(pairs) => blocker_of_pairs(sessions, waiting, number, pairs.as_slice()),
+        Request::LockTables(names) => locks.blocker(number, names, true),
+        Request::Create(schema) => locks.name_blocker(number, &schema.name, true),
+        Request::Drop(table) => locks.name_blocker(number, table, true),
+        Request::Rename(pairs) => blocker_of_pairs(locks, number, pairs.as_slice()),
         _ => None,
     }
 }

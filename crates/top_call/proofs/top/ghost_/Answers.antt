@@ -1,6 +1,6 @@
 use Rattle.std.proofs.Common.{Some}
-use Rattle.top_words.specs.declared.command.Command.TheVariants.{Check, Generate, Rebuild, Replay, Run, Trace}
-use Rattle.top_endings.specs.declared.status.Status.TheVariants.{Usage, Refused, Reverted, ReadFault, WriteFault, NoMemory, TurnsSpent}
+use Rattle.top_words.specs.declared.command.Command.TheVariants.{Audit, Check, Generate, Rebuild, Replay, Run, Trace}
+use Rattle.top_endings.specs.declared.status.Status.TheVariants.{Usage, Refused, Reverted, ReadFault, WriteFault, NoMemory, TurnsSpent, No}
 use Rattle.top_call.proofs.Faulty.{faulty_words}
 use Rattle.top_call.proofs.Numbers.{under, under_done}
 use Rattle.top_call.proofs.top.ghost_.Goals as goal
@@ -19,6 +19,9 @@ returns-clause-generated g c = λ number. under_done (Some (Generate number)) c.
 
 pub returns-clause-traced : goal.returns-clause-traced
 returns-clause-traced g c = under_done (Some Trace) c.args.line.now _ _ c.ending.result.turns c.ending.result.journal c.ending.result.status c.ending.ensures.ends
+
+pub returns-clause-audited : goal.returns-clause-audited
+returns-clause-audited g c = under_done (Some Audit) c.args.line.now _ _ c.ending.result.turns c.ending.result.journal c.ending.result.status c.ending.ensures.ends
 
 pub returns-clause-rebuilt : goal.returns-clause-rebuilt
 returns-clause-rebuilt g c = λ workers. under_done (Some (Rebuild workers)) c.args.line.now _ _ c.ending.result.turns c.ending.result.journal c.ending.result.status c.ending.ensures.ends
@@ -46,6 +49,9 @@ returns-clause-no_memory g c = under NoMemory c.args.line.now _ _ c.ending.resul
 
 pub returns-clause-turns_spent : goal.returns-clause-turns_spent
 returns-clause-turns_spent g c = under TurnsSpent c.args.line.now _ _ c.ending.result.turns c.ending.result.journal c.ending.result.status c.ending.ensures.ends
+
+pub returns-clause-no : goal.returns-clause-no
+returns-clause-no g c = under No c.args.line.now _ _ c.ending.result.turns c.ending.result.journal c.ending.result.status c.ending.ensures.ends
 
 pub returns-clause-ends : goal.returns-clause-ends
 returns-clause-ends g c = c.ending.ensures.ends

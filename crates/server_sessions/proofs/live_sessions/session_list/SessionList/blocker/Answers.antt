@@ -7,5 +7,5 @@ use Rattle.server_sessions.proofs.live_sessions.session_list.SessionList.blocker
 
 pub returns : goal.returns
 returns c =
-    c.blocker.ensures ∙ same_blockers c.args.number c.args.locks.now c.self.inside.locks.held (locks_held c.self.inside.sessions.items) c.self.invariant.locks
+    c.blocker.ensures ∙ same_blockers c.args.number c.args.locks.now c.self.inside.locks.held (locks_held c.self.inside.sessions.items) c.self.invariant.rows.locks
     ∙ ap (λ (all : NumberedSessions). blocker_of_set (locks_held all.sessions) c.args.number c.args.locks.now) c.self.view_is

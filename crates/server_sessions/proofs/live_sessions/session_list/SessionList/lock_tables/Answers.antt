@@ -1,10 +1,21 @@
-use Rattle.std.proofs.Common.{refl}
+use Rattle.std.proofs.Common.{◌≡◌, true, false, is_some, refl, rules}
 use Rattle.server_model.specs.PlainServer.{locking}
-use Rattle.server_model.specs.States.{with_session}
-use Rattle.server_sessions.proofs.LiveSessions.SessionLists.{have_either, have_same}
+use Rattle.server_model.specs.States.{session_of}
+use Rattle.server_sessions.proofs.LiveSessions.HeldNames.{names_granted}
+use Rattle.server_sessions.proofs.LiveSessions.SessionLists.{have_same, unchanged}
 use Rattle.server_sessions.proofs.live_sessions.session_list.SessionList.lock_tables.Goals as goal
 
-pub invariant_of-self : goal.invariant_of-self
-invariant_of-self c =
-    have_either c.lock_tables.result c.self.inside.made c.self.inside.sessions.items (with_session c.args.number (locking c.args.names) c.self.inside.sessions.items) c.lock_tables.new.sessions.items c.self.inside.locks.held c.lock_tables.ensures.ok c.lock_tables.ensures.err
-    (have_same c.self.inside.made c.args.number (locking c.args.names) c.self.inside.sessions.items c.self.inside.locks.held (λ s. refl) (λ s. refl) c.self.invariant) c.self.invariant
+pub returns-then-not-is_live-clause-ok : goal.returns-then-not-is_live-clause-ok
+returns-then-not-is_live-clause-ok c =
+    let none : is_some (session_of c.args.number c.args.self.now.sessions) ≡ false = search rules in
+    unchanged c.args.number (locking c.args.names) c.args.self.now none
+
+pub invariant_of-self-in-Ok : goal.invariant_of-self-in-Ok
+invariant_of-self-in-Ok c =
+    let live : is_some (session_of c.args.number c.self.inside.sessions.items) ≡ true = search rules in
+    rw (c.in-Ok.ensures.ok, c.in_ok-grant.ensures.ok)
+    (record {
+      rows = have_same c.self.inside.made c.args.number (locking c.args.names) c.self.inside.sessions.items c.self.inside.locks.held (λ s. refl) (λ s. refl) c.self.invariant.rows;
+      names = names_granted c.args.number true c.args.names (locking c.args.names) c.self.inside.sessions.items c.self.inside.names.held (λ s. refl) (λ s. refl) live c.self.invariant.names;
+      waits = c.self.invariant.waits;
+    })
