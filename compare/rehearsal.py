@@ -339,11 +339,19 @@ class Rehearsal:
         """For whom a session waits, as the server says: it is asked anew where a lock was given free, or another began to wait."""
         at = self.releases, self.waits_begun
         if talk.blocked_at != at:
-            is_name = talk.seen_at and talk.seen_at[1] == "name"
-            rows = self.monitor.need((NAME_BLOCKERS if is_name else ROW_BLOCKERS).format(talk.session.number)).rows
-            numbers = {int(row[0]) for row in rows if not is_name or not {row[1], row[2]} <= set(SHARED)}
-            talk.blocked_at, talk.blockers = at, {it for it, other in self.talks.items() if other.session.number in numbers}
+            talk.blocked_at, talk.blockers = at, self.blockers_seen(talk)
         return talk.blockers
+
+    def blockers_seen(self, talk):
+        is_name, number = talk.seen_at and talk.seen_at[1] == "name", talk.session.number
+        for _ in range(PATIENCE):
+            rows = self.monitor.need((NAME_BLOCKERS if is_name else ROW_BLOCKERS).format(number)).rows
+            numbers = {int(row[0]) for row in rows if not is_name or not {row[1], row[2]} <= set(SHARED)}
+            if numbers or not is_name:
+                break
+            # (it was given that name, and is about to ask for its next one)
+            self.wakeups.pass_by()
+        return {it for it, other in self.talks.items() if other.session.number in numbers}
 
     def behind(self, actors):
         """For whom these wait, and those in turn."""
