@@ -45,8 +45,7 @@ fn is_printed(alloc: Global, program: &Program, case: &Case<'_>) -> Result<bool,
     let ran = run(alloc, program, case.words, plan)?;
     Ok(
         is_written(alloc, case, &ran)?
-            && (printed_no_report(case.words, &ran)
-                || is_reference_where_run(alloc, plan, &ran)?),
+            && (printed_no_report(case.words, &ran) || is_reference_where_run(alloc, plan, &ran)?),
     )
 }
 
