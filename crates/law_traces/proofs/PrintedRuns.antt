@@ -3,7 +3,7 @@ use Rattle.std.proofs.Common.{◌≡◌, ◌≤◌, ℕ, ◌+◌, true, not, ◌
 use Rattle.std.specs.Fmt.{decimal}
 use Rattle.std.specs.List.{AllByRecursion, flat_map}
 use Rattle.std.specs.Str.{IsUtf8}
-use Rattle.std.proofs.lemmas.List.{length-append}
+use Rattle.std.proofs.lemmas.List.{length-append, length-map}
 use Rattle.base_script.specs.declared.actor.Actor.{Actor}
 use Rattle.base_script.specs.declared.actor.Actor.TheVariants.{Op, Insp, Copy, Apply, Lock, Ren, Client}
 use Rattle.base_script.specs.declared.actor.Side.{Side}
@@ -36,6 +36,14 @@ use Rattle.top_trace_reader.specs.Turns.{fits, fits_actor, was_missed}
 use Rattle.law_texts.specs.PrintedTraces.{CanDraw, CanHaveSide, CanPrintAnswer, CanPrintTrace, CanPrintTurn, PrintedTracesAreRead, text_of}
 use Rattle.law_traces.specs.Laws.{TracesAreAudited}
 use Rattle.law_traces.specs.Printed.{HasPlainValues, PrintedTracesAreAudited, tables_at, text_at, trace_at}
+use Rattle.server_model.specs.declared.outcome.Cause.{Cause}
+use Rattle.server_model.specs.declared.outcome.Verdict.TheVariants.{Reverted}
+use Rattle.tool_program.specs.Failures.{Stands}
+use Rattle.tool_program.specs.Verdicts.{verdict_of}
+use Rattle.proof_plans.specs.ReadPlans.Laws.{WasRead}
+use Rattle.proof_plans.specs.Laws.{AcceptedCausesStand}
+use Rattle.proof_plans.specs.ReadPlans.Options.{ReadOptionsAllow}
+use Rattle.law_traces.proofs.PrintedCauses.{verdict_prints}
 use Rattle.law_traces.proofs.PlanActors.{AreIts, next_its}
 
 -- ---- a turn
@@ -151,23 +159,29 @@ same_text : (bytes : List ℕ) (plan : PlanData) (journal : List Entry) → text
 unfolding trace_text
 same_text bytes plan journal = refl
 
-trace_prints : (bytes : List ℕ) (plan : PlanData) (journal : List Entry) → length plan.clients ≤ 64 → IsKept plan journal → HasPlainValues plan journal → length (text_at bytes plan journal) ≤ TRACE_LIMIT → CanPrintTrace plan (trace_at plan journal) (tables_left plan (tables_at plan journal))
+trace_prints : (bytes : List ℕ) (plan : PlanData) (journal : List Entry) → length plan.clients ≤ 64 → 1 ≤ plan.options.default_retries → IsKept plan journal → ((cause : Cause) → verdict_of plan journal ≡ Reverted cause → Stands plan journal cause) → HasPlainValues plan journal
+    → length (text_at bytes plan journal) ≤ TRACE_LIMIT → CanPrintTrace plan (trace_at plan journal) (tables_left plan (tables_at plan journal))
 unfolding trace_of trace_text
-trace_prints bytes plan journal clients kept plain short = record {
-  few = omega (arith, clients);
-  short = let lines = lines_short bytes (trace_at plan journal) (names_line (tables_at plan journal)) in omega (arith, lines, short);
-  turns = turns_print plan [] journal kept tt plain.answers;
-  ended = plain.verdict;
-  printed = refl;
-  tables = plain.tables;
-}
+trace_prints bytes plan journal clients tries kept causes plain short =
+    let lines : length (lines_of journal) ≤ length (text_at bytes plan journal) = lines_short bytes (trace_at plan journal) (names_line (tables_at plan journal)) in
+    let turns : length (lines_of journal) ≡ length journal = length-map journal line_of in
+    record {
+      few = omega (arith, clients);
+      short = omega (arith, lines, short);
+      turns = turns_print plan [] journal kept tt plain.answers;
+      ended = verdict_prints plan journal (verdict_of plan journal) (omega (arith, lines, turns, short)) tries plain.verdict causes;
+      printed = refl;
+      tables = plain.tables;
+    }
 
 -- *Printed traces are audited yes*
-pub printed_audited : ReadPlansAreAccepted → PrintedTracesAreRead → TracesAreAudited → PrintedTracesAreAudited
-printed_audited accepted reads audits = λ bytes plan journal is text kept within plain utf8 short.
-    let same = same_text bytes plan journal in (
+pub printed_audited : ReadPlansAreAccepted → ReadOptionsAllow → AcceptedCausesStand → PrintedTracesAreRead → TracesAreAudited → PrintedTracesAreAudited
+printed_audited accepted allow causes reads audits = λ bytes plan journal is text kept within plain utf8 short.
+    let same = same_text bytes plan journal in
+    let was : WasRead plan = record { bytes = bytes; is = is; text = text } in (
       subst (λ (printed : List ℕ). read_trace printed ≡ Ok (plan, trace_at plan journal)) same
-          (reads bytes plan (trace_at plan journal) (tables_left plan (tables_at plan journal)) (tables_at plan journal) is (trace_prints bytes plan journal (accepted bytes plan is).few kept plain short) plain.names
-          (subst IsUtf8 (sym same) utf8) (subst (λ (printed : List ℕ). length printed ≤ TRACE_LIMIT) (sym same) short)),
-      audits plan journal (record { bytes = bytes; is = is; text = text }) kept within,
+          (reads bytes plan (trace_at plan journal) (tables_left plan (tables_at plan journal)) (tables_at plan journal) is
+          (trace_prints bytes plan journal (accepted bytes plan is).few (allow bytes plan is).tries kept (λ cause verdict. causes plan journal cause was kept verdict) plain short) plain.names (subst IsUtf8 (sym same) utf8)
+          (subst (λ (printed : List ℕ). length printed ≤ TRACE_LIMIT) (sym same) short)),
+      audits plan journal was kept within,
     )
