@@ -1,5 +1,6 @@
 """A migration's answers one by one: the line of a trace that the server's answer makes of a turn, and what the program prints there."""
 import re
+from collections import Counter
 
 END = ("done", "reverted ", "unfinished")
 WAITS = re.compile(r" waits (\d+)$")
@@ -59,26 +60,36 @@ def told_alike(line):
 
 
 def blockers_compared(turns, text):
-    """For whom a session waits: at how many turns the program names one of those that the server names; at how many the server names
-    others, which are all numbered behind that one, as the program names the first of all that are in the way; and the first turn at
-    which neither is so, in words. Sessions are numbered as they are opened, and one that was lost is opened anew."""
-    live, opened, same, behind = {}, 0, 0, 0
+    """For whom a session waits, of each turn at which it does: a count of the ways in which the program and the server agree, and the
+    first turn at which they don't, in words. Sessions are numbered as they are opened; one that was lost is opened anew."""
+    live, opened, ways = {}, 0, Counter()
     for turn, (line, *_) in zip(turns, journal(text)):
         if turn.actor != "op" and turn.actor not in live:
             opened += 1
             live[turn.actor] = opened
         found = re.search(WAITS, line)
         if found and turn.blockers is not None:
-            ours, theirs = int(found[1]), [live.get(it, 0) for it in turn.blockers]
-            if ours in theirs:
-                same += 1
-            elif theirs and ours < min(theirs):
-                behind += 1
-            else:
-                return same, behind, f"{line}, {turn.line}: the program waits for {[it for it in live if live[it] == ours]}, the server for {sorted(turn.blockers)}"
+            way = way_to_agree(int(found[1]), *({live.get(it, 0) for it in some} for some in (turn.blockers, turn.behind)))
+            if way is None:
+                ours = [it for it in live if live[it] == int(found[1])]
+                return ways, f"{line}, {turn.line}: the program waits for {ours}, the server for {sorted(turn.blockers)}"
+            ways[way] += 1
         if turn.note in ("lost", "cut"):
             live.pop(turn.actor, None)
-    return same, behind, None
+    return ways, None
+
+
+def way_to_agree(ours, direct, behind):
+    """`direct` has the sessions that the server names, and `behind` those for whom these wait in turn."""
+    if ours in direct:
+        return "waits for a session that the server names too"
+    if ours in behind:
+        # (a server takes locks one after the other: who waits for one has others already)
+        return "waits for a session, where the server names one that waits for it and has locks already"
+    if direct and ours < min(direct):
+        # (the program names the first of all that are in the way, and a server the one that it meets first)
+        return "waits for a session that is numbered before those that the server names"
+    return None
 
 
 def is_equal_row(turn, ours, theirs):

@@ -340,9 +340,8 @@ class Pair:
             same, equal, other = compared(turns, text)
             self.counts["turns whose answer is the trace's"] += same
             self.counts.update({EQUAL_ROW: equal} if equal else {})
-            named, behind, another = blockers_compared(turns, text)
-            self.counts["waits for a session that the server names too"] += named
-            self.counts["waits for a session that is numbered before those that the server names"] += behind
+            ways, another = blockers_compared(turns, text)
+            self.counts.update(ways)
             if other or another:
                 return "UNEXPLAINED", f"{toml(rehearsal.ordered(turns))}--- {other or another}"
         self.counts[f"verdict {rehearsal.verdict_kind.split()[0]}"] += 1

@@ -67,6 +67,7 @@ class Turn:
     what: str = ""
     answer: str = ""
     blockers: set = None  # for whom it waits, as the server says; none where it doesn't wait there
+    behind: set = None  # for whom these wait in turn
 
 
 class Talk:
@@ -338,11 +339,29 @@ class Rehearsal:
         """For whom a session waits, as the server says: it is asked anew where a lock was given free, or another began to wait."""
         at = self.releases, self.waits_begun
         if talk.blocked_at != at:
-            is_name = talk.seen_at and talk.seen_at[1] == "name"
-            rows = self.monitor.need((NAME_BLOCKERS if is_name else ROW_BLOCKERS).format(talk.session.number)).rows
-            numbers = {int(row[0]) for row in rows if not is_name or not {row[1], row[2]} <= set(SHARED)}
-            talk.blocked_at, talk.blockers = at, {it for it, other in self.talks.items() if other.session.number in numbers}
+            talk.blocked_at, talk.blockers = at, self.blockers_seen(talk)
         return talk.blockers
+
+    def blockers_seen(self, talk):
+        is_name, number = talk.seen_at and talk.seen_at[1] == "name", talk.session.number
+        for _ in range(PATIENCE):
+            rows = self.monitor.need((NAME_BLOCKERS if is_name else ROW_BLOCKERS).format(number)).rows
+            numbers = {int(row[0]) for row in rows if not is_name or not {row[1], row[2]} <= set(SHARED)}
+            if numbers or not is_name:
+                break
+            # (it was given that name, and is about to ask for its next one)
+            self.wakeups.pass_by()
+        return {it for it, other in self.talks.items() if other.session.number in numbers}
+
+    def behind(self, actors):
+        """For whom these wait, and those in turn."""
+        found, asked = set(), list(actors)
+        while asked:
+            talk = self.talks[asked.pop()]
+            further = self.blockers(talk) - found if talk.call and talk.seen_at and not talk.is_answered(0) else set()
+            found |= further
+            asked += further
+        return found
 
     def is_beyond_chunk(self, what, by):
         """Whether that is the row after a chunk, which a server locks as well."""
@@ -551,6 +570,7 @@ class Rehearsal:
                 self.tool.rename_waits()
         entry.wait, entry.note, entry.answer = talk.wait, "waits", "waits"
         entry.blockers = None if actor in self.early else self.blockers(talk)
+        entry.behind = self.behind(entry.blockers or ())
         talk.polls += polls
         if talk.polls == self.longest_wait(actor):
             entry.answer = f"timeout {talk.polls}"

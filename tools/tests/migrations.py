@@ -68,19 +68,20 @@ class Answers(unittest.TestCase):
 
     def test_blockers(self):
         """Sessions are numbered as they are opened: insp, c1, copy, apply, ren, and lock, c2 behind them."""
-        for first, second, told in (
-            (None, None, (0, 0, None)),
-            ({"apply"}, {"apply", "c1"}, (2, 0, None)),
-            ({"apply"}, {"ren", "c9"}, (1, 0, "7 ren poll waits 4")),
-            ({"ren"}, {"apply"}, (1, 1, None)),
-            ({"c1"}, None, (0, 0, "6 ren rename waits 4")),
-            (set(), None, (0, 0, "6 ren rename waits 4")),
+        for first, second, behind, told in (
+            (None, None, (), ([], None)),
+            ({"apply"}, {"apply", "c1"}, (), ([2], None)),
+            ({"apply"}, {"ren", "c9"}, (), ([1], "7 ren poll waits 4")),
+            ({"ren"}, {"apply"}, (), ([1, 1], None)),
+            ({"c1"}, None, (), ([], "6 ren rename waits 4")),
+            ({"c1"}, None, {"apply"}, ([1], None)),
+            (set(), None, (), ([], "6 ren rename waits 4")),
         ):
             given = turns()
-            given[5].blockers, given[6].blockers = first, second
+            given[5].blockers, given[6].blockers, given[5].behind, given[6].behind = first, second, behind, ()
             with self.subTest(told):
-                same, behind, other = ANSWERS.blockers_compared(given, TRACE)
-                self.assertEqual((same, behind, other and other.partition(",")[0]), told)
+                ways, other = ANSWERS.blockers_compared(given, TRACE)
+                self.assertEqual((list(ways.values()), other and other.partition(",")[0]), told)
 
     def test_other_answers(self):
         for at, change, told in (

@@ -2,4 +2,5 @@ pub mod Accepted
 pub mod Alters
 pub mod Draws
 pub mod PlanActors
+pub mod PrintedCauses
 pub mod PrintedRuns

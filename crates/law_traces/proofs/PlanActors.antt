@@ -1,5 +1,5 @@
 -- The turns of a journal that is kept are of the plan's actors.
-use Rattle.std.proofs.Common.{◌≡◌, ◌≢◌, ◌≤◌, ◌<◌, ℕ, ◌+◌, ◌-◌, ◌==◌, nat_le, nat_lt, Bool, true, false, ◌&&◌, if◌then◌else◌, cond, List, [], ◌∷◌, ◌++◌, length, fold, Option, Some, None, refl, sym, ap, ◌∙◌, subst, arith}
+use Rattle.std.proofs.Common.{◌≡◌, ◌≢◌, ◌≤◌, ◌<◌, ℕ, ◌+◌, ◌-◌, ◌==◌, nat_le, nat_lt, Bool, true, false, ◌&&◌, if◌then◌else◌, List, [], ◌∷◌, length, fold, Option, Some, None, refl, sym, ap, ◌∙◌, subst, arith}
 use Rattle.std.specs.Prelude.{is_some, unwrap_or}
 use Rattle.std.specs.List.{AllByRecursion, slice_get}
 use Rattle.std.proofs.lemmas.Bool.{true≢false}
@@ -22,10 +22,10 @@ use Rattle.proof_journals.proofs.Actors.{same_actor_is}
 use Rattle.law_texts.specs.TurnOrders.{IsOf}
 
 module _ (plan : PlanData) where
-  abbrev IsIts : Actor → Type 0
+  abbrev pub IsIts : Actor → Type 0
   IsIts actor = IsOf (length plan.clients) actor
 
-  abbrev AreIts : List Entry → Type 0
+  abbrev pub AreIts : List Entry → Type 0
   AreIts journal = AllByRecursion (λ entry. IsIts entry.actor) journal
 
   -- ---- actors that had no turn
@@ -48,11 +48,13 @@ module _ (plan : PlanData) where
     stays old entry differs = rw differs refl
 
   no_script : (number : ℕ) → (IsIts (Client number) → ⊥) → unwrap_or (script_of number plan) [] ≡ []
-  no_script zero not = refl
-  no_script (suc number) not = by (nat_lt number (length plan.clients)) refl where
-    by : (b : Bool) → nat_lt number (length plan.clients) ≡ b → unwrap_or (slice_get plan.clients number) [] ≡ []
-    by true within = absurd (not (omega arith, grind (arith, nat_tests, within)))
-    by false past = ap (λ (script : Option (List ScriptLine)). unwrap_or script []) (slice_get_past plan.clients number (grind (arith, nat_tests, past)))
+  no_script number not = by (number == 0) (nat_lt (number - 1) (length plan.clients)) refl refl where
+    by : (none within : Bool) → (number == 0) ≡ none → nat_lt (number - 1) (length plan.clients) ≡ within → unwrap_or (if none then None else slice_get plan.clients (number - 1)) [] ≡ []
+    by true within first has = refl
+    by false true first has =
+        let some : 0 < number = grind (arith, nat_tests, first) in
+        let inside : number - 1 < length plan.clients = grind (arith, nat_tests, has) in absurd (not (some, omega (arith, some, inside)))
+    by false false first has = ap (λ (script : Option (List ScriptLine)). unwrap_or script []) (slice_get_past plan.clients (number - 1) (grind (arith, nat_tests, has)))
 
   no_turn : (number : ℕ) → (IsIts (Client number) → ⊥) → (journal : List Entry) → AreIts journal → client_at plan journal number ≡ new_client []
   unfolding client_at
@@ -70,7 +72,7 @@ module _ (plan : PlanData) where
   -- who loses a session had one
   cut_had : (before : List Entry) (turn : ℕ) (loss : Loss) (actor : Actor) → cut_by before turn loss ≡ Some actor → is_some (live_session before actor) ≡ true
   cut_had before turn (Nth one n side) actor is = absurd cc
-  cut_had before turn (Turn number one) actor = by (number == turn) (is_some (live_session before one)) refl where
+  cut_had before turn (Turn number one) actor is = by (number == turn) (is_some (live_session before one)) refl is where
     by : (at has : Bool) → is_some (live_session before one) ≡ has → (if at && has then Some one else None) ≡ Some actor → is_some (live_session before actor) ≡ true
     by true true had is = subst (λ (a : Actor). is_some (live_session before a) ≡ true) (same_Some one actor is) had
     by true false had is = absurd cc
@@ -88,23 +90,23 @@ module _ (plan : PlanData) where
 
   -- whether the plan has an actor is known
   decide : (actor : Actor) (P : Type 0) → (IsIts actor → P) → ((IsIts actor → ⊥) → P) → P
-  decide Op P yes no = yes tt
-  decide Insp P yes no = yes tt
-  decide Copy P yes no = yes tt
-  decide Apply P yes no = yes tt
-  decide Lock P yes no = yes tt
-  decide Ren P yes no = yes tt
-  decide (Client number) P yes no = by (nat_lt 0 number) (nat_le number (length plan.clients)) refl refl where
+  decide Op P here away = here tt
+  decide Insp P here away = here tt
+  decide Copy P here away = here tt
+  decide Apply P here away = here tt
+  decide Lock P here away = here tt
+  decide Ren P here away = here tt
+  decide (Client number) P here away = by (nat_lt 0 number) (nat_le number (length plan.clients)) refl refl where
     by : (some few : Bool) → nat_lt 0 number ≡ some → nat_le number (length plan.clients) ≡ few → P
-    by true true lower upper = yes (grind (arith, nat_tests, lower), grind (arith, nat_tests, upper))
-    by true false lower upper = no (λ its. absurd (let most : number ≤ length plan.clients = its.1 in grind (arith, nat_tests, upper, most)))
-    by false few lower upper = no (λ its. absurd (let least : 0 < number = its.0 in grind (arith, nat_tests, lower, least)))
+    by true true lower upper = here (grind (arith, nat_tests, lower), grind (arith, nat_tests, upper))
+    by true false lower upper = away (λ its. absurd (let most : number ≤ length plan.clients = its.1 in grind (arith, nat_tests, upper, most)))
+    by false few lower upper = away (λ its. absurd (let least : 0 < number = its.0 in grind (arith, nat_tests, lower, least)))
 
   lost_its : (before : List Entry) (actor : Actor) → AreIts before → is_some (live_session before actor) ≡ true → IsIts actor
-  lost_its before actor its had = decide actor (IsIts actor) (λ yes. yes) (λ not. absurd (true≢false (sym had ∙ ap (λ (s : Option ℕ). is_some s) (no_session actor not before its))))
+  lost_its before actor its had = decide actor (IsIts actor) (λ its. its) (λ not. absurd (true≢false (sym had ∙ ap (λ (s : Option ℕ). is_some s) (no_session actor not before its))))
 
   asks_its : (before : List Entry) (number : ℕ) (asked : Asked) → AreIts before → client_asks plan before number ≡ Some asked → IsIts (Client number)
-  asks_its before number asked its asks = decide (Client number) (IsIts (Client number)) (λ yes. yes) (λ not. absurd (none-some asked (sym (asks_none number not before its) ∙ asks)))
+  asks_its before number asked its asks = decide (Client number) (IsIts (Client number)) (λ its. its) (λ not. absurd (none-some asked (sym (asks_none number not before its) ∙ asks)))
 
   takes_its : (before : List Entry) (actor : Actor) (asked : Asked) → AreIts before → asked ≢ Cut → TakesNext plan before actor asked → IsIts actor
   takes_its before Op asked its going takes = tt

@@ -1,5 +1,5 @@
 -- The text of a run's trace is read as that trace.
-use Rattle.std.proofs.Common.{◌≡◌, ◌≢◌, ◌≤◌, ◌<◌, ℕ, ◌+◌, ◌^◌, Bool, true, false, not, ◌&&◌, codes, List, [], ◌∷◌, ◌++◌, length, map, Option, Some, None, Ok, refl, sym, ap, ◌∙◌, subst, arith, append_assoc, append-nil}
+use Rattle.std.proofs.Common.{◌≡◌, ◌≤◌, ℕ, ◌+◌, true, not, ◌&&◌, codes, List, [], ◌∷◌, ◌++◌, length, Option, Some, None, Ok, refl, sym, ap, subst, arith, append_assoc}
 use Rattle.std.specs.Fmt.{decimal}
 use Rattle.std.specs.List.{AllByRecursion, flat_map}
 use Rattle.std.specs.Str.{IsUtf8}
@@ -18,18 +18,15 @@ use Rattle.server_model.specs.declared.request.Request.{Request}
 use Rattle.server_model.specs.declared.request.Request.TheVariants as requests
 use Rattle.server_model.specs.Entries.{is_client}
 use Rattle.plan_data.specs.PlanData.{PlanData}
-use Rattle.plan_reader.specs.Plans.{read}
 use Rattle.table_print.specs.Names.{names_line}
-use Rattle.tool_program.specs.JournalWords.Journals.{IsAnswered, state_at}
+use Rattle.tool_program.specs.JournalWords.Journals.{IsAnswered, may_lose, state_at}
 use Rattle.tool_program.specs.JournalWords.Serials.{tables_left}
-use Rattle.tool_program.specs.Verdicts.{verdict_of}
 use Rattle.proof_journals.specs.Run.Kept.{IsKept}
-use Rattle.proof_plans.specs.ReadPlans.Laws.{WasRead}
 use Rattle.proof_plans.specs.ReadPlans.Schemas.{ReadPlansAreAccepted}
 use Rattle.proof_audit.proofs.Rules.{planned_next, run_next}
 use Rattle.run_audit.specs.declared.line.TraceLine.{TraceLine}
 use Rattle.run_audit.specs.declared.trace.Trace.{Trace}
-use Rattle.run_audit.specs.Lines.{asked_of, heard_answer, line_answer, line_of, lines_of, missed_answer, printed_table, trace_of}
+use Rattle.run_audit.specs.Lines.{asked_of, heard_answer, line_answer, line_of, lines_of, missed_answer, trace_of}
 use Rattle.top_report.specs.Turns.{actor_word}
 use Rattle.top_report.specs.Verdicts.{verdict_line}
 use Rattle.top_trace.specs.Texts.{answer_text, asked_text, drawn_text, journal_line, journal_text, read_rows_text, side_text, trace_text, turn_line, turns_text}
@@ -39,6 +36,14 @@ use Rattle.top_trace_reader.specs.Turns.{fits, fits_actor, was_missed}
 use Rattle.law_texts.specs.PrintedTraces.{CanDraw, CanHaveSide, CanPrintAnswer, CanPrintTrace, CanPrintTurn, PrintedTracesAreRead, text_of}
 use Rattle.law_traces.specs.Laws.{TracesAreAudited}
 use Rattle.law_traces.specs.Printed.{HasPlainValues, PrintedTracesAreAudited, tables_at, text_at, trace_at}
+use Rattle.server_model.specs.declared.outcome.Cause.{Cause}
+use Rattle.server_model.specs.declared.outcome.Verdict.TheVariants.{Reverted}
+use Rattle.tool_program.specs.Failures.{Stands}
+use Rattle.tool_program.specs.Verdicts.{verdict_of}
+use Rattle.proof_plans.specs.ReadPlans.Laws.{WasRead}
+use Rattle.proof_plans.specs.Laws.{AcceptedCausesStand}
+use Rattle.proof_plans.specs.ReadPlans.Options.{ReadOptionsAllow}
+use Rattle.law_traces.proofs.PrintedCauses.{verdict_prints}
 use Rattle.law_traces.proofs.PlanActors.{AreIts, next_its}
 
 -- ---- a turn
@@ -92,7 +97,7 @@ module _ (plan : PlanData) where
       let answered : IsAnswered (state_at plan before) entry = (run_next plan before entry later kept).answered in
       record {
         its = next_its plan before entry its (planned_next plan before entry later kept);
-        beside = beside entry.asked entry.side (λ cut. answered.sides (ap _ cut)) (λ word command. answered.sides (ap _ command));
+        beside = beside entry.asked entry.side (λ cut. answered.sides (ap may_lose cut)) (λ word command. answered.sides (ap may_lose command));
         fitting = answer_fits entry.actor entry.side entry.answer entry.missed;
         numbers = plain.0;
         draw = plain.1;
@@ -118,30 +123,35 @@ back_short front back = let both = length-append front back in omega (arith, bot
 turn_long : (turn : ℕ) (line : TraceLine) → 1 ≤ length (turn_line turn line)
 unfolding turn_line
 turn_long turn line =
-    let rest : List ℕ = codes " " ++ actor_word line.actor ++ codes " " ++ asked_text line.asked ++ side_text line.side ++ codes " " ++ answer_text line.answer ++ drawn_text line.drawn ++ codes "\n" in
-    let some : 1 ≤ length rest = omega arith in
-    let both : length rest ≤ length (decimal turn ++ rest) = back_short (decimal turn) rest in
-    omega (arith, some, both)
+    let front : List ℕ = decimal turn ++ codes " " ++ actor_word line.actor ++ codes " " ++ asked_text line.asked ++ side_text line.side ++ codes " " ++ answer_text line.answer ++ drawn_text line.drawn in
+    let both : length (front ++ codes "\n") ≡ length front + 1 = length-append front (codes "\n") in
+    let long : 1 ≤ length (front ++ codes "\n") = omega (arith, both) in long
 
 turns_short : (turn : ℕ) (lines : List TraceLine) → length lines ≤ length (turns_text turn lines)
 unfolding turns_text
 turns_short turn [] = omega arith
 turns_short turn (line ∷ lines) =
-    let others : length lines ≤ length (turns_text (turn + 1) lines) = turns_short (turn + 1) lines in
+    let own : List ℕ = turn_line turn line ++ read_rows_text line.answer in
+    let rest : List ℕ = turns_text (turn + 1) lines in
+    let others : length lines ≤ length rest = turns_short (turn + 1) lines in
     let some : 1 ≤ length (turn_line turn line) = turn_long turn line in
-    let one = length-append (turn_line turn line) (read_rows_text line.answer ++ turns_text (turn + 1) lines) in
-    let two : length (turns_text (turn + 1) lines) ≤ length (read_rows_text line.answer ++ turns_text (turn + 1) lines) = back_short (read_rows_text line.answer) (turns_text (turn + 1) lines) in
-    omega (arith, others, some, one, two)
+    let more : length (turn_line turn line) ≤ length own = front_short (turn_line turn line) (read_rows_text line.answer) in
+    let both : length (own ++ rest) ≡ length own + length rest = length-append own rest in
+    let short : length (line ∷ lines) ≤ length (own ++ rest) = omega (arith, others, some, more, both) in short
 
 lines_short : (bytes : List ℕ) (trace : Trace) (names : List ℕ) → length trace.lines ≤ length (bytes ++ codes "\n" ++ journal_text trace names)
 unfolding journal_text
 lines_short bytes trace names =
-    let after : List ℕ = verdict_line trace.verdict ++ flat_map (λ table. table) trace.tables ++ names in
-    let one : length trace.lines ≤ length (turns_text 1 trace.lines) = turns_short 1 trace.lines in
-    let two : length (turns_text 1 trace.lines) ≤ length (turns_text 1 trace.lines ++ after) = front_short (turns_text 1 trace.lines) after in
-    let three : length (turns_text 1 trace.lines ++ after) ≤ length (journal_line ++ turns_text 1 trace.lines ++ after) = back_short journal_line (turns_text 1 trace.lines ++ after) in
-    let four : length (journal_line ++ turns_text 1 trace.lines ++ after) ≤ length (bytes ++ codes "\n" ++ journal_line ++ turns_text 1 trace.lines ++ after) = back_short (bytes ++ codes "\n") (journal_line ++ turns_text 1 trace.lines ++ after) in
-    omega (arith, one, two, three, four)
+    let turns : List ℕ = turns_text 1 trace.lines in
+    let verdict : List ℕ = verdict_line trace.verdict in
+    let tables : List ℕ = flat_map (λ table. table) trace.tables in
+    let one : length trace.lines ≤ length turns = turns_short 1 trace.lines in
+    let two : length turns ≤ length (journal_line ++ turns) = back_short journal_line turns in
+    let three : length (journal_line ++ turns) ≤ length (journal_line ++ turns ++ verdict) = front_short (journal_line ++ turns) verdict in
+    let four : length (journal_line ++ turns ++ verdict) ≤ length (journal_line ++ turns ++ verdict ++ tables) = front_short (journal_line ++ turns ++ verdict) tables in
+    let five : length (journal_line ++ turns ++ verdict ++ tables) ≤ length (journal_line ++ turns ++ verdict ++ tables ++ names) = front_short (journal_line ++ turns ++ verdict ++ tables) names in
+    let six : length (journal_line ++ turns ++ verdict ++ tables ++ names) ≤ length (bytes ++ codes "\n" ++ (journal_line ++ turns ++ verdict ++ tables ++ names)) = back_short (bytes ++ codes "\n") (journal_line ++ turns ++ verdict ++ tables ++ names) in
+    let short : length trace.lines ≤ length (bytes ++ codes "\n" ++ (journal_line ++ turns ++ verdict ++ tables ++ names)) = omega (arith, one, two, three, four, five, six) in short
 
 -- ---- the law
 
@@ -149,23 +159,29 @@ same_text : (bytes : List ℕ) (plan : PlanData) (journal : List Entry) → text
 unfolding trace_text
 same_text bytes plan journal = refl
 
-trace_prints : (bytes : List ℕ) (plan : PlanData) (journal : List Entry) → length plan.clients ≤ 64 → IsKept plan journal → HasPlainValues plan journal → length (text_at bytes plan journal) ≤ TRACE_LIMIT → CanPrintTrace plan (trace_at plan journal) (tables_left plan (tables_at plan journal))
+trace_prints : (bytes : List ℕ) (plan : PlanData) (journal : List Entry) → length plan.clients ≤ 64 → 1 ≤ plan.options.default_retries → IsKept plan journal → ((cause : Cause) → verdict_of plan journal ≡ Reverted cause → Stands plan journal cause) → HasPlainValues plan journal
+    → length (text_at bytes plan journal) ≤ TRACE_LIMIT → CanPrintTrace plan (trace_at plan journal) (tables_left plan (tables_at plan journal))
 unfolding trace_of trace_text
-trace_prints bytes plan journal clients kept plain short = record {
-  few = omega (arith, clients);
-  short = let lines = lines_short bytes (trace_at plan journal) (names_line (tables_at plan journal)) in omega (arith, lines, short);
-  turns = turns_print plan [] journal kept tt plain.answers;
-  ended = plain.verdict;
-  printed = refl;
-  tables = plain.tables;
-}
+trace_prints bytes plan journal clients tries kept causes plain short =
+    let lines : length (lines_of journal) ≤ length (text_at bytes plan journal) = lines_short bytes (trace_at plan journal) (names_line (tables_at plan journal)) in
+    let turns : length (lines_of journal) ≡ length journal = length-map journal line_of in
+    record {
+      few = omega (arith, clients);
+      short = omega (arith, lines, short);
+      turns = turns_print plan [] journal kept tt plain.answers;
+      ended = verdict_prints plan journal (verdict_of plan journal) (omega (arith, lines, turns, short)) tries plain.verdict causes;
+      printed = refl;
+      tables = plain.tables;
+    }
 
 -- *Printed traces are audited yes*
-pub printed_audited : ReadPlansAreAccepted → PrintedTracesAreRead → TracesAreAudited → PrintedTracesAreAudited
-printed_audited accepted reads audits = λ bytes plan journal is text kept within plain utf8 short.
-    let same = same_text bytes plan journal in (
+pub printed_audited : ReadPlansAreAccepted → ReadOptionsAllow → AcceptedCausesStand → PrintedTracesAreRead → TracesAreAudited → PrintedTracesAreAudited
+printed_audited accepted allow causes reads audits = λ bytes plan journal is text kept within plain utf8 short.
+    let same = same_text bytes plan journal in
+    let was : WasRead plan = record { bytes = bytes; is = is; text = text } in (
       subst (λ (printed : List ℕ). read_trace printed ≡ Ok (plan, trace_at plan journal)) same
-          (reads bytes plan (trace_at plan journal) (tables_left plan (tables_at plan journal)) (tables_at plan journal) is (trace_prints bytes plan journal (accepted bytes plan is).few kept plain short) plain.names
-          (subst IsUtf8 (sym same) utf8) (subst (λ (printed : List ℕ). length printed ≤ TRACE_LIMIT) (sym same) short)),
-      audits plan journal (record { bytes = bytes; is = is; text = text }) kept within,
+          (reads bytes plan (trace_at plan journal) (tables_left plan (tables_at plan journal)) (tables_at plan journal) is
+          (trace_prints bytes plan journal (accepted bytes plan is).few (allow bytes plan is).tries kept (λ cause verdict. causes plan journal cause was kept verdict) plain short) plain.names (subst IsUtf8 (sym same) utf8)
+          (subst (λ (printed : List ℕ). length printed ≤ TRACE_LIMIT) (sym same) short)),
+      audits plan journal was kept within,
     )

@@ -3,6 +3,10 @@ use Rattle.std.specs.Prelude.{◌≡◌, ◌≤◌, ℕ, List, length, Ok}
 use Rattle.std.specs.List.{AllByRecursion}
 use Rattle.std.specs.Str.{IsUtf8}
 use Rattle.server_model.specs.declared.entry.Entry.{Entry}
+use Rattle.server_model.specs.declared.outcome.Cause.{Cause}
+use Rattle.server_model.specs.declared.outcome.Cause.TheVariants.{Unfit, Spent, Panic}
+use Rattle.server_model.specs.declared.outcome.Verdict.{Verdict}
+use Rattle.server_model.specs.declared.outcome.Verdict.TheVariants.{Reverted}
 use Rattle.plan_data.specs.PlanData.{PlanData}
 use Rattle.plan_reader.specs.Plans.{read}
 use Rattle.table_store.specs.Databases.{Database}
@@ -17,7 +21,7 @@ use Rattle.run_audit.specs.Lines.{trace_of}
 use Rattle.top_trace.specs.Texts.{trace_text}
 use Rattle.top_trace_reader.specs.declared.whole.TheConstants.{TRACE_LIMIT}
 use Rattle.top_trace_reader.specs.Traces.{read_trace}
-use Rattle.law_texts.specs.PrintedTraces.{CanDraw, CanPrintAnswer, CanPrintTable, CanPrintVerdict, IsOneLine}
+use Rattle.law_texts.specs.PrintedTraces.{CanDraw, CanPrintAnswer, CanPrintRow, CanPrintTable, CanPrintTask, IsOneLine}
 
 -- the tables at the end of a run, and its trace, of which `trace` prints the text
 abbrev pub tables_at : PlanData → List Entry → Database
@@ -29,11 +33,21 @@ trace_at plan journal = trace_of plan journal (verdict_of plan journal) (tables_
 abbrev pub text_at : List ℕ → PlanData → List Entry → List ℕ
 text_at bytes plan journal = trace_text bytes plan journal (verdict_of plan journal) (tables_at plan journal)
 
+-- the key of a row that doesn't fit can be printed, and the number of a chunk and the position of a batch have 64 bits
+abbrev pub HasPlainCause : Cause → Type 0
+HasPlainCause (Unfit turn key column number) = CanPrintRow key
+HasPlainCause (Spent task turns) = CanPrintTask task
+HasPlainCause (Panic turn) = Unit {0}
+
+abbrev pub HasPlainVerdict : Verdict → Type 0
+HasPlainVerdict (Reverted cause) = HasPlainCause cause
+HasPlainVerdict verdict = Unit {0}
+
 -- *Has plain values*: the numbers of a run have 64 bits, its bytes are bytes, each row has a value, a number is drawn by what was
--- done or refused, a task that was tried in vain names a turn, and no name has a line feed.
+-- done or refused, and no name has a line feed.
 pub record HasPlainValues (plan : PlanData) (journal : List Entry) : Type 0 where
   pub answers : AllByRecursion (λ line. CanPrintAnswer line.answer × CanDraw line.answer line.drawn) (trace_at plan journal).lines
-  pub verdict : CanPrintVerdict (verdict_of plan journal)
+  pub verdict : HasPlainVerdict (verdict_of plan journal)
   pub tables : AllByRecursion CanPrintTable (tables_left plan (tables_at plan journal))
   pub names : AllByRecursion (λ table. IsOneLine table.schema.name) (tables_at plan journal)
 

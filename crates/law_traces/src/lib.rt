@@ -9,7 +9,8 @@ ghost use Rattle.proof_audit.specs.Laws.{LinesTellClients, LinesTellSessions};
 use law_journals::cut_over::renames_come_once;
 use law_journals::marked::marked_journals_are_runs;
 use law_journals::plans::{
-    read_plans_are_accepted, read_plans_are_runnable, read_plans_are_serial, read_plans_are_worded,
+    read_options_allow, read_plans_are_accepted, read_plans_are_runnable, read_plans_are_serial,
+    read_plans_are_worded,
 };
 use law_journals::reverts::renames_find_the_altered;
 use law_journals::runs::{accepted_runs_are_serial, accepted_runs_go_on};
@@ -58,6 +59,8 @@ pub fn printed_traces_are_audited()
     ensures { PrintedTracesAreAudited }
 {
     read_plans_are_accepted();
+    read_options_allow();
+    accepted_runs_go_on();
     printed_traces_are_read();
     traces_are_audited();
 }
