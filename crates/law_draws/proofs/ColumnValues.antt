@@ -39,7 +39,7 @@ use Rattle.base_values.specs.declared.row_conversion.map.MapColumn.{MapColumn}
 use Rattle.base_values.specs.GhoSchema.AutoIncrement.{auto_place}
 use Rattle.base_script.specs.declared.actor.Side.{Side}
 use Rattle.base_script.specs.declared.actor.Side.TheVariants as sides
-use Rattle.table_store.specs.Databases.{has_table, is_named, rename_tables}
+use Rattle.table_store.specs.Databases.{has_table, rename_tables}
 use Rattle.table_store.specs.declared.renames.NotRenamed.{NotRenamed}
 use Rattle.server_model.specs.declared.answer.Answer.TheVariants as answers
 use Rattle.server_model.specs.declared.entry.Asked.{Asked}
