@@ -110,7 +110,7 @@ class Script(unittest.TestCase):
         asked = "explain: the program was asked 1 times\n"
         self.assertEqual(self.call("--program", "PROGRAM"), (0, "the plan isn't refused\n", asked))
         status, out, err = self.call("--program", "PROGRAM", program="echo refused 59 too_long; exit 2")
-        self.assertEqual((status, out.split("\n")[:3], err), (2, ["refused 59 too_long", "", "59 too_long: more than 16,777,216 bytes; of a trace more than 67,108,864."], asked))
+        self.assertEqual((status, out.split("\n")[:3], err), (2, ["refused 59 too_long", "", "59 too_long: more than 16,777,216 bytes."], asked))
 
     def test_programs_that_cannot_be_asked(self):
         self.assertEqual(self.call("--program", "/nowhere"), (125, "", "explain: /nowhere: No such file or directory\n"))
