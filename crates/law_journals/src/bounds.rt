@@ -90,7 +90,8 @@ pub fn attempts_go_on()
     ensures { AttemptsGoOn }
 {}
 
-/// So such a journal has at most ten turns for each attempt that may be begun, and as many more as two waits are polled.
+/// So such a journal has at most ten turns for each attempt that may be begun, and as many more as two waits are polled; where
+/// the migrated table has a counter, twelve, and as many more as three waits are polled.
 pub fn attempt_turns_are_few()
     ensures { AttemptTurnsAreFew }
 {}
