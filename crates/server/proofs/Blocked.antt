@@ -9,6 +9,7 @@ use Rattle.server_locks.specs.declared.row_locks.lock.HeldLock.{HeldLock}
 use Rattle.server_locks.specs.MetadataLocks.Grants as grants
 use Rattle.server_locks.specs.MetadataLocks.Grants.{blocker_of_names}
 use Rattle.server_locks.specs.RowLocks.Grants.{blocker_of_set}
+use Rattle.server_locks.specs.RowLocks.LockTable.{held_by}
 use Rattle.table_store.specs.Databases.{Database}
 use Rattle.server_model.specs.declared.answer.Answer.{Answer}
 use Rattle.server_model.specs.declared.request.Request.{Request}
@@ -25,7 +26,6 @@ use Rattle.server_model.specs.Operations.{after_events}
 use Rattle.server_model.specs.PlainServer.{Served, calls, counting, did, does, done, polled_over, recounted, state_left}
 use Rattle.server_model.specs.declared.counter.Counter.{Counter}
 use Rattle.server_model.specs.States.{State, is_exclusive, is_in_transaction, is_of_tool, locks_held, name_held, names_held, names_in, polls_of, session_of, view, waiters, waiting_of, with_session, writes_of}
-use Rattle.server_sessions.proofs.LiveSessions.HeldLocks.{same_locks}
 use Rattle.server.specs.declared.known_blockers.KnownBlocker.{KnownBlocker}
 use Rattle.server.specs.KnownBlockers.{AreBlocked, IsBlockedBy, is_wait}
 use Rattle.server.specs.Parts.{state_of, is_look}
@@ -65,6 +65,14 @@ same_names number change (session ∷ sessions) numbers names = at (session.numb
   at : (b : Bool) → names_held (with_session number change sessions) ≡ names_held sessions → names_held (cond b (change session ∷ sessions) (session ∷ with_session number change sessions)) ≡ map (name_held session.number) session.names ++ names_held sessions
   at true rest = rw (numbers session, names session) refl
   at false rest = ap (λ (ns : List grants.HeldName). map (name_held session.number) session.names ++ ns) rest
+
+same_locks : (number : ℕ) (change : Session → Session) (sessions : List Session) → ((s : Session) → (change s).number ≡ s.number) → ((s : Session) → (change s).row_locks ≡ s.row_locks) → locks_held (with_session number change sessions) ≡ locks_held sessions
+unfolding with_session
+same_locks number change [] numbers locks = refl
+same_locks number change (session ∷ sessions) numbers locks = at (session.number == number) (same_locks number change sessions numbers locks) where
+  at : (b : Bool) → locks_held (with_session number change sessions) ≡ locks_held sessions → locks_held (cond b (change session ∷ sessions) (session ∷ with_session number change sessions)) ≡ map (held_by session.number) session.row_locks ++ locks_held sessions
+  at true rest = rw (numbers session, locks session) refl
+  at false rest = ap (λ (ls : List HeldLock). map (held_by session.number) session.row_locks ++ ls) rest
 
 -- the blocker by what it depends on
 abbrev blocker_by : Database → State → ℕ → Request → List grants.HeldName → List HeldLock → List RowEvent → Option ℕ

@@ -1,9 +1,7 @@
 -- One session of many with a change.
-use Rattle.std.proofs.Common.{◌≡◌, ℕ, ◌==◌, Bool, List, [], ◌∷◌, ◌++◌, map, get_or, Some, None, Result, Ok, Err, OnOk, refl, sym, ap, ◌∙◌, subst, position}
+use Rattle.std.proofs.Common.{◌≡◌, ℕ, ◌==◌, Bool, List, [], ◌∷◌, get_or, Some, None, Result, Ok, Err, OnOk, refl, sym, ap, ◌∙◌, subst, position}
 use Rattle.std.specs.List.{slice_set}
 use Rattle.server_model.specs.declared.session.Session.{Session}
-use Rattle.server_model.specs.declared.session.HeldName.{HeldName}
-use Rattle.server_model.specs.PlainServer.{exclusive, locking}
 use Rattle.server_model.specs.States.{with_session, session_of}
 use Rattle.server_sessions.proofs.SessionLocks.Places.{first_place, some_place, none_place}
 
@@ -47,9 +45,3 @@ pub edited_ok : {E : Type 0} (result : Result (Unit {0}) E) (number : ℕ) (chan
     → OnOk result (after ≡ change session) → OnOk result (slice_set sessions place after ≡ with_session number change sessions)
 edited_ok (Ok done) number change sessions place session after is at became = rw became (edited number change sessions place session is at)
 edited_ok (Err fault) number change sessions place session after is at became = tt
-
--- ... and that it holds these names exclusively too
-pub locked_ok : {E : Type 0} (result : Result (Unit {0}) E) (number : ℕ) (sessions : List Session) (place : ℕ) (session : Session) (names : List (List ℕ)) (into : List HeldName) → position (has_number number) sessions ≡ Some place → session ≡ get_or sessions place session
-    → OnOk result (into ≡ session.names ++ map exclusive names) → OnOk result (slice_set sessions place (record session { names = into }) ≡ with_session number (locking names) sessions)
-locked_ok (Ok done) number sessions place session names into is at grown = rw grown (edited number (locking names) sessions place session is at)
-locked_ok (Err fault) number sessions place session names into is at grown = tt

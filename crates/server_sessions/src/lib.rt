@@ -5,6 +5,7 @@
 
 mod counters;
 mod growth;
+mod live_session;
 pub mod live_sessions;
 mod lookup;
 pub mod session_locks;
@@ -12,6 +13,7 @@ mod sessions;
 mod waits;
 
 pub use counters::{counters_renamed, counters_with, counters_without, next_of, raise};
+pub use live_session::LiveSession;
 pub use lookup::{
     holds_tables, is_in_transaction, is_live, is_of_tool, polls_of, session_of, writes_of,
 };

@@ -1,5 +1,5 @@
 -- The names that sessions hold, while sessions change: the table of all has the same.
-use Rattle.std.proofs.Common.{◌≡◌, ◌⊎◌, inl, inr, ◌∙◌, ℕ, ◌+◌, Bool, true, false, not, ◌&&◌, cond, nat_eq, List, [], ◌∷◌, ◌++◌, map, filter, Option, Some, None, is_some, refl, sym, ap, subst}
+use Rattle.std.proofs.Common.{◌≡◌, ◌⊎◌, inl, inr, ◌∙◌, ℕ, Bool, true, false, not, ◌&&◌, cond, nat_eq, List, [], ◌∷◌, ◌++◌, map, filter, Option, Some, None, is_some, refl, sym, ap, subst}
 use Rattle.std.specs.Prelude.{◌==◌}
 use Rattle.std.specs.List.{AllByRecursion}
 use Rattle.std.specs.Cmp.Lexicographic.{pointwise}
@@ -20,7 +20,7 @@ use Rattle.server_model.specs.HeldNames.{held}
 use Rattle.server_model.specs.States.{is_exclusive, name_held, names_held, names_in, new_session, session_of, waiters, waits_for, with_session}
 use Rattle.server_model.proofs.LockedRows.Tests.{are_one, are_same, same_number}
 use Rattle.server_sessions.specs.LiveSessions.SessionLists.{Differ, HasOwn, HaveNames, names_of}
-use Rattle.server_sessions.proofs.LiveSessions.HeldLocks.{without}
+use Rattle.server_sessions.proofs.LiveSessions.HeldLocks.{apart_from, without}
 
 -- Lists of locks.
 first_name : (xs ys : List grants.HeldName) (lock : grants.HeldName) → HasName xs lock → HasName (xs ++ ys) lock
@@ -120,13 +120,6 @@ changed_of number change (session ∷ sessions) numbers = at (session.number == 
   at true is rest = ap (λ (c : Bool). cond c (Some (change session)) (session_of number sessions)) (ap (λ (n : ℕ). n == number) (numbers session) ∙ is)
   at false is rest = ap (λ (c : Bool). cond c (Some session) (session_of number (with_session number change sessions))) is ∙ rest
 
--- a session of one number isn't of another
-apart_from : (session number other : ℕ) → (session == number) ≡ true → (other == number) ≡ false → (session == other) ≡ false
-apart_from session number other is apart = at (session == other) refl where
-  at : (b : Bool) → (session == other) ≡ b → b ≡ false
-  at true same = absurd (true≢false (sym is ∙ ap (λ (n : ℕ). n == number) (are_one session other same) ∙ apart))
-  at false same = refl
-
 -- any other
 pub other_of : (number other : ℕ) (change : Session → Session) (sessions : List Session) → ((s : Session) → (change s).number ≡ s.number) → (other == number) ≡ false → session_of other (with_session number change sessions) ≡ session_of other sessions
 unfolding with_session
@@ -159,7 +152,7 @@ gone_of number (session ∷ sessions) = at (session.number == number) refl (gone
   at true is rest = rest
   at false is rest = ap (λ (c : Bool). cond c (Some session) (session_of number (without number sessions))) is ∙ rest
 
-left_of : (number other : ℕ) (sessions : List Session) → (other == number) ≡ false → session_of other (without number sessions) ≡ session_of other sessions
+pub left_of : (number other : ℕ) (sessions : List Session) → (other == number) ≡ false → session_of other (without number sessions) ≡ session_of other sessions
 left_of number other [] apart = refl
 left_of number other (session ∷ sessions) apart = at (session.number == number) refl (left_of number other sessions apart) where
   at : (b : Bool) → (session.number == number) ≡ b → session_of other (without number sessions) ≡ session_of other sessions → session_of other (cond (not b) (session ∷ without number sessions) (without number sessions)) ≡ cond (session.number == other) (Some session) (session_of other sessions)

@@ -1,15 +1,16 @@
 -- The sessions and the requests that wait, with the tables of the locks that they hold and wait for.
-use Rattle.std.specs.Prelude.{◌≡◌, ◌==◌, ◌≤◌, ◌⊎◌, ℕ, false, List, [], ◌∷◌, Option, Some, None}
+use Rattle.std.specs.Prelude.{◌≡◌, ◌==◌, ◌≤◌, ◌⊎◌, ℕ, true, false, List, [], ◌∷◌, map, filter, is_some, Option, Some, None}
 use Rattle.std.specs.List.{AllByRecursion}
+use Rattle.server_locks.specs.declared.row_locks.lock.Lock.{Lock}
 use Rattle.server_locks.specs.declared.row_locks.lock.HeldLock.{HeldLock}
-use Rattle.server_locks.specs.RowLocks.SameLocks.{SameLocks}
+use Rattle.server_locks.specs.RowLocks.SameLocks.{HasLock}
 use Rattle.server_locks.specs.MetadataLocks.Grants as grants
 use Rattle.server_locks.specs.MetadataLocks.LockTable.{NameTable}
 use Rattle.server_locks.specs.MetadataLocks.SameNames.{HasName}
 use Rattle.server_model.specs.declared.session.HeldName.{HeldName}
 use Rattle.server_model.specs.declared.session.Session.{Session}
 use Rattle.server_model.specs.declared.session.Waiting.{Waiting}
-use Rattle.server_model.specs.States.{locks_held, session_of, waiters}
+use Rattle.server_model.specs.States.{session_of, waiters}
 
 -- the live sessions, in the order of connecting, the greatest number that one was given, and the requests that wait
 pub record NumberedSessions : Type 0 where
@@ -22,12 +23,22 @@ abbrev pub Differ : List Session → Type 0
 Differ [] = Unit {0}
 Differ (session ∷ sessions) = AllByRecursion (λ other. (other.number == session.number) ≡ false) sessions × Differ sessions
 
--- The table of row locks has just the locks that the sessions hold, no two of which have one number, or a greater one than was
--- given.
-pub record HaveLocks (made : ℕ) (sessions : List Session) (held : List HeldLock) : Type 0 where
+-- the row locks that the table has of a session, in the order in which they were granted
+abbrev pub rows_of : ℕ → List HeldLock → List Lock
+rows_of number held = map (λ one. one.lock) (filter (λ one. one.session == number) held)
+
+-- the session's record with the row locks that the table has of it
+abbrev pub with_rows : List HeldLock → Session → Session
+with_rows held session = record session { row_locks = rows_of session.number held }
+
+abbrev pub all_with_rows : List HeldLock → List Session → List Session
+all_with_rows held sessions = map (with_rows held) sessions
+
+-- No two sessions have one number, or a greater one than was given, and each row lock is a live session's.
+pub record AreOwned (made : ℕ) (sessions : List Session) (held : List HeldLock) : Type 0 where
   pub within : AllByRecursion (λ session. session.number ≤ made) sessions
   pub differ : Differ sessions
-  pub locks : SameLocks held (locks_held sessions)
+  pub live : (lock : HeldLock) → HasLock held lock → is_some (session_of lock.session sessions) ≡ true
 
 -- the names that a session holds; none, where it isn't live
 abbrev pub names_of : Option Session → List HeldName
@@ -44,8 +55,9 @@ pub record HaveNames (sessions : List Session) (held : List grants.HeldName) : T
   pub there : (lock : grants.HeldName) → HasName held lock → HasOwn (names_of (session_of lock.session sessions)) lock
   pub here : (lock : grants.HeldName) → HasOwn (names_of (session_of lock.session sessions)) lock → HasName held lock
 
--- The tables have just the locks that the sessions hold, and the requests for exclusive names that wait.
+-- The row locks are the sessions', and the table of names has just the locks that they hold, and the requests for exclusive
+-- names that wait.
 pub record AreInTables (made : ℕ) (sessions : List Session) (waiting : List Waiting) (locks : List HeldLock) (table : NameTable) : Type 0 where
-  pub rows : HaveLocks made sessions locks
+  pub rows : AreOwned made sessions locks
   pub names : HaveNames sessions table.held
   pub waits : table.waiting ≡ waiters waiting

@@ -13,10 +13,9 @@ ghost use Rattle.server_sessions.specs.LiveSessions.Rooms.{logs};
 use crate::live_sessions::counter_moves::{CounterMove, after_drawn, after_given, drawn_by};
 use crate::live_sessions::room::{give_back, make_room};
 use crate::live_sessions::session_list::SessionList;
-use crate::session_locks::{is_exclusive, is_outside, names_in, waits_shown};
+use crate::session_locks::{is_exclusive, names_in, waits_shown};
 use crate::{
-    counters_renamed, counters_with, counters_without, holds_tables, is_in_transaction, is_live,
-    is_of_tool, is_waiting, next_of, polls_of, raise, session_of, waiting_of, writes_of,
+    counters_renamed, counters_with, counters_without, is_waiting, next_of, raise, waiting_of,
 };
 use base_values::gho_schema::Schema;
 use base_values::{Duplicate, Events, Name, Names, Sequence};
@@ -114,7 +113,7 @@ impl Sessions {
         ensures { self.new ≡ loses session self.old }
     {
         self.sessions.end_wait(session);
-        let writes = writes_of(self.sessions.as_slice(), session);
+        let writes = self.sessions.writes_of(session);
         give_back(&mut self.log, writes);
         self.sessions.disconnect(session);
     }
@@ -206,7 +205,7 @@ impl Sessions {
     fn limit(&self, session: u32) -> u32
         ensures { result ≡ limit_if (is_of_tool (session_of session self.now.sessions)) self.now.limits }
     {
-        if is_of_tool(self.sessions.as_slice(), session) {
+        if self.sessions.is_of_tool(session) {
             self.limits.tool_wait
         } else {
             self.limits.client_wait
@@ -219,7 +218,7 @@ impl Sessions {
         ensures after { self.new ≡ (polled_over (is_over self.old session) by self.old session).after }
     {
         let limit = self.limit(session);
-        let polls = polls_of(self.sessions.as_slice(), session);
+        let polls = self.sessions.polls_of(session);
         let waited = polls + 1;
         if waited == limit {
             self.sessions.end_wait(session);
@@ -235,7 +234,7 @@ impl Sessions {
     pub fn is_live(&self, session: u32) -> bool
         ensures { result ≡ is_live self.now session }
     {
-        is_live(self.sessions.as_slice(), session)
+        self.sessions.is_live(session)
     }
 
     /// Whether the session's request waits.
@@ -249,21 +248,21 @@ impl Sessions {
     pub fn is_in_transaction(&self, session: u32) -> bool
         ensures { result ≡ is_in_transaction (session_of session self.now.sessions) }
     {
-        is_in_transaction(self.sessions.as_slice(), session)
+        self.sessions.is_in_transaction(session)
     }
 
     /// Whether the session holds LOCK TABLES.
     pub fn holds_tables(&self, session: u32) -> bool
         ensures { result ≡ holds_tables (session_of session self.now.sessions) }
     {
-        holds_tables(self.sessions.as_slice(), session)
+        self.sessions.holds_tables(session)
     }
 
     /// Whether the session is the tool's.
     pub fn is_of_tool(&self, session: u32) -> bool
         ensures { result ≡ is_of_tool (session_of session self.now.sessions) }
     {
-        is_of_tool(self.sessions.as_slice(), session)
+        self.sessions.is_of_tool(session)
     }
 
     /// The number that is drawn next from the table of this name; none where it has no counter.
@@ -337,10 +336,7 @@ impl Sessions {
     pub fn is_outside(&self, session: u32, request: &Request) -> bool
         ensures { result ≡ is_outside (session_of session self.now.sessions) request.now }
     {
-        match session_of(self.sessions.as_slice(), session) {
-            Some(session) => is_outside(session, request),
-            None => false,
-        }
+        self.sessions.is_outside(session, request)
     }
 
     /// The least session that blocks a name which the request mentions, or one of these row locks.

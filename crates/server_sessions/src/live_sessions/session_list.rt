@@ -1,30 +1,33 @@
 //! The sessions and the requests that wait, with the tables of the locks that they hold and wait for.
 
-ghost use Rattle.std.specs.Prelude.{◌≡◌, ◌==◌, ◌+◌, ◌<◌, ◌++◌, [], ◌∷◌, false, not, filter, IfOk, OnOk, OnErr};
+ghost use Rattle.std.specs.Prelude.{◌≡◌, ◌==◌, ◌+◌, ◌<◌, ◌++◌, [], ◌∷◌, false, not, filter, is_some, IfOk, OnOk, OnErr};
 ghost use Rattle.server_locks.specs.RowLocks.Grants.{blocker_of_set};
 ghost use Rattle.server_locks.specs.RowLocks.LockTable.{granted};
 ghost use Rattle.server_locks.specs.MetadataLocks.Grants.{blocker_of_names};
 ghost use Rattle.server_locks.specs.MetadataLocks.LockTable as name_table;
-ghost use Rattle.server_model.specs.States.{is_exclusive, locks_held, names_held, names_in, waiters, new_session, session_of, with_session, writes_of};
+ghost use Rattle.server_model.specs.States.{holds_tables, is_exclusive, is_in_transaction, is_of_tool, locks_held, names_held, names_in, polls_of, waiters, new_session, session_of, with_session, writes_of};
+ghost use Rattle.server_model.specs.Effects.{is_outside};
 ghost use Rattle.server_model.specs.PlainServer.{at_rest, counting, holding, locking, unlocking};
 
-use crate::session_locks::{is_exclusive, names_blocker, names_in};
+use crate::session_locks::{is_exclusive, is_outside, names_blocker, names_in};
 use crate::{
-    begin_wait, connect, count_polls, disconnect, end_wait, hold, is_live, lock_tables, rest,
-    unlock_tables,
+    LiveSession, begin_wait, connect, count_polls, disconnect, end_wait, hold, holds_tables,
+    is_in_transaction, is_live, is_of_tool, lock_tables, polls_of, rest, unlock_tables, writes_of,
 };
-use base_values::{Events, Names};
+use base_values::{Events, Names, RowEvent};
 use server_locks::metadata_locks::MetaLocks;
-use server_locks::row_locks::{Lock, RowLocks};
-use server_model::{Need, Request, Session, Waiting};
+use server_locks::row_locks::{Lock, LockSet, RowLocks};
+use server_model::{Need, Request, Waiting};
 use std::alloc::{AllocError, Global};
 use std::marker::Model;
 
-/// The live sessions, the greatest number that one was given, and the requests that wait. Who refuses a row lock or a name is
-/// asked of the tables of all locks, which have just those that the sessions hold, and the requests for exclusive names that wait.
+/// The live sessions, the greatest number that one was given, and the requests that wait. The row locks of all sessions stand in
+/// one table and nowhere else, and contracts see in a session's record those that it has of them. Who refuses a row lock or a
+/// name is asked of the tables, of which that of names has just those that the sessions hold, and the requests for exclusive
+/// names that wait.
 pub struct SessionList {
     made: u32,
-    sessions: Vec<Session>,
+    sessions: Vec<LiveSession>,
     waiting: Vec<Waiting>,
     locks: RowLocks,
     names: MetaLocks,
@@ -48,29 +51,30 @@ impl Drop for SessionList {
 }
 
 impl Model for SessionList {
-    ghost use Rattle.server_sessions.specs.LiveSessions.SessionLists.{NumberedSessions, AreInTables};
+    ghost use Rattle.server_sessions.specs.LiveSessions.SessionLists.{NumberedSessions, AreInTables, all_with_rows};
 
     ghost Value = { NumberedSessions };
 
-    ghost view = { λ l. record { made = l.made; sessions = l.sessions.items; waiting = l.waiting.items } };
+    ghost view = { λ l. record { made = l.made; sessions = all_with_rows l.locks.held l.sessions.items; waiting = l.waiting.items } };
 
     ghost invariant = { λ l. AreInTables l.made l.sessions.items l.waiting.items l.locks.held l.names };
 }
 
-/// Gives the session the row locks that it needs, and the names shared; none where there is no memory.
+/// Gives the session these row locks, and these names shared; none where there is no memory.
 fn grant(
     locks: &mut RowLocks,
     names: &mut MetaLocks,
     number: u32,
-    need: &Need,
+    set: &LockSet,
+    shared: &Names,
 ) -> Result<(), AllocError>
-    ensures rows { OnOk result (locks.new ≡ granted locks.old number need.now.locks) }
-    ensures names { OnOk result (names.new ≡ name_table.granted names.old number false need.now.names) }
+    ensures rows { OnOk result (locks.new ≡ granted locks.old number set.now) }
+    ensures names { OnOk result (names.new ≡ name_table.granted names.old number false shared.now) }
     ensures no_rows { OnErr result (locks.new.held ≡ locks.old.held) }
     ensures no_names { OnErr result (names.new ≡ names.old) }
 {
-    locks.grant(number, &need.locks)?;
-    match names.grant(number, &need.names, false) {
+    locks.grant(number, set)?;
+    match names.grant(number, shared, false) {
         Ok(()) => Ok(()),
         Err(error) => {
             locks.undo(number);
@@ -93,11 +97,53 @@ impl SessionList {
         }
     }
 
-    /// The sessions, in the order of connecting.
-    pub fn as_slice(&self) -> &[Session]
-        ensures value { result.now ≡ self.now.sessions }
+    /// Whether the session is live.
+    pub fn is_live(&self, number: u32) -> bool
+        ensures { result ≡ is_some (session_of number self.now.sessions) }
     {
-        self.sessions.as_slice()
+        is_live(self.sessions.as_slice(), number)
+    }
+
+    /// Whether the session is in a transaction.
+    pub fn is_in_transaction(&self, number: u32) -> bool
+        ensures { result ≡ is_in_transaction (session_of number self.now.sessions) }
+    {
+        is_in_transaction(self.sessions.as_slice(), number)
+    }
+
+    /// Whether the session holds LOCK TABLES.
+    pub fn holds_tables(&self, number: u32) -> bool
+        ensures { result ≡ holds_tables (session_of number self.now.sessions) }
+    {
+        holds_tables(self.sessions.as_slice(), number)
+    }
+
+    /// Whether the session is the tool's.
+    pub fn is_of_tool(&self, number: u32) -> bool
+        ensures { result ≡ is_of_tool (session_of number self.now.sessions) }
+    {
+        is_of_tool(self.sessions.as_slice(), number)
+    }
+
+    /// How often the session's waiting request was polled.
+    pub fn polls_of(&self, number: u32) -> u32
+        ensures { result ≡ polls_of (session_of number self.now.sessions) }
+    {
+        polls_of(self.sessions.as_slice(), number)
+    }
+
+    /// What the session's transaction wrote so far.
+    pub fn writes_of(&self, number: u32) -> &[RowEvent]
+        ensures { result.now ≡ writes_of (session_of number self.now.sessions) }
+    {
+        writes_of(self.sessions.as_slice(), number)
+    }
+
+    /// Whether the session holds LOCK TABLES and the request names a table that it hasn't locked.
+    pub fn is_outside(&self, number: u32, request: &Request) -> bool
+        ensures { result ≡ is_outside (session_of number self.now.sessions) request.now }
+    {
+        is_outside(self.sessions.as_slice(), number, request)
     }
 
     /// The requests that wait, in the order in which they came.
@@ -160,8 +206,13 @@ impl SessionList {
         if !is_live(self.sessions.as_slice(), number) {
             return Ok(());
         }
-        grant(&mut self.locks, &mut self.names, number, &need)?;
-        match hold(alloc, &mut self.sessions, number, need, events) {
+        let Need {
+            exclusive: _,
+            names,
+            locks,
+        } = need;
+        grant(&mut self.locks, &mut self.names, number, &locks, &names)?;
+        match hold(alloc, &mut self.sessions, number, names, events) {
             Ok(()) => Ok(()),
             Err(error) => {
                 self.locks.undo(number);

@@ -5,13 +5,15 @@ ghost use Rattle.std.specs.List.{list_any};
 ghost use Rattle.std.specs.Str.{bytes_eq};
 ghost use Rattle.server_locks.specs.MetadataLocks.Grants.{has_name};
 ghost use Rattle.server_model.specs.Operations.{table_of};
-ghost use Rattle.server_model.specs.States.{is_exclusive, names_in, pair_names, tables_named};
+ghost use Rattle.server_model.specs.States.{is_exclusive, names_in, pair_names, session_of, tables_named};
 ghost use Rattle.server_model.specs.Effects.{is_outside};
 ghost use Rattle.server_sessions.specs.SessionLocks.Names.{has_locked};
 
+use crate::live_session::LiveSession;
+use crate::lookup::session_of;
 use base_script::Statement;
 use base_values::{Duplicate, Name, Names, Sequence};
-use server_model::{HeldNames, Request, Session};
+use server_model::{HeldNames, Request};
 use std::alloc::{AllocError, Global};
 use table_store::Pair;
 
@@ -167,9 +169,19 @@ fn mentions_other(held: &HeldNames, request: &Request) -> bool
 
 /// Whether the session holds LOCK TABLES and the request names a table that it hasn't locked.
 #[tactic(auto, using(crate::proofs::SessionLocks::Mentioned::beyond_locked))]
-pub fn is_outside(session: &Session, request: &Request) -> bool
+fn is_outside_of(session: &LiveSession, request: &Request) -> bool
     ensures { result ≡ is_outside (Some session.now) request.now }
 {
-    let held = &session.names;
+    let held = session.names();
     held.has_exclusive() && mentions_other(held, request)
+}
+
+/// Whether the session of this number holds LOCK TABLES and the request names a table that it hasn't locked.
+pub fn is_outside(sessions: &[LiveSession], number: u32, request: &Request) -> bool
+    ensures { result ≡ is_outside (session_of number sessions.now) request.now }
+{
+    match session_of(sessions, number) {
+        Some(session) => is_outside_of(session, request),
+        None => false,
+    }
 }

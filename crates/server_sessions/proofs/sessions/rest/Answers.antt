@@ -6,11 +6,11 @@ use Rattle.server_sessions.proofs.sessions.rest.Goals as goal
 
 pub returns-in-Some-clause-sessions : goal.returns-in-Some-clause-sessions
 returns-in-Some-clause-sessions c =
-    rw c.rest_one.ensures.session (edited c.args.number at_rest c.args.sessions.now.items c.in-Some.place c.index_mut.result.now (rw c.as_slice.ensures.value at (sym c.in-Some.ensures)) c.index_mut.ensures.value)
+    rw c.rest.ensures.session (edited c.args.number at_rest c.args.sessions.now.items c.in-Some.place c.index_mut.result.now (rw c.as_slice.ensures.value at (sym c.in-Some.ensures)) c.index_mut.ensures.value)
 
 pub returns-in-Some-clause-writes : goal.returns-in-Some-clause-writes
 returns-in-Some-clause-writes c =
-    c.rest_one.ensures.writes
+    c.rest.ensures.writes
     ∙ sym (ap writes_of (found_at c.args.number c.args.sessions.now.items c.in-Some.place c.index_mut.result.now (rw c.as_slice.ensures.value at (sym c.in-Some.ensures)) c.index_mut.ensures.value))
 
 pub returns-in-None-clause-sessions : goal.returns-in-None-clause-sessions

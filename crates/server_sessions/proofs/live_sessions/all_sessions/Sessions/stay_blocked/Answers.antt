@@ -8,14 +8,14 @@ use Rattle.server_sessions.proofs.live_sessions.all_sessions.Sessions.stay_block
 pub overflow_add-waited : goal.overflow_add-waited
 overflow_add-waited c =
     let under = polls_under c.self.inside.limits c.args.session c.self.inside.sessions.sessions c.self.invariant.clients c.self.invariant.polls in
-    let polls = rw c.as_slice.ensures.value at c.polls_of-polls.ensures in
+    let polls = c.polls_of-polls.ensures in
     let limit = rw (← c.self.view_is) at c.limit-limit.ensures in
     omega (arith, under, polls, limit, c.limit-limit.type_inv)
 
 pub invariant_of-self-else-waited-limit : goal.invariant_of-self-else-waited-limit
 invariant_of-self-else-waited-limit c =
     let under = polls_under c.self.inside.limits c.args.session c.self.inside.sessions.sessions c.self.invariant.clients c.self.invariant.polls in
-    let polls = rw c.as_slice.ensures.value at c.polls_of-polls.ensures in
+    let polls = c.polls_of-polls.ensures in
     let limit = rw (← c.self.view_is) at c.limit-limit.ensures in
     let less : c.polls_of-polls.result + 1 < limit_if (is_of_tool (session_of c.args.session c.self.inside.sessions.sessions)) c.self.inside.limits = omega (arith, under, polls, limit, c.if-waited-limit.false) in
     rw c.count_polls.ensures (ready_counts c.self.inside.limits c.args.session (c.polls_of-polls.result + 1) c.self.inside.sessions.sessions c.self.inside.log.spare less c.self.invariant)
@@ -33,7 +33,7 @@ returns-then-waited-limit-clause-after c =
       counters = c.self.inside.counters.items;
     }
     in
-    let polls = rw c.as_slice.ensures.value at c.polls_of-polls.ensures in
+    let polls = c.polls_of-polls.ensures in
     let limit = rw (← c.self.view_is) at c.limit-limit.ensures in
     let over : nat_eq (polls_of (session_of c.args.session c.self.inside.sessions.sessions) + 1) (limit_if (is_of_tool (session_of c.args.session c.self.inside.sessions.sessions)) c.self.inside.limits) ≡ true =
     eq-eqb (polls_of (session_of c.args.session c.self.inside.sessions.sessions) + 1) (limit_if (is_of_tool (session_of c.args.session c.self.inside.sessions.sessions)) c.self.inside.limits) (omega (arith, polls, limit, c.if-waited-limit.true))
