@@ -5,13 +5,14 @@ use Rattle.std.specs.Fmt.{digits}
 use Rattle.base_values.specs.declared.value.Value.TheVariants.{Num, Text}
 use Rattle.base_values.specs.Literals.{printed, listed, printed_row}
 use Rattle.base_values.specs.StoredValues.{character_count}
+use Rattle.tool_changelog.specs.Heartbeats.{heartbeat_row}
 use Rattle.tool_changelog.specs.Hints.{hint_row}
-use Rattle.extra_notes.specs.declared.checkpoint.Reach.TheVariants.{Nothing, To}
-use Rattle.extra_notes.specs.Checkpoints.{checkpoint_row}
+use Rattle.tool_changelog.specs.declared.checkpoint.Reach.TheVariants.{Nothing, To}
+use Rattle.tool_changelog.specs.Checkpoints.{checkpoint_row}
 use Rattle.sql_words.specs.Front.{front_at}
 use Rattle.sql_words.specs.Readings.{words_after}
 use Rattle.extra_notes.specs.Readings.{checkpoint_of}
-use Rattle.extra_notes.specs.Heartbeats.{heartbeat_row, heartbeat_of}
+use Rattle.extra_notes.specs.Heartbeats.{heartbeat_of}
 
 -- the checkpoint behind the key (2), with no event applied
 row_after_two : checkpoint_row 0 (To (Num (pos 2) ∷ [])) ≡ Some (Num (pos 0) ∷ Text (codes "checkpoint") ∷ Text (codes "0 (2)") ∷ [])

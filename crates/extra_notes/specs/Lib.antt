@@ -1,4 +1,3 @@
 pub mod Heartbeats
-pub mod Checkpoints
 pub mod Readings
 pub mod Laws

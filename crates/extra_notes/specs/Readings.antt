@@ -9,10 +9,10 @@ use Rattle.base_values.specs.declared.value.Value.TheVariants.{Num, Text}
 use Rattle.sql_words.specs.declared.word.WordFault.{WordFault}
 use Rattle.sql_words.specs.Readings.{Reading, words_of}
 use Rattle.sql_grammar.specs.WordValues.ReadBack.{word_value}
-use Rattle.extra_notes.specs.declared.checkpoint.Reach.{Reach}
-use Rattle.extra_notes.specs.declared.checkpoint.Reach.TheVariants.{Nothing, To, All}
+use Rattle.tool_changelog.specs.declared.checkpoint.Reach.{Reach}
+use Rattle.tool_changelog.specs.declared.checkpoint.Reach.TheVariants.{Nothing, To, All}
 use Rattle.extra_notes.specs.declared.checkpoint.Checkpoint.{Checkpoint}
-use Rattle.extra_notes.specs.Checkpoints.{checkpoint_value}
+use Rattle.tool_changelog.specs.Checkpoints.{checkpoint_value}
 
 -- the literals among the words
 abbrev pub literals_among : List Reading → List Value

@@ -1,4 +1,4 @@
-//! Notes in the changelog: heartbeat rows, checkpoint rows, and their readers.
+//! The readers of notes in the changelog: of heartbeat rows and of checkpoint rows.
 #![tactic(auto)]
 
 mod checkpoint;
@@ -6,6 +6,6 @@ mod heartbeat;
 pub mod laws;
 mod reader;
 
-pub use checkpoint::{Checkpoint, Reach, checkpoint_row};
-pub use heartbeat::{heartbeat_of, heartbeat_row};
+pub use checkpoint::Checkpoint;
+pub use heartbeat::heartbeat_of;
 pub use reader::checkpoint_of;

@@ -5,11 +5,12 @@ ghost use Rattle.std.specs.List.{before_first, after_first, position_or_len};
 ghost use Rattle.sql_words.specs.Readings.{views};
 ghost use Rattle.extra_notes.specs.Readings.{is_blank, literals_among, literals, position_of, reach_of, note_of, has_text, checked, checkpoint_of};
 
-use crate::checkpoint::{Checkpoint, HINT, Reach, checkpoint_value};
+use crate::checkpoint::Checkpoint;
 use base_values::{Row, Sequence, Value};
 use sql_grammar::word_values::literal;
 use sql_words::{Word, WordFault, words};
 use std::alloc::{AllocError, Global};
+use tool_changelog::{CHECKPOINT_HINT, Reach, checkpoint_value};
 
 fn literals_among(alloc: Global, words: &[Word<'_>]) -> Result<Row, AllocError>
     ensures { IfOk result (λ values. values ≡ literals_among (views words.now)) }
@@ -115,7 +116,7 @@ pub fn checkpoint_of(alloc: Global, row: &[Value]) -> Result<Option<Checkpoint>,
     let [Value::Num(id), Value::Text(hint), Value::Text(value)] = row else {
         return Ok(None);
     };
-    if *id == 0 && hint.as_str() == HINT {
+    if *id == 0 && hint.as_str() == CHECKPOINT_HINT {
         match note_of(alloc, value.as_str())? {
             Some(note) => checked(alloc, value.as_str(), note),
             None => Ok(None),

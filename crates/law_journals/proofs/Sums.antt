@@ -29,6 +29,7 @@ use Rattle.proof_bounds.specs.Parts.{OfOperator, OfClients, OfSetup, OfChunks, O
 use Rattle.proof_bounds.specs.Setups.{SetupTurnsAreFew}
 use Rattle.proof_bounds.specs.Clearings.{ClearingTurnsAreFew}
 use Rattle.proof_bounds.proofs.Going.{setups_go, clearings_go}
+use Rattle.proof_bounds.proofs.AttemptTurns.NoteTurns.{notes_go_along}
 use Rattle.proof_bounds.specs.AttemptTurns.Attempts.{AttemptTurnsAreFew}
 use Rattle.proof_bounds.specs.Volumes.Laws.{ChunksAreFew, CommittedRowsAreFew, EventsAreFew, HintsAreFew}
 use Rattle.proof_bounds.proofs.TaskTurns.BatchesGo.{ServerLaws}
@@ -57,12 +58,13 @@ pub clearings_bounded : ClearingTurnsAreFew → ReadOptionsAllow → ReadPlansAr
 clearings_bounded law options runnable serial plan journal was kept =
     let allowed = options was.bytes plan was.is in
     law plan journal (record { client = allowed.client; tool = allowed.tool }) (runnable plan was).fitting.scripts kept.faithful kept.planned kept.follows (clearings_go plan journal (runnable plan was) (serial was.bytes plan was.is) kept)
+    (notes_go_along plan journal allowed.notes (runnable plan was) (serial was.bytes plan was.is) kept)
 
 -- *The attempts' part*
 pub attempts_bounded : AttemptTurnsAreFew → ReadOptionsAllow → ReadPlansAreRunnable → ReadPlansAreSerial → AttemptsAreBounded
 attempts_bounded law options runnable serial plan journal was kept =
     let allowed = options was.bytes plan was.is in
-    law plan journal (record { client = allowed.client; tool = allowed.tool }) (record { some = allowed.tries; few = allowed.few }) (runnable plan was) (serial was.bytes plan was.is) kept
+    law plan journal (record { client = allowed.client; tool = allowed.tool }) (record { some = allowed.tries; few = allowed.few; notes = allowed.notes }) (runnable plan was) (serial was.bytes plan was.is) kept
 
 -- *The chunks' part*
 pub chunks_bounded : StoresAgain → DefinitionsAreDone → CommittedRowsAreFew → ChunksAreFew → ReadOptionsAllow → ReadPlansAreRunnable → ReadPlansAreSerial → ChunksAreBounded
@@ -85,7 +87,7 @@ batches_bounded laws events hints options runnable serial alterable plan journal
     (λ before one off.
     let both = both_few plan.table (state_at plan before).log in
     let own = events plan before runs whole one off in
-    let hinted = hints plan before allowed.tries runs whole one off in
+    let hinted = hints plan before allowed.tries allowed.notes runs whole one off in
     omega (arith, both, own, hinted)) journal kept
 
 -- THE SUM

@@ -5,6 +5,7 @@ ghost use Rattle.proof_bounds.specs.Attempts.{AttemptsAreFew};
 ghost use Rattle.proof_bounds.specs.Clearings.{ClearingTurnsAreFew};
 ghost use Rattle.proof_bounds.specs.Guards.{SentriesAreMadeAtOnce};
 ghost use Rattle.proof_bounds.specs.Laws.{PartsMakeJournals, LossesStrikeOnce, OperatorTurnsAreFew, ClientTurnsAreFew, RollbacksAreFew};
+ghost use Rattle.proof_bounds.specs.Notes.{NotesAreFew, NotesGoOn};
 ghost use Rattle.proof_bounds.specs.Rows.{RowsAreFew, KeysAreThose};
 ghost use Rattle.proof_bounds.specs.Setups.{SetupTurnsAreFew};
 ghost use Rattle.proof_bounds.specs.Tries.{TriesAreFew};
@@ -102,14 +103,25 @@ pub fn setup_turns_are_few()
     ensures { SetupTurnsAreFew }
 {}
 
-/// Where what is done after the RENAME goes on, a journal that keeps its plan has at most five turns of what is cleared up,
-/// and six for each loss.
+/// Where each row of a note comes in its turn, and is written or lost with the inspector's session, a journal that keeps its plan has
+/// at most two for each note that may be begun.
+pub fn notes_are_few()
+    ensures { NotesAreFew }
+{}
+
+/// In every journal of a runnable plan that is kept so does each row of a note, where the plan asks for at most a thousand.
+pub fn notes_go_on()
+    ensures { NotesGoOn }
+{}
+
+/// Where what is done after the RENAME goes on, and so do the rows of notes, a journal that keeps its plan has at most five turns of
+/// what is cleared up, six for each loss, and two for each note that may be begun.
 pub fn clearing_turns_are_few()
     ensures { ClearingTurnsAreFew }
 {}
 
 /// A run of an accepted plan has at most as many turns of the operator's, of its clients', of the setup, of attempts, and of
-/// losses with what is cleared up, as their terms say.
+/// losses with what is cleared up and the rows of notes, as their terms say.
 pub fn some_parts_are_bounded()
     ensures operator { OperatorIsBounded }
     ensures clients { ClientsAreBounded }

@@ -6,7 +6,7 @@ ghost use Rattle.proof_migration.specs.Unfit.{UnfitRowsStand};
 ghost use Rattle.proof_order.specs.Laws.{CausesAreLeast, PanicsAreLate, UnfitRowsAreLate};
 ghost use Rattle.law_journals.specs.Causes.{AcceptedCausesAreLeast};
 
-use crate::bounds::{batches_go_on, inspectors_wait_to_set, tries_are_few};
+use crate::bounds::{batches_go_on, tries_are_few};
 use crate::plans::{
     alterable_plans_are_runnable, read_options_allow, read_plans_are_runnable,
     read_plans_are_serial,
@@ -59,7 +59,6 @@ pub fn unfit_rows_are_late()
 pub fn causes_are_least()
     ensures { CausesAreLeast }
 {
-    inspectors_wait_to_set();
     batches_go_on();
     tries_are_few();
 }

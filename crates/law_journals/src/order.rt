@@ -9,8 +9,8 @@ use crate::plans::{read_plans_are_runnable, read_plans_are_serial};
 
 /// The locker drops the sentry only once the inspector was shown that the RENAME waits, and under LOCK TABLES; the renamer calls
 /// the RENAME only once the hint row of its own attempt was applied, and under that lock; from then on no batch begins before the
-/// attempt is over; an attempt that failed is cleared up only once nobody of it holds the tables or waits; and the old table is
-/// dropped only where the plan lets the tool drop it.
+/// attempt is over; an attempt that failed is cleared up only once nobody of it holds the tables or waits, and so are rows of notes
+/// written; and the old table is dropped only where the plan lets the tool drop it.
 pub fn kept_journals_keep_order()
     ensures { KeptJournalsKeepOrder }
 {

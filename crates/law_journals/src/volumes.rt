@@ -15,7 +15,7 @@ pub fn rows_stay_few()
 {}
 
 /// Until then the log has at most as many events of the migrated table as all lines can write, at most as many of the
-/// changelog as attempts may be begun, and so at most as many of the two.
+/// changelog as attempts may be begun and four for each note that may be, and so at most as many of the two.
 pub fn events_stay_few()
     ensures table { EventsAreFew }
     ensures changelog { HintsAreFew }

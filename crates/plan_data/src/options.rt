@@ -23,6 +23,10 @@ pub struct Options {
     pub max_load: u32,
     /// How many turns a run takes at most: 1 to 1,000,000.
     pub turn_limit: u32,
+    /// How many notes the tool writes (heartbeats and checkpoints): 0 to 1,000.
+    pub notes: u32,
+    /// How many turns come between two notes at least: 1 to 100,000.
+    pub note_every: u32,
     /// Whether the ALTER may give columns other names (`--approve-renamed-columns`).
     pub approve_renamed_columns: bool,
     /// Whether a new table that an earlier run left is dropped (`--initially-drop-ghost-table`).
@@ -60,6 +64,8 @@ impl Default for Options {
             tool_wait: 2_000,
             max_load: 64,
             turn_limit: 200_000,
+            notes: 0,
+            note_every: 100,
             approve_renamed_columns: false,
             initially_drop_ghost_table: false,
             initially_drop_old_table: false,

@@ -32,15 +32,18 @@ is_truth_key key =
     || bytes_eq key (codes "show_history") || bytes_eq key (codes "show_turns") || bytes_eq key (codes "show_tables")
     || bytes_eq key (codes "show_replies")
 
--- those that version 2 has besides
+-- those that version 2 has besides: of notes, which have numbers too, and those that aren't built yet
+unfoldable pub is_note_key : List ℕ → Bool
+is_note_key key = bytes_eq key (codes "notes") || bytes_eq key (codes "note_every")
+
 unfoldable pub is_later_key : List ℕ → Bool
 is_later_key key =
-    bytes_eq key (codes "notes") || bytes_eq key (codes "note_every") || bytes_eq key (codes "replica_step")
-    || bytes_eq key (codes "replica_pause") || bytes_eq key (codes "max_lag") || bytes_eq key (codes "resume")
+    bytes_eq key (codes "replica_step") || bytes_eq key (codes "replica_pause") || bytes_eq key (codes "max_lag")
+    || bytes_eq key (codes "resume")
 
 -- the keys of the options of a plan, where `first` tells of version 1
 abbrev pub is_option_key : Bool → List ℕ → Bool
-is_option_key first key = is_number_key key || is_truth_key key || (not first && is_later_key key)
+is_option_key first key = is_number_key key || is_truth_key key || (not first && (is_note_key key || is_later_key key))
 
 -- the number 1
 abbrev pub is_one : Option ℤ → Bool
@@ -75,7 +78,7 @@ knows_keys members =
     && all_items_pass (λ value. all_pass is_table_key (as_table value)) (array_at (codes "tables") members)
     && all_pass (is_option_key (is_first_version members)) (table_at (codes "options") members)
 
--- an option of version 2 is there, which isn't built yet
+-- an option of version 2 is there that isn't built yet
 abbrev pub has_later_key : Members → Bool
 has_later_key members = not (all_pass (λ key. not (is_later_key key)) (table_at (codes "options") members))
 

@@ -27,6 +27,8 @@ numbers_in options = do
   tool_wait ← number_or default_options.tool_wait (option_at (codes "tool_wait") options)
   max_load ← number_or default_options.max_load (option_at (codes "max_load") options)
   turn_limit ← number_or default_options.turn_limit (option_at (codes "turn_limit") options)
+  notes ← number_or default_options.notes (option_at (codes "notes") options)
+  note_every ← number_or default_options.note_every (option_at (codes "note_every") options)
   Ok (record {
     chunk_size = chunk_size;
     dml_batch_size = dml_batch_size;
@@ -37,6 +39,8 @@ numbers_in options = do
     tool_wait = tool_wait;
     max_load = max_load;
     turn_limit = turn_limit;
+    notes = notes;
+    note_every = note_every;
   })
 
 -- the options that are true or false
@@ -79,6 +83,8 @@ options_within numbers truths = do
   tool_wait ← within 1 100000 numbers.tool_wait
   max_load ← within 0 64 numbers.max_load
   turn_limit ← within 1 1000000 numbers.turn_limit
+  notes ← within 0 1000 numbers.notes
+  note_every ← within 1 100000 numbers.note_every
   Ok (record {
     chunk_size = chunk_size;
     dml_batch_size = dml_batch_size;
@@ -89,6 +95,8 @@ options_within numbers truths = do
     tool_wait = tool_wait;
     max_load = max_load;
     turn_limit = turn_limit;
+    notes = notes;
+    note_every = note_every;
     approve_renamed_columns = truths.approve_renamed_columns;
     initially_drop_ghost_table = truths.initially_drop_ghost_table;
     initially_drop_old_table = truths.initially_drop_old_table;

@@ -4,7 +4,7 @@ ghost use Rattle.std.specs.Prelude.{◌≡◌, not, is_some, option_map};
 ghost use Rattle.std.specs.Str.{bytes_eq};
 ghost use Rattle.toml.specs.Data.{as_array, as_table};
 ghost use Rattle.toml.specs.View.{view, table_view, items_view};
-ghost use Rattle.plan_keys.specs.Known.{is_plan_key, is_table_key, is_number_key, is_truth_key, is_later_key, is_option_key, is_one, is_first_version, has_later_key, all_pass, all_items_pass, array_at, table_at, knows_keys, has_key, has_create, has_needed_keys};
+ghost use Rattle.plan_keys.specs.Known.{is_plan_key, is_table_key, is_number_key, is_truth_key, is_note_key, is_later_key, is_option_key, is_one, is_first_version, has_later_key, all_pass, all_items_pass, array_at, table_at, knows_keys, has_key, has_create, has_needed_keys};
 ghost use Rattle.plan_keys.specs.Walks.{all_keys, all_items};
 
 use crate::documents::member_at;
@@ -68,13 +68,18 @@ fn is_truth_key(key: &[u8]) -> bool
         || is_word(key, "show_replies")
 }
 
+#[tactic(auto, unfolding(crate::specs::Known::is_note_key))]
+fn is_note_key(key: &[u8]) -> bool
+    ensures { result ≡ is_note_key key.now }
+{
+    is_word(key, "notes") || is_word(key, "note_every")
+}
+
 #[tactic(auto, unfolding(crate::specs::Known::is_later_key))]
 fn is_later_key(key: &[u8]) -> bool
     ensures { result ≡ is_later_key key.now }
 {
-    is_word(key, "notes")
-        || is_word(key, "note_every")
-        || is_word(key, "replica_step")
+    is_word(key, "replica_step")
         || is_word(key, "replica_pause")
         || is_word(key, "max_lag")
         || is_word(key, "resume")
@@ -83,7 +88,7 @@ fn is_later_key(key: &[u8]) -> bool
 fn is_option_key(first: bool, key: &[u8]) -> bool
     ensures { result ≡ is_option_key first key.now }
 {
-    is_number_key(key) || is_truth_key(key) || (!first && is_later_key(key))
+    is_number_key(key) || is_truth_key(key) || (!first && (is_note_key(key) || is_later_key(key)))
 }
 
 /// Whether the document says that it is of version 1, which has fewer options than version 2.
@@ -133,7 +138,7 @@ fn has_no_later_key(table: Option<&Table>) -> bool
     }
 }
 
-/// Whether an option of version 2 is there, which isn't built yet.
+/// Whether an option of version 2 is there that isn't built yet.
 pub fn has_later_key(document: &Table) -> bool
     ensures { result ≡ has_later_key (table_view document.now) }
 {

@@ -31,6 +31,10 @@ pub struct NumberKeys {
     pub max_load: i64,
     /// `turn_limit`.
     pub turn_limit: i64,
+    /// `notes`.
+    pub notes: i64,
+    /// `note_every`.
+    pub note_every: i64,
 }
 
 /// The options that are true or false. Their meanings are those of `Options`.
@@ -84,6 +88,8 @@ pub fn numbers_in(options: Option<&Table>) -> Result<NumberKeys, KeyFault>
     let tool_wait = number_or(default.tool_wait, option_at(options, "tool_wait"))?;
     let max_load = number_or(default.max_load, option_at(options, "max_load"))?;
     let turn_limit = number_or(default.turn_limit, option_at(options, "turn_limit"))?;
+    let notes = number_or(default.notes, option_at(options, "notes"))?;
+    let note_every = number_or(default.note_every, option_at(options, "note_every"))?;
     Ok(NumberKeys {
         chunk_size,
         dml_batch_size,
@@ -94,6 +100,8 @@ pub fn numbers_in(options: Option<&Table>) -> Result<NumberKeys, KeyFault>
         tool_wait,
         max_load,
         turn_limit,
+        notes,
+        note_every,
     })
 }
 
@@ -163,6 +171,8 @@ pub fn options_within(numbers: NumberKeys, truths: TruthKeys) -> Result<Options,
     let tool_wait = within(1, 100_000, numbers.tool_wait)?;
     let max_load = within(0, 64, numbers.max_load)?;
     let turn_limit = within(1, 1_000_000, numbers.turn_limit)?;
+    let notes = within(0, 1_000, numbers.notes)?;
+    let note_every = within(1, 100_000, numbers.note_every)?;
     Ok(Options {
         chunk_size,
         dml_batch_size,
@@ -173,6 +183,8 @@ pub fn options_within(numbers: NumberKeys, truths: TruthKeys) -> Result<Options,
         tool_wait,
         max_load,
         turn_limit,
+        notes,
+        note_every,
         approve_renamed_columns: truths.approve_renamed_columns,
         initially_drop_ghost_table: truths.initially_drop_ghost_table,
         initially_drop_old_table: truths.initially_drop_old_table,

@@ -4,6 +4,10 @@ pub mod Blocked
 pub mod Sentries
 pub mod HintRows
 pub mod HintInserts
+pub mod LogWrites
+pub mod NoteRows
+pub mod NextNotes
+pub mod NoteTurns
 pub mod ChangelogTurns
 pub mod Changelogs
 pub mod Calls

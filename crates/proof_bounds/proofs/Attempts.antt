@@ -35,7 +35,7 @@ use Rattle.tool_program.specs.declared.cutover_core.cutover.Role.TheVariants.{In
 use Rattle.tool_program.specs.declared.cutover_core.cutover.Stage.{Stage}
 use Rattle.tool_program.specs.declared.cutover_core.cutover.Stage.TheVariants.{Drained, Unlocking, Exchanging}
 use Rattle.tool_program.specs.declared.cutover_core.cutover.Drain.{Drain}
-use Rattle.tool_program.specs.declared.cutover_core.cutover.Drain.TheVariants.{Turns, Passed}
+use Rattle.tool_program.specs.declared.cutover_core.cutover.Drain.TheVariants.{Turns}
 use Rattle.tool_program.specs.CutoverCore.Attempts as attempts
 use Rattle.tool_program.specs.ChunkCopier.Copiers as copiers
 use Rattle.tool_program.specs.EventApplier.Appliers as appliers

@@ -1,5 +1,5 @@
 -- Losses and what is cleared up: each loss takes itself, one call more without a session, and three turns after the RENAME at
--- most; besides there are two rollbacks and three turns after the RENAME.
+-- most; besides there are two rollbacks, three turns after the RENAME, and the rows of notes.
 use Rattle.std.proofs.Common.{◌≡◌, ◌≤◌, ◌<◌, ℕ, zero, suc, ◌+◌, ◌*◌, Bool, true, false, cond, not, ◌&&◌, ◌||◌, List, [], ◌∷◌, ◌++◌, Option, Some, None, refl, sym, ap, ◌∙◌, subst, arith}
 use Rattle.std.specs.Prelude.{is_some, nat_lt}
 use Rattle.std.proofs.lemmas.Bool.{true≢false, false≢true, or_parts}
@@ -46,11 +46,13 @@ use Rattle.proof_journals.proofs.Machine.Seated.{IsServed, own_heard}
 use Rattle.proof_journals.proofs.Sentry.Inductions.{moment_more}
 use Rattle.proof_bounds.specs.Clearings.{phase_left, finish_left, ClearingGoes, ClearingTurnsAreFew}
 use Rattle.proof_bounds.specs.Laws.{MayWait, is_struck, struck_turns, back_turns}
+use Rattle.proof_bounds.specs.Notes.{is_note, note_turns}
 use Rattle.proof_bounds.specs.Parts.{Part, OfClearing, OfChunks, OfBatches, OfAttempts, rolls_back, work_part, is_again, ending_part, phase_part, inspector_part, part_by, part_of, same_part, turns_of_part}
 use Rattle.tool_program.specs.JournalWords.Bounds.{measures}
 use Rattle.proof_bounds.specs.Terms.{term_of}
 use Rattle.proof_bounds.proofs.Counting.{count_yes, count_no, count_none}
 use Rattle.proof_bounds.proofs.Losses.{losses_strike}
+use Rattle.proof_bounds.proofs.Notes.{notes_few}
 use Rattle.proof_bounds.proofs.Rollbacks.{rollbacks_few}
 use Rattle.proof_bounds.proofs.Waits.{IsCounted, counted_more, counted_begins, about}
 
@@ -348,7 +350,7 @@ left_at plan journal = finish_left (moment plan journal).tool.tool_phase
 record IsFew (plan : PlanData) (journal : List Entry) : Type 0 where
   counted : IsCounted plan journal
   seated : struck_turns journal ≡ 0 → is_migrating (moment plan journal).tool.tool_phase ≡ true → is_some (live_session journal Insp) ≡ true
-  few : turns_of_part OfClearing plan journal + left_at plan journal + spare journal ≤ 3 + 5 * struck_turns journal + back_turns Copy journal + back_turns Apply journal
+  few : turns_of_part OfClearing plan journal + left_at plan journal + spare journal ≤ 3 + 5 * struck_turns journal + back_turns Copy journal + back_turns Apply journal + note_turns journal
 
 spare_one : (b : Bool) (n : ℕ) → spare_if b n ≤ 1
 spare_one true n = omega arith
@@ -376,7 +378,7 @@ module _ (plan : PlanData) (may : MayWait plan) (before : List Entry) (entry : E
   tool = record (moment plan before).tool { turns = (moment plan before).tool.turns + 1 }
 
   abbrev Small : Type 0
-  Small = turns_of_part OfClearing plan more + left_at plan more + spare more ≤ 3 + 5 * struck_turns more + back_turns Copy more + back_turns Apply more
+  Small = turns_of_part OfClearing plan more + left_at plan more + spare more ≤ 3 + 5 * struck_turns more + back_turns Copy more + back_turns Apply more + note_turns more
 
   served : IsServed plan before entry
   served = record { answered = run.answered; seated = record { session = run.followed.session } }
@@ -386,6 +388,15 @@ module _ (plan : PlanData) (may : MayWait plan) (before : List Entry) (entry : E
 
   backs_more : (a : Actor) → back_turns a more ≡ back_turns a before + cond (same_actor entry.actor a && rolls_back entry.asked) 1 0
   backs_more a = sum_by_push (λ (one : Entry). cond (same_actor one.actor a && rolls_back one.asked) 1 0) before entry
+
+  notes_more : (b : Bool) → is_note entry ≡ b → note_turns more ≡ note_turns before + cond b 1 0
+  notes_more b at = sum_by_push (λ (one : Entry). cond (is_note one) 1 0) before entry ∙ ap (λ (c : Bool). note_turns before + cond c 1 0) at
+
+  -- no row of a note is taken back
+  notes_up : note_turns before ≤ note_turns more
+  notes_up = by (is_note entry) refl where
+    by : (b : Bool) → is_note entry ≡ b → note_turns before ≤ note_turns more
+    by b at = let count = notes_more b at in omega (arith, count)
 
   three_left : left_at plan more ≤ 3
   three_left = tool_phase_three (moment plan more).tool.tool_phase
@@ -407,7 +418,8 @@ module _ (plan : PlanData) (may : MayWait plan) (before : List Entry) (entry : E
       let e = clearing_one in
       let f = spare_one (is_some (live_session more Insp)) (struck_turns more) in
       let g = is.few in
-      omega (arith, a, b, c, d, e, f, g)
+      let n = notes_up in
+      omega (arith, a, b, c, d, e, f, g, n)
 
   -- NO LOSS
 
@@ -495,7 +507,8 @@ module _ (plan : PlanData) (may : MayWait plan) (before : List Entry) (entry : E
           let e = backs Copy in
           let f = backs Apply in
           let g = is.few in
-          omega (arith, a, b, c, d, e, f, g)
+          let n = notes_up in
+          omega (arith, a, b, c, d, e, f, g, n)
 
       -- a call without a session: a loss took it
       spared : (work : Work) → tool_phase ≡ Migrating work → is_some (live_session before Insp) ≡ false → spare before ≡ 1
@@ -528,7 +541,8 @@ module _ (plan : PlanData) (may : MayWait plan) (before : List Entry) (entry : E
           let f = backs Apply in
           let g = is.few in
           let h = spared work at none in
-          omega (arith, a, b, c, d, e, f, g, h)
+          let n = notes_up in
+          omega (arith, a, b, c, d, e, f, g, h, n)
       insp_own own (finishes work at done insp) =
           let a = count_yes OfClearing plan before entry own in
           let b = same_struck in
@@ -537,8 +551,18 @@ module _ (plan : PlanData) (may : MayWait plan) (before : List Entry) (entry : E
           let e = backs Copy in
           let f = backs Apply in
           let g = is.few in
-          omega (arith, a, b, c, d, e, f, g)
-      insp_own own (rests_so work at phase insp) = absurd (goes.rests work at phase who called uncut)
+          let n = notes_up in
+          omega (arith, a, b, c, d, e, f, g, n)
+      insp_own own (rests_so work at phase insp) =
+          let a = count_yes OfClearing plan before entry own in
+          let b = same_struck in
+          let c = no_more_left in
+          let d = no_spare in
+          let e = backs Copy in
+          let f = backs Apply in
+          let g = is.few in
+          let n = notes_more true (goes.rests work at phase who called uncut) in
+          omega (arith, a, b, c, d, e, f, g, n)
 
     -- ANOTHER ACTOR'S TURN
 
@@ -584,7 +608,8 @@ module _ (plan : PlanData) (may : MayWait plan) (before : List Entry) (entry : E
           let e = backs_more Copy in
           let f = backs_more Apply in
           let g = is.few in
-          omega (arith, a, b, c, d, e, f, g)
+          let n = notes_up in
+          omega (arith, a, b, c, d, e, f, g, n)
 
       back_one : (a : Actor) → entry.actor ≡ a → same_actor a a ≡ true → rolls_back entry.asked ≡ true → back_turns a more ≡ back_turns a before + 1
       back_one a who itself back =
@@ -599,7 +624,8 @@ module _ (plan : PlanData) (may : MayWait plan) (before : List Entry) (entry : E
           let e = back_one Copy who refl back in
           let f = backs_more Apply in
           let g = is.few in
-          omega (arith, a, b, c, d, e, f, g)
+          let n = notes_up in
+          omega (arith, a, b, c, d, e, f, g, n)
       there_own own (back_applies who back) =
           let a = count_yes OfClearing plan before entry own in
           let b = same_struck in
@@ -608,7 +634,8 @@ module _ (plan : PlanData) (may : MayWait plan) (before : List Entry) (entry : E
           let e = backs_more Copy in
           let f = back_one Apply who refl back in
           let g = is.few in
-          omega (arith, a, b, c, d, e, f, g)
+          let n = notes_up in
+          omega (arith, a, b, c, d, e, f, g, n)
       there_own own (again work clearing at phase who without) = absurd (not_insp who)
       there_own own (finishes work at done who) = absurd (not_insp who)
       there_own own (rests_so work at phase who) = absurd (not_insp who)
@@ -668,7 +695,7 @@ few_begins plan fit = record { counted = counted_begins plan fit; seated = λ no
 -- *Losses and what is cleared up take few turns*
 pub clearing_few : ClearingTurnsAreFew
 unfolding term_of measures Follows
-clearing_few plan journal may fit faithful planned follows goes =
+clearing_few plan journal may fit faithful planned follows goes notes_go =
     let is =
     Along-keeps (λ before entry. IsRun plan before entry × ClearingGoes plan before entry) (IsFew plan) (λ before entry one is. few_more plan may before entry one.0 one.1 is) [] journal
     (Along-both (IsRun plan) (ClearingGoes plan) [] journal (all_runs plan [] journal faithful follows) goes) (few_begins plan fit) in
@@ -677,4 +704,5 @@ clearing_few plan journal may fit faithful planned follows goes =
     let copies = backs.0 in
     let applies = backs.1 in
     let struck = losses_strike plan journal planned in
-    omega (arith, few, copies, applies, struck)
+    let noted = notes_few plan journal planned notes_go in
+    omega (arith, few, copies, applies, struck, noted)

@@ -1,6 +1,6 @@
 -- The setup goes on, and so does what is done after the RENAME: the inspector waits with the request alone that sets the new table's
--- counter, and each of its other calls is done.
-use Rattle.std.proofs.Common.{◌≡◌, ◌≢◌, ◌≤◌, ◌<◌, ℕ, ◌+◌, ◌==◌, Bool, true, false, cond, not, ◌||◌, List, [], ◌∷◌, ◌++◌, Option, Some, None, refl, sym, ap, ◌∙◌, subst, inl, inr, arith}
+-- counter, and each of its other calls is done; and while no attempt stands it writes rows of notes alone.
+use Rattle.std.proofs.Common.{◌≡◌, ◌≢◌, ◌≤◌, ◌<◌, ℕ, ◌+◌, ◌==◌, Bool, true, false, cond, not, ◌&&◌, ◌||◌, List, [], ◌∷◌, ◌++◌, Option, Some, None, refl, sym, ap, ◌∙◌, subst, inl, inr, arith}
 use Rattle.std.specs.Prelude.{is_some}
 use Rattle.std.specs.List.{AllByRecursion, list_any}
 use Rattle.std.specs.Str.{bytes_eq}
@@ -19,7 +19,6 @@ use Rattle.server_model.specs.Along.{Along}
 use Rattle.server_model.specs.declared.answer.Answer.{Answer}
 use Rattle.server_model.specs.declared.answer.Answer.TheVariants as answers
 use Rattle.server_model.specs.declared.answer.KeyRange.{KeyRange}
-use Rattle.server_model.specs.declared.entry.Asked.{Asked}
 use Rattle.server_model.specs.declared.entry.Asked.TheVariants.{Call, Poll, Command, Cut}
 use Rattle.server_model.specs.declared.entry.Entry.{Entry}
 use Rattle.server_model.specs.declared.listing.TableName.{TableName}
@@ -48,11 +47,11 @@ use Rattle.tool_program.specs.declared.cutover_core.cutover.Role.TheVariants.{In
 use Rattle.tool_program.specs.declared.cutover_core.cutover.Stage.TheVariants.{Locking, Hinting, ReadingCounter, SettingCounter, Drained, Showing, Dropping, Unlocking, Exchanging}
 use Rattle.tool_program.specs.declared.cutover_core.cutover.Stage.{Stage}
 use Rattle.tool_program.specs.declared.cutover_core.cutover.Drain.{Drain}
-use Rattle.tool_program.specs.declared.cutover_core.cutover.Drain.TheVariants.{Turns, Passed}
+use Rattle.tool_program.specs.declared.cutover_core.cutover.Drain.TheVariants.{Turns}
 use Rattle.tool_program.specs.CutoverCore.Attempts as attempts
 use Rattle.tool_program.specs.CutoverCore.Attempts.{exchange, clears, first_name, without_first, has_name, has_sentry, is_clear, is_free}
 use Rattle.tool_program.specs.CutoverCore.CutOvers as cutovers
-use Rattle.tool_program.specs.CutoverCore.CutOvers.{is_bad, is_done, is_wait, begun, failed, waits_phase, finishing, left_at_end, sentry_alone, seen, inspector_phase, locker_phase, renamer_phase, hold_after, hold_of_guard, hold_of_lock, applier_turn, drain_of, drained, drains_to, ended, reverted}
+use Rattle.tool_program.specs.CutoverCore.CutOvers.{is_bad, is_done, is_resting, is_wait, begun, failed, waits_phase, finishing, left_at_end, sentry_alone, seen, inspector_phase, locker_phase, renamer_phase, hold_after, hold_of_guard, hold_of_lock, applier_turn, drain_of, drained, drains_to, ended, reverted}
 use Rattle.tool_program.specs.Programs.{tool_call, tool_asks, given}
 use Rattle.tool_program.specs.Setups.{Setup, Listing, Clearing, MakingLog, MakingGhost, Marking, Reaching, Ready, clearing, listed, setup_call, setup_after}
 use Rattle.tool_program.specs.Tools.{Work, ToolPhase, SettingUp, Migrating, Tool, Moment, stopped, is_reverting, tool_phase_of, moment}
@@ -72,6 +71,7 @@ use Rattle.proof_journals.proofs.Journals.{opened_waits}
 use Rattle.proof_journals.proofs.Machine.Asking.{some_request}
 use Rattle.proof_journals.proofs.Machine.CuttingOver.{LockerAsks, drain_cases}
 use Rattle.proof_journals.proofs.Machine.Fitting.{IsPrompt}
+use Rattle.proof_journals.proofs.Machine.Inspecting.{IsNote, Inspects, inspects, notes_so, cuts_so}
 use Rattle.proof_journals.proofs.Machine.Journals.{IsRun, IsTogether, Asking, calls_so, polls_so, asking, never_commands, lock_about, ren_about}
 use Rattle.proof_journals.proofs.Machine.Marks.{ghost_not_log, ghost_not_old}
 use Rattle.proof_journals.proofs.Machine.Schemas.{keeps_table, schema_stays}
@@ -96,13 +96,15 @@ use Rattle.proof_migration.proofs.ToolPhase.Owners.{together_owned}
 use Rattle.proof_migration.proofs.ToolPhase.ToolPhaseTurns.{Kept, UnfitKeeps, CopyKeeps, ApplyKeeps, SetupKeeps, AnswerKeeps, ResizeKeeps, turn_kept, gives_asked}
 use Rattle.proof_migration.proofs.ToolPhase.Unaltered.Away.{log_is_tool, ghost_is_tool}
 use Rattle.proof_bounds.specs.Clearings.{phase_left, ClearingGoes}
+use Rattle.proof_bounds.specs.Notes.{is_note, replaces}
 use Rattle.proof_bounds.specs.Setups.{names_left, setup_left, SetupGoes}
 use Rattle.proof_migration.specs.InspectorWaits.{SetsCounter, IsSettingCounter, InspectorsWaitToSet}
-use Rattle.proof_bounds.proofs.FreeNames.{IsAway, away_forbidden, away_free, free_name, at_once, drops_ok, creates_ok, ends_ok}
+use Rattle.proof_migration.proofs.HeldNames.Changelog.{log_at_once, log_away}
+use Rattle.proof_migration.proofs.HeldNames.FreeNames.{IsAway, away_forbidden, away_free, free_name, at_once, drops_ok, creates_ok, ends_ok}
 use Rattle.proof_bounds.proofs.Inspecting.{WaitsFor, none_waits, none_for, sets_ended, sets_failed, sets_drained, sets_locked, sets_waits}
-use Rattle.proof_bounds.proofs.Holders.{along_of, each_kept, IsHeldWell, held_well_more, held_well_begins, old_not_log}
+use Rattle.proof_migration.proofs.HeldNames.Holders.{along_of, each_kept, IsHeldWell, held_well_more, held_well_begins, old_not_log}
 use Rattle.proof_bounds.proofs.Leftovers.{IsLeft, SetupFits, has_stays, setup_stay, clearing_fits, old_is_tool, first_is_tool, first_exists, listed_fewer, dropped_fewer, IsLeftAtEnd, ClearingFits, PhaseFits, RestsOrLocks, WorkFits, phase_stay, work_stay, undone_fits, ends_with, lists_end, end_is_old, end_exists, end_fewer, end_listed}
-use Rattle.proof_bounds.proofs.Unblocked.{IsFreeName}
+use Rattle.proof_migration.proofs.HeldNames.Unblocked.{IsFreeName}
 
 -- WHAT IS SO AFTER EVERY KEPT JOURNAL
 
@@ -533,23 +535,10 @@ module _ (plan : PlanData) (runs : IsRunnable plan) (journal : List Entry) (entr
     renamer_free : work.cutover.renamer_waits ≡ false → has Ren ≡ free
     renamer_free off = stands.renamer ∙ ap (renaming work.cutover.table) off
 
-    log_forbidden : (bytes_eq (log_name plan.table) (log_name plan.table) || bytes_eq (log_name plan.table) (old_name plan.table)) ≡ true
-    log_forbidden = or_left (bytes_eq (log_name plan.table) (log_name plan.table)) (bytes_eq (log_name plan.table) (old_name plan.table)) (same_bytes (log_name plan.table))
-
     old_forbidden : (bytes_eq (old_name plan.table) (log_name plan.table) || bytes_eq (old_name plan.table) (old_name plan.table)) ≡ true
     old_forbidden = or_right (bytes_eq (old_name plan.table) (log_name plan.table)) (bytes_eq (old_name plan.table) (old_name plan.table)) (same_bytes (old_name plan.table))
 
-    -- nobody has the changelog's name
-    log_away : (a : Actor) → same_actor a Insp ≡ false → IsAway plan journal is.names a (log_name plan.table)
-    log_away (Client c) differ = away_forbidden plan journal is.names (Client c) (log_name plan.table) (log_is_tool plan.table)
-    log_away Op differ = away_free plan journal is.names Op (log_name plan.table) operator_free
-    log_away Insp differ = absurd (true≢false differ)
-    log_away Copy differ = away_forbidden plan journal is.names Copy (log_name plan.table) log_forbidden
-    log_away Apply differ = away_forbidden plan journal is.names Apply (log_name plan.table) log_forbidden
-    log_away Lock differ = away_forbidden plan journal is.names Lock (log_name plan.table) (same_bytes (log_name plan.table))
-    log_away Ren differ = away_forbidden plan journal is.names Ren (log_name plan.table) (same_bytes (log_name plan.table))
-
-    -- nor the old table's, where the locker and the renamer have nothing
+    -- nobody has the old table's name, where the locker and the renamer have nothing
     old_away : work.cutover.hold ≡ Nothing → work.cutover.renamer_waits ≡ false → (a : Actor) → same_actor a Insp ≡ false → IsAway plan journal is.names a (old_name plan.table)
     old_away nothing off (Client c) differ = away_forbidden plan journal is.names (Client c) (old_name plan.table) (old_is_tool plan.table)
     old_away nothing off Op differ = away_free plan journal is.names Op (old_name plan.table) operator_free
@@ -566,7 +555,7 @@ module _ (plan : PlanData) (runs : IsRunnable plan) (journal : List Entry) (entr
 
     module _ (same : entry.actor ≡ Insp) where
       log_free : (called : is_command entry.asked ≡ false) → IsFreeName (opens entry (state_at plan journal)) entry.session (log_name plan.table)
-      log_free called = free_name plan runs journal entry kept run is.names Insp same called (log_name plan.table) log_away
+      log_free called = free_name plan runs journal entry kept run is.names Insp same called (log_name plan.table) (log_away plan runs journal entry kept run is.names)
 
       old_free : work.cutover.hold ≡ Nothing → work.cutover.renamer_waits ≡ false → (called : is_command entry.asked ≡ false) → IsFreeName (opens entry (state_at plan journal)) entry.session (old_name plan.table)
       old_free nothing off called = free_name plan runs journal entry kept run is.names Insp same called (old_name plan.table) (old_away nothing off)
@@ -616,9 +605,13 @@ module _ (plan : PlanData) (runs : IsRunnable plan) (journal : List Entry) (entr
       insp_done Finished in_phase unset request asks no_side call = absurd cc
       insp_done Resting in_phase unset request asks no_side call = absurd cc
 
-      insp_next : (request : Request) → tool_call plan now.server journal now.tool now.tool.tool_phase Insp ≡ Some request → attempts.inspector_call work.cutover work.cutover.phase ≡ Some request
-      unfolding attempts.next
-      insp_next request call = ap (λ (c : ToolPhase). tool_call plan now.server journal now.tool c Insp) (sym eq) ∙ call
+      -- a note's row is written at once
+      note_done : (request : Request) → IsNote plan.table request → entry.asked ≡ Call request → entry.side ≡ None → IsDone entry.answer
+      note_done request note asks no_side = log_at_once plan runs journal entry kept run is.names same request (ap names_in note.is) asks no_side
+
+      -- it writes a note's row, or asks what the cut-over asks of it
+      insp_next : (request : Request) → tool_call plan now.server journal now.tool now.tool.tool_phase Insp ≡ Some request → Inspects plan journal now.tool work request
+      insp_next request call = inspects plan journal now.tool work request (ap (λ (c : ToolPhase). tool_call plan now.server journal now.tool c Insp) (sym eq) ∙ call)
 
       -- after the RENAME each drop is done, or the session is lost in it
       drops_so : (left : Leftovers) → work.cutover.phase ≡ Finishing (Drops left) → (request : Request) → entry.asked ≡ Call request → attempts.inspector_call work.cutover (Finishing (Drops left)) ≡ Some request
@@ -725,8 +718,11 @@ module _ (plan : PlanData) (runs : IsRunnable plan) (journal : List Entry) (entr
       polled_becomes phase request about sets = absurd sets
 
       insp_turn : Asking plan journal Insp entry.asked → (tries : List ℕ) → New (is_reverting now.tool.reason) (Migrating (record work { cutover = cutovers.took Inspector work.cutover entry.answer; attempt_tries = tries }))
-      unfolding cutovers.took
-      insp_turn (calls_so request called idle call) tries = insp_becomes work.cutover.phase refl request called (insp_next request call)
+      unfolding cutovers.took attempts.next
+      insp_turn (calls_so request called idle call) tries = by (insp_next request call) where
+        by : Inspects plan journal now.tool work request → Becomes (inspector_phase work.cutover work.cutover.phase entry.answer)
+        by (cuts_so off next) = insp_becomes work.cutover.phase refl request called next
+        by (notes_so note resting going next) = subst (λ (p : Phase). Becomes (inspector_phase work.cutover p entry.answer)) (sym resting) (undone Resting refl)
       insp_turn (polls_so request polled some) tries =
           polled_becomes work.cutover.phase request (about_own plan journal entry is.standing run Insp request same (is_polled polled some)) (insp_waits (Migrating work) eq request some).0
 
@@ -1111,9 +1107,16 @@ module _ (plan : PlanData) (runs : IsRunnable plan) (journal : List Entry) (entr
     )
     called_sets phase in_phase request asks call other waits = absurd (subst IsDone waits (insp_done work eq same phase in_phase refl request asks (heard_wait other waits) call))
 
+    asked_sets : (request : Request) → entry.asked ≡ Call request → Inspects plan journal now.tool work request → (other : ℕ) → entry.answer ≡ answers.Waits other → SetsCounter plan work.cutover.phase request × (work.cutover.renamer_waits ≡ false)
+    unfolding attempts.next
+    asked_sets request asks (cuts_so off next) other waits = called_sets work.cutover.phase refl request asks next other waits
+    asked_sets request asks (notes_so note resting going next) other waits = absurd (subst IsDone waits (note_done work eq same request note asks (heard_wait other waits)))
+
     -- whatever else it calls has an answer
-    pub called_idle : (phase : Phase) → work.cutover.phase ≡ phase → is_setting phase ≡ false → (request : Request) → entry.asked ≡ Call request → attempts.inspector_call work.cutover phase ≡ Some request → (now_has Insp).waits ≡ None
-    called_idle phase in_phase unset request asks call = done_rests same request asks (λ no_side. insp_done work eq same phase in_phase unset request asks no_side call)
+    pub called_idle : is_setting work.cutover.phase ≡ false → (request : Request) → entry.asked ≡ Call request → Inspects plan journal now.tool work request → (now_has Insp).waits ≡ None
+    unfolding attempts.next
+    called_idle unset request asks (cuts_so off next) = done_rests same request asks (λ no_side. insp_done work eq same work.cutover.phase refl unset request asks no_side next)
+    called_idle unset request asks (notes_so note resting going next) = done_rests same request asks (λ no_side. note_done work eq same request note asks no_side)
 
     goes_on : (request : Request) → SetsCounter plan work.cutover.phase request × (work.cutover.renamer_waits ≡ false) → (other : ℕ) → entry.answer ≡ answers.Waits other → (waiting : Request) → request ≡ waiting
         → SetsCounter plan (inspector_phase work.cutover work.cutover.phase entry.answer) waiting × (work.cutover.renamer_waits ≡ false)
@@ -1126,7 +1129,7 @@ module _ (plan : PlanData) (runs : IsRunnable plan) (journal : List Entry) (entr
     unfolding cutovers.took
     inspected_waits (calls_so request called idle call) tries = λ waiting some.
         let was = waited_is same request (insp_about same request called) waiting some in
-        goes_on request (called_sets work.cutover.phase refl request called (insp_next work eq same request call) was.0 was.1.0) was.0 was.1.0 waiting was.1.1
+        goes_on request (asked_sets request called (insp_next work eq same request call) was.0 was.1.0) was.0 was.1.0 waiting was.1.1
     inspected_waits (polls_so request polled waited) tries = λ waiting some.
         let was = waited_is same request (about_own plan journal entry is.standing run Insp request same (is_polled polled waited)) waiting some in
         goes_on request (insp_waits (Migrating work) eq request waited) was.0 was.1.0 waiting was.1.1
@@ -1244,8 +1247,16 @@ module _ (plan : PlanData) (runs : IsRunnable plan) (journal : List Entry) (entr
   finish_fewer work eq same no_side request asks (Attempting stage) in_phase done call = absurd (false≢true done)
   finish_fewer work eq same no_side request asks (Ending cleared) in_phase done call = absurd (false≢true done)
 
-  resting_calls : (work : Work) (request : Request) → work.cutover.phase ≡ Resting → attempts.inspector_call work.cutover work.cutover.phase ≡ Some request → ⊥
-  resting_calls work request resting call = none-some request (ap (attempts.inspector_call work.cutover) (sym resting) ∙ call)
+  finish_next : (work : Work) (eq : now.tool.tool_phase ≡ Migrating work) (same : entry.actor ≡ Insp) → entry.side ≡ None → (request : Request) → entry.asked ≡ Call request → is_done work.cutover.phase ≡ true → Inspects plan journal now.tool work request
+      → phase_left (inspector_phase work.cutover work.cutover.phase entry.answer) < phase_left work.cutover.phase
+  unfolding attempts.next
+  finish_next work eq same no_side request asks done (cuts_so off next) = finish_fewer work eq same no_side request asks work.cutover.phase refl done next
+  finish_next work eq same no_side request asks done (notes_so note resting going next) = absurd (false≢true (sym (ap is_done resting) ∙ done))
+
+  -- at rest it writes a note's row
+  resting_notes : (work : Work) (request : Request) → work.cutover.phase ≡ Resting → entry.actor ≡ Insp → entry.asked ≡ Call request → Inspects plan journal now.tool work request → is_note entry ≡ true
+  resting_notes work request resting same asks (cuts_so off next) = absurd (true≢false (sym (ap is_resting resting) ∙ off))
+  resting_notes work request resting same asks (notes_so note here onward next) = ap (λ (a : Actor). same_actor a Insp && replaces entry.asked) same ∙ ap replaces (asks ∙ ap Call note.is)
 
   -- it waits with nothing after the RENAME, nor while no attempt is under way
   done_never : (work : Work) → now.tool.tool_phase ≡ Migrating work → is_done work.cutover.phase ≡ true → (request : Request) → (has Insp).waits ≡ Some request → ⊥
@@ -1269,9 +1280,9 @@ module _ (plan : PlanData) (runs : IsRunnable plan) (journal : List Entry) (entr
   clearing_goes = record {
     on = λ work eq done same called uncut no_side.
         insp_calls (phase_left (inspector_phase work.cutover work.cutover.phase entry.answer) < phase_left work.cutover.phase) (done_never work eq done) (insp_asking same (uncut_so uncut))
-        (λ request asks call. finish_fewer work eq same no_side request asks work.cutover.phase refl done (insp_next work eq same request call));
+        (λ request asks call. finish_next work eq same no_side request asks done (insp_next work eq same request call));
     renamed = λ work eq done same called uncut. true≢false (sym done ∙ ren_undone work eq (asks_at plan journal entry is.standing run work eq (ren_asking same (uncut_so uncut))));
-    rests = λ work eq resting same called uncut. insp_calls ⊥ (resting_never work eq resting) (insp_asking same (uncut_so uncut)) (λ request asks call. resting_calls work request resting (insp_next work eq same request call));
+    rests = λ work eq resting same called uncut. insp_calls (is_note entry ≡ true) (resting_never work eq resting) (insp_asking same (uncut_so uncut)) (λ request asks call. resting_notes work request resting same asks (insp_next work eq same request call));
   }
 
 going_begins : (plan : PlanData) → IsRunnable plan → IsGoing plan []

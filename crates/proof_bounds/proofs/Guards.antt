@@ -1,5 +1,5 @@
 -- The sentry's CREATE is answered at once: while no attempt is under way nobody but the locker has its name.
-use Rattle.std.proofs.Common.{◌≡◌, ℕ, ◌+◌, ◌==◌, Bool, true, false, cond, not, ◌||◌, List, [], ◌∷◌, ◌++◌, Option, Some, None, refl, sym, ap, ◌∙◌, subst}
+use Rattle.std.proofs.Common.{◌≡◌, ℕ, ◌+◌, Bool, true, false, cond, not, ◌||◌, List, [], ◌∷◌, ◌++◌, Option, Some, None, refl, sym, ap, ◌∙◌, subst}
 use Rattle.std.specs.Str.{bytes_eq}
 use Rattle.std.proofs.lemmas.Bool.{true≢false, or_right}
 use Rattle.base_script.specs.declared.actor.Actor.{Actor}
@@ -52,9 +52,9 @@ use Rattle.proof_migration.proofs.ToolPhase.Owners.{together_owned}
 use Rattle.proof_migration.proofs.ToolPhase.ToolPhaseTurns.{Kept, UnfitKeeps, CopyKeeps, ApplyKeeps, SetupKeeps, AnswerKeeps, ResizeKeeps, turn_kept, gives_asked}
 use Rattle.proof_migration.specs.InspectorWaits.{SetsCounter}
 use Rattle.proof_bounds.specs.Guards.{IsMade, IsGuarded, WaitsForNoSentry, HasSentryAtOnce, SentriesAreMadeAtOnce}
-use Rattle.proof_bounds.proofs.FreeNames.{IsAway, away_forbidden, away_free, free_name, at_once}
+use Rattle.proof_migration.proofs.HeldNames.FreeNames.{IsAway, away_forbidden, away_free, free_name, at_once}
 use Rattle.proof_bounds.proofs.Going.{IsGoing, all_going, insp_free, insp_rests}
-use Rattle.proof_bounds.proofs.Holders.{each_kept}
+use Rattle.proof_migration.proofs.HeldNames.Holders.{each_kept}
 use Rattle.proof_bounds.proofs.Inspecting.{WaitsFor}
 use Rattle.proof_bounds.proofs.Leftovers.{old_is_tool}
 

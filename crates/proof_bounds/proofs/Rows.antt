@@ -84,7 +84,7 @@ rows_few name schema rows (event ∷ log) fits = by (rows_few name schema (rows_
 -- WHOSE KEYS
 
 module _ (test : List Value → Bool) (places : List ℕ) where
-  with_keys : (row : Row) (rows : List Row) → test (key_of places row) ≡ true → all_keys test places rows ≡ true → all_keys test places (with_row places row rows) ≡ true
+  pub with_keys : (row : Row) (rows : List Row) → test (key_of places row) ≡ true → all_keys test places rows ≡ true → all_keys test places (with_row places row rows) ≡ true
   unfolding with_row
   with_keys row [] one all = and_from (test (key_of places row)) true one refl
   with_keys row (first ∷ rows) one all = by (compare_keys (key_of places row) (key_of places first)) (and_parts (test (key_of places first)) (all_keys test places rows) all) (λ rest. with_keys row rows one rest) where
@@ -100,7 +100,7 @@ module _ (test : List Value → Bool) (places : List ℕ) where
     by true = all
     by false = with_keys row rows one all
 
-  less_keys : (p : Row → Bool) (rows : List Row) → all_keys test places rows ≡ true → all_keys test places (filter p rows) ≡ true
+  pub less_keys : (p : Row → Bool) (rows : List Row) → all_keys test places rows ≡ true → all_keys test places (filter p rows) ≡ true
   less_keys p [] all = refl
   less_keys p (row ∷ rows) all = by (p row) (and_parts (test (key_of places row)) (all_keys test places rows) all) (λ rest. less_keys p rows rest) where
     by : (b : Bool) → (test (key_of places row) ≡ true) × (all_keys test places rows ≡ true) → (all_keys test places rows ≡ true → all_keys test places (filter p rows) ≡ true) → all_keys test places (cond b (row ∷ filter p rows) (filter p rows)) ≡ true

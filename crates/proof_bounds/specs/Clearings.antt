@@ -1,4 +1,4 @@
--- How many turns go to losses and to what is cleared up, as far as what is done after the RENAME goes on.
+-- How many turns go to losses, to what is cleared up and to rows of notes, as far as what is done after the RENAME goes on.
 use Rattle.std.specs.Prelude.{◌≡◌, ◌≤◌, ◌<◌, ℕ, true, false, List, [], None}
 use Rattle.base_script.specs.declared.actor.Actor.TheVariants.{Insp, Ren}
 use Rattle.server_model.specs.Along.{Along}
@@ -17,6 +17,7 @@ use Rattle.tool_program.specs.CutoverCore.CutOvers.{is_done, took}
 use Rattle.tool_program.specs.Tools.{ToolPhase, SettingUp, Migrating, Work, moment}
 use Rattle.proof_journals.specs.Machine.Scripts.{ScriptsFit}
 use Rattle.proof_bounds.specs.Laws.{MayWait}
+use Rattle.proof_bounds.specs.Notes.{NoteGoes, is_note}
 use Rattle.proof_bounds.specs.Parts.{OfClearing, turns_of_part}
 use Rattle.proof_bounds.specs.Setups.{names_left}
 use Rattle.tool_program.specs.JournalWords.Bounds.{measures}
@@ -39,13 +40,13 @@ finish_left (SettingUp setup tries) = 3
 finish_left (Migrating work) = phase_left work.cutover.phase
 
 -- after the RENAME a turn of the inspector's that isn't lost is answered at once, and not refused: so fewer are left; the renamer
--- has none; and while no attempt stands the inspector has none
+-- has none; and while no attempt stands the inspector writes rows of notes alone
 pub record ClearingGoes (plan : PlanData) (before : List Entry) (entry : Entry) : Type 0 where
   pub on : (work : Work) → (moment plan before).tool.tool_phase ≡ Migrating work → is_done work.cutover.phase ≡ true → entry.actor ≡ Insp → is_command entry.asked ≡ false → is_cut entry.asked ≡ false → entry.side ≡ None
       → phase_left (took Inspector work.cutover entry.answer).phase < phase_left work.cutover.phase
   pub renamed : (work : Work) → (moment plan before).tool.tool_phase ≡ Migrating work → is_done work.cutover.phase ≡ true → entry.actor ≡ Ren → is_command entry.asked ≡ false → is_cut entry.asked ≡ false → ⊥
-  pub rests : (work : Work) → (moment plan before).tool.tool_phase ≡ Migrating work → work.cutover.phase ≡ Resting → entry.actor ≡ Insp → is_command entry.asked ≡ false → is_cut entry.asked ≡ false → ⊥
+  pub rests : (work : Work) → (moment plan before).tool.tool_phase ≡ Migrating work → work.cutover.phase ≡ Resting → entry.actor ≡ Insp → is_command entry.asked ≡ false → is_cut entry.asked ≡ false → is_note entry ≡ true
 
--- *Losses and what is cleared up take few turns*, where each goes on so
+-- *Losses and what is cleared up take few turns*, and rows of notes with them, where each goes on so
 abbrev pub ClearingTurnsAreFew : Type 0
-ClearingTurnsAreFew = (plan : PlanData) (journal : List Entry) → MayWait plan → ScriptsFit plan → IsFaithful plan journal → KeepsPlan plan journal → Follows plan journal → Along (ClearingGoes plan) [] journal → turns_of_part OfClearing plan journal ≤ term_of OfClearing (measures plan)
+ClearingTurnsAreFew = (plan : PlanData) (journal : List Entry) → MayWait plan → ScriptsFit plan → IsFaithful plan journal → KeepsPlan plan journal → Follows plan journal → Along (ClearingGoes plan) [] journal → Along (NoteGoes plan) [] journal → turns_of_part OfClearing plan journal ≤ term_of OfClearing (measures plan)

@@ -1,6 +1,7 @@
 -- *Parts of a journal*: each turn is of one of seven parts: the operator's, the clients', the setup's, the chunks', the
 -- batches', the attempts' to exchange the tables, and what is cleared up: losses between calls, what is rolled back, what is
--- asked again because a session was lost, and what is done after the RENAME. (This project's rule.)
+-- asked again because a session was lost, and what is done after the RENAME. The rows of notes count there too. (This project's
+-- rule.)
 use Rattle.std.specs.Prelude.{ℕ, Bool, true, false, ◌||◌, is_some, not, if◌then◌else◌, List, [], ◌∷◌, count_by, Option}
 use Rattle.base_script.specs.declared.actor.Actor.{Actor}
 use Rattle.base_script.specs.declared.actor.Actor.TheVariants.{Op, Insp, Copy, Apply, Lock, Ren, Client}
@@ -42,7 +43,7 @@ abbrev pub ending_part : Option ℕ → Option Side → Asked → Part
 ending_part live side Poll = OfAttempts
 ending_part live side asked = if is_again live side then OfClearing else OfAttempts
 
--- the inspector's turn after the setup
+-- the inspector's turn after the setup: while no attempt stands it writes rows of notes, and after the RENAME it clears up
 abbrev pub phase_part : Option ℕ → Option Side → Asked → Phase → Part
 phase_part live side asked (Attempting stage) = OfAttempts
 phase_part live side asked (Ending clearing) = ending_part live side asked

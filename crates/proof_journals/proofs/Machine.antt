@@ -9,6 +9,7 @@ pub mod Lifting
 pub mod Turns
 pub mod Counting
 pub mod Asking
+pub mod Inspecting
 pub mod Journals
 pub mod Clients
 pub mod Drawn

@@ -15,7 +15,6 @@ use Rattle.server_model.specs.declared.answer.Answer.{Answer}
 use Rattle.server_model.specs.declared.answer.Answer.TheVariants as answers
 use Rattle.server_model.specs.declared.request.Request.{Request}
 use Rattle.server_model.specs.declared.request.Request.TheVariants as requests
-use Rattle.server_model.specs.declared.entry.Entry.{Entry}
 use Rattle.server_model.specs.declared.entry.Asked.{Asked}
 use Rattle.server_model.specs.Entries.{is_client, is_command}
 use Rattle.server_model.specs.Operations.{table_of}
@@ -26,11 +25,11 @@ use Rattle.server_model.specs.PlainServer.{serves, asks_for, counters_left}
 use Rattle.server_model.specs.LockedRows.Counters.{NoLess, IsBehind, DrawnSo}
 use Rattle.server_model.proofs.LockedRows.Counters.{less_itself, counters_never_fall, numbers_are_counters}
 use Rattle.server_model.proofs.LockedRows.Tests.{are_same, turned_bytes, nor_left}
-use Rattle.tool_program.specs.JournalWords.Journals.{opens, opens_if, IsAnswered, after_entry}
+use Rattle.tool_program.specs.JournalWords.Journals.{opens, opens_if, after_entry}
 use Rattle.tool_program.specs.JournalWords.Draws.{asked_in, drawn_from}
 use Rattle.proof_journals.specs.Turns.{drawn_side}
 use Rattle.proof_journals.proofs.Joined.{reported_draw}
-use Rattle.proof_journals.specs.Rising.{LeavesName, AllLeave, numbers_on, Rising, AtLeast, NumbersRise}
+use Rattle.proof_journals.specs.Rising.{LeavesName, numbers_on, Rising, AtLeast, NumbersRise}
 
 pub opened_counters : (nothing tool : Bool) (number : ℕ) (state : State) → (opens_if nothing tool number state).counters ≡ state.counters
 unfolding opens_if

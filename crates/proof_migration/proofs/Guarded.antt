@@ -24,7 +24,6 @@ use Rattle.tool_program.specs.declared.cutover_core.cutover.Hold.TheVariants.{Lo
 use Rattle.tool_program.specs.declared.cutover_core.cutover.Phase.{Phase}
 use Rattle.tool_program.specs.declared.cutover_core.cutover.Phase.TheVariants.{Attempting, Ending, Finished, Finishing, Resting}
 use Rattle.tool_program.specs.declared.cutover_core.cutover.Stage.TheVariants.{Drained, ReadingCounter, SettingCounter, Draining, Dropping, Exchanging, Guarding, Hinting, Locking, Showing, Unlocking}
-use Rattle.tool_program.specs.declared.cutover_core.cutover.Drain.TheVariants.{Passed}
 use Rattle.tool_program.specs.Programs.{given, tool_call}
 use Rattle.tool_program.specs.Tools.{Work, moment}
 use Rattle.proof_journals.proofs.Actors.{same_actor_is}

@@ -1,5 +1,5 @@
 -- What is so after every journal that is kept: each front of one is kept too.
-use Rattle.std.proofs.Common.{◌≡◌, List, [], ◌∷◌, ◌++◌, sym, subst, append_assoc}
+use Rattle.std.proofs.Common.{List, [], ◌∷◌, ◌++◌, sym, subst, append_assoc}
 use Rattle.server_model.specs.Along.{Along, Along-keeps}
 use Rattle.server_model.specs.declared.entry.Entry.{Entry}
 use Rattle.plan_data.specs.PlanData.{PlanData}

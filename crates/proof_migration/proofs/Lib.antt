@@ -10,6 +10,7 @@ pub mod Unfit
 pub mod Migration
 pub mod ToolPhase
 pub mod Attempt
+pub mod HeldNames
 pub mod Program
 pub mod ToolServes
 pub mod KeptJournals

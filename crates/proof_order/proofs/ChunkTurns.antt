@@ -46,7 +46,8 @@ use Rattle.tool_program.proofs.OnlineCalls.Machines.{ToolPhaseIsNamed, named}
 use Rattle.proof_journals.specs.Machine.Machines.{ToolPhaseStands, WorkStands, SetupStands, copier_busy, applier_asks, inspector_asks}
 use Rattle.proof_journals.specs.Machine.Standings.{Standing, free, standing_in, standing_of, answered, answers_to, IsAbout, is_called, is_polled}
 use Rattle.proof_journals.proofs.Actors.{same_actor_is}
-use Rattle.proof_journals.proofs.Machine.Asking.{idle_stands, unless_called, setup_next, inspector_next, renamer_next}
+use Rattle.proof_journals.proofs.Machine.Asking.{idle_stands, unless_called, setup_next, renamer_next}
+use Rattle.proof_journals.proofs.Machine.Inspecting.{inspector_called}
 use Rattle.proof_journals.proofs.Machine.Calling.{reverting_or}
 use Rattle.proof_journals.proofs.Machine.Journals.{IsRun, IsTogether, Asking, calls_so, polls_so, asking, all_runs, copy_about, copier_had, apply_about, lock_about, together_more, together_begins}
 use Rattle.proof_journals.proofs.Machine.Seated.{IsKnown, IsServed, others_stand, own_stands, own_fits, own_given, own_lost, own_missed, own_session}
@@ -434,7 +435,7 @@ module _ (plan : PlanData) (journal : List Entry) (entry : Entry) (run : IsRun p
 
   inspector_call : (request : Request) (tool_phase : ToolPhase) → tool_call plan now.server journal now.tool tool_phase Insp ≡ Some request → Locked Insp request
   inspector_call request (SettingUp setup tries) call = inspector_kind request (setup_next plan (is_reverting now.tool.reason) setup request call)
-  inspector_call request (Migrating work) call = inspector_kind request (inspector_next work.cutover request call).0
+  inspector_call request (Migrating work) call = inspector_kind request (inspector_called plan journal now.tool work request call).0
 
   applier_call : (request : Request) (tool_phase : ToolPhase) → now.tool.tool_phase ≡ tool_phase → entry.asked ≡ Call request → Asking plan journal Apply entry.asked → tool_call plan now.server journal now.tool tool_phase Apply ≡ Some request → Locked Apply request
   applier_call request (SettingUp setup tries) eq asked asks call = absurd cc

@@ -1,14 +1,13 @@
 -- What the journal tells of the counter in each phase of the cut-over: the number that is set next is the one that was shown, and once
 -- the attempt drains the new table's counter is set.
-use Rattle.std.proofs.Common.{◌≡◌, ◌⊎◌, ℕ, ◌+◌, ◌==◌, Bool, true, false, cond, not, ◌&&◌, ◌||◌, List, [], ◌∷◌, ◌++◌, Option, Some, None, refl, sym, ap, ◌∙◌, subst, arith}
+use Rattle.std.proofs.Common.{◌≡◌, ℕ, ◌+◌, ◌==◌, Bool, true, false, cond, not, ◌&&◌, ◌||◌, List, [], ◌∷◌, ◌++◌, Option, Some, None, refl, sym, ap, ◌∙◌, subst, arith}
 use Rattle.std.specs.Str.{bytes_eq}
-use Rattle.std.proofs.lemmas.Bool.{true≢false, false≢true}
+use Rattle.std.proofs.lemmas.Bool.{false≢true}
 use Rattle.std.proofs.lemmas.Bool.Decides.{nat_tests}
 use Rattle.std.proofs.lemmas.List.Sums.{fold-append}
-use Rattle.std.proofs.lemmas.Option.{none-some, same_Some}
+use Rattle.std.proofs.lemmas.Option.{none-some}
 use Rattle.base_script.specs.declared.actor.Actor.{Actor}
 use Rattle.base_script.specs.declared.actor.Actor.TheVariants.{Op, Insp, Copy, Apply, Lock, Ren, Client}
-use Rattle.base_script.specs.declared.actor.Side.{Side}
 use Rattle.base_script.specs.declared.operator.OperatorWord.{OperatorWord}
 use Rattle.base_script.specs.declared.operator.OperatorWord.TheVariants.{ChunkSize}
 use Rattle.base_values.specs.ToolNames.{ghost_name}
@@ -24,7 +23,6 @@ use Rattle.server_model.specs.States.{State, has_work}
 use Rattle.server_model.proofs.LockedRows.Tests.{same_bytes}
 use Rattle.plan_data.specs.PlanData.{PlanData, has_counter}
 use Rattle.tool_program.specs.JournalWords.Journals.{state_at}
-use Rattle.tool_program.specs.JournalWords.Sessions.{live_session}
 use Rattle.tool_program.specs.declared.cutover_core.cutover.Clearing.TheVariants.{Looking, Drops}
 use Rattle.tool_program.specs.declared.cutover_core.cutover.CutOver.{CutOver}
 use Rattle.tool_program.specs.declared.cutover_core.cutover.Drain.{Drain}
@@ -43,18 +41,19 @@ use Rattle.tool_program.specs.Tools.{Work, ToolPhase, SettingUp, Migrating, Tool
 use Rattle.tool_program.proofs.OnlineCalls.Machines.{ToolPhaseIsNamed, named}
 use Rattle.proof_journals.specs.Machine.Machines.{ToolPhaseStands, WorkStands}
 use Rattle.proof_journals.specs.Machine.MigrationTables.{ghost_schema}
-use Rattle.proof_journals.specs.Machine.Standings.{Standing, free, standing_in, standing_of, answered, answers_to, IsAbout, is_called, is_polled}
+use Rattle.proof_journals.specs.Machine.Standings.{Standing, standing_in, standing_of, answered, answers_to, IsAbout, is_called, is_polled}
 use Rattle.proof_journals.proofs.Actors.{same_actor_is}
 use Rattle.proof_journals.proofs.Machine.Asking.{some_request, idle_stands}
 use Rattle.proof_journals.proofs.Machine.CuttingOver.{drain_cases}
+use Rattle.proof_journals.proofs.Machine.Inspecting.{inspects_or}
 use Rattle.proof_journals.proofs.Machine.Journals.{IsRun, IsTogether, Asking, calls_so, polls_so, asking, never_commands}
-use Rattle.proof_journals.proofs.Machine.Seated.{IsKnown, IsServed, others_stand, own_fits, own_lost, own_missed, own_session, own_stands}
+use Rattle.proof_journals.proofs.Machine.Seated.{IsKnown, IsServed, others_stand, own_fits, own_lost, own_session, own_stands}
 use Rattle.proof_migration.specs.InspectorWaits.{SetsCounter, IsSettingCounter}
 use Rattle.proof_migration.proofs.Attempt.Counting.{IsUnrefused, sets_unrefused}
 use Rattle.proof_migration.proofs.Attempt.Stages.{StandsAt, TablesAt, GuardedTables}
 use Rattle.proof_migration.proofs.Attempt.Standing.{ToolPhaseAt, IsStanding, about_own}
 use Rattle.proof_migration.proofs.ToolPhase.ToolPhaseTurns.{Kept, UnfitKeeps, CopyKeeps, ApplyKeeps, SetupKeeps, AnswerKeeps, ResizeKeeps, turn_kept, gives_asked}
-use Rattle.proof_order.specs.CutOverOrder.{call_after, called_after, last_call, answer_after, reply_after, last_reply, shown_so, set_so}
+use Rattle.proof_order.specs.CutOverOrder.{call_after, called_after, last_call, reply_after, last_reply, shown_so, set_so}
 
 -- WHAT IS TOLD
 
@@ -443,7 +442,9 @@ module _ (plan : PlanData) (journal : List Entry) (entry : Entry) (run : IsRun p
 
     inspector_turn : (work : Work) → now.tool.tool_phase ≡ Migrating work → is_command entry.asked ≡ false → Asking plan journal Insp entry.asked → (tries : List ℕ) → New false (Migrating (record work { cutover = cutovers.took Inspector work.cutover entry.answer; attempt_tries = tries }))
     unfolding cutovers.took attempts.next
-    inspector_turn work eq called (calls_so request asks none call) tries = called_at work eq called work.cutover.phase refl request asks none (ap (λ (c : ToolPhase). tool_call plan now.server journal now.tool c Insp) (sym eq) ∙ call)
+    inspector_turn work eq called (calls_so request asks none call) tries =
+        inspects_or plan journal now.tool work request (CountsAt plan (now_has Insp).waits (last_call Insp more) (last_reply Insp more) (inspector_phase work.cutover work.cutover.phase entry.answer)) (ap (λ (c : ToolPhase). tool_call plan now.server journal now.tool c Insp) (sym eq) ∙ call)
+        (λ note resting. subst (λ (p : Phase). CountsAt plan (now_has Insp).waits (last_call Insp more) (last_reply Insp more) (inspector_phase work.cutover p entry.answer)) (sym resting) tt) (λ next. called_at work eq called work.cutover.phase refl request asks none next)
     inspector_turn work eq called (polls_so request asks some) tries = polled_at work eq called work.cutover.phase refl request asks some (subst (λ (c : ToolPhase). IsSettingCounter plan c request) eq (waits_so request some))
 
     -- its session is lost between calls

@@ -18,6 +18,7 @@ use Rattle.server_model.specs.declared.request.Request.TheVariants as requests
 use Rattle.server_model.proofs.LockedRows.Tests.{same_bytes}
 use Rattle.plan_data.specs.PlanData.{PlanData, has_counter}
 use Rattle.tool_changelog.specs.Hints.{hint_row}
+use Rattle.tool_program.specs.JournalWords.Journals.{state_at}
 use Rattle.tool_program.specs.JournalWords.KeptPlans.{words_of}
 use Rattle.tool_program.specs.JournalWords.Sessions.{live_session}
 use Rattle.tool_program.specs.declared.chunk_copier.copier.CopyStep.{CopyStep}
@@ -49,10 +50,12 @@ use Rattle.proof_journals.specs.Machine.Standings.{Standing, standing_of, IsAbou
 use Rattle.proof_journals.proofs.Machine.Asking.{some_request, unless_called, copier_next}
 use Rattle.proof_journals.proofs.Machine.Calling.{reverting_or}
 use Rattle.proof_journals.proofs.Machine.CuttingOver.{LockerAsks}
+use Rattle.proof_journals.proofs.Machine.Inspecting.{IsNote, inspects_or}
 use Rattle.proof_journals.proofs.Machine.Journals.{IsRun, IsTogether, Asking, calls_so, polls_so, asking, lock_about, apply_about}
 use Rattle.proof_journals.proofs.Machine.Tabling.{back_quiet}
 use Rattle.proof_migration.specs.InspectorWaits.{InspectorsWaitToSet}
-use Rattle.proof_migration.proofs.Attempt.Standing.{IsStanding, all_standing}
+use Rattle.proof_migration.proofs.Attempt.Stages.{RenamerAt, StandsAt}
+use Rattle.proof_migration.proofs.Attempt.Standing.{ToolPhaseAt, IsStanding, all_standing}
 use Rattle.proof_migration.proofs.Program.Turns.Follows.{kept_front, kept_run}
 use Rattle.proof_order.specs.CutOverOrder.{holds_so, waits_so, last_call, last_answer, last_reply, shown_so, is_carried, is_locked, is_at_rest, attempts_begun, rename_shown, is_renamed, tables_listed, is_renaming, hints_applied, IsOrderedCall, IsOrderedTurn, KeepsOrder}
 use Rattle.proof_order.specs.Laws.{KeptJournalsKeepOrder}
@@ -418,10 +421,27 @@ module _ (plan : PlanData) (journal : List Entry) (entry : Entry) (run : IsRun p
   inspector_calls work eq idle Resting at request call = absurd cc
   inspector_calls work eq idle Finished at request call = absurd cc
 
+  work_at : (work : Work) → now.tool.tool_phase ≡ Migrating work → StandsAt plan (state_at plan journal).tables (has Insp).waits work.cutover.phase work.cutover.hold work.cutover.renamer_waits work.cutover.is_asked
+  work_at work eq = subst (ToolPhaseAt plan (state_at plan journal).tables (has Insp).waits) eq standing.tool_phase
+
+  -- a note's row comes while no attempt stands
+  note_calls : (work : Work) → now.tool.tool_phase ≡ Migrating work → work.cutover.phase ≡ Resting → (request : Request) → IsNote plan.table request → IsOrderedCall plan journal Insp request
+  note_calls work eq resting request note =
+      subst (IsOrderedCall plan journal Insp) (sym note.is)
+      (record {
+        drops = refl;
+        renames = refl;
+        reads = refl;
+        clears = refl;
+        hints = record { log = refl; rests = rests_so work eq (subst (λ (p : Phase). PhaseHolds p work.cutover.hold) resting (work_has work eq).phase) (subst (λ (p : Phase). RenamerAt p work.cutover.renamer_waits) resting (work_at work eq).renamer) };
+        counts = refl;
+      })
+
   inspector_so : (request : Request) → (has Insp).waits ≡ None → (tool_phase : ToolPhase) → now.tool.tool_phase ≡ tool_phase → tool_call plan now.server journal now.tool tool_phase Insp ≡ Some request → IsOrderedCall plan journal Insp request
   unfolding attempts.next
   inspector_so request idle (SettingUp setup tries) eq call = setup_calls plan journal setup request (old_at (SettingUp setup tries) eq) (unless_called (is_reverting now.tool.reason) (setup_call plan setup) request call)
-  inspector_so request idle (Migrating work) eq call = inspector_calls work eq idle work.cutover.phase refl request call
+  inspector_so request idle (Migrating work) eq call =
+      inspects_or plan journal now.tool work request (IsOrderedCall plan journal Insp request) call (λ note resting. note_calls work eq resting request note) (λ next. inspector_calls work eq idle work.cutover.phase refl request next)
 
   -- EVERY ACTOR
 

@@ -1,6 +1,5 @@
 -- What an answer to the locker, the renamer and the inspector leaves of what the journal tells of the cut-over.
-use Rattle.std.proofs.Common.{◌≡◌, ◌⊎◌, ℕ, ◌+◌, ◌==◌, Bool, true, false, cond, not, List, Option, Some, None, refl, sym, ap, ◌∙◌, subst, inl, inr}
-use Rattle.std.specs.List.{list_any}
+use Rattle.std.proofs.Common.{◌≡◌, ◌⊎◌, ℕ, ◌+◌, Bool, true, false, cond, not, List, Option, Some, None, refl, sym, ap, ◌∙◌, subst, inl, inr}
 use Rattle.std.proofs.lemmas.Bool.{true≢false, false≢true, or_right}
 use Rattle.base_script.specs.declared.actor.Actor.TheVariants.{Insp, Lock, Ren}
 use Rattle.base_values.specs.ToolNames.{ghost_name, old_name}
@@ -620,6 +619,12 @@ module _ (plan : PlanData) (cutover : CutOver) (own : cutover.table ≡ plan.tab
       some_request (λ r. InspectorNew (Call r) (Finishing (Drops left))) (requests.Drop (first_name cutover.table left)) request call (finishing_drops left (first_name cutover.table left) old)
   inspector_order Resting request call fits shows old = absurd cc
   inspector_order Finished request call fits shows old = absurd cc
+
+  -- a note's row is written while no attempt stands
+  pub noted_order : (phase : Phase) (request : Request) → phase ≡ Resting → InspectorOld phase → InspectorNew (Call request) phase
+  noted_order phase request resting old = subst (InspectorNew (Call request)) (sym resting) (at_rest (subst InspectorOld resting old)) where
+    at_rest : InspectorOld Resting → InspectorNew (Call request) Resting
+    at_rest rests = makes (Call request) Resting (record { counted = tt; passes = tt; shows = tt; holds = fewer (Call request) answer Resting rests; drops = tt }) tt rests
 
   -- the request that sets the counter is polled
   polled_ends : (table : List ℕ) (number : ℕ) (one : Answer) → answers_to (requests.SetCounter table number) one ≡ true → ending_after cutover Looking one ≡ Ending Looking

@@ -52,6 +52,7 @@ use Rattle.proof_journals.proofs.Journals.{opened_waits}
 use Rattle.proof_journals.proofs.Machine.Asking.{idle_stands, some_request}
 use Rattle.proof_journals.proofs.Machine.CuttingOver.{LockerAsks}
 use Rattle.proof_journals.proofs.Machine.Fitting.{IsPrompt}
+use Rattle.proof_journals.proofs.Machine.Inspecting.{inspects_or}
 use Rattle.proof_journals.proofs.Machine.Journals.{IsRun, IsTogether, Asking, calls_so, polls_so, asking, lock_about, apply_about}
 use Rattle.proof_journals.proofs.Machine.Seated.{IsKnown, IsServed, own_fits, own_given, own_missed, own_prompt, own_session}
 use Rattle.proof_journals.proofs.Machine.Tabling.{back_quiet, free_idle}
@@ -66,7 +67,7 @@ use Rattle.proof_order.proofs.Phases.{PhaseOrder, passes_more, ended_order, drai
 use Rattle.proof_order.proofs.Hints.{AppliedAt, AsksSo, calls_it, polls_it, took_applied, unfit_same, passed_more}
 use Rattle.proof_order.proofs.Needs.{NeedsNames, needs_more}
 use Rattle.proof_order.proofs.Waits.{ShownBy, show_called, shows_session}
-use Rattle.proof_order.proofs.Roles.{OrderedAt, LockerTold, lost_holds, ended_done, drained_done, locker_order, locker_lost_order, renamer_calls, renamer_polls, renamer_lost_order, renaming_off, inspector_order, polled_order, inspector_lost_order}
+use Rattle.proof_order.proofs.Roles.{OrderedAt, LockerTold, lost_holds, ended_done, drained_done, locker_order, locker_lost_order, renamer_calls, renamer_polls, renamer_lost_order, renaming_off, inspector_order, noted_order, polled_order, inspector_lost_order}
 
 -- WHAT IS SO
 
@@ -503,8 +504,12 @@ module _ (plan : PlanData) (journal : List Entry) (entry : Entry) (run : IsRun p
       (polled_order plan work.cutover (own_table work eq) told live work.applier entry.session entry.answer work.cutover.phase request (subst (λ (c : ToolPhase). IsSettingCounter plan c request) eq (waits_so request some)) (fits Insp request who (is_polled asks some)) (old_at (Migrating work) eq))
   inspector_turn work eq who (calls_so request asks none call) tries =
       leaves Insp (Call request) entry.answer who asks refl refl (Migrating (record work { cutover = cutovers.took Inspector work.cutover entry.answer; attempt_tries = tries }))
-      (inspector_order plan work.cutover (own_table work eq) told live work.applier entry.session entry.answer work.cutover.phase request (ap (λ (c : ToolPhase). tool_call plan now.server journal now.tool c Insp) (sym eq) ∙ call) (fits Insp request who (is_called asks none))
-      (λ showing is_show waiters replies. shows work eq showing who (asks ∙ ap Call is_show) waiters replies) (old_at (Migrating work) eq))
+      (inspects_or plan journal now.tool work request
+      (OrderedAt plan (words_after plan Insp entry.session (Call request) entry.answer told) live work.cutover.attempts work.cutover.hold work.cutover.renamer_waits work.cutover.is_asked work.cutover.drops_old (cutovers.inspector_phase work.cutover work.cutover.phase entry.answer) work.applier)
+      (ap (λ (c : ToolPhase). tool_call plan now.server journal now.tool c Insp) (sym eq) ∙ call)
+      (λ note resting. noted_order plan work.cutover (own_table work eq) told live work.applier entry.session entry.answer work.cutover.phase request resting (old_at (Migrating work) eq))
+      (λ next. inspector_order plan work.cutover (own_table work eq) told live work.applier entry.session entry.answer work.cutover.phase request next (fits Insp request who (is_called asks none))
+      (λ showing is_show waiters replies. shows work eq showing who (asks ∙ ap Call is_show) waiters replies) (old_at (Migrating work) eq)))
 
   inspector_lost : (work : Work) → now.tool.tool_phase ≡ Migrating work → entry.actor ≡ Insp → entry.asked ≡ Cut → entry.answer ≡ answers.Lost → (tries : List ℕ) → New (is_reverting tool.reason) (Migrating (record work { cutover = cutovers.took Inspector work.cutover answers.Lost; attempt_tries = tries }))
   unfolding cutovers.took

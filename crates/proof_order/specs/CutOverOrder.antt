@@ -223,14 +223,20 @@ counts_well plan before actor (requests.ShowCounter name) = false
 counts_well plan before actor (requests.SetCounter name number) = false
 counts_well plan before actor request = true
 
--- what the inspector writes is the hint row of the attempt that was begun last, under the lock
+-- what the inspector inserts is the hint row of the attempt that was begun last, under the lock
 pub record IsHint (plan : PlanData) (before : List Entry) (table : List ℕ) (row : List Value) : Type 0 where
   pub log : table ≡ log_name plan.table
   pub hint : row ≡ hint_row (attempts_begun before)
   pub locked : is_locked before ≡ true
 
+-- what it writes by REPLACE are rows of notes, where no attempt holds the tables or waits
+pub record IsNoted (plan : PlanData) (before : List Entry) (table : List ℕ) : Type 0 where
+  pub log : table ≡ log_name plan.table
+  pub rests : is_at_rest before ≡ true
+
 abbrev pub HintsWell : PlanData → List Entry → Actor → Request → Type 0
 HintsWell plan before Insp (requests.Do (statements.Insert table columns row drawn)) = IsHint plan before table row
+HintsWell plan before Insp (requests.Do (statements.Replace table columns row drawn)) = IsNoted plan before table
 HintsWell plan before actor request = Unit {0}
 
 -- a call of the tool's comes in its order

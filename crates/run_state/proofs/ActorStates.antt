@@ -1,5 +1,5 @@
 -- The seats of the actors, found by their places.
-use Rattle.std.proofs.Common.{◌≡◌, ◌≤◌, not, ◌&&◌, length, ℕ, zero, suc, ◌+◌, ◌-◌, ◌==◌, Bool, true, false, List, [], ◌∷◌, map, cond, Option, Some, None, refl, sym, ap, ◌∙◌, subst, arith}
+use Rattle.std.proofs.Common.{◌≡◌, ◌≤◌, not, ◌&&◌, length, ℕ, zero, suc, ◌+◌, ◌-◌, ◌==◌, Bool, true, false, List, [], ◌∷◌, map, cond, Option, Some, None, refl, sym, ap, ◌∙◌, arith}
 use Rattle.std.specs.Prelude.{is_some}
 use Rattle.std.specs.List.{slice_get}
 use Rattle.std.specs.Option.{option_map}
@@ -18,9 +18,8 @@ use Rattle.tool_program.specs.JournalWords.Journals.{turns_of}
 use Rattle.tool_program.specs.JournalWords.Histories.{request_waiting, renames_away}
 use Rattle.tool_program.specs.JournalWords.Sessions.{live_session}
 use Rattle.tool_program.specs.Orders.{actors, clients_from}
-use Rattle.run_actors.specs.declared.actor_state.ActorState.{ActorState}
 use Rattle.run_actors.specs.ActorStates.{actor_state_at}
-use Rattle.run_state.specs.Books.{place_of, is_planned, free_actor_state, actor_state_of, own_actor_state, actor_state_in, session_of, renames_of}
+use Rattle.run_state.specs.Books.{is_planned, free_actor_state, actor_state_of, own_actor_state, actor_state_in, session_of, renames_of}
 
 -- the client at a place
 abbrev client_if : Bool → ℕ → Option Actor

@@ -1,18 +1,17 @@
 -- What is kept of a journal is kept with one turn more.
-use Rattle.std.proofs.Common.{◌≡◌, ℕ, ◌+◌, ◌<◌, ◌^◌, Bool, true, false, ◌||◌, List, [], ◌∷◌, ◌++◌, map, length, cond, Option, Some, None, refl, sym, ap, ◌∙◌, subst, arith}
+use Rattle.std.proofs.Common.{◌≡◌, ℕ, ◌+◌, ◌<◌, ◌^◌, Bool, true, false, ◌||◌, List, [], ◌∷◌, ◌++◌, map, length, cond, None, refl, sym, ap, ◌∙◌, subst, arith}
 use Rattle.std.specs.Prelude.{is_some, ◌≤◌, Vec, vec_len, vec_capacity}
 use Rattle.std.specs.Global.{Global}
 use Rattle.std.specs.List.{list_any}
-use Rattle.std.proofs.lemmas.Bool.{true≢false, false≢true}
+use Rattle.std.proofs.lemmas.Bool.{false≢true}
 use Rattle.std.proofs.lemmas.List.{length-append}
 use Rattle.std.proofs.lemmas.List.Folds.{list_any-append}
 use Rattle.base_script.specs.declared.actor.Actor.{Actor}
 use Rattle.base_script.specs.declared.actor.Actor.TheVariants.{Client}
-use Rattle.base_script.specs.declared.script.ScriptLine.{ScriptLine}
 use Rattle.server_model.specs.Along.{gathered-more}
 use Rattle.server_model.specs.declared.entry.Entry.{Entry}
 use Rattle.server_model.specs.Entries.{same_actor}
-use Rattle.server_model.specs.States.{State, load}
+use Rattle.server_model.specs.States.{load}
 use Rattle.plan_data.specs.PlanData.{PlanData}
 use Rattle.tool_program.specs.JournalWords.Clients.{script_of}
 use Rattle.tool_program.specs.JournalWords.Journals.{after_entry}
@@ -20,13 +19,16 @@ use Rattle.tool_program.specs.JournalWords.Sessions.{live_session, session_left}
 use Rattle.tool_program.specs.JournalWords.Histories.{history, entry_adds, is_alter}
 use Rattle.tool_program.specs.Orders.{actors}
 use Rattle.base_values.specs.ToolNames.{log_name}
+use Rattle.tool_program.specs.declared.note_writer.notes.Notes.{Notes}
+use Rattle.tool_program.specs.NoteWriter.Notes.{new_notes, noted, notes_of}
+use Rattle.tool_program.proofs.NoteWriter.Counts.{more as notes_more}
 use Rattle.tool_program.specs.Tools as program
 use Rattle.tool_program.specs.Tools.{Moment, new_tool, took, after_turn, moment}
 use Rattle.tool_state.specs.declared.tool_state.tool.Tool.{Tool}
 use Rattle.tool_state.specs.ToolState.Meanings.{tool_of}
 use Rattle.tool_state.specs.ToolState.Sound.{IsSound, HasRoom, HasSpace, TriesGrow}
 use Rattle.tool_state.proofs.TryTurns.{space_more, has_room as space_is_room}
-use Rattle.run_actors.specs.ActorStates.{actor_state_at, actor_state_after}
+use Rattle.run_actors.specs.ActorStates.{actor_state_after}
 use Rattle.run_actors.proofs.More.{live_more, actor_states_more}
 use Rattle.proof_journals.proofs.Actors.{same_actor_is}
 use Rattle.proof_journals.specs.Run.Counts.{busy_count}
@@ -40,6 +42,7 @@ use Rattle.run_state.proofs.ActorStates.{free_actor_states}
 pub record Takes (plan : PlanData) (journal : List Entry) (entry : Entry) (old new : RunState) : Type 0 where
   pub tool : tool_of new.tool ≡ took plan (moment plan journal).server (tool_of old.tool) entry
   pub sound : IsSound plan new.tool
+  pub notes : new.notes ≡ noted old.notes entry
   pub names : new.names ≡ old.names
   pub actor_states : new.actor_states.items ≡ map (actor_state_after plan.table entry) old.actor_states.items
   pub clients : AreReached plan (journal ++ entry ∷ []) 1 plan.clients new.clients.items
@@ -75,6 +78,7 @@ run_state_more plan journal entry old new run_state planned few takes = record {
   few = subst (λ (n : ℕ). n < 2 ^ 32) (sym (length-append journal (entry ∷ []))) few;
   tool = tool_more plan journal entry old new run_state takes;
   sound = takes.sound;
+  notes = takes.notes ∙ ap (λ (notes : Notes). noted notes entry) run_state.notes ∙ sym (notes_more journal entry);
   names = takes.names ∙ run_state.names;
   actor_states = takes.actor_states ∙ ap (map (actor_state_after plan.table entry)) run_state.actor_states ∙ actor_states_more plan.table journal entry (actors plan);
   clients = takes.clients;
@@ -85,13 +89,14 @@ run_state_more plan journal entry old new run_state planned few takes = record {
 }
 
 -- *Before the first turn*
-pub run_state_begin : (plan : PlanData) (run_state : RunState) → tool_of run_state.tool ≡ new_tool plan → IsSound plan run_state.tool → run_state.names ≡ plan.table ∷ log_name plan.table ∷ [] → run_state.actor_states.items ≡ map free_actor_state (actors plan) → run_state.clients.items ≡ map free_client plan.clients
+pub run_state_begin : (plan : PlanData) (run_state : RunState) → tool_of run_state.tool ≡ new_tool plan → IsSound plan run_state.tool → run_state.notes ≡ new_notes → run_state.names ≡ plan.table ∷ log_name plan.table ∷ [] → run_state.actor_states.items ≡ map free_actor_state (actors plan) → run_state.clients.items ≡ map free_client plan.clients
     → run_state.load ≡ 0 → run_state.busy ≡ 0 → run_state.is_altered ≡ false → IsRunState plan [] run_state
-unfolding moment history live_session
-run_state_begin plan run_state tool sound names actor_states clients load busy altered = record {
+unfolding moment history live_session notes_of
+run_state_begin plan run_state tool sound notes names actor_states clients load busy altered = record {
   few = omega arith;
   tool = tool;
   sound = sound;
+  notes = notes;
   names = names;
   actor_states = actor_states ∙ free_actor_states plan.table (actors plan);
   clients = subst (AreReached plan [] 1 plan.clients) (sym clients) (clients_begin plan);
@@ -111,6 +116,7 @@ written plan journal run_state turns is = record {
   few = is.few;
   tool = is.tool;
   sound = is.sound;
+  notes = is.notes;
   names = is.names;
   actor_states = is.actor_states;
   clients = is.clients;

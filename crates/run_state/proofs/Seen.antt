@@ -10,7 +10,7 @@ use Rattle.tool_program.proofs.OnlineCalls.Machines.{ToolPhaseIsNamed, named}
 use Rattle.tool_program.specs.declared.tool_setup.setup.Setup.{Setup}
 use Rattle.tool_state.specs.declared.tool_state.tool.Work.{Work}
 use Rattle.tool_state.specs.declared.tool_state.tool.Tool.{Tool}
-use Rattle.tool_state.specs.ToolState.Meanings.{work_of, tool_phase_in, tool_phase_of, tool_of}
+use Rattle.tool_state.specs.ToolState.Meanings.{work_of, tool_phase_in, tool_of}
 use Rattle.tool_state.specs.ToolState.Sound.{IsSound, IsFresh}
 use Rattle.tool_state.specs.Seen.{IsSeen}
 use Rattle.proof_journals.specs.Run.Counts.{numbered, IsAfter}

@@ -6,12 +6,13 @@ use Rattle.base_script.specs.declared.actor.Actor.TheVariants.{Op, Insp, Copy, A
 use Rattle.base_script.specs.declared.script.ScriptLine.{ScriptLine}
 use Rattle.server_model.specs.declared.entry.Entry.{Entry}
 use Rattle.server_model.specs.Entries.{same_actor}
-use Rattle.server_model.specs.States.{State, load}
+use Rattle.server_model.specs.States.{load}
 use Rattle.base_values.specs.ToolNames.{log_name}
 use Rattle.plan_data.specs.PlanData.{PlanData}
 use Rattle.tool_program.specs.JournalWords.Sessions.{live_session}
 use Rattle.tool_program.specs.JournalWords.Clients.{script_of, client_at}
 use Rattle.tool_program.specs.JournalWords.Histories.{history, is_alter}
+use Rattle.tool_program.specs.NoteWriter.Notes.{notes_of}
 use Rattle.tool_program.specs.Tools.{moment}
 use Rattle.tool_program.specs.Orders.{actors}
 use Rattle.tool_state.specs.ToolState.Meanings.{tool_of}
@@ -87,6 +88,7 @@ pub record IsRunState (plan : PlanData) (journal : List Entry) (run_state : RunS
   pub few : length journal < 2 ^ 32
   pub tool : tool_of run_state.tool ≡ (moment plan journal).tool
   pub sound : IsSound plan run_state.tool
+  pub notes : run_state.notes ≡ notes_of journal
   pub names : run_state.names ≡ plan.table ∷ log_name plan.table ∷ []
   pub actor_states : run_state.actor_states.items ≡ map (actor_state_at plan.table journal) (actors plan)
   pub clients : AreReached plan journal 1 plan.clients run_state.clients.items

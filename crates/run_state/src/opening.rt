@@ -14,6 +14,7 @@ use plan_data::Plan;
 use run_actors::ActorState;
 use run_actors::client_turns::ClientState;
 use std::alloc::{AllocError, Global};
+use tool_program::note_writer::Notes;
 use tool_state::tool_state::Tool;
 
 /// The state of an actor before the first turn.
@@ -95,6 +96,7 @@ impl<'a> RunState<'a> {
             plan,
             journal: Vec::with_capacity(alloc, plan.options().turn_limit as usize)?,
             tool: Tool::new(alloc, plan)?,
+            notes: Notes::new(),
             names: names_of(alloc, plan.table())?,
             actor_states: actor_states_of(alloc, plan)?,
             clients: client_states(alloc, plan)?,

@@ -41,6 +41,7 @@ impl RunState<'_> {
             server,
             names: &self.names,
             load: self.load,
+            notes: self.notes,
         };
         tool_view.asks(alloc, actor, self.session(actor))
     }
@@ -58,6 +59,7 @@ impl RunState<'_> {
             server,
             names: &self.names,
             load: self.load,
+            notes: self.notes,
         };
         tool_view.is_ready(actor, self.session(actor))
     }

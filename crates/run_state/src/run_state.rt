@@ -5,6 +5,7 @@ use plan_data::Plan;
 use run_actors::ActorState;
 use run_actors::client_turns::ClientState;
 use server_model::Entry;
+use tool_program::note_writer::Notes;
 use tool_state::tool_state::Tool;
 
 /// The journal of a run of a plan, with what is kept of it.
@@ -18,6 +19,8 @@ pub struct RunState<'a> {
     pub journal: Vec<Entry>,
     /// How far the tool is.
     pub tool: Tool,
+    /// How far the notes are.
+    pub notes: Notes,
     /// The tables whose events the applier reads.
     pub names: Names,
     /// What is kept of each actor, in the fixed order.

@@ -1,2 +1,4 @@
+pub mod Checkpoints
+pub mod Heartbeats
 pub mod ToolTables
 pub mod Hints

@@ -40,14 +40,19 @@ is_actor_of tasks.CutOver Lock = true
 is_actor_of tasks.CutOver Ren = true
 is_actor_of task actor = false
 
--- the task is the one at hand: a chunk by its number, a batch by its position; an attempt that may yet succeed, or the one that
--- this very turn begins
-abbrev pub is_at : Task → ToolPhase → Bool
-is_at tasks.Setup (SettingUp setup tries) = true
-is_at (tasks.Chunk number) (Migrating work) = work.copier.number == number
-is_at (tasks.Batch position) (Migrating work) = work.applier.position == position
-is_at tasks.CutOver (Migrating work) = may_succeed work.cutover.phase || is_resting work.cutover.phase
-is_at task tool_phase = false
+-- an attempt that may yet succeed, or the one that this very turn of the locker's begins: while none stands the inspector writes
+-- notes, which are no task
+abbrev pub is_tried : Actor → Phase → Bool
+is_tried Lock phase = may_succeed phase || is_resting phase
+is_tried actor phase = may_succeed phase
+
+-- the task is the one at hand: a chunk by its number, a batch by its position
+abbrev pub is_at : Task → Actor → ToolPhase → Bool
+is_at tasks.Setup actor (SettingUp setup tries) = true
+is_at (tasks.Chunk number) actor (Migrating work) = work.copier.number == number
+is_at (tasks.Batch position) actor (Migrating work) = work.applier.position == position
+is_at tasks.CutOver actor (Migrating work) = is_tried actor work.cutover.phase
+is_at task actor tool_phase = false
 
 -- the turn's entry, and the moment before it
 pub record IsTurn (plan : PlanData) (journal : List Entry) (turn : ℕ) (entry : Entry) (before : Moment) : Type 0 where
@@ -114,7 +119,7 @@ pub record IsFailedTry (plan : PlanData) (journal : List Entry) (task : Task) (t
   pub entry : Entry
   pub before : Moment
   pub is : IsTurn plan journal turn entry before
-  pub at : is_at task before.tool.tool_phase ≡ true
+  pub at : is_at task entry.actor before.tool.tool_phase ≡ true
   pub why : ((is_actor_of task entry.actor ≡ true) × IsBad plan journal turn entry before) ⊎ ((task ≡ tasks.CutOver) × IsUndrained plan journal turn entry before)
 
 -- *Panic*: it was commanded in this turn

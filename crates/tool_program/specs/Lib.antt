@@ -12,5 +12,6 @@ pub mod Replay
 pub mod ChunkCopier
 pub mod EventApplier
 pub mod CutoverCore
+pub mod NoteWriter
 pub mod JournalWords
 pub mod ToolSetup

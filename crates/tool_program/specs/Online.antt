@@ -25,7 +25,7 @@ use Rattle.tool_program.specs.Operators.{is_throttled}
 use Rattle.tool_program.specs.Tools.{ToolPhase, SettingUp, Migrating, Moment, moment}
 use Rattle.tool_program.specs.Programs.{unread_in}
 
--- a table that the tool writes rows of: the new one and the changelog
+-- a table that the tool writes rows of: the new one, and the changelog, which has the hints and the notes
 abbrev pub is_written : PlanData → List ℕ → Bool
 is_written plan name = bytes_eq name (ghost_name plan.table) || bytes_eq name (log_name plan.table)
 

@@ -13,11 +13,20 @@ use Rattle.server_model.specs.declared.entry.Asked.{Asked}
 use Rattle.server_model.specs.declared.entry.Asked.TheVariants.{Call, Poll, Command, Cut}
 use Rattle.server_model.specs.States.{State, session_of, is_waiting, is_in_transaction, unread}
 use Rattle.plan_data.specs.PlanData.{PlanData}
+use Rattle.base_values.specs.declared.value.Value.{Value}
 use Rattle.base_values.specs.ToolNames.{log_name}
 use Rattle.tool_program.specs.JournalWords.Sessions.{live_session, IsInSession}
 use Rattle.tool_program.specs.JournalWords.Clients.{client_asks}
 use Rattle.tool_program.specs.JournalWords.KeptPlans.{words_of}
+use Rattle.server_model.specs.Entries.{answer_at}
+use Rattle.server_model.specs.EarlierAnswers.{end_in}
+use Rattle.tool_changelog.specs.Checkpoints.{checkpoint_row}
+use Rattle.tool_changelog.specs.declared.checkpoint.Reach.{Reach}
+use Rattle.tool_changelog.specs.declared.checkpoint.Reach.TheVariants.{Nothing, To, All}
+use Rattle.tool_program.specs.declared.chunk_copier.copier.Copier.{Copier}
 use Rattle.tool_program.specs.ChunkCopier.Copiers as copiers
+use Rattle.tool_program.specs.NoteWriter.Notes.{notes_of}
+use Rattle.tool_program.specs.NoteWriter.Notes as notes
 use Rattle.tool_program.specs.EventApplier.Appliers as appliers
 use Rattle.tool_program.specs.declared.cutover_core.cutover.Role.TheVariants.{Inspector, Locker, Renamer}
 use Rattle.tool_program.specs.CutoverCore.Attempts as cutovers
@@ -72,10 +81,29 @@ abbrev pub lock_call : PlanData → State → Tool → Work → Option Request
 lock_call plan state tool work =
     if is_resting work.cutover.phase && not (may_begin plan state tool work) then None else cutovers.next Locker work.cutover
 
+-- how far the rows are copied: to the end of the last chunk that was committed
+abbrev pub reach_after : List Entry → Option ℕ → Reach
+reach_after journal None = Nothing
+reach_after journal (Some reported) = To (end_in (answer_at journal reported))
+
+abbrev pub reach_in : List Entry → Copier → Reach
+reach_in journal copier = if copier.is_copied then All else reach_after journal copier.following
+
+-- how far the migration has come, as the row of a checkpoint
+abbrev pub checkpoint_in : List Entry → Work → Option (List Value)
+checkpoint_in journal work = checkpoint_row work.applier.position (reach_in journal work.copier)
+
+-- the inspector writes notes while no attempt stands, nothing is reverted and no RENAME was done
+abbrev pub note_call : PlanData → List Entry → Tool → Work → Option Request
+note_call plan journal tool work = if is_reverting tool.reason then None else notes.next plan (checkpoint_in journal work) (notes_of journal)
+
+abbrev pub inspect_call : PlanData → List Entry → Tool → Work → Option Request
+inspect_call plan journal tool work = if is_resting work.cutover.phase then note_call plan journal tool work else cutovers.next Inspector work.cutover
+
 -- the tool's call for an actor that doesn't wait
 abbrev pub tool_call : PlanData → State → List Entry → Tool → ToolPhase → Actor → Option Request
 tool_call plan state journal tool (SettingUp setup tries) Insp = if is_reverting tool.reason then None else setup_call plan setup
-tool_call plan state journal tool (Migrating work) Insp = cutovers.next Inspector work.cutover
+tool_call plan state journal tool (Migrating work) Insp = inspect_call plan journal tool work
 tool_call plan state journal tool (Migrating work) Copy =
     if is_reverting tool.reason then rolls_back state (live_session journal Copy) else copy_call plan state journal tool work
 tool_call plan state journal tool (Migrating work) Apply =

@@ -3,6 +3,8 @@
 mod answers;
 mod calls;
 mod copier;
+mod reach;
 mod reader;
 
 pub use copier::{Chunk, Copier, CopyRange, CopyStep};
+pub use reach::ReachView;

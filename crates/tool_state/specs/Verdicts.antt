@@ -1,5 +1,5 @@
 -- What a verdict means that is seen where its parts are. (This project's rule.)
-use Rattle.std.specs.Prelude.{ℕ, List}
+use Rattle.std.specs.Prelude.{List}
 use Rattle.base_values.specs.declared.value.Value.{Value}
 use Rattle.base_values.specs.GhoSchema.Rows.{key_of}
 use Rattle.server_model.specs.declared.outcome.Cause.{Cause}

@@ -4,7 +4,8 @@ ghost use Rattle.std.specs.Prelude.{◌≡◌, slice_get, None, false, if◌then
 ghost use Rattle.tool_program.specs.FreeCalls.{is_free_call, is_freely_asked};
 ghost use Rattle.tool_program.specs.JournalWords.KeptPlans.{words_of};
 ghost use Rattle.tool_program.specs.JournalWords.Sessions.{live_session};
-ghost use Rattle.tool_program.specs.Programs.{rolls_back, copy_call, apply_call, lock_call, tool_call, calls, commands, tool_asks};
+ghost use Rattle.tool_program.specs.NoteWriter.Notes.{notes_of};
+ghost use Rattle.tool_program.specs.Programs.{rolls_back, copy_call, apply_call, lock_call, inspect_call, tool_call, calls, commands, tool_asks};
 ghost use Rattle.tool_program.specs.Setups.{setup_call};
 ghost use Rattle.tool_program.specs.Tools.{is_reverting};
 ghost use Rattle.tool_program.specs.ToolSetup.Meanings.{setup_of};
@@ -81,6 +82,20 @@ impl<'a, V: Serve> ToolView<'a, V> {
         cutover.next(alloc, Role::Locker)
     }
 
+    /// The inspector's call after the setup: a note's, or one of the cut-over.
+    fn inspect_call(&self, alloc: Global) -> Result<Option<Request>, AllocError>
+        requires notes { self.now.notes ≡ notes_of self.now.journal.now }
+        ensures request { IfOk result (λ request. request ≡ inspect_call self.now.plan.now self.now.journal.now (tool_of self.now.tool.now) (work_of self.now.tool.now.work)) }
+        ensures costs { OnErr result (is_free_call (inspect_call self.now.plan.now self.now.journal.now (tool_of self.now.tool.now) (work_of self.now.tool.now.work)) ≡ false) }
+    {
+        let cutover = &self.tool.work.cutover;
+        if cutover.phase.is_resting() {
+            self.note_call(alloc)
+        } else {
+            cutover.next(alloc, Role::Inspector)
+        }
+    }
+
     /// The inspector's call in the setup.
     fn setup_call(&self, alloc: Global, setup: Setup) -> Result<Option<Request>, AllocError>
         ensures request { IfOk result (λ request. request ≡ (if is_reverting (tool_of self.now.tool.now).reason then None else setup_call self.now.plan.now (setup_of setup))) }
@@ -100,6 +115,7 @@ impl<'a, V: Serve> ToolView<'a, V> {
         session: Option<u32>,
     ) -> Result<Option<Request>, AllocError>
         requires seen { IsSeen (V.state self.now.server.now) self.now.tool.now self.now.names.now self.now.load }
+        requires notes { self.now.notes ≡ notes_of self.now.journal.now }
         requires session { session ≡ live_session self.now.journal.now actor }
         ensures request { IfOk result (λ request. request ≡ tool_call self.now.plan.now (V.state self.now.server.now) self.now.journal.now (tool_of self.now.tool.now) (tool_phase_of self.now.tool.now) actor) }
         ensures costs { OnErr result (is_free_call (tool_call self.now.plan.now (V.state self.now.server.now) self.now.journal.now (tool_of self.now.tool.now) (tool_phase_of self.now.tool.now) actor) ≡ false) }
@@ -108,7 +124,7 @@ impl<'a, V: Serve> ToolView<'a, V> {
         let reverts = self.tool.is_reverting();
         match (self.tool.setup, actor) {
             (Some(setup), Actor::Insp) => self.setup_call(alloc, setup),
-            (None, Actor::Insp) => cutover.next(alloc, Role::Inspector),
+            (None, Actor::Insp) => self.inspect_call(alloc),
             (None, Actor::Copy | Actor::Apply) if reverts => Ok(self.rolls_back(session)),
             (None, Actor::Copy) => self.copy_call(alloc),
             (None, Actor::Apply) => self.apply_call(alloc),
@@ -128,6 +144,7 @@ impl<'a, V: Serve> ToolView<'a, V> {
         session: Option<u32>,
     ) -> Result<Option<Asked>, AllocError>
         requires seen { IsSeen (V.state self.now.server.now) self.now.tool.now self.now.names.now self.now.load }
+        requires notes { self.now.notes ≡ notes_of self.now.journal.now }
         requires session { session ≡ live_session self.now.journal.now actor }
         ensures asked { IfOk result (λ asked. asked ≡ tool_asks self.now.plan.now self.now.journal.now (record { server = V.state self.now.server.now; tool = tool_of self.now.tool.now }) actor) }
         ensures costs { OnErr result (is_freely_asked (tool_asks self.now.plan.now self.now.journal.now (record { server = V.state self.now.server.now; tool = tool_of self.now.tool.now }) actor) ≡ false) }

@@ -5,7 +5,9 @@
 mod calls;
 mod causes;
 mod ending;
+mod note_calls;
 mod ready;
+mod short_checkpoints;
 pub mod tool_state;
 mod tool_view;
 mod verdict_view;

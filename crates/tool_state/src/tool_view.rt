@@ -11,6 +11,7 @@ use base_values::Names;
 use plan_data::Plan;
 use server_api::Serve;
 use server_model::Entry;
+use tool_program::note_writer::Notes;
 
 /// What the tool looks at before it asks: its plan, its turns so far, its own record, and the server.
 #[derive(Drop)]
@@ -27,6 +28,8 @@ pub struct ToolView<'a, V: Serve> {
     pub names: &'a Names,
     /// How many transactions of clients are open.
     pub load: u64,
+    /// How far the notes are.
+    pub notes: Notes,
 }
 
 impl<'a, V: Serve> ToolView<'a, V> {

@@ -51,6 +51,7 @@ use Rattle.proof_journals.specs.Machine.Runnable.{IsRunnable}
 use Rattle.proof_journals.specs.Machine.Standings.{Standing, free, standing_in, standing_of, serves_to, IsAbout, is_called, is_polled}
 use Rattle.proof_journals.proofs.Actors.{live_more, same_actor_is}
 use Rattle.proof_journals.proofs.Machine.Asking.{some_request, idle_stands}
+use Rattle.proof_journals.proofs.Machine.Inspecting.{Inspects, inspects, notes_so, cuts_so}
 use Rattle.proof_journals.proofs.Machine.Journals.{IsRun, IsTogether, Asking, calls_so, polls_so, asking, lock_about}
 use Rattle.proof_journals.proofs.Machine.Seated.{IsKnown, IsServed, others_stand, own_heard, own_given, own_missed, own_session}
 use Rattle.proof_journals.proofs.Machine.Tabling.{free_idle}
@@ -70,10 +71,10 @@ use Rattle.proof_bounds.proofs.Counting.{count_yes, count_no, count_none}
 use Rattle.proof_bounds.proofs.Going.{IsGoing, ToolPhaseFits, is_setting, all_going, insp_free, insp_rests, insp_waits, insp_idle, setup_rests, setup_idle, waits_back, waits_drain, beside_waits, differ_waits, waits_locked, waits_renamed, waits_unrenamed, waited_is, polled_ends, called_idle, inspected_waits, gone_waits}
 use Rattle.proof_bounds.proofs.Inspecting.{WaitsWith, WaitsFor, none_waits, none_for}
 use Rattle.proof_bounds.proofs.Guards.{sentries_made}
-use Rattle.proof_bounds.proofs.Holders.{each_kept}
+use Rattle.proof_migration.proofs.HeldNames.Holders.{each_kept}
 use Rattle.proof_bounds.proofs.Leftovers.{WorkFits}
 use Rattle.proof_bounds.proofs.Waits.{IsCounted, counted_more, counted_begins, waited_by, idle_waited, waits_on, waits_end, waits_cut, waits_short, others_wait}
-use Rattle.proof_bounds.specs.AttemptTurns.Attempts.{IsAt, IsNotRefused, IsOk, ShowsWait, TurnGoes, AttemptTurnsAreFew}
+use Rattle.proof_bounds.specs.AttemptTurns.Attempts.{IsAt, IsOk, ShowsWait, TurnGoes, AttemptTurnsAreFew}
 use Rattle.proof_bounds.proofs.AttemptTurns.Calls.{attempts_go}
 use Rattle.proof_bounds.proofs.AttemptTurns.Potentials.{hold_left, rename_left, clear_left, attempt_left, stage_ends, whole_left, begun_left, waits_after, hold_waits, rename_waits, inspect_left, all_left, stage_left, WaitsIn, ends_all, drains_all, unseated_left, locker_pays, renamer_pays, waits_all, sets_pays, polls_pay, inspector_gone, locked_inspects, locker_gone, renamer_gone}
 
@@ -622,6 +623,14 @@ module _ (plan : PlanData) (may : MayWait plan) (runs : IsRunnable plan) (journa
           let over = finished_left w c (live_at more) hold renames work.cutover cleared entry.answer in
           omega (arith, none, over)
 
+      -- a note's row is no attempt's
+      asked_pays : is_command entry.asked ≡ false → is_cut entry.asked ≡ false → is_setting phase ≡ false → (request : Request) → entry.asked ≡ Call request → IsAbout request (has entry.actor) entry.asked → Inspects plan journal now.tool work request → Pays phase (inspector_phase work.cutover phase entry.answer)
+      unfolding attempts.next
+      asked_pays called uncut unset request asks about (cuts_so off next) = insp_pays called uncut phase refl request asks about unset next
+      asked_pays called uncut unset request asks about (notes_so note resting onward next) =
+          subst (λ (p : Phase). Pays p (inspector_phase work.cutover p entry.answer)) (sym resting)
+          (let none = none_here request asks (ap (λ (p : Phase). same_part OfAttempts (phase_part (live_session journal Insp) entry.side (Call request) p)) resting) in omega (arith, none))
+
       -- the locker and the renamer wait as before
       lock_there : waited_by plan more Lock ≡ waited_by plan journal Lock
       lock_there = waits_there Lock (ap (λ (a : Actor). same_actor a Lock) same)
@@ -639,12 +648,12 @@ module _ (plan : PlanData) (may : MayWait plan) (runs : IsRunnable plan) (journa
       insp_join t s x n y m a l r i l' r' i' pays none old idle lock ren = omega (arith, pays, none, old, idle, lock, ren)
 
       -- a call that has an answer
-      other_calls : is_command entry.asked ≡ false → is_cut entry.asked ≡ false → is_setting phase ≡ false → (request : Request) → entry.asked ≡ Call request → attempts.inspector_call work.cutover phase ≡ Some request → Next (inspector_phase work.cutover phase entry.answer)
+      other_calls : is_command entry.asked ≡ false → is_cut entry.asked ≡ false → is_setting phase ≡ false → (request : Request) → entry.asked ≡ Call request → Inspects plan journal now.tool work request → Next (inspector_phase work.cutover phase entry.answer)
       other_calls called uncut unset request asks call =
           insp_join (turns_at plan journal) (turns_at plan more) (attempt_left w c (live_at more) hold renames (inspector_phase work.cutover phase entry.answer)) (inspect_left w (inspects_at plan more) (inspector_phase work.cutover phase entry.answer)) (attempt_left w c (live_at journal) hold renames phase)
           (inspect_left w (inspects_at plan journal) phase) (work.cutover.attempts * whole_left w c) (waited_by plan journal Lock) (waited_by plan journal Ren) (waited_by plan journal Insp) (waited_by plan more Lock) (waited_by plan more Ren) (waited_by plan more Insp)
-          (insp_pays called uncut phase refl request asks (about_own plan journal entry going.standing run Insp request same (is_called asks idle_now)) unset call)
-          (off_inspects w (inspects_at plan more) (inspector_phase work.cutover phase entry.answer) (ap is_some (called_idle plan runs journal entry kept run going work eq same phase refl unset request asks call)))
+          (asked_pays called uncut unset request asks (about_own plan journal entry going.standing run Insp request same (is_called asks idle_now)) call)
+          (off_inspects w (inspects_at plan more) (inspector_phase work.cutover phase entry.answer) (ap is_some (called_idle plan runs journal entry kept run going work eq same unset request asks call)))
           old_paid (idle plan journal is.counted going Insp idle_now) lock_there ren_there where
             idle_now : (has Insp).waits ≡ None
             idle_now = insp_idle plan runs journal entry kept run going same request asks
@@ -709,7 +718,7 @@ module _ (plan : PlanData) (may : MayWait plan) (runs : IsRunnable plan) (journa
                   split x n i k less = omega (arith, less)
 
       -- by the phase
-      called_on : is_command entry.asked ≡ false → is_cut entry.asked ≡ false → (one : Phase) → phase ≡ one → (request : Request) → entry.asked ≡ Call request → attempts.inspector_call work.cutover phase ≡ Some request → Next (inspector_phase work.cutover phase entry.answer)
+      called_on : is_command entry.asked ≡ false → is_cut entry.asked ≡ false → (one : Phase) → phase ≡ one → (request : Request) → entry.asked ≡ Call request → Inspects plan journal now.tool work request → Next (inspector_phase work.cutover phase entry.answer)
       called_on called uncut (Attempting (SettingCounter number drain)) at_phase request asks call = sets_on called uncut number drain at_phase
       called_on called uncut one at_phase request asks call = other_calls called uncut (ap is_setting at_phase) request asks call
 
@@ -720,11 +729,11 @@ module _ (plan : PlanData) (may : MayWait plan) (runs : IsRunnable plan) (journa
       polled_on called uncut one at_phase request polled some sets = absurd sets
 
       insp_turn : is_command entry.asked ≡ false → is_cut entry.asked ≡ false → Asking plan journal Insp entry.asked → (tries : List ℕ) → New (is_reverting now.tool.reason) (Migrating (record work { cutover = cutovers.took Inspector work.cutover entry.answer; attempt_tries = tries }))
-      unfolding cutovers.took attempts.next
+      unfolding cutovers.took
       insp_turn called uncut (polls_so request asks some) tries =
           (inspected_waits plan runs journal entry kept run going work eq same (polls_so request asks some) tries, polled_on called uncut phase refl request asks some (insp_waits plan runs journal entry kept run going (Migrating work) eq request some).0)
       insp_turn called uncut (calls_so request asks idle_so call) tries =
-          (inspected_waits plan runs journal entry kept run going work eq same (calls_so request asks idle_so call) tries, called_on called uncut phase refl request asks (ap (λ (p : ToolPhase). tool_call plan now.server journal now.tool p Insp) (sym eq) ∙ call))
+          (inspected_waits plan runs journal entry kept run going work eq same (calls_so request asks idle_so call) tries, called_on called uncut phase refl request asks (inspects plan journal now.tool work request (ap (λ (p : ToolPhase). tool_call plan now.server journal now.tool p Insp) (sym eq) ∙ call)))
 
       lost_over : (t s x y a l r i l' r' i' : ℕ) → s ≡ t → x + i ≤ y → t + y ≤ a + (l + r + i) → l' ≡ l → r' ≡ r → s + (x + 0) ≤ a + (l' + r' + i')
       lost_over t s x y a l r i l' r' i' none pays old lock ren = omega (arith, none, pays, old, lock, ren)

@@ -18,6 +18,7 @@ use Rattle.tool_program.specs.declared.cutover_core.cutover.Phase.TheVariants.{A
 use Rattle.tool_program.specs.declared.cutover_core.cutover.Drain.{Drain}
 use Rattle.tool_program.specs.declared.cutover_core.cutover.Stage.TheVariants.{Hinting, ReadingCounter, SettingCounter, Drained, Showing}
 use Rattle.tool_program.specs.CutoverCore.Attempts as attempts
+use Rattle.tool_program.specs.CutoverCore.CutOvers.{is_resting}
 use Rattle.tool_program.specs.CutoverCore.Attempts.{exchange, writes_hint}
 use Rattle.tool_program.specs.Programs.{tool_call, given}
 use Rattle.tool_program.specs.Tools.{Work, ToolPhase, Migrating, Moment, is_reverting, moment}
@@ -28,6 +29,7 @@ use Rattle.proof_journals.specs.Machine.Machines.{ToolPhaseStands, WorkStands, P
 use Rattle.proof_journals.specs.Machine.Runnable.{IsRunnable}
 use Rattle.proof_journals.specs.Machine.Standings.{Standing, standing_of, IsAbout, is_called, is_polled}
 use Rattle.proof_journals.proofs.Machine.Asking.{some_request}
+use Rattle.proof_journals.proofs.Machine.Inspecting.{Inspects, inspects, notes_so, cuts_so}
 use Rattle.proof_journals.proofs.Machine.Journals.{IsRun, IsTogether, Asking, calls_so, polls_so, asking, ren_about}
 use Rattle.proof_migration.proofs.Attempt.Stages.{RenamerAt, StandsAt}
 use Rattle.proof_migration.proofs.Attempt.Standing.{ToolPhaseAt, about_own, renamer_unlocked}
@@ -108,13 +110,20 @@ module _ (plan : PlanData) (runs : IsRunnable plan) (serial : IsSerialPlan plan)
     insp_waits_in : (one : Phase) → phase ≡ one → (request : Request) → (has Insp).waits ≡ Some request → SetsCounter plan one request
     insp_waits_in one at_phase request some = subst (λ (p : Phase). SetsCounter plan p request) at_phase (insp_waits plan runs journal entry kept run going (Migrating work) eq request some).0
 
-    -- the inspector calls, where it doesn't wait
-    insp_calls : (P : Type 0) → ((request : Request) → (has Insp).waits ≡ Some request → ⊥) → entry.actor ≡ Insp → ((request : Request) → entry.asked ≡ Call request → attempts.inspector_call work.cutover phase ≡ Some request → P) → P
+    -- while an attempt stands the inspector writes no note, and asks what the cut-over asks of it
+    insp_next : is_resting phase ≡ false → (request : Request) → tool_call plan now.server journal now.tool now.tool.tool_phase Insp ≡ Some request → attempts.inspector_call work.cutover phase ≡ Some request
     unfolding attempts.next
-    insp_calls P never same then = by (insp_asking same) where
+    insp_next busy request call = by (inspects plan journal now.tool work request (ap (λ (c : ToolPhase). tool_call plan now.server journal now.tool c Insp) (sym eq) ∙ call)) where
+      by : Inspects plan journal now.tool work request → attempts.inspector_call work.cutover phase ≡ Some request
+      by (cuts_so off next) = next
+      by (notes_so note resting onward next) = absurd (true≢false (sym (ap is_resting resting) ∙ busy))
+
+    -- the inspector calls, where it doesn't wait
+    insp_calls : (P : Type 0) → is_resting phase ≡ false → ((request : Request) → (has Insp).waits ≡ Some request → ⊥) → entry.actor ≡ Insp → ((request : Request) → entry.asked ≡ Call request → attempts.inspector_call work.cutover phase ≡ Some request → P) → P
+    insp_calls P busy never same then = by (insp_asking same) where
       by : Asking plan journal Insp entry.asked → P
       by (polls_so request asks some) = absurd (never request some)
-      by (calls_so request asks idle call) = then request asks (ap (λ (c : ToolPhase). tool_call plan now.server journal now.tool c Insp) (sym eq) ∙ call)
+      by (calls_so request asks idle call) = then request asks (insp_next busy request call)
 
     renames : phase ≡ Attempting Drained → entry.actor ≡ Ren → IsNotRefused entry.answer
     renames drained same =
@@ -125,7 +134,7 @@ module _ (plan : PlanData) (runs : IsRunnable plan) (serial : IsSerialPlan plan)
           by (is_called asks idle) = rename_goes plan journal entry kept run going (locked (subst (λ (p : Phase). PhaseHolds p work.cutover.hold) drained stands.phase)) same asks (renamer_unlocked plan journal entry going.standing run work eq)
 
     shows : phase ≡ Attempting Showing → entry.actor ≡ Insp → entry.side ≡ None → ShowsWait entry.answer
-    shows showing same none = insp_calls (ShowsWait entry.answer) (insp_waits_in (Attempting Showing) showing) same (λ request asks call. by request asks (subst (λ (p : Phase). attempts.inspector_call work.cutover p ≡ Some request) showing call)) where
+    shows showing same none = insp_calls (ShowsWait entry.answer) (ap is_resting showing) (insp_waits_in (Attempting Showing) showing) same (λ request asks call. by request asks (subst (λ (p : Phase). attempts.inspector_call work.cutover p ≡ Some request) showing call)) where
       waits : (has Ren).waits ≡ Some (exchange plan.table)
       waits = ap (λ (s : Standing). s.waits) (stands.renamer ∙ ap (renaming work.cutover.table) (subst (λ (p : Phase). RenamerAt p work.cutover.renamer_waits) showing at.renamer)) ∙ ap (λ (t : List ℕ). Some (exchange t)) own_table
 
@@ -136,21 +145,20 @@ module _ (plan : PlanData) (runs : IsRunnable plan) (serial : IsSerialPlan plan)
           (about_own plan journal entry going.standing run Insp requests.ShowWaiting same (is_called asks_it (insp_idle plan runs journal entry kept run going same requests.ShowWaiting asks_it))) asks_it none) asks
 
     hints : phase ≡ Attempting Hinting → entry.actor ≡ Insp → entry.side ≡ None → IsOk entry.answer
-    hints hinting same none = insp_calls (IsOk entry.answer) (insp_waits_in (Attempting Hinting) hinting) same (λ request asks call. by request asks (subst (λ (p : Phase). attempts.inspector_call work.cutover p ≡ Some request) hinting call)) where
+    hints hinting same none = insp_calls (IsOk entry.answer) (ap is_resting hinting) (insp_waits_in (Attempting Hinting) hinting) same (λ request asks call. by request asks (subst (λ (p : Phase). attempts.inspector_call work.cutover p ≡ Some request) hinting call)) where
       by : (request : Request) → entry.asked ≡ Call request → Some (writes_hint work.cutover.table work.cutover.attempts) ≡ Some request → IsOk entry.answer
       by request asks call =
           some_request (λ (r : Request). entry.asked ≡ Call r → IsOk entry.answer) (writes_hint work.cutover.table work.cutover.attempts) request call
-          (λ asks_it. hint_goes plan journal entry work runs serial tries.some tries.few kept_more eq hinting same (asks_it ∙ ap (λ (t : List ℕ). Call (writes_hint t work.cutover.attempts)) own_table) none) asks
+          (λ asks_it. hint_goes plan journal entry work runs serial tries kept_more eq hinting same (asks_it ∙ ap (λ (t : List ℕ). Call (writes_hint t work.cutover.attempts)) own_table) none) asks
 
     reads : (drain : Drain) → phase ≡ Attempting (ReadingCounter drain) → entry.actor ≡ Insp → entry.side ≡ None → IsAt entry.answer
-    reads drain reading same none = insp_calls (IsAt entry.answer) (insp_waits_in (Attempting (ReadingCounter drain)) reading) same (λ request asks call. by request asks (subst (λ (p : Phase). attempts.inspector_call work.cutover p ≡ Some request) reading call)) where
+    reads drain reading same none = insp_calls (IsAt entry.answer) (ap is_resting reading) (insp_waits_in (Attempting (ReadingCounter drain)) reading) same (λ request asks call. by request asks (subst (λ (p : Phase). attempts.inspector_call work.cutover p ≡ Some request) reading call)) where
       by : (request : Request) → entry.asked ≡ Call request → Some (requests.ShowCounter work.cutover.table) ≡ Some request → IsAt entry.answer
       by request asks call =
           some_request (λ (r : Request). entry.asked ≡ Call r → IsAt entry.answer) (requests.ShowCounter work.cutover.table) request call
           (λ asks_it. reads_go plan runs journal entry kept run going guarded sentry work eq called drain reading same (asks_it ∙ ap (λ (t : List ℕ). Call (requests.ShowCounter t)) own_table) none) asks
 
     sets : (number : ℕ) (drain : Drain) → phase ≡ Attempting (SettingCounter number drain) → entry.actor ≡ Insp → IsNotRefused entry.answer
-    unfolding attempts.next
     sets number drain setting same = by (insp_asking same) where
       goes : (request : Request) → request ≡ requests.SetCounter (ghost_name plan.table) number → IsAbout request (has Insp) entry.asked → IsNotRefused entry.answer
       goes request is_it about =
@@ -164,7 +172,7 @@ module _ (plan : PlanData) (runs : IsRunnable plan) (serial : IsSerialPlan plan)
 
       by : Asking plan journal Insp entry.asked → IsNotRefused entry.answer
       by (polls_so request asks some) = goes request (insp_waits_in (Attempting (SettingCounter number drain)) setting request some) (is_polled asks some)
-      by (calls_so request asks idle call) = goes request (called_it request (ap (λ (c : ToolPhase). tool_call plan now.server journal now.tool c Insp) (sym eq) ∙ call)) (is_called asks idle)
+      by (calls_so request asks idle call) = goes request (called_it request (insp_next (ap is_resting setting) request call)) (is_called asks idle)
 
     goes_on : AttemptGoes work entry
     goes_on = record {
@@ -176,7 +184,7 @@ module _ (plan : PlanData) (runs : IsRunnable plan) (serial : IsSerialPlan plan)
       shows = shows;
       drops = λ dropping same. drops_go plan runs journal entry kept run going guarded sentry work eq called dropping same (lock_asking same);
       clears = λ left ending same none.
-          insp_calls (IsOk entry.answer) (insp_waits_in (Ending (Drops left)) ending) same
+          insp_calls (IsOk entry.answer) (ap is_resting ending) (insp_waits_in (Ending (Drops left)) ending) same
           (λ request asks call. subst IsOk (sym (clears_ok plan runs journal entry kept run going guarded sentry work eq same request asks left ending (subst (λ (p : Phase). attempts.inspector_call work.cutover p ≡ Some request) ending call) none)) tt);
     }
 

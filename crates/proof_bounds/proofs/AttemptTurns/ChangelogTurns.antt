@@ -38,7 +38,7 @@ use Rattle.proof_migration.proofs.Program.Hints.Logging.{LogsAway, NoneWrote, aw
 use Rattle.proof_migration.proofs.Program.Turns.Asked.{asked_as}
 use Rattle.proof_migration.proofs.ToolPhase.Unaltered.Asking.{AskedAs, ToolCall}
 use Rattle.proof_migration.proofs.ToolPhase.Unaltered.Away.{log_is_tool, tool_not_mine}
-use Rattle.proof_bounds.proofs.Holders.{old_not_log}
+use Rattle.proof_migration.proofs.HeldNames.Holders.{old_not_log}
 
 -- a new table is found, or one of the old ones
 front_or : (name : List ℕ) (tables : Database) (new table : TableRows) → find_table name (tables ++ new ∷ []) ≡ Some table → (find_table name tables ≡ Some table) ⊎ (new ≡ table)

@@ -1,10 +1,8 @@
 -- The number of an attempt's hint row is new: after every kept journal, until the RENAME is done, the changelog's rows have the
--- numbers of hint rows that are logged.
+-- numbers of hint rows that are logged, and of notes.
 use Rattle.proof_migration.proofs.Unfit.Known.{known_turn}
-use Rattle.proof_migration.proofs.ToolServes.{tool_serves}
-use Rattle.std.proofs.Common.{◌≡◌, ◌⊎◌, ◌≤◌, ◌<◌, ℕ, ◌+◌, Bool, true, false, cond, not, List, [], ◌∷◌, ◌++◌, length, take, Option, Some, None, refl, sym, ap, ◌∙◌, subst, inl, inr, arith}
+use Rattle.std.proofs.Common.{◌≡◌, ◌⊎◌, ◌≤◌, ◌<◌, ℕ, ◌+◌, Bool, true, false, cond, List, [], ◌∷◌, ◌++◌, length, take, Option, Some, None, refl, sym, ap, ◌∙◌, subst, inl, inr, arith}
 use Rattle.std.specs.Prelude.{is_some}
-use Rattle.std.specs.List.{list_any}
 use Rattle.std.specs.Option.{option_map}
 use Rattle.std.specs.Str.{bytes_eq}
 use Rattle.std.proofs.Math.Seq.{take-length}
@@ -12,14 +10,12 @@ use Rattle.std.proofs.lemmas.Bool.{true≢false, false≢true}
 use Rattle.std.proofs.lemmas.List.Sums.{fold-append}
 use Rattle.std.proofs.lemmas.Option.{none-some}
 use Rattle.base_script.specs.declared.actor.Actor.{Actor}
+use Rattle.base_script.specs.declared.statement.Statement.{Statement}
 use Rattle.base_script.specs.declared.actor.Actor.TheVariants.{Op, Insp, Copy, Apply, Lock, Ren, Client}
-use Rattle.base_script.specs.declared.actor.Side.{Side}
-use Rattle.base_script.specs.declared.actor.Side.TheVariants.{Before, After}
 use Rattle.base_values.specs.declared.event.RowEvent.{RowEvent}
-use Rattle.base_values.specs.declared.gho_schema.schema.Schema.{Schema}
-use Rattle.base_values.specs.ToolNames.{ghost_name, log_name}
-use Rattle.table_store.specs.Databases.{Database, TableRows, find_table}
-use Rattle.server_model.specs.Blockers.{need, blocker}
+use Rattle.base_values.specs.declared.value.Value.{Value}
+use Rattle.base_values.specs.ToolNames.{log_name}
+use Rattle.table_store.specs.Databases.{TableRows, find_table}
 use Rattle.server_model.specs.declared.answer.Answer.{Answer}
 use Rattle.server_model.specs.declared.answer.Answer.TheVariants as answers
 use Rattle.server_model.specs.declared.entry.Asked.{Asked}
@@ -27,17 +23,16 @@ use Rattle.server_model.specs.declared.entry.Asked.TheVariants.{Call, Poll, Comm
 use Rattle.server_model.specs.declared.entry.Entry.{Entry}
 use Rattle.server_model.specs.declared.request.Request.{Request}
 use Rattle.server_model.specs.declared.request.Request.TheVariants as requests
-use Rattle.server_model.specs.declared.session.Session.{Session}
-use Rattle.server_model.specs.Effects.{is_outside}
-use Rattle.server_model.specs.Entries.{same_actor, is_client, is_command}
-use Rattle.server_model.specs.PlainServer.{done, called_unless, calls, leaves, loses, serves}
-use Rattle.server_model.specs.States.{State, is_in_transaction, is_of_tool, session_of, writes_of}
+use Rattle.server_model.specs.Entries.{same_actor, is_command}
+use Rattle.server_model.specs.declared.work.StatementResult.{StatementResult}
+use Rattle.server_model.specs.Operations.{after_events, events_of, statement_result}
+use Rattle.server_model.specs.StatementResults.{displaced}
+use Rattle.server_model.specs.States.{State}
 use Rattle.plan_data.specs.PlanData.{PlanData}
 use Rattle.tool_changelog.specs.Hints.{hint_in, last_hint}
 use Rattle.tool_changelog.specs.ToolTables.{log_schema}
-use Rattle.tool_program.specs.JournalWords.Histories as histories
-use Rattle.tool_program.specs.JournalWords.Histories.{is_alter}
-use Rattle.tool_program.specs.JournalWords.Journals.{opens, opens_if, state_at}
+use Rattle.tool_program.specs.JournalWords.Journals.{opens, state_at}
+use Rattle.tool_program.specs.NoteWriter.Notes.{notes_of, writes}
 use Rattle.tool_program.specs.declared.cutover_core.cutover.Clearing.{Clearing as Cleared}
 use Rattle.tool_program.specs.declared.cutover_core.cutover.Clearing.TheVariants.{Looking, Drops}
 use Rattle.tool_program.specs.declared.cutover_core.cutover.Leftovers.{Leftovers}
@@ -46,49 +41,48 @@ use Rattle.tool_program.specs.declared.cutover_core.cutover.Phase.TheVariants.{R
 use Rattle.tool_program.specs.declared.cutover_core.cutover.Stage.TheVariants.{Hinting, ReadingCounter, SettingCounter, Showing}
 use Rattle.tool_program.specs.CutoverCore.Attempts as attempts
 use Rattle.tool_program.specs.CutoverCore.Attempts.{clears, first_name, is_clear, is_free, without_first, writes_hint}
-use Rattle.tool_program.specs.CutoverCore.CutOvers.{applier_turn}
-use Rattle.tool_program.specs.Programs.{tool_call, given}
+use Rattle.tool_program.specs.CutoverCore.CutOvers.{applier_turn, is_resting}
+use Rattle.tool_program.specs.Programs.{reach_in, tool_call, given}
 use Rattle.tool_program.specs.Setups.{Setup, Listing, Clearing, MakingLog, MakingGhost, Marking, Reaching, Ready, clearing, listed, setup_call, setup_after, setup_step}
 use Rattle.tool_program.specs.Tools.{Work, ToolPhase, SettingUp, Migrating, Tool, Moment, stopped, is_reverting, tool_phase_of, moment}
 use Rattle.tool_program.proofs.OnlineCalls.Machines.{ToolPhaseIsNamed, named}
-use Rattle.proof_journals.specs.Holdings.{face_in, stored}
 use Rattle.proof_journals.specs.Plans.{IsSerialPlan}
-use Rattle.proof_journals.specs.Scenes.{SessionHold, Stored, no_hold}
 use Rattle.proof_journals.specs.Turns.{about}
 use Rattle.proof_journals.specs.Run.Kept.{IsKept}
 use Rattle.proof_journals.specs.Machine.Runnable.{IsRunnable}
-use Rattle.proof_journals.specs.Machine.Standings.{Standing, free, standing_in, standing_of, answered, is_called}
-use Rattle.proof_journals.proofs.Actors.{Placed, Commands, GoesOn, Begins, placed, same_actor_is}
-use Rattle.proof_journals.proofs.Journals.{stored_opened}
+use Rattle.proof_journals.specs.Machine.Standings.{Standing, standing_of}
+use Rattle.proof_journals.proofs.Actors.{same_actor_is}
 use Rattle.proof_journals.proofs.Machine.Asking.{some_request, unless_called}
+use Rattle.proof_journals.proofs.Machine.Inspecting.{Inspects, inspects, notes_so, cuts_so}
 use Rattle.proof_journals.proofs.Machine.Journals.{IsRun, IsTogether, Asking, calls_so, polls_so, asking}
-use Rattle.proof_journals.proofs.Machine.Seated.{IsKnown, IsServed, IsOpen, is_open, opened_new, opened_old, own_given, own_stands, state_more}
-use Rattle.proof_migration.specs.Attempt.Renamed.{IsRenamedAt, ToolPhaseRenamed}
+use Rattle.proof_journals.proofs.Machine.Seated.{IsKnown, IsServed}
 use Rattle.proof_migration.specs.Program.Hints.{IsBegun, is_unhinted}
 use Rattle.proof_migration.specs.ToolPhase.Unaltered.{IsUnaltered}
 use Rattle.proof_migration.proofs.Attempt.Leaving.{has_is}
-use Rattle.proof_migration.proofs.Attempt.Renamed.Seen.{all_seen}
-use Rattle.proof_migration.proofs.Attempt.Standing.{about_own}
 use Rattle.proof_migration.proofs.Migration.Leaves.{WritesAway}
 use Rattle.proof_migration.proofs.Program.Hints.Asked.{insp_from, known}
 use Rattle.proof_migration.proofs.Program.Hints.Known.{hints_go, hints_known}
 use Rattle.proof_migration.proofs.Program.Hints.Logging.{NoneWrote, watched}
 use Rattle.proof_migration.proofs.Program.Hints.Writes.{away_hint}
-use Rattle.proof_migration.proofs.Program.InspectorTurns.Keeping.{past_log, LogStands, ToolPhaseFits as LogFits, all_fit}
+use Rattle.proof_migration.proofs.Program.InspectorTurns.Hints.{hint_event, hint_insert}
+use Rattle.proof_migration.proofs.Program.InspectorTurns.Keeping.{past_log}
 use Rattle.proof_migration.proofs.Program.Turns.Asked.{waits_with}
 use Rattle.proof_migration.proofs.Program.Turns.Follows.{kept_front, kept_run}
-use Rattle.proof_migration.proofs.ToolPhase.CopyAnswers.{not_outside}
 use Rattle.proof_migration.proofs.ToolPhase.ToolPhaseTurns.{Kept, SetupKeeps, AnswerKeeps, ResizeKeeps, turn_kept, gives_asked}
 use Rattle.proof_migration.proofs.ToolPhase.Unaltered.Away.{unaltered_front}
 use Rattle.proof_bounds.proofs.Attempts.{attempts_few}
-use Rattle.proof_bounds.proofs.Going.{IsGoing, ToolPhaseFits, all_going, insp_free, insp_idle, waits_to_set}
+use Rattle.proof_bounds.proofs.Going.{IsGoing, ToolPhaseFits, all_going, waits_to_set}
 use Rattle.proof_bounds.proofs.Inspecting.{setting_is}
-use Rattle.proof_bounds.proofs.Holders.{each_kept}
+use Rattle.proof_migration.proofs.HeldNames.Holders.{each_kept}
 use Rattle.proof_bounds.proofs.Leftovers.{SetupFits}
-use Rattle.proof_bounds.specs.AttemptTurns.Attempts.{IsOk, most_tries}
+use Rattle.proof_bounds.specs.AttemptTurns.Attempts.{IsOk, MayTry, most_notes, most_tries}
 use Rattle.proof_bounds.proofs.AttemptTurns.ChangelogTurns.{others_away, rows_left, logs_left}
-use Rattle.proof_bounds.proofs.AttemptTurns.HintInserts.{AllNumbered, HintDone, hint_done, hint_numbered}
+use Rattle.proof_bounds.proofs.AttemptTurns.HintInserts.{AllNumbered, hint_numbered, hint_result}
 use Rattle.proof_bounds.proofs.AttemptTurns.HintRows.{AllBelow, more_below}
+use Rattle.proof_bounds.proofs.AttemptTurns.LogWrites.{done_ok, leaves_so, log_found}
+use Rattle.proof_bounds.proofs.AttemptTurns.NextNotes.{next_row}
+use Rattle.proof_bounds.proofs.AttemptTurns.NoteRows.{IsFitNote, note_changes, note_hint, note_numbered, note_result, note_said, note_write}
+use Rattle.proof_bounds.proofs.AttemptTurns.NoteTurns.{unrenamed}
 
 -- THE CHANGELOG WAS MADE
 
@@ -102,10 +96,6 @@ IsNumbered plan journal = is_past (moment plan journal).tool.tool_phase ≡ true
 none_found : (found : Option TableRows) → is_some (option_map (λ (table : TableRows). table.schema) found) ≡ false → found ≡ None
 none_found None none = refl
 none_found (Some table) none = absurd (true≢false none)
-
-found_some : (found : Option TableRows) (schema : Schema) → option_map (λ (table : TableRows). table.schema) found ≡ Some schema → (table : TableRows) × (found ≡ Some table) × (table.schema ≡ schema)
-found_some None schema none = absurd cc
-found_some (Some table) schema some = (table, refl, cc)
 
 -- while the tables are cleared it isn't
 clearing_not : (left : Leftovers) → past_log (clearing left) ≡ true → ⊥
@@ -135,27 +125,33 @@ setup_away plan t Marking request is = some_request (WritesAway (watched t)) _ r
 setup_away plan t (Reaching position) request is = some_request (WritesAway (watched t)) _ request is tt
 setup_away plan t (Ready position range) request is = absurd cc
 
--- the hint row comes next
+-- a row of the changelog comes next: a note's, or the hint row
 
-abbrev hints : Phase → Bool
-hints (Attempting Hinting) = true
-hints phase = false
+abbrev writes_log : Phase → Bool
+writes_log Resting = true
+writes_log (Attempting Hinting) = true
+writes_log phase = false
 
-abbrev is_hinting : ToolPhase → Bool
-is_hinting (SettingUp setup tries) = false
-is_hinting (Migrating work) = hints work.cutover.phase
+abbrev is_writing : ToolPhase → Bool
+is_writing (SettingUp setup tries) = false
+is_writing (Migrating work) = writes_log work.cutover.phase
 
-hints_so : (phase : Phase) → hints phase ≡ true → phase ≡ Attempting Hinting
-hints_so (Attempting Hinting) hinting = refl
-hints_so (Attempting stage) hinting = absurd (false≢true hinting)
-hints_so Resting hinting = absurd (false≢true hinting)
-hints_so (Ending cleared) hinting = absurd (false≢true hinting)
-hints_so (Finishing cleared) hinting = absurd (false≢true hinting)
-hints_so Finished hinting = absurd (false≢true hinting)
+writes_so : (phase : Phase) → writes_log phase ≡ true → (phase ≡ Resting) ⊎ (phase ≡ Attempting Hinting)
+writes_so Resting writes = inl refl
+writes_so (Attempting Hinting) writes = inr refl
+writes_so (Attempting stage) writes = absurd (false≢true writes)
+writes_so (Ending cleared) writes = absurd (false≢true writes)
+writes_so (Finishing cleared) writes = absurd (false≢true writes)
+writes_so Finished writes = absurd (false≢true writes)
+
+-- the row of a note that comes next
+note_fits : (plan : PlanData) (journal : List Entry) (tool : Tool) (work : Work) (request : Request) → plan.options.notes ≤ most_notes → Inspects plan journal tool work request → work.cutover.phase ≡ Resting → (row : List Value) × IsFitNote row × (request ≡ writes plan.table row)
+note_fits plan journal tool work request most (cuts_so off next) resting = absurd (true≢false (sym (ap is_resting resting) ∙ off))
+note_fits plan journal tool work request most (notes_so note at onward next) resting = let one = next_row plan work.applier.position (reach_in journal work.copier) (notes_of journal) request next in (one.row, one.fits most, one.is)
 
 -- ONE TURN
 
-module _ (plan : PlanData) (runs : IsRunnable plan) (serial : IsSerialPlan plan) (some : 1 ≤ plan.options.default_retries) (few : plan.options.default_retries ≤ most_tries) (journal : List Entry) (entry : Entry) (kept_more : IsKept plan (journal ++ entry ∷ [])) where
+module _ (plan : PlanData) (runs : IsRunnable plan) (serial : IsSerialPlan plan) (some : 1 ≤ plan.options.default_retries) (few : plan.options.default_retries ≤ most_tries) (notes : plan.options.notes ≤ most_notes) (journal : List Entry) (entry : Entry) (kept_more : IsKept plan (journal ++ entry ∷ [])) where
   abbrev t : List ℕ
   t = plan.table
 
@@ -331,16 +327,43 @@ module _ (plan : PlanData) (runs : IsRunnable plan) (serial : IsSerialPlan plan)
       by Resting at call = absurd cc
       by Finished at call = absurd cc
 
-    insp_away : entry.actor ≡ Insp → ((work : Work) → now.tool.tool_phase ≡ Migrating work → work.cutover.phase ≡ Attempting Hinting → ⊥) → (request : Request) → About request → WritesAway (watched t) request
+    insp_away : entry.actor ≡ Insp → ((work : Work) → now.tool.tool_phase ≡ Migrating work → writes_log work.cutover.phase ≡ false) → (request : Request) → About request → WritesAway (watched t) request
     unfolding attempts.next
-    insp_away same unhinted request is_about =
+    insp_away same away request is_about =
         insp_from plan runs serial journal entry kept_more off (WritesAway (watched t) request) request same is_about (λ call. by now.tool.tool_phase refl call) (λ waits. insp_waits same request (ap (λ (a : Actor). (has a).waits) same ∙ waits)) where
+          inspected : (work : Work) → writes_log work.cutover.phase ≡ false → Inspects plan journal now.tool work request → WritesAway (watched t) request
+          inspected work none (cuts_so off_rest next) = call_away work (λ hinting. true≢false (sym (ap writes_log hinting) ∙ none)) request next
+          inspected work none (notes_so note resting onward next) = absurd (true≢false (sym (ap writes_log resting) ∙ none))
+
           by : (tool_phase : ToolPhase) → now.tool.tool_phase ≡ tool_phase → tool_call plan now.server journal now.tool tool_phase Insp ≡ Some request → WritesAway (watched t) request
           by (SettingUp setup tries) eq call = setup_away plan t setup request (unless_called (is_reverting now.tool.reason) (setup_call plan setup) request call)
-          by (Migrating work) eq call = call_away work (unhinted work eq) request call
+          by (Migrating work) eq call = inspected work (away work eq) (inspects plan journal now.tool work request call)
 
-  -- THE HINT ROW
+  -- A ROW OF THE CHANGELOG
 
+  -- the rows' numbers are known behind a statement on the changelog, where they are where it is done
+  row_more : IsNumbered plan journal → (work : Work) → now.tool.tool_phase ≡ Migrating work → entry.actor ≡ Insp → (statement : Statement) → entry.asked ≡ Call (requests.Do statement) → (result : StatementResult) → statement_result before.tables statement ≡ result
+      → AllNumbered t (after_events before.tables result.events) (before.log ++ result.events) → IsNumbered plan more
+  row_more is work eq same statement asks result gives new past = leaves_so plan runs serial journal entry kept_more same statement asks result gives (AllNumbered t) (is (ap is_past eq)) new
+
+  -- a note's
+  note_more : IsUnaltered plan journal → IsNumbered plan journal → (work : Work) → now.tool.tool_phase ≡ Migrating work → entry.actor ≡ Insp → (row : List Value) → IsFitNote row → entry.asked ≡ Call (writes t row) → IsNumbered plan more
+  note_more off_now is work eq same row note asks =
+      row_more is work eq same (note_write t row) asks (note_said t row found.0.rows) (note_result t row before.tables found.0 note found.1 found.2)
+      (λ table there. subst (λ (last : ℕ). AllBelow (last + 1) table.rows) (sym same_hint)
+      (note_numbered t (last_hint t 0 before.log) row gone before.tables found.0 note found.1 found.2 (is (ap is_past eq) found.0 found.1) table there)) where
+        found : (table : TableRows) × (find_table (log_name t) before.tables ≡ Some table) × (table.schema ≡ log_schema t)
+        found = log_found plan runs serial journal entry kept_more off_now work eq
+
+        gone : List (List Value)
+        gone = displaced (log_schema t) row found.0.rows
+
+        same_hint : last_hint t 0 (before.log ++ events_of (log_name t) (note_changes t row found.0.rows)) ≡ last_hint t 0 before.log
+        same_hint =
+            fold-append (λ (old : ℕ) (event : RowEvent). cond (bytes_eq event.table (log_name t)) (hint_in old event.change) old) 0 before.log (events_of (log_name t) (note_changes t row found.0.rows))
+            ∙ note_hint t row gone (last_hint t 0 before.log) note
+
+  -- the hint row
   module _ (off_now : IsUnaltered plan journal) (is : IsNumbered plan journal) (work : Work) (eq : now.tool.tool_phase ≡ Migrating work) (hinting : work.cutover.phase ≡ Attempting Hinting) (same : entry.actor ≡ Insp) (asks : entry.asked ≡ Call (writes_hint t work.cutover.attempts)) where
     abbrev n : ℕ
     n = work.cutover.attempts
@@ -348,11 +371,8 @@ module _ (plan : PlanData) (runs : IsRunnable plan) (serial : IsSerialPlan plan)
     begun : last_hint t 0 before.log < n
     begun = subst (λ (l : List RowEvent). last_hint t 0 l < n) (take-length before.log) (subst (λ (phase : Phase). IsBegun (is_unhinted phase) n (last_hint t 0 (take (length before.log) before.log))) hinting ((hints_known plan journal work runs serial kept off_now eq).begun (length before.log)))
 
-    log_stands : LogStands plan before.tables
-    log_stands = (subst (LogFits plan before.tables (has Insp).waits) eq (all_fit plan journal runs serial kept off_now)).log
-
     found : (table : TableRows) × (find_table (log_name t) before.tables ≡ Some table) × (table.schema ≡ log_schema t)
-    found = found_some (find_table (log_name t) before.tables) (log_schema t) log_stands
+    found = log_found plan runs serial journal entry kept_more off_now work eq
 
     most : n ≤ most_tries
     most = let less = attempts_few plan journal work some kept.faithful kept.follows eq in omega (arith, less, few)
@@ -363,97 +383,29 @@ module _ (plan : PlanData) (runs : IsRunnable plan) (serial : IsSerialPlan plan)
     below : AllBelow n found.0.rows
     below = more_below (last_hint t 0 before.log + 1) n found.0.rows (let less = begun in omega (arith, less)) (is (ap is_past eq) found.0 found.1)
 
-    stored_now : stored open_now ≡ stored before
-    stored_now = stored_opened (is_command entry.asked) (not (is_client entry.actor)) entry.session before
+    abbrev said : StatementResult
+    said = record { answer = answers.Ok 1; events = hint_event t n ∷ [] }
 
-    open_found : find_table (log_name t) open_now.tables ≡ Some found.0
-    open_found = ap (λ (s : Stored). find_table (log_name t) s.tables) stored_now ∙ found.1
-
-    opened : IsOpen plan journal entry known_now served
-    opened = is_open plan journal entry known_now served (ap is_command asks)
-
-    own_free : has entry.actor ≡ free
-    own_free = ap has same ∙ insp_free plan runs journal entry kept run going (insp_idle plan runs journal entry kept run going same (writes_hint t n) asks)
-
-    inside : is_outside (session_of entry.session open_now.sessions) (writes_hint t n) ≡ false
-    inside = not_outside (session_of entry.session open_now.sessions) (writes_hint t n) (ap (λ (o : Option Session). (face_in o).locked) opened.is ∙ ap (λ (s : Standing). s.locked) (sym opened.stands ∙ own_free))
-
-    tool_now : is_of_tool (session_of entry.session open_now.sessions) ≡ true
-    tool_now = tool_serves plan journal entry kept together run (ap is_command asks) (ap is_client same)
-
-    resting : is_in_transaction (session_of entry.session open_now.sessions) ≡ false
-    resting = ap is_in_transaction opened.is ∙ ap (λ (s : Standing). s.busy) (sym opened.stands ∙ own_free)
-
-    wrote_none : writes_of (session_of entry.session open_now.sessions) ≡ []
-    wrote_none = by (placed journal entry served.seated) where
-      hold_writes : (o : Option Session) → (face_in o).hold ≡ no_hold → writes_of o ≡ []
-      hold_writes None rests = refl
-      hold_writes (Some s) rests = ap (λ (h : SessionHold). h.writes) rests
-
-      by : Placed journal entry → writes_of (session_of entry.session open_now.sessions) ≡ []
-      by (Commands command zero) = absurd (true≢false (sym command ∙ ap is_command asks))
-      by (GoesOn calls live) =
-          ap (λ (s : State). writes_of (session_of entry.session s.sessions)) (opened_old (is_command entry.asked) (not (is_client entry.actor)) entry.session before (known_now.live entry.actor entry.session live))
-          ∙ hold_writes (session_of entry.session before.sessions) ((going.names.serving.own entry.session).rests (ap (λ (o : Option ℕ). (standing_in before o).busy) (sym live) ∙ ap (λ (s : Standing). s.busy) own_free))
-      by (Begins calls uncut live above) =
-          ap (λ (b : Bool). writes_of (session_of entry.session (opens_if b (not (is_client entry.actor)) entry.session before).sessions)) (ap is_command asks)
-          ∙ ap writes_of (opened_new (not (is_client entry.actor)) entry.session before (known_now.fresh entry.session above))
-
-    done_so : HintDone t n open_now (done open_now entry.session (writes_hint t n))
-    done_so = hint_done t n open_now entry.session found.0 tool_now inside resting wrote_none open_found found.2 most below
-
-    abbrev Numbered : State → Type 0
-    Numbered state = AllNumbered t state.tables state.log
-
-    open_numbered : Numbered open_now
-    open_numbered = subst (λ (s : Stored). AllNumbered t s.tables s.log) (sym stored_now) (is (ap is_past eq))
-
-    served_numbered : (blocked : Option ℕ) → Numbered (called_unless blocked open_now entry.session (writes_hint t n)).after
-    served_numbered (Some other) = open_numbered
-    served_numbered None =
-        subst (λ (tables : Database). AllNumbered t tables (done open_now entry.session (writes_hint t n)).after.log) (sym done_so.tables)
-        (subst (AllNumbered t _) (sym done_so.log) (hint_numbered t n open_now.tables open_now.log found.0 open_found found.2 least below))
+    gives : statement_result before.tables (hint_insert t n) ≡ said
+    gives = hint_result t n before.tables found.0 found.1 found.2 most below
 
     -- so the next attempt's number is new
     hint_more : IsNumbered plan more
-    unfolding calls loses
-    hint_more past = subst Numbered (sym (state_more plan journal entry)) (by entry.side) where
-      now_served : Numbered (serves open_now entry.session entry.asked).after
-      now_served = subst (λ (a : Asked). Numbered (serves open_now entry.session a).after) (sym asks) (served_numbered (blocker open_now entry.session (need open_now entry.session (writes_hint t n))))
-
-      by : (side : Option Side) → Numbered (leaves side open_now entry.session entry.asked)
-      by None = now_served
-      by (Some Before) = open_numbered
-      by (Some After) = now_served
+    hint_more = row_more is work eq same (hint_insert t n) asks said gives (hint_numbered t n before.tables before.log found.0 found.1 found.2 least below)
 
     -- *The hint row is written*
     hint_ok : entry.side ≡ None → IsOk entry.answer
-    unfolding calls
-    hint_ok no_side = by (blocker open_now entry.session (need open_now entry.session (writes_hint t n))) refl where
-      given_so : (blocked : Option ℕ) → blocker open_now entry.session (need open_now entry.session (writes_hint t n)) ≡ blocked → (called_unless blocked open_now entry.session (writes_hint t n)).answer ≡ entry.answer
-      given_so blocked at = sym (ap (λ (b : Option ℕ). (called_unless b open_now entry.session (writes_hint t n)).answer) at) ∙ ap (λ (a : Asked). (serves open_now entry.session a).answer) (sym asks) ∙ own_given plan journal entry known_now served no_side
-
-      waits : (other : ℕ) → answers.Waits other ≡ entry.answer → (standing_of plan more Insp).waits ≡ Some (writes_hint t n)
-      waits other is_wait =
-          ap (λ (a : Actor). (standing_of plan more a).waits) (sym same)
-          ∙ ap (λ (s : Standing). s.waits) (own_stands plan journal entry known_now served (writes_hint t n) (about_own plan journal entry going.standing run Insp (writes_hint t n) same (is_called asks (insp_idle plan runs journal entry kept run going same (writes_hint t n) asks))))
-          ∙ ap (λ (a : Answer). (answered (writes_hint t n) a (has entry.actor)).waits) (sym is_wait)
-
-      by : (blocked : Option ℕ) → blocker open_now entry.session (need open_now entry.session (writes_hint t n)) ≡ blocked → IsOk entry.answer
-      by None at = subst IsOk (sym done_so.answer ∙ given_so None at) tt
-      by (Some other) at =
-          absurd (setting_is plan (λ (r : Request). r ≡ writes_hint t n → ⊥) (λ number both. other_request number both) (moment plan more).tool.tool_phase (writes_hint t n) (waits_to_set plan more (writes_hint t n) runs serial kept_more (waits other (given_so (Some other) at))) refl) where
-            other_request : (number : ℕ) → requests.SetCounter (ghost_name plan.table) number ≡ writes_hint t n → ⊥
-            other_request number both = cc
+    hint_ok no_side = done_ok plan runs serial journal entry kept_more same (hint_insert t n) asks said gives tt no_side
 
   -- EVERY TURN
 
-  asked_hint : (work : Work) → now.tool.tool_phase ≡ Migrating work → work.cutover.phase ≡ Attempting Hinting → (request : Request) → tool_call plan now.server journal now.tool now.tool.tool_phase Insp ≡ Some request → request ≡ writes_hint t work.cutover.attempts
+  asked_hint : (work : Work) → work.cutover.table ≡ t → work.cutover.phase ≡ Attempting Hinting → (request : Request) → Inspects plan journal now.tool work request → request ≡ writes_hint t work.cutover.attempts
   unfolding attempts.next
-  asked_hint work eq hinting request call =
-      some_request (λ (r : Request). r ≡ writes_hint t work.cutover.attempts) (writes_hint work.cutover.table work.cutover.attempts) request
-      (ap (attempts.inspector_call work.cutover) (sym hinting) ∙ ap (λ (c : ToolPhase). tool_call plan now.server journal now.tool c Insp) (sym eq) ∙ call)
-      (ap (λ (name : List ℕ). writes_hint name work.cutover.attempts) (subst (ToolPhaseIsNamed plan) eq (named plan journal)).cutover)
+  asked_hint work own hinting request (cuts_so off next) =
+      some_request (λ (r : Request). r ≡ writes_hint t work.cutover.attempts) (writes_hint work.cutover.table work.cutover.attempts) request (ap (attempts.inspector_call work.cutover) (sym hinting) ∙ next) (ap (λ (name : List ℕ). writes_hint name work.cutover.attempts) own)
+  asked_hint work own hinting request (notes_so note resting onward next) = absurd (resting_hints (sym resting ∙ hinting)) where
+    resting_hints : Resting ≡ Attempting Hinting → ⊥
+    resting_hints both = cc
 
   numbered_more : IsUnaltered plan more → IsNumbered plan journal → IsNumbered plan more
   unfolding given
@@ -461,33 +413,35 @@ module _ (plan : PlanData) (runs : IsRunnable plan) (serial : IsSerialPlan plan)
     off_now : IsUnaltered plan journal
     off_now = unaltered_front plan journal (entry ∷ []) off
 
-    unhinted : is_hinting now.tool.tool_phase ≡ false → (work : Work) → now.tool.tool_phase ≡ Migrating work → work.cutover.phase ≡ Attempting Hinting → ⊥
-    unhinted none work eq hinting = true≢false (sym (ap is_hinting eq ∙ ap hints hinting) ∙ none)
+    away : is_writing now.tool.tool_phase ≡ false → (work : Work) → now.tool.tool_phase ≡ Migrating work → writes_log work.cutover.phase ≡ false
+    away none work eq = sym (ap is_writing eq) ∙ none
 
     polled : entry.actor ≡ Insp → is_command entry.asked ≡ false → ((request : Request) → about open_now entry.session entry.asked ≡ Some request → about open_now entry.session Poll ≡ Some request) → IsNumbered plan more
     polled same called waits = quiet off is (λ request is_about. uncalled off is same called request (waits request is_about))
 
-    hinted : entry.actor ≡ Insp → (request : Request) → entry.asked ≡ Call request → (tool_phase : ToolPhase) → now.tool.tool_phase ≡ tool_phase → is_hinting tool_phase ≡ true → IsNumbered plan more
-    hinted same request asks (SettingUp setup tries) eq none = absurd (false≢true none)
-    hinted same request asks (Migrating work) eq some_hint = with (asking plan journal Insp entry.asked going.standing.tabled.all.tool.server (subst (λ (a : Actor). given plan journal a ≡ Some entry.asked) same (gives_asked plan journal entry entry.asked run.followed.given refl (λ cut. no (sym asks ∙ cut))))) where
+    written : entry.actor ≡ Insp → (request : Request) → entry.asked ≡ Call request → (tool_phase : ToolPhase) → now.tool.tool_phase ≡ tool_phase → is_writing tool_phase ≡ true → IsNumbered plan more
+    written same request asks (SettingUp setup tries) eq none = absurd (false≢true none)
+    written same request asks (Migrating work) eq some_row = with (asking plan journal Insp entry.asked going.standing.tabled.all.tool.server (subst (λ (a : Actor). given plan journal a ≡ Some entry.asked) same (gives_asked plan journal entry entry.asked run.followed.given refl (λ cut. no (sym asks ∙ cut))))) where
       no : Call request ≡ Cut → ⊥
       no both = cc
 
-      hinting : work.cutover.phase ≡ Attempting Hinting
-      hinting = hints_so work.cutover.phase some_hint
+      by_phase : (other : Request) → entry.asked ≡ Call other → Inspects plan journal now.tool work other → (work.cutover.phase ≡ Resting) ⊎ (work.cutover.phase ≡ Attempting Hinting) → IsNumbered plan more
+      by_phase other asks_it call (inl resting) = let note = note_fits plan journal now.tool work other notes call resting in note_more off_now is work eq same note.0 note.1 (asks_it ∙ ap Call note.2)
+      by_phase other asks_it call (inr hinting) = hint_more off_now is work eq hinting same (asks_it ∙ ap Call (asked_hint work (subst (ToolPhaseIsNamed plan) eq (named plan journal)).cutover hinting other call))
 
       with : Asking plan journal Insp entry.asked → IsNumbered plan more
       with (polls_so other asks_it waits) = absurd (no_poll (sym asks_it ∙ asks)) where
         no_poll : Poll ≡ Call request → ⊥
         no_poll both = cc
-      with (calls_so other asks_it idle call) = hint_more off_now is work eq hinting same (asks_it ∙ ap Call (asked_hint work eq hinting other call))
+      with (calls_so other asks_it idle call) =
+          by_phase other asks_it (inspects plan journal now.tool work other (ap (λ (c : ToolPhase). tool_call plan now.server journal now.tool c Insp) (sym eq) ∙ call)) (writes_so work.cutover.phase some_row)
 
-    called_so : entry.actor ≡ Insp → (request : Request) → entry.asked ≡ Call request → (b : Bool) → is_hinting now.tool.tool_phase ≡ b → IsNumbered plan more
-    called_so same request asks false none = quiet off is (insp_away off is same (unhinted none))
-    called_so same request asks true some_hint = hinted same request asks now.tool.tool_phase refl some_hint
+    called_so : entry.actor ≡ Insp → (request : Request) → entry.asked ≡ Call request → (b : Bool) → is_writing now.tool.tool_phase ≡ b → IsNumbered plan more
+    called_so same request asks false none = quiet off is (insp_away off is same (away none))
+    called_so same request asks true some_row = written same request asks now.tool.tool_phase refl some_row
 
     own : entry.actor ≡ Insp → (asked : Asked) → entry.asked ≡ asked → IsNumbered plan more
-    own same (Call request) asks = called_so same request asks (is_hinting now.tool.tool_phase) refl
+    own same (Call request) asks = called_so same request asks (is_writing now.tool.tool_phase) refl
     own same Poll asks = polled same (ap is_command asks) (λ request is_about. subst (λ (a : Asked). about open_now entry.session a ≡ Some request) asks is_about)
     own same Cut asks = polled same (ap is_command asks) (λ request is_about. subst (λ (a : Asked). about open_now entry.session a ≡ Some request) asks is_about)
     own same (Command word) asks = quiet off is (λ request is_about. absurd (none-some request (subst (λ (a : Asked). about open_now entry.session a ≡ Some request) asks is_about)))
@@ -502,21 +456,14 @@ numbered_begins : (plan : PlanData) → IsNumbered plan []
 unfolding moment
 numbered_begins plan past = absurd (false≢true past)
 
-all_numbered : (plan : PlanData) (journal : List Entry) → IsRunnable plan → IsSerialPlan plan → 1 ≤ plan.options.default_retries → plan.options.default_retries ≤ most_tries → IsKept plan journal → IsUnaltered plan journal → IsNumbered plan journal
-all_numbered plan journal runs serial some few kept =
-    each_kept plan (λ before. IsUnaltered plan before → IsNumbered plan before) (λ before entry one is off. numbered_more plan runs serial some few before entry one off (is (unaltered_front plan before (entry ∷ []) off))) journal kept (λ off. numbered_begins plan)
-
--- while an attempt may succeed the RENAME isn't done
-attempt_unaltered : (plan : PlanData) (journal : List Entry) (work : Work) → IsRunnable plan → IsSerialPlan plan → IsKept plan journal → (moment plan journal).tool.tool_phase ≡ Migrating work → work.cutover.phase ≡ Attempting Hinting → IsUnaltered plan journal
-attempt_unaltered plan journal work runs serial kept eq hinting = by (list_any is_alter (histories.history plan journal)) refl where
-  by : (b : Bool) → list_any is_alter (histories.history plan journal) ≡ b → b ≡ false
-  by false off = refl
-  by true marked = absurd (subst (IsRenamedAt plan (state_at plan journal).tables) hinting (subst (ToolPhaseRenamed plan (state_at plan journal).tables) eq (all_seen plan journal runs serial kept.faithful kept.follows marked)))
+all_numbered : (plan : PlanData) (journal : List Entry) → IsRunnable plan → IsSerialPlan plan → 1 ≤ plan.options.default_retries → plan.options.default_retries ≤ most_tries → plan.options.notes ≤ most_notes → IsKept plan journal → IsUnaltered plan journal → IsNumbered plan journal
+all_numbered plan journal runs serial some few notes kept =
+    each_kept plan (λ before. IsUnaltered plan before → IsNumbered plan before) (λ before entry one is off. numbered_more plan runs serial some few notes before entry one off (is (unaltered_front plan before (entry ∷ []) off))) journal kept (λ off. numbered_begins plan)
 
 -- *The hint row goes on*
-pub hint_goes : (plan : PlanData) (before : List Entry) (entry : Entry) (work : Work) → IsRunnable plan → IsSerialPlan plan → 1 ≤ plan.options.default_retries → plan.options.default_retries ≤ most_tries → IsKept plan (before ++ entry ∷ []) → (moment plan before).tool.tool_phase ≡ Migrating work → work.cutover.phase ≡ Attempting Hinting → entry.actor ≡ Insp
+pub hint_goes : (plan : PlanData) (before : List Entry) (entry : Entry) (work : Work) → IsRunnable plan → IsSerialPlan plan → MayTry plan → IsKept plan (before ++ entry ∷ []) → (moment plan before).tool.tool_phase ≡ Migrating work → work.cutover.phase ≡ Attempting Hinting → entry.actor ≡ Insp
     → entry.asked ≡ Call (writes_hint plan.table work.cutover.attempts) → entry.side ≡ None → IsOk entry.answer
-hint_goes plan before entry work runs serial some few kept eq hinting same asks none =
+hint_goes plan before entry work runs serial tries kept eq hinting same asks none =
     let front : IsKept plan before = kept_front plan before (entry ∷ []) kept in
-    let off : IsUnaltered plan before = attempt_unaltered plan before work runs serial front eq hinting in
-    hint_ok plan runs serial some few before entry kept off (all_numbered plan before runs serial some few front off) work eq hinting same asks none
+    let off : IsUnaltered plan before = unrenamed plan before work (Attempting Hinting) runs serial front eq hinting (λ never. never) in
+    hint_ok plan runs serial tries.some tries.few tries.notes before entry kept off (all_numbered plan before runs serial tries.some tries.few tries.notes front off) work eq hinting same asks none

@@ -1,6 +1,5 @@
--- The INSERT of an attempt's hint row is done, where its number is new; and the next attempt's is new then.
-use Rattle.proof_migration.proofs.ToolServes.{filled_so}
-use Rattle.std.proofs.Common.{◌≡◌, ◌≤◌, ℕ, ◌+◌, pos, Bool, true, false, cond, List, [], ◌∷◌, ◌++◌, Some, None, Result, refl, sym, ap, ◌∙◌, subst, arith}
+-- The INSERT of an attempt's hint row writes it, where its number is new; and the next attempt's is new then.
+use Rattle.std.proofs.Common.{◌≡◌, ◌≤◌, ℕ, ◌+◌, pos, Bool, true, cond, List, [], ◌∷◌, ◌++◌, Some, None, Result, refl, sym, ap, ◌∙◌, subst, arith}
 use Rattle.std.specs.Prelude.{nat_lt}
 use Rattle.std.specs.Fmt.{signed_decimal}
 use Rattle.std.specs.Str.{bytes_eq}
@@ -16,87 +15,39 @@ use Rattle.base_values.specs.GhoSchema.ClusteredKey.{clustered_among}
 use Rattle.base_values.specs.GhoSchema.Rows.{key_places, with_row}
 use Rattle.base_values.specs.ToolNames.{log_name}
 use Rattle.table_store.specs.Databases.{Database, TableRows, find_table}
-use Rattle.server_model.specs.declared.request.Request.{Request}
 use Rattle.server_model.specs.Answers.{refuses}
 use Rattle.server_model.specs.Checks.{new_row, or_refused, work_of}
 use Rattle.server_model.specs.declared.answer.Answer.{Answer}
 use Rattle.server_model.specs.declared.answer.Answer.TheVariants as answers
-use Rattle.server_model.specs.declared.work.StatementResult.{StatementResult}
 use Rattle.server_model.specs.declared.work.Work.TheVariants as works
-use Rattle.server_model.specs.Effects.{effect_unless, is_outside}
 use Rattle.server_model.specs.Operations.{after_events, operation_of, operation_result, result_in, result_of, statement_result}
-use Rattle.server_model.specs.PlainServer.{Served, does, done, did}
 use Rattle.server_model.specs.Rows.{change_rows}
-use Rattle.server_model.specs.States.{State, is_in_transaction, is_of_tool, session_of, view, writes_of}
 use Rattle.server_model.specs.StatementResults.{only, tells}
 use Rattle.server_model.proofs.LockedRows.Finding.{change_if, found_after}
 use Rattle.server_model.proofs.LockedRows.Tests.{same_bytes}
 use Rattle.tool_changelog.specs.Hints.{hint_in, hint_of, hint_row, last_hint, or_last}
 use Rattle.tool_changelog.specs.ToolTables.{log_schema}
-use Rattle.tool_program.specs.CutoverCore.Attempts.{writes_hint}
 use Rattle.proof_migration.proofs.Program.InspectorTurns.Hints.{hint_event, hint_insert}
 use Rattle.proof_bounds.specs.AttemptTurns.Attempts.{most_tries}
 use Rattle.proof_bounds.proofs.AttemptTurns.HintRows.{AllBelow, hint_made, hint_new, more_below, row_below}
 
--- the numbers of the changelog's rows are those of its hint rows at most
+-- the numbers of the changelog's rows are those of its hint rows at most, but for heartbeats
 abbrev pub AllNumbered : List ℕ → Database → List RowEvent → Type 0
 AllNumbered t tables log = (table : TableRows) → find_table (log_name t) tables ≡ Some table → AllBelow (last_hint t 0 log + 1) table.rows
 
 -- WHAT IT GIVES
 
-log_key : (t : List ℕ) → key_places (log_schema t) ≡ 0 ∷ []
+pub log_key : (t : List ℕ) → key_places (log_schema t) ≡ 0 ∷ []
 unfolding log_schema clustered_among
 log_key t = refl
 
-hint_result : (t : List ℕ) (n : ℕ) (tables : Database) (table : TableRows) → find_table (log_name t) tables ≡ Some table → table.schema ≡ log_schema t → n ≤ most_tries → AllBelow n table.rows → statement_result tables (hint_insert t n) ≡ record { answer = answers.Ok 1; events = hint_event t n ∷ [] }
+pub hint_result : (t : List ℕ) (n : ℕ) (tables : Database) (table : TableRows) → find_table (log_name t) tables ≡ Some table → table.schema ≡ log_schema t → n ≤ most_tries → AllBelow n table.rows → statement_result tables (hint_insert t n) ≡ record { answer = answers.Ok 1; events = hint_event t n ∷ [] }
 unfolding operation_result work_of tells log_schema
 hint_result t n tables table found schema few below =
     ap (result_in (operation_of (hint_insert t n))) found
     ∙ ap (λ (s : Schema). result_of (log_name t) (tells s table.rows (or_refused (new_row s None (hint_row n)) works.Insert))) schema
     ∙ ap (λ (made : Result (List Value) Answer). result_of (log_name t) (tells (log_schema t) table.rows (or_refused made works.Insert))) (hint_made t n few)
-    ∙ ap (λ (b : Bool). result_of (log_name t) (cond b (only (refuses ER_DUP_ENTRY)) (record { answer = answers.Ok 1; changes = Write (hint_row n) ∷ [] }))) (hint_new n table.rows below)
-
--- WHERE IT IS DONE
-
-pub record HintDone (t : List ℕ) (n : ℕ) (state : State) (served : Served) : Type 0 where
-  pub answer : served.answer ≡ answers.Ok 1
-  pub tables : served.after.tables ≡ after_events state.tables (hint_event t n ∷ [])
-  pub log : served.after.log ≡ state.log ++ hint_event t n ∷ []
-
--- by a session of the tool's that holds no table lock and is in no transaction
-hint_did : (t : List ℕ) (n : ℕ) (state : State) (number : ℕ) (table : TableRows) → is_outside (session_of number state.sessions) (writes_hint t n) ≡ false → is_in_transaction (session_of number state.sessions) ≡ false → writes_of (session_of number state.sessions) ≡ [] → find_table (log_name t) state.tables ≡ Some table
-    → table.schema ≡ log_schema t → n ≤ most_tries → AllBelow n table.rows → HintDone t n state (did state number (writes_hint t n))
-unfolding did after_events
-hint_did t n state number table inside idle none found schema few below = record {
-  answer = by (λ (s : Served). s.answer) ∙ ap (λ (r : StatementResult). r.answer) result;
-  tables = by_tables ∙ ap (λ (r : StatementResult). after_events state.tables (writes_of (session_of number state.sessions) ++ r.events)) result ∙ ap (λ (w : List RowEvent). after_events state.tables (w ++ hint_event t n ∷ [])) none;
-  log = by_log ∙ ap (λ (r : StatementResult). state.log ++ (writes_of (session_of number state.sessions) ++ r.events)) result ∙ ap (λ (w : List RowEvent). state.log ++ (w ++ hint_event t n ∷ [])) none;
-} where
-  seen : Database
-  seen = view number state
-
-  served : Bool → Bool → Served
-  served outside busy = does (effect_unless outside busy seen state (writes_hint t n)) state number
-
-  inner : served (is_outside (session_of number state.sessions) (writes_hint t n)) (is_in_transaction (session_of number state.sessions)) ≡ served false false
-  inner = ap (λ (b : Bool). served b (is_in_transaction (session_of number state.sessions))) inside ∙ ap (served false) idle
-
-  by : {A : Type 0} (f : Served → A) → f (served (is_outside (session_of number state.sessions) (writes_hint t n)) (is_in_transaction (session_of number state.sessions))) ≡ f (served false false)
-  by f = ap f inner
-
-  by_tables : (served (is_outside (session_of number state.sessions) (writes_hint t n)) (is_in_transaction (session_of number state.sessions))).after.tables ≡ after_events state.tables (writes_of (session_of number state.sessions) ++ (statement_result seen (hint_insert t n)).events)
-  by_tables = ap (λ (s : Served). s.after.tables) inner
-
-  by_log : (served (is_outside (session_of number state.sessions) (writes_hint t n)) (is_in_transaction (session_of number state.sessions))).after.log ≡ state.log ++ (writes_of (session_of number state.sessions) ++ (statement_result seen (hint_insert t n)).events)
-  by_log = ap (λ (s : Served). s.after.log) inner
-
-  result : statement_result seen (hint_insert t n) ≡ record { answer = answers.Ok 1; events = hint_event t n ∷ [] }
-  result = hint_result t n seen table (ap (λ (w : List RowEvent). find_table (log_name t) (after_events state.tables w)) none ∙ found) schema few below
-
-pub hint_done : (t : List ℕ) (n : ℕ) (state : State) (number : ℕ) (table : TableRows) → is_of_tool (session_of number state.sessions) ≡ true → is_outside (session_of number state.sessions) (writes_hint t n) ≡ false → is_in_transaction (session_of number state.sessions) ≡ false
-    → writes_of (session_of number state.sessions) ≡ [] → find_table (log_name t) state.tables ≡ Some table → table.schema ≡ log_schema t → n ≤ most_tries → AllBelow n table.rows → HintDone t n state (done state number (writes_hint t n))
-hint_done t n state number table tool inside idle none found schema few below =
-    subst (λ (r : Request). HintDone t n state (did state number r)) (sym (filled_so state number (writes_hint t n) tool)) (hint_did t n state number table inside idle none found schema few below)
+    ∙ ap (λ (b : Bool). result_of (log_name t) (cond b (only (refuses ER_DUP_ENTRY)) (record { answer = answers.Ok 1; changes = Write (hint_row n) ∷ [] }))) (hint_new n table.rows few below)
 
 -- WHAT IS KNOWN AFTERWARDS
 

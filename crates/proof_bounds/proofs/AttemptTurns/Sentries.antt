@@ -40,7 +40,6 @@ use Rattle.tool_program.specs.declared.cutover_core.cutover.Role.TheVariants.{In
 use Rattle.tool_program.specs.declared.cutover_core.cutover.Stage.{Stage}
 use Rattle.tool_program.specs.declared.cutover_core.cutover.Stage.TheVariants.{Guarding, Locking, Hinting, ReadingCounter, SettingCounter, Draining, Drained, Showing, Dropping, Unlocking, Exchanging}
 use Rattle.tool_program.specs.declared.cutover_core.cutover.Drain.{Drain}
-use Rattle.tool_program.specs.declared.cutover_core.cutover.Drain.TheVariants.{Turns, Passed}
 use Rattle.tool_program.specs.CutoverCore.Attempts as attempts
 use Rattle.tool_program.specs.CutoverCore.Attempts.{exchange, clears, first_name, is_clear, is_free, has_name, has_sentry, without_first}
 use Rattle.tool_program.specs.CutoverCore.CutOvers as cutovers
@@ -57,6 +56,7 @@ use Rattle.proof_journals.specs.Machine.Runnable.{IsRunnable}
 use Rattle.proof_journals.specs.Machine.Standings.{Standing, standing_in, standing_of, answers_to, serves_to, IsAbout, is_called, is_polled}
 use Rattle.proof_journals.proofs.Machine.Asking.{some_request}
 use Rattle.proof_journals.proofs.Machine.CuttingOver.{LockerAsks}
+use Rattle.proof_journals.proofs.Machine.Inspecting.{Inspects, inspects, notes_so, cuts_so}
 use Rattle.proof_journals.proofs.Machine.Journals.{IsRun, IsTogether, Asking, calls_so, polls_so, asking, lock_about, ren_about}
 use Rattle.proof_journals.proofs.Machine.Schemas.{is_quiet}
 use Rattle.proof_journals.proofs.Machine.Seated.{IsKnown, IsServed, IsOpen, is_open, own_fits, own_heard, own_missed}
@@ -74,10 +74,10 @@ use Rattle.proof_migration.proofs.ToolPhase.Owners.{together_owned}
 use Rattle.proof_migration.proofs.ToolPhase.ToolPhaseTurns.{Kept, UnfitKeeps, CopyKeeps, ApplyKeeps, SetupKeeps, AnswerKeeps, ResizeKeeps, turn_kept, gives_asked}
 use Rattle.proof_migration.specs.InspectorWaits.{SetsCounter}
 use Rattle.proof_bounds.specs.Guards.{HasSentryAtOnce, WaitsForNoSentry}
-use Rattle.proof_bounds.proofs.FreeNames.{IsAway, away_forbidden, away_free, free_name, drops_ok}
+use Rattle.proof_migration.proofs.HeldNames.FreeNames.{IsAway, away_forbidden, away_free, free_name, drops_ok}
 use Rattle.proof_bounds.proofs.Going.{IsGoing, all_going, insp_idle, insp_unlocked, insp_waits, polled_ends}
 use Rattle.proof_bounds.proofs.Guards.{sentries_made}
-use Rattle.proof_bounds.proofs.Holders.{each_kept}
+use Rattle.proof_migration.proofs.HeldNames.Holders.{each_kept}
 use Rattle.proof_bounds.proofs.Leftovers.{has_stays, old_is_tool}
 use Rattle.proof_bounds.specs.AttemptTurns.Attempts.{IsAt, IsNotRefused}
 
@@ -485,16 +485,22 @@ module _ (plan : PlanData) (runs : IsRunnable plan) (journal : List Entry) (entr
       insp_next (Ending (Drops left)) at_phase call = ending_drops left (λ none. clears_ok left at_phase call none)
       insp_next (Finishing cleared) at_phase call = λ need. absurd (finished_none work.cutover cleared entry.answer need)
 
+      -- while a note's row is written no attempt stands
+      insp_asked : Inspects plan journal now.tool work request → Becomes (inspector_phase work.cutover phase entry.answer)
+      unfolding attempts.next
+      insp_asked (cuts_so off next) = insp_next phase refl next
+      insp_asked (notes_so note resting onward next) = subst (λ (p : Phase). Becomes (inspector_phase work.cutover p entry.answer)) (sym resting) (λ need. absurd (false≢true need))
+
     none_some : {A : Type 0} (request : Request) (waits : Option Request) → waits ≡ None → waits ≡ Some request → A
     none_some request waits none some = absurd (no (sym none ∙ some)) where
       no : None ≡ Some request → ⊥
       no same = cc
 
     insp_turn : entry.actor ≡ Insp → Asking plan journal Insp entry.asked → (tries : List ℕ) → New (is_reverting now.tool.reason) (Migrating (record work { cutover = cutovers.took Inspector work.cutover entry.answer; attempt_tries = tries }))
-    unfolding cutovers.took attempts.next
+    unfolding cutovers.took
     insp_turn same (polls_so request asks some) tries =
         polled_on phase refl request (about_own plan journal entry going.standing run Insp request same (is_polled asks some)) (insp_waits plan runs journal entry kept run going (Migrating work) eq request some).0
-    insp_turn same (calls_so request asks idle call) tries = insp_next same request asks phase refl (ap (λ (c : ToolPhase). tool_call plan now.server journal now.tool c Insp) (sym eq) ∙ call)
+    insp_turn same (calls_so request asks idle call) tries = insp_asked same request asks (inspects plan journal now.tool work request (ap (λ (c : ToolPhase). tool_call plan now.server journal now.tool c Insp) (sym eq) ∙ call))
 
     insp_lost : AllStay before after → (tries : List ℕ) → New (is_reverting now.tool.reason) (Migrating (record work { cutover = cutovers.took Inspector work.cutover answers.Lost; attempt_tries = tries }))
     unfolding cutovers.took

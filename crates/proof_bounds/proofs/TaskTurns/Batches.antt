@@ -61,7 +61,7 @@ use Rattle.proof_bounds.specs.Laws.{MayWait}
 use Rattle.proof_bounds.specs.Parts.{OfBatches, rolls_back as is_rollback, part_of, same_part, turns_of_part}
 use Rattle.proof_bounds.specs.Tries.{ToolPhaseRoom}
 use Rattle.proof_bounds.proofs.Counting.{count_none}
-use Rattle.proof_bounds.proofs.Holders.{each_kept}
+use Rattle.proof_migration.proofs.HeldNames.Holders.{each_kept}
 use Rattle.proof_bounds.proofs.Tries.{tries_few}
 use Rattle.proof_bounds.proofs.Waits.{waited_by, IsCounted, counted_more, counted_begins, idle_waited, others_wait, waits_cut, waits_end, waits_on, waits_short}
 use Rattle.proof_bounds.specs.TaskTurns.Answers.{BatchAnswer, IsClash, left_at}
@@ -191,7 +191,7 @@ module _ (defined : DefinitionsAreDone) (plan : PlanData) (runs : IsRunnable pla
   bound = (measures plan).tries
 
   abbrev limit : ℕ
-  limit = (events (measures plan) + (measures plan).tries) * tries_turns (measures plan)
+  limit = (events (measures plan) + 4 * (measures plan).notes + (measures plan).tries) * tries_turns (measures plan)
 
   abbrev altered : List Entry → Bool
   altered journal = list_any is_alter (history plan journal)

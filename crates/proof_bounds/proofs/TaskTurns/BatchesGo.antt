@@ -10,8 +10,6 @@ use Rattle.base_script.specs.declared.actor.Actor.TheVariants.{Apply}
 use Rattle.base_script.specs.declared.actor.Side.{Side}
 use Rattle.base_script.specs.declared.statement.Statement.{Statement}
 use Rattle.base_values.proofs.SchemaRules.Lists.{All-at}
-use Rattle.base_values.specs.GhoSchema.Rows.{key_places}
-use Rattle.base_values.specs.declared.gho_schema.schema.Schema.{Schema}
 use Rattle.base_values.specs.Laws.{StoresAgain}
 use Rattle.base_values.specs.ToolNames.{log_name}
 use Rattle.base_values.specs.declared.event.RowEvent.{RowEvent}
@@ -94,7 +92,7 @@ use Rattle.proof_migration.proofs.Program.Turns.Follows.{kept_front}
 use Rattle.proof_migration.proofs.ToolPhase.CopyAnswers.{not_outside}
 use Rattle.proof_migration.proofs.ToolPhase.Hearing.{IsFoundBy, opened_tables, own_answer}
 use Rattle.proof_migration.proofs.Unfit.Known.{IsKnownTurn, known_turn}
-use Rattle.proof_bounds.proofs.Holders.{IsHeldWell, all_held_well}
+use Rattle.proof_migration.proofs.HeldNames.Holders.{IsHeldWell, all_held_well}
 use Rattle.proof_bounds.specs.TaskTurns.Answers.{BatchAnswer, IsChange, IsClash, left_at}
 use Rattle.proof_bounds.specs.TaskTurns.Batches.{BatchesGoOn, doings_at, statements_most}
 use Rattle.proof_bounds.proofs.TaskTurns.BatchSteps.{PartFits, plans_of}

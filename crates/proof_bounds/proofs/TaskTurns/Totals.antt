@@ -32,7 +32,7 @@ use Rattle.proof_bounds.specs.Laws.{MayWait}
 use Rattle.proof_bounds.specs.Parts.{OfBatches, OfChunks, part_of, rolls_back as is_rollback, same_part, turns_of_part}
 use Rattle.proof_bounds.specs.Terms.{term_of}
 use Rattle.proof_bounds.proofs.Counting.{count_none}
-use Rattle.proof_bounds.proofs.Holders.{each_kept}
+use Rattle.proof_migration.proofs.HeldNames.Holders.{each_kept}
 use Rattle.proof_bounds.specs.TaskTurns.Chunks.{ChunksGoOn, RowsStayFew}
 use Rattle.proof_bounds.specs.TaskTurns.Totals.{BatchesStayWithin, ChunksStayWithin, NumbersStayFew}
 use Rattle.proof_bounds.proofs.TaskTurns.Batches.{batch_few}
@@ -163,5 +163,5 @@ batches_term events tries each = grind arith
 pub batches_stay : ServerLaws → BatchesStayWithin
 unfolding term_of
 batches_stay laws plan alterable runs serial may some logs journal kept =
-    subst (λ (n : ℕ). turns_of_part OfBatches plan journal ≤ n) (batches_term (events (measures plan)) (measures plan).tries (3 * (measures plan).batch * (1 + (measures plan).tool_wait) + 3))
+    subst (λ (n : ℕ). turns_of_part OfBatches plan journal ≤ n) (batches_term (events (measures plan) + 4 * (measures plan).notes) (measures plan).tries (3 * (measures plan).batch * (1 + (measures plan).tool_wait) + 3))
     (batch_few laws.defined plan journal runs serial may some (batches_go laws plan alterable runs serial) logs kept)

@@ -69,7 +69,7 @@ use Rattle.proof_migration.proofs.ToolPhase.Unaltered.Away.{unaltered_front}
 use Rattle.proof_migration.proofs.ToolPhase.Unaltered.Runs.{unaltered_runs}
 use Rattle.proof_migration.proofs.Unfit.Known.{IsKnownTurn, known_turn}
 use Rattle.proof_bounds.specs.Rows.{all_keys}
-use Rattle.proof_bounds.proofs.Holders.{all_held_well}
+use Rattle.proof_migration.proofs.HeldNames.Holders.{all_held_well}
 use Rattle.proof_bounds.specs.Volumes.Laws.{ChunksAreFew}
 use Rattle.proof_bounds.proofs.Volumes.ChunkAnswers.{RangeSays, end_said, range_said, span_said}
 use Rattle.proof_bounds.proofs.Volumes.Chunks.{AsksSo, CopierCounted, RangeCounted, SaysAt, StepCounted, again, answered_so, asks_later, copier_later, few_chunks, next_asks, resized_counted, took_range, waits_going, waits_took}

@@ -1,15 +1,19 @@
--- The INSERT of an attempt's hint row logs one event of the changelog at most.
+-- The INSERT of an attempt's hint row logs one event of the changelog at most, and the REPLACE of a note's row two.
 use Rattle.proof_migration.proofs.ToolServes.{filled_so}
-use Rattle.std.proofs.Common.{◌≡◌, ◌≤◌, ℕ, ◌+◌, Bool, true, false, cond, ◌||◌, List, [], ◌∷◌, ◌++◌, Option, Some, None, Result, Ok, Err, refl, ap, ◌∙◌, subst, arith}
+use Rattle.std.proofs.Common.{◌≡◌, ◌≤◌, ℕ, ◌+◌, Bool, true, false, cond, ◌||◌, List, [], ◌∷◌, ◌++◌, map, length, filter, Option, Some, None, Result, Ok, Err, refl, sym, ap, ◌∙◌, subst, arith}
 use Rattle.std.specs.List.{list_any}
 use Rattle.std.specs.Str.{bytes_eq}
+use Rattle.std.proofs.lemmas.List.{length-map, length-append}
 use Rattle.std.proofs.lemmas.List.Sums.{sum_by-cons}
+use Rattle.base_script.specs.declared.statement.Statement.{Statement}
+use Rattle.base_values.specs.declared.event.Change.{Change}
 use Rattle.base_values.specs.declared.event.Change.TheVariants as changes
 use Rattle.base_values.specs.declared.event.RowEvent.{RowEvent}
 use Rattle.base_values.specs.declared.gho_schema.schema.Schema.{Schema}
+use Rattle.base_values.specs.declared.gho_schema.schema.Index.{Index}
 use Rattle.base_values.specs.declared.mysql_errors.TheConstants.{ER_DUP_ENTRY, ER_TABLE_NOT_LOCKED}
 use Rattle.base_values.specs.declared.value.Value.{Value}
-use Rattle.base_values.specs.GhoSchema.Tables.{clash}
+use Rattle.base_values.specs.GhoSchema.Tables.{Apart, IsTable, clash}
 use Rattle.base_values.specs.ToolNames.{log_name}
 use Rattle.table_store.specs.Databases.{Database, TableRows, find_table}
 use Rattle.server_model.specs.declared.answer.Answer.{Answer}
@@ -27,9 +31,10 @@ use Rattle.server_model.specs.Effects.{Effect, effect, result_effect}
 use Rattle.server_model.specs.Effects.Effect.{Rests, Writes}
 use Rattle.server_model.specs.Entries.{is_cut}
 use Rattle.server_model.specs.Operations.{events_of, operation_of, operation_result, result_in}
-use Rattle.server_model.specs.StatementResults.{only, tells}
+use Rattle.server_model.specs.StatementResults.{displaced, only, tells}
 use Rattle.server_model.specs.States.{State, is_of, is_of_tool, session_of}
 use Rattle.tool_changelog.specs.Hints.{hint_row}
+use Rattle.tool_changelog.specs.ToolTables.{first_is_primary, log_schema}
 use Rattle.tool_program.specs.JournalWords.Journals.{opens}
 use Rattle.proof_journals.specs.Ghost.EffectStates.{EffectLeaves, is_lost, reported_done, was_done, where_done}
 use Rattle.proof_journals.specs.Ghost.Invariant.{NotOf}
@@ -43,6 +48,7 @@ use Rattle.proof_migration.proofs.Migration.Copier.Served.{Deeded, deeded, seen_
 use Rattle.proof_migration.proofs.Migration.Copier.Served.Deeded.{outside_so, within_so}
 use Rattle.proof_migration.proofs.Program.Hints.Logging.{NoneWrote}
 use Rattle.proof_migration.proofs.Program.Hints.Writes.{hint_insert}
+use Rattle.proof_bounds.proofs.AttemptTurns.NoteRows.{log_uniques, note_write, one_gone}
 use Rattle.proof_bounds.proofs.Volumes.LineEvents.{count_both, count_of}
 
 -- COUNTING
@@ -75,17 +81,45 @@ made_few name schema rows (Ok row) = row_few name schema rows row
 made_few name schema rows (Err refusal) = omega arith
 
 -- *The INSERT writes one row at most*
-insert_few : (t : List ℕ) (attempt : ℕ) (seen : Database) → count_of (log_name t) (operation_result seen (operation_of (hint_insert t attempt))).events ≤ 1
+pub insert_few : (t : List ℕ) (attempt : ℕ) (seen : Database) → count_of (log_name t) (operation_result seen (operation_of (hint_insert t attempt))).events ≤ 1
 unfolding operation_result work_of
 insert_few t attempt seen = by (find_table (log_name t) seen) where
   by : (found : Option TableRows) → count_of (log_name t) (result_in (operation_of (hint_insert t attempt)) found).events ≤ 1
   by None = omega arith
   by (Some table) = made_few (log_name t) table.schema table.rows (new_row table.schema None (hint_row attempt))
 
+-- the row of a note, in place of one at most
+changes_few : (name : List ℕ) (all : List Change) → count_of name (events_of name all) ≤ length all
+changes_few name [] = omega arith
+changes_few name (change ∷ all) =
+    let a = count_both name (record { table = name; change = change } ∷ []) (events_of name all) in
+    let b = one_event name (record { table = name; change = change }) in
+    let c = changes_few name all in
+    omega (arith, a, b, c)
+
+-- *The REPLACE writes two at most*, where no two rows of the changelog have one number
+pub replace_few : (t : List ℕ) (row : List Value) (seen : Database) (table : TableRows) → find_table (log_name t) seen ≡ Some table → table.schema ≡ log_schema t → IsTable table.schema table.rows → count_of (log_name t) (operation_result seen (operation_of (note_write t row))).events ≤ 2
+unfolding operation_result work_of tells
+replace_few t row seen table found schema is = subst (λ (f : Option TableRows). count_of (log_name t) (result_in (operation_of (note_write t row)) f).events ≤ 2) (sym found) (by (new_row table.schema None row)) where
+  own_uniques : table.schema.uniques ≡ first_is_primary
+  own_uniques = ap (λ (s : Schema). s.uniques) schema ∙ log_uniques t
+
+  apart : Apart first_is_primary table.rows
+  apart = subst (λ (uniques : List Index). Apart uniques table.rows) own_uniques is.apart
+
+  by : (made : Result (List Value) Answer) → count_of (log_name t) (result_in (record { table = log_name t; work = λ one. or_refused made works.Replace }) (Some table)).events ≤ 2
+  by (Err refusal) = omega arith
+  by (Ok stored) =
+      let a = changes_few (log_name t) (map changes.Delete (displaced table.schema stored table.rows) ++ changes.Write stored ∷ []) in
+      let b = length-append (map changes.Delete (displaced table.schema stored table.rows)) (changes.Write stored ∷ []) in
+      let c = length-map (displaced table.schema stored table.rows) changes.Delete in
+      let d : length (displaced table.schema stored table.rows) ≤ 1 = subst (λ (uniques : List Index). length (filter (clash uniques stored) table.rows) ≤ 1) (sym own_uniques) (one_gone stored table.rows apart) in
+      omega (arith, a, b, c, d)
+
 -- ONE TURN
 
-module _ (t : List ℕ) (limits : Limits) (scene : Scene) (journal : List Entry) (entry : Entry) (more : IsSceneRun limits scene (journal ++ entry ∷ [])) (none_wrote : NoneWrote t (scene_state limits scene journal)) (attempt : ℕ) (uncut : is_cut entry.asked ≡ false)
-    (asked : about (opens entry (scene_state limits scene journal)) entry.session entry.asked ≡ Some (requests.Do (hint_insert t attempt))) (idle : (face_of (scene_state limits scene journal).sessions entry.session).busy ≡ false)
+module _ (t : List ℕ) (limits : Limits) (scene : Scene) (journal : List Entry) (entry : Entry) (more : IsSceneRun limits scene (journal ++ entry ∷ [])) (none_wrote : NoneWrote t (scene_state limits scene journal)) (statement : Statement) (most : ℕ) (few : count_of (log_name t) (operation_result (seen_of (scene_state limits scene journal) entry.session) (operation_of statement)).events ≤ most) (uncut : is_cut entry.asked ≡ false)
+    (asked : about (opens entry (scene_state limits scene journal)) entry.session entry.asked ≡ Some (requests.Do statement)) (idle : (face_of (scene_state limits scene journal).sessions entry.session).busy ≡ false)
     (tool : is_of_tool (session_of entry.session (opens entry (scene_state limits scene journal)).sessions) ≡ true) where
   abbrev before : State
   before = scene_state limits scene journal
@@ -97,10 +131,10 @@ module _ (t : List ℕ) (limits : Limits) (scene : Scene) (journal : List Entry)
   own = holds_of before entry.session
 
   abbrev request : Request
-  request = requests.Do (hint_insert t attempt)
+  request = requests.Do statement
 
   abbrev Goal : Type 0
-  Goal = count_of (log_name t) after.log ≤ count_of (log_name t) before.log + 1
+  Goal = count_of (log_name t) after.log ≤ count_of (log_name t) before.log + most
 
   run : IsSceneRun limits scene journal
   run = run_front limits scene journal (entry ∷ []) more
@@ -118,7 +152,7 @@ module _ (t : List ℕ) (limits : Limits) (scene : Scene) (journal : List Entry)
   effect_now = effect (where_done entry.asked entry.session (opens entry before)) entry.session request
 
   abbrev result : StatementResult
-  result = operation_result (seen_of before entry.session) (operation_of (hint_insert t attempt))
+  result = operation_result (seen_of before entry.session) (operation_of statement)
 
   module _ (given : Answer) (reported : reported_at entry.side entry.answer entry.missed ≡ Some given) (done : was_done given ≡ true) where
     left_as : (one : Effect) → effect_now ≡ one → EffectLeaves one (is_lost entry.side) entry.session (stored before) (stored after) (holds_of before) (holds_of after)
@@ -134,7 +168,7 @@ module _ (t : List ℕ) (limits : Limits) (scene : Scene) (journal : List Entry)
         let a : count_of (log_name t) after.log ≡ count_of (log_name t) before.log + count_of (log_name t) (own.writes ++ result.events) = ap (count_of (log_name t)) all.1 ∙ count_both (log_name t) before.log (own.writes ++ result.events) in
         let b = count_both (log_name t) own.writes result.events in
         let c = away_count (log_name t) own.writes (none_wrote entry.session) in
-        let d = insert_few t attempt (seen_of before entry.session) in
+        let d = few in
         omega (arith, a, b, c, d)
 
     done_goal : Goal
@@ -148,6 +182,6 @@ module _ (t : List ℕ) (limits : Limits) (scene : Scene) (journal : List Entry)
   reported_goal None reported true done = absurd (let no : false ≡ true = done in cc)
   reported_goal (Some given) reported true done = done_goal given reported done
 
-  -- *One event at most is logged of the changelog*
-  pub hint_grows : Goal
-  hint_grows = reported_goal (reported_at entry.side entry.answer entry.missed) refl (reported_done (reported_at entry.side entry.answer entry.missed)) refl
+  -- *No more events are logged of the changelog* than the statement writes
+  pub row_grows : Goal
+  row_grows = reported_goal (reported_at entry.side entry.answer entry.missed) refl (reported_done (reported_at entry.side entry.answer entry.missed)) refl

@@ -60,13 +60,17 @@ pub record AttemptGoes (work : Work) (entry : Entry) : Type 0 where
 abbrev pub TurnGoes : PlanData → List Entry → Entry → Type 0
 TurnGoes plan before entry = (work : Work) → (moment plan before).tool.tool_phase ≡ Migrating work → is_command entry.asked ≡ false → is_cut entry.asked ≡ false → AttemptGoes work entry
 
--- a task may be tried once at least, and an attempt's number fits its hint row
+-- a task may be tried once at least, and the numbers of attempts and of notes fit their rows
 abbrev pub most_tries : ℕ
 most_tries = 1000
+
+abbrev pub most_notes : ℕ
+most_notes = 1000
 
 pub record MayTry (plan : PlanData) : Type 0 where
   pub some : 1 ≤ plan.options.default_retries
   pub few : plan.options.default_retries ≤ most_tries
+  pub notes : plan.options.notes ≤ most_notes
 
 -- *Attempts go on*: so does each turn of every journal that is kept
 abbrev pub AttemptsGoOn : Type 0

@@ -2,7 +2,6 @@
 use Rattle.std.specs.Prelude.{◌≡◌, ◌≤◌, ◌+◌, ◌*◌, ℕ, true, false, List, [], ◌∷◌, ◌++◌}
 use Rattle.std.specs.List.{list_any}
 use Rattle.base_script.specs.declared.actor.Actor.TheVariants.{Apply}
-use Rattle.base_values.specs.GhoSchema.Rows.{key_places}
 use Rattle.server_model.specs.EarlierAnswers.{events_in}
 use Rattle.server_model.specs.Entries.{answer_at, is_command, is_cut}
 use Rattle.server_model.specs.declared.entry.Entry.{Entry}
@@ -15,7 +14,6 @@ use Rattle.tool_program.specs.JournalWords.Bounds.{Measures, events, measures}
 use Rattle.tool_program.specs.JournalWords.Histories.{history, is_alter}
 use Rattle.tool_program.specs.JournalWords.Journals.{state_at}
 use Rattle.tool_program.specs.Tools.{Migrating, Work, is_reverting, moment}
-use Rattle.proof_journals.specs.Machine.MigrationTables.{ghost_schema}
 use Rattle.proof_journals.specs.Machine.Runnable.{IsRunnable}
 use Rattle.proof_journals.specs.Plans.{IsSerialPlan}
 use Rattle.proof_journals.specs.Run.Kept.{IsKept}
@@ -46,7 +44,7 @@ BatchesGoOn plan = (before : List Entry) (entry : Entry) → IsKept plan (before
 
 -- until the RENAME is done, the log has at most as many events of the migrated table and of the changelog as are counted for it
 abbrev pub LogsAreFew : PlanData → Type 0
-LogsAreFew plan = (journal : List Entry) → IsKept plan journal → IsUnaltered plan journal → left_at plan.table (state_at plan journal).log 0 ≤ events (measures plan) + (measures plan).tries
+LogsAreFew plan = (journal : List Entry) → IsKept plan journal → IsUnaltered plan journal → left_at plan.table (state_at plan journal).log 0 ≤ events (measures plan) + 4 * (measures plan).notes + (measures plan).tries
 
 -- the turns of one try of a batch, and of all its tries
 abbrev pub try_turns : Measures → ℕ
@@ -59,4 +57,4 @@ tries_turns m = m.tries * try_turns m
 abbrev pub BatchTurnsAreFew : Type 0
 BatchTurnsAreFew =
     (plan : PlanData) (journal : List Entry) → IsRunnable plan → IsSerialPlan plan → MayWait plan → 1 ≤ plan.options.default_retries → BatchesGoOn plan → LogsAreFew plan → IsKept plan journal
-    → turns_of_part OfBatches plan journal ≤ (events (measures plan) + (measures plan).tries) * tries_turns (measures plan)
+    → turns_of_part OfBatches plan journal ≤ (events (measures plan) + 4 * (measures plan).notes + (measures plan).tries) * tries_turns (measures plan)

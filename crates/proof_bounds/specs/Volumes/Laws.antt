@@ -1,6 +1,6 @@
 -- How many rows the migrated table has, how many events it has in the log, and how many chunks are copied of it, until the
 -- RENAME is done.
-use Rattle.std.specs.Prelude.{◌≡◌, ◌≤◌, ◌+◌, ℕ, if◌then◌else◌, List, [], ◌∷◌, length, count_by, option_map, unwrap_or}
+use Rattle.std.specs.Prelude.{◌≡◌, ◌≤◌, ◌+◌, ◌*◌, ℕ, if◌then◌else◌, List, [], ◌∷◌, length, count_by, option_map, unwrap_or}
 use Rattle.base_values.specs.declared.value.Value.{Value}
 use Rattle.base_values.specs.ToolNames.{log_name}
 use Rattle.table_store.specs.Databases.{Database, find_table}
@@ -14,6 +14,7 @@ use Rattle.proof_journals.specs.Machine.Runnable.{IsRunnable}
 use Rattle.proof_journals.specs.Plans.{IsSerialPlan}
 use Rattle.proof_journals.specs.Run.Kept.{IsKept}
 use Rattle.proof_migration.specs.ToolPhase.Unaltered.{IsUnaltered}
+use Rattle.proof_bounds.specs.AttemptTurns.Attempts.{most_notes}
 
 -- the rows of the table of this name; none where it doesn't exist
 abbrev pub rows_of : List ℕ → Database → List (List Value)
@@ -38,14 +39,16 @@ abbrev pub EventsAreFew : Type 0
 EventsAreFew = (plan : PlanData) (journal : List Entry) → IsRunnable plan → IsSerialPlan plan → IsKept plan journal → IsUnaltered plan journal → events_in plan.table plan journal ≤ events (measures plan)
 
 -- *Hints are few*: until the RENAME is done, the log has at most as many events of the changelog as attempts may be begun, since
--- each writes one hint row at most
+-- each writes one hint row at most, and four for each note that may be begun: each of its two rows comes in place of another
 abbrev pub HintsAreFew : Type 0
-HintsAreFew = (plan : PlanData) (journal : List Entry) → 1 ≤ plan.options.default_retries → IsRunnable plan → IsSerialPlan plan → IsKept plan journal → IsUnaltered plan journal → events_in (log_name plan.table) plan journal ≤ plan.options.default_retries
+HintsAreFew =
+    (plan : PlanData) (journal : List Entry) → 1 ≤ plan.options.default_retries → plan.options.notes ≤ most_notes → IsRunnable plan → IsSerialPlan plan → IsKept plan journal → IsUnaltered plan journal → events_in (log_name plan.table) plan journal ≤ plan.options.default_retries + 4 * (measures plan).notes
 
 -- *Read events are few*: the applier reads both, and so the log has at most as many of the two tables together
 abbrev pub ReadEventsAreFew : Type 0
 ReadEventsAreFew =
-    (plan : PlanData) (journal : List Entry) → 1 ≤ plan.options.default_retries → IsRunnable plan → IsSerialPlan plan → IsKept plan journal → IsUnaltered plan journal → count_by (is_of (plan.table ∷ log_name plan.table ∷ [])) (state_at plan journal).log ≤ events (measures plan) + (measures plan).tries
+    (plan : PlanData) (journal : List Entry) → 1 ≤ plan.options.default_retries → plan.options.notes ≤ most_notes → IsRunnable plan → IsSerialPlan plan → IsKept plan journal → IsUnaltered plan journal
+    → count_by (is_of (plan.table ∷ log_name plan.table ∷ [])) (state_at plan journal).log ≤ events (measures plan) + 4 * (measures plan).notes + (measures plan).tries
 
 -- *Chunks are few*: until the RENAME is done, at most as many chunks are begun as the migrated table had rows at first and events
 -- since, since each ends at another key of these; and one more is numbered where all are copied

@@ -24,7 +24,7 @@ use Rattle.proof_journals.specs.Ghost.HeldKeys.{Clustered}
 use Rattle.proof_journals.specs.Ghost.Statements.{SameColumns}
 use Rattle.server_model.specs.Answers.{refuses_value}
 use Rattle.server_model.proofs.LockedRows.Tests.{are_one}
-use Rattle.server_model.specs.Checks.{◌>>=◌, are_distinct, beside, has_columns, key_from, new_row, places_from, places_named, reach_equal, reach_of, row_from, set_first, sets_from, wanted_each, value_at, with_value, work_of}
+use Rattle.server_model.specs.Checks.{◌>>=◌, are_distinct, beside, has_columns, key_from, new_row, places_from, places_named, reach_equal, reach_of, row_from, set_first, sets_from, wanted_each, value_at, work_of}
 
 -- the values that a row gives the new columns, before they are stored
 abbrev pub given : List MapColumn → Row → List Value

@@ -47,7 +47,8 @@ use Rattle.proof_journals.specs.Machine.Scripts.{WordFits, LinesFit}
 use Rattle.proof_journals.specs.Machine.Laws.{AnswersTellStandings, MachinesStand, IsCalledWell, GivenCallsComeWell}
 use Rattle.proof_journals.proofs.Machine.Seated.{IsKnown, IsServed, all_known, IsOpened, is_opened, others_stand, own_stands, own_heard}
 use Rattle.proof_journals.proofs.Machine.CuttingOver.{LockerAsks}
-use Rattle.proof_journals.proofs.Machine.Asking.{some_request, unlocked_holds, locked_holds, unless_called, copier_next, applier_next, setup_next, inspector_next, renamer_next, locker_next}
+use Rattle.proof_journals.proofs.Machine.Asking.{some_request, unlocked_holds, locked_holds, unless_called, copier_next, applier_next, setup_next, renamer_next, locker_next}
+use Rattle.proof_journals.proofs.Machine.Inspecting.{inspector_called}
 use Rattle.proof_journals.proofs.Machine.Clients.{ClientStands, Next, calls_line, polls_line, client_next, line_comes}
 use Rattle.proof_journals.proofs.Machine.ClientJournals.{ClientsTogether, all_clients}
 use Rattle.proof_journals.proofs.Machine.Journals.{IsTogether, all_together, Asking, calls_so, polls_so, asking, apply_called}
@@ -182,7 +183,7 @@ module _ (plan : PlanData) (journal : List Entry) (is : IsTogether plan journal)
   call_comes : (actor : Actor) (request : Request) (tool_phase : ToolPhase) → now.tool.tool_phase ≡ tool_phase → ToolPhaseStands journal (standing_of plan journal) (is_reverting now.tool.reason) tool_phase → (standing_of plan journal actor).waits ≡ None
       → tool_call plan now.server journal now.tool tool_phase actor ≡ Some request → ComesIn plan journal actor request
   call_comes Insp request (SettingUp setup tries) tool_phase at idle call locked none some = insp_comes (standing_of plan journal Insp) locked request at.inspector.busy (setup_next plan (is_reverting now.tool.reason) setup request call)
-  call_comes Insp request (Migrating work) tool_phase at idle call locked none some = insp_comes (standing_of plan journal Insp) locked request at.inspector.busy (inspector_next work.cutover request call).0
+  call_comes Insp request (Migrating work) tool_phase at idle call locked none some = insp_comes (standing_of plan journal Insp) locked request at.inspector.busy (inspector_called plan journal now.tool work request call).0
   call_comes Copy request (Migrating work) tool_phase at idle call locked none some =
       reverting_or (ComesWell (standing_of plan journal Copy).busy locked request) (is_reverting now.tool.reason) (rolls_back now.server (live_session journal Copy)) (copy_call plan now.server journal now.tool work) request call
       (λ reverting back. back_comes Copy request back locked none some)

@@ -47,7 +47,8 @@ use Rattle.proof_journals.proofs.Machine.Copying.{copier_stands, copier_unfit}
 use Rattle.proof_journals.proofs.Machine.Applying.{applier_stands, applier_unfit}
 use Rattle.proof_journals.proofs.Machine.CuttingOver.{LockerAsks, ListsFree, locker_stands, locker_lost, renamer_has}
 use Rattle.proof_journals.proofs.Machine.Turns.{inspector_stands, free_stands, drained, still, copy_turn, apply_turn, lock_turn, ren_turn, insp_turn, setup_turn, command_turn}
-use Rattle.proof_journals.proofs.Machine.Asking.{idle_waits, WaitsWith, busy_waits, idle_stands, unless_called, copier_next, applier_next, setup_next, EndsFree, inspector_next, renamer_next, locker_next, locker_waits, renamer_waits, waits_asks}
+use Rattle.proof_journals.proofs.Machine.Asking.{idle_waits, WaitsWith, busy_waits, idle_stands, unless_called, copier_next, applier_next, setup_next, EndsFree, renamer_next, locker_next, locker_waits, renamer_waits, waits_asks}
+use Rattle.proof_journals.proofs.Machine.Inspecting.{inspector_called}
 use Rattle.proof_journals.proofs.Sentry.Inductions.{moment_more}
 
 -- an entry of such a journal
@@ -319,7 +320,7 @@ module _ (plan : PlanData) (journal : List Entry) (entry : Entry) (is : IsTogeth
       setup_turn plan journal entry has now_has entry.answer setup tries tool tool_phase (others_same Insp same) at
       (insp_stands request same (is_polled asks some) (waits_are_asks request (waits_asks inspector_waits (has Insp).waits request at.inspector.waits some)) at.inspector)
   insp_asked same (calls_so request asks idle call) (Migrating work) tool_phase at =
-      let next = inspector_next work.cutover request (ap (λ (c : ToolPhase). tool_call plan now.server journal now.tool c Insp) (sym tool_phase) ∙ call) in
+      let next = inspector_called plan journal now.tool work request (ap (λ (c : ToolPhase). tool_call plan now.server journal now.tool c Insp) (sym tool_phase) ∙ call) in
       insp_turn plan journal entry has now_has entry.answer work tool (others_same Insp same) at (insp_stands request same (is_called asks idle) next.0 at.inspector) (free_lists work.cutover.phase work.cutover.hold entry.answer next.1)
   insp_asked same (polls_so request asks some) (Migrating work) tool_phase at =
       let kind : inspector_waits request ≡ true = waits_asks inspector_waits (has Insp).waits request at.inspector.waits some in

@@ -28,6 +28,7 @@ use Rattle.proof_journals.specs.Machine.Standings.{opened_for}
 use Rattle.proof_journals.specs.Machine.FormedPlans.{IsFitting}
 use Rattle.proof_journals.specs.Machine.Laws.{has_keys, IsCalledWell, GivenCallsMayBeMade}
 use Rattle.proof_journals.proofs.Machine.Asking.{some_request, unless_called, copier_next, renamer_next}
+use Rattle.proof_journals.proofs.Machine.Inspecting.{Inspects, notes_so, cuts_so, inspects}
 use Rattle.proof_journals.proofs.Machine.Clients.{Next, calls_line, polls_line, client_next}
 use Rattle.proof_journals.proofs.Machine.Journals.{apply_called}
 use Rattle.proof_journals.proofs.Machine.Calling.{given_calls, reverting_or}
@@ -45,9 +46,13 @@ module _ (plan : PlanData) (journal : List Entry) (tables : Database) (fit : IsF
   unfolding appliers.next
   applied work request same asks = subst (IsWellFormed tables) (sym (apply_called plan journal work request asks)) (applier_formed plan tables journal work.applier work.applier.step fit same)
 
+  inspected : (work : Work) (request : Request) → Inspects plan journal now.tool work request → IsWellFormed tables request
+  inspected work request (notes_so note resting going next) = subst (IsWellFormed tables) (sym note.is) tt
+  inspected work request (cuts_so off next) = inspector_formed tables work.cutover request next
+
   call_formed : (actor : Actor) (request : Request) (tool_phase : ToolPhase) → ToolPhaseIsNamed plan tool_phase → ToolPhaseBatched plan tool_phase → (actor ≡ Copy → has_keys request ≡ true → IsWellFormed tables request) → tool_call plan now.server journal now.tool tool_phase actor ≡ Some request → IsWellFormed tables request
   call_formed Insp request (SettingUp setup tries) names sized keyed call = setup_formed plan tables (is_reverting now.tool.reason) setup request fit call
-  call_formed Insp request (Migrating work) names sized keyed call = inspector_formed tables work.cutover request call
+  call_formed Insp request (Migrating work) names sized keyed call = inspected work request (inspects plan journal now.tool work request call)
   call_formed Copy request (Migrating work) names sized keyed call =
       reverting_or (IsWellFormed tables request) (is_reverting now.tool.reason) (rolls_back now.server (live_session journal Copy)) (copy_call plan now.server journal now.tool work) request call
       (λ reverting back. back_formed (in_transaction now.server (live_session journal Copy)) request back)

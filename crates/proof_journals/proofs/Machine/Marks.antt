@@ -60,6 +60,7 @@ use Rattle.proof_journals.specs.Machine.FormedPlans.{IsFitting}
 use Rattle.proof_journals.specs.Machine.MigrationTables.{schema_of, ghost_schema, past_ghost, SetupTables, ToolPhaseTables, TableExists}
 use Rattle.proof_journals.proofs.Machine.Asking.{WaitsWith, some_request}
 use Rattle.proof_journals.proofs.Machine.CuttingOver.{LockerAsks}
+use Rattle.proof_journals.proofs.Machine.Inspecting.{Inspects, notes_so, cuts_so, inspects}
 use Rattle.proof_journals.proofs.Machine.Journals.{IsRun, all_runs, Asking, calls_so, polls_so, asking, lock_about, ren_about}
 use Rattle.proof_journals.proofs.Machine.Lifting.{spends_keeps, reverts_keeps, drains_keeps}
 use Rattle.proof_journals.proofs.Machine.Phases.{DropsOther, IsUndone, ToolPhaseUndone, SeesGhost, EndsNot, lost_ends, undone_took, undone_counts, undone_commanded}
@@ -375,7 +376,10 @@ module _ (plan : PlanData) (journal : List Entry) (entry : Entry) (is : IsTabled
 
     -- what the inspector asks
     insp_safe : (request : Request) → tool_call plan now.server journal now.tool now.tool.tool_phase Insp ≡ Some request → KeepsGhost plan.table request
-    insp_safe request call = subst (λ (t : List ℕ). KeepsGhost t request) own_table (inspector_keeps work.cutover request (ap (λ (c : ToolPhase). tool_call plan now.server journal now.tool c Insp) (sym tool_phase) ∙ call) going.undone)
+    insp_safe request call = by (inspects plan journal now.tool work request (ap (λ (c : ToolPhase). tool_call plan now.server journal now.tool c Insp) (sym tool_phase) ∙ call)) where
+      by : Inspects plan journal now.tool work request → KeepsGhost plan.table request
+      by (notes_so note resting reverting next) = subst (KeepsGhost plan.table) (sym note.is) refl
+      by (cuts_so off next) = subst (λ (t : List ℕ). KeepsGhost t request) own_table (inspector_keeps work.cutover request next going.undone)
 
     insp_kept : entry.actor ≡ Insp → Asking plan journal Insp entry.asked → schema_of (ghost_name plan.table) (state_at plan more).tables ≡ schema_of (ghost_name plan.table) (state_at plan journal).tables
     insp_kept same (calls_so request asks idle call) = ghost_kept Insp request same (is_called asks idle) (insp_safe request call)

@@ -1,7 +1,6 @@
 -- Until the RENAME is answered the cut-over's phase says that it isn't done, and an attempt's end drops another table than
 -- the new one.
-use Rattle.std.proofs.Common.{◌≡◌, ℕ, ◌+◌, ◌==◌, Bool, true, false, cond, not, List, [], ◌∷◌, ◌++◌, refl, sym, subst, Some, Option}
-use Rattle.std.specs.Prelude.{nat_le}
+use Rattle.std.proofs.Common.{◌≡◌, ℕ, Bool, true, false, cond, not, List, [], ◌∷◌, ◌++◌, refl, sym, subst, Some, Option}
 use Rattle.std.proofs.lemmas.Bool.{true≢false, false≢true}
 use Rattle.base_script.specs.declared.actor.Actor.{Actor}
 use Rattle.base_script.specs.declared.actor.Actor.TheVariants.{Op, Insp, Copy, Apply, Lock, Ren, Client}
@@ -20,8 +19,8 @@ use Rattle.tool_program.specs.declared.cutover_core.cutover.CutOver.{CutOver}
 use Rattle.tool_program.specs.declared.cutover_core.cutover.Phase.{Phase}
 use Rattle.tool_program.specs.declared.cutover_core.cutover.Phase.TheVariants.{Resting, Attempting, Ending, Finishing, Finished}
 use Rattle.tool_program.specs.declared.cutover_core.cutover.Role.TheVariants.{Inspector, Locker, Renamer}
-use Rattle.tool_program.specs.declared.cutover_core.cutover.Stage.TheVariants.{ReadingCounter, SettingCounter, Draining, Drained, Unlocking, Exchanging}
-use Rattle.tool_program.specs.declared.cutover_core.cutover.Drain.TheVariants.{Turns, Passed}
+use Rattle.tool_program.specs.declared.cutover_core.cutover.Stage.TheVariants.{Drained, Unlocking, Exchanging}
+use Rattle.tool_program.specs.declared.cutover_core.cutover.Drain.TheVariants.{Turns}
 use Rattle.tool_program.specs.CutoverCore.Attempts.{has_name, has_sentry}
 use Rattle.tool_program.specs.CutoverCore.CutOvers as cuts
 use Rattle.tool_program.specs.CutoverCore.CutOvers.{is_bad, is_done, begun, locker_phase, locker_stage, renamer_phase, waits_phase, failed, inspector_phase, inspector_stage, finishing, left_at_end, sentry_alone, drained, ended, applier_turn, reverted, drain_of, drains_to}

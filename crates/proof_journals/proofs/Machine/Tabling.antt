@@ -52,15 +52,16 @@ use Rattle.server_model.specs.States.{State, has_work, session_of, is_in_transac
 use Rattle.proof_journals.specs.Machine.Standings.{Standing, free, standing_in, standing_of, answered, answers_to, IsAbout, is_called, is_polled}
 use Rattle.proof_journals.specs.Machine.Machines.{ApplierStands, copier_asks, applier_asks, held, PhaseHolds, renaming, WorkStands, SetupStands, ToolPhaseStands}
 use Rattle.proof_journals.specs.Machine.FormedPlans.{IsFitting}
-use Rattle.proof_journals.specs.Machine.MigrationTables.{schema_of, ghost_schema, TablesExist, past_ghost, SetupTables, Uncopied, WorkTables, ToolPhaseTables, TableExists}
+use Rattle.proof_journals.specs.Machine.MigrationTables.{schema_of, ghost_schema, TablesExist, past_ghost, SetupTables, WritesLog, Uncopied, WorkTables, ToolPhaseTables, TableExists}
 use Rattle.proof_journals.specs.Machine.Laws.{TablesExistUncopied}
 use Rattle.proof_journals.proofs.Machine.Calling.{none_asked, reverting_or}
 use Rattle.proof_journals.proofs.Machine.Seated.{IsServed, others_stand, own_stands, own_fits, own_lost, own_session, own_waiting, own_given}
 use Rattle.proof_journals.proofs.Machine.Asking.{some_request, WaitsWith, unless_called, copier_next, applier_next}
+use Rattle.proof_journals.proofs.Machine.Inspecting.{Inspects, notes_so, cuts_so, inspects}
 use Rattle.proof_journals.proofs.Machine.Lifting.{reverts_keeps, spends_keeps, attempt_keeps, copy_keeps, apply_keeps, drains_keeps}
 use Rattle.proof_journals.proofs.Machine.Journals.{IsRun, all_runs, Asking, calls_so, polls_so, asking, apply_called, client_commands, never_commands}
 use Rattle.proof_journals.proofs.Machine.Clients.{Next, calls_line, polls_line, client_next}
-use Rattle.proof_journals.proofs.Machine.Polling.{AllTogether, AllWaits, waits_more, waits_begin, together_more_all, together_begins_all, given_idle, given_waits, no_word}
+use Rattle.proof_journals.proofs.Machine.Polling.{AllTogether, AllWaits, waits_more, waits_begin, waits_same, together_more_all, together_begins_all, given_idle, given_waits, no_word}
 use Rattle.proof_journals.proofs.Machine.Schemas.{keeps_table, is_quiet, quiet_keeps, schema_stays, schema_rests, schema_made}
 use Rattle.proof_journals.proofs.Sentry.Inductions.{moment_more}
 use Rattle.proof_journals.proofs.Faces.{busy_face}
@@ -235,6 +236,11 @@ given_quiet plan journal Insp request is gives none = absurd (true≢false none)
 given_quiet plan journal Lock request is gives none = absurd (true≢false none)
 given_quiet plan journal Ren request is gives none = absurd (true≢false none)
 
+-- a statement makes, drops and renames no table
+pub log_quiet : (plan : PlanData) (request : Request) → WritesLog plan request → is_quiet request ≡ true
+log_quiet plan (requests.Do statement) is = refl
+log_quiet plan request is = absurd is
+
 pub next_uncopied : (journal : List Entry) (copier : Copier) (request : Request) → copiers.next journal copier ≡ Some request → copier.is_copied ≡ false
 unfolding copiers.next
 next_uncopied journal copier request is = by copier.is_copied is where
@@ -299,7 +305,7 @@ module _ (plan : PlanData) (journal : List Entry) (entry : Entry) (is : AllToget
 
   uncopied_stay : (work next : Work) → AllStay → now_has Insp ≡ has Insp → next.cutover.phase ≡ work.cutover.phase → next.cutover.renamer_waits ≡ work.cutover.renamer_waits → Uncopied plan before has work → Uncopied plan after now_has next
   uncopied_stay work next stay insp phase renamer at =
-      record { tables = tables_stay stay at.tables; inspector = ap (λ (s : Standing). s.waits) insp ∙ at.inspector; phase = phase ∙ at.phase; renamer = renamer ∙ at.renamer }
+      record { tables = tables_stay stay at.tables; inspector = λ request some. at.inspector request (ap (λ (s : Standing). s.waits) (sym insp) ∙ some); phase = phase ∙ at.phase; renamer = renamer ∙ at.renamer }
 
   -- A REVERT, THE DRAIN, A COMMAND
 
@@ -453,12 +459,14 @@ module _ (plan : PlanData) (journal : List Entry) (entry : Entry) (is : AllToget
     no : None ≡ Some request → ⊥
     no both = cc
 
-  pub insp_none : (work : Work) → now.tool.tool_phase ≡ Migrating work → Uncopied plan before has work → Asking plan journal Insp entry.asked → ⊥
-  unfolding cutovers.next
-  insp_none work tool_phase at (polls_so request asks some) = none_some ⊥ request (has Insp).waits at.inspector some
-  insp_none work tool_phase at (calls_so request asks idle call) = no (ap (cutovers.inspector_call work.cutover) (sym at.phase) ∙ ap (λ (c : ToolPhase). tool_call plan now.server journal now.tool c Insp) (sym tool_phase) ∙ call) where
-    no : None ≡ Some request → ⊥
-    no both = cc
+  -- but the inspector to write notes
+  pub insp_notes : (work : Work) → now.tool.tool_phase ≡ Migrating work → Uncopied plan before has work → Asking plan journal Insp entry.asked → (P : Type 0) → ((request : Request) → IsAbout request (has Insp) entry.asked → WritesLog plan request → P) → P
+  insp_notes work tool_phase at (polls_so request asks some) P then = then request (is_polled asks some) (at.inspector request some)
+  insp_notes work tool_phase at (calls_so request asks idle call) P then =
+      then request (is_called asks idle) (by (inspects plan journal now.tool work request (ap (λ (c : ToolPhase). tool_call plan now.server journal now.tool c Insp) (sym tool_phase) ∙ call))) where
+        by : Inspects plan journal now.tool work request → WritesLog plan request
+        by (notes_so note resting going next) = subst (WritesLog plan) (sym note.is) refl
+        by (cuts_so off next) = absurd (true≢false (sym (ap is_resting at.phase) ∙ off))
 
   pub ren_none : (work : Work) → now.tool.tool_phase ≡ Migrating work → Uncopied plan before has work → Asking plan journal Ren entry.asked → ⊥
   unfolding cutovers.next
@@ -505,14 +513,9 @@ module _ (plan : PlanData) (journal : List Entry) (entry : Entry) (is : AllToget
 
   courses : (size : ℕ) (setup : Setup) (tries : List ℕ) → SetupTables plan after now_has setup → ((request : Request) → (now_has Insp).waits ≡ Some request → setup_call plan setup ≡ Some request) → now_has Copy ≡ free → Now false (tool_phase_of plan size setup tries)
   courses size (Ready position range) tries at waits copy = record {
-    going = λ off. record { tables = record { old = at.old; ghost = at.ghost refl }; inspector = none_if (now_has Insp).waits refl; phase = refl; renamer = refl };
+    going = λ off. record { tables = record { old = at.old; ghost = at.ghost refl }; inspector = λ request some. none_some (WritesLog plan request) request None refl (at.waits request some); phase = refl; renamer = refl };
     copied = λ on. ap (λ (s : Standing). s.waits) copy;
-  } where
-    none_if : (waits : Option Request) → (now_has Insp).waits ≡ waits → (now_has Insp).waits ≡ None
-    none_if None none = none
-    none_if (Some request) some = absurd (no (at.waits request some)) where
-      no : None ≡ Some request → ⊥
-      no both = cc
+  }
   courses size Listing tries at waits copy = at
   courses size (Clearing left) tries at waits copy = at
   courses size MakingLog tries at waits copy = at
@@ -609,7 +612,7 @@ module _ (plan : PlanData) (journal : List Entry) (entry : Entry) (is : AllToget
       (λ good. absurd (true≢false good))
   insp_lost cut same (Migrating work) tool_phase at =
       insp_asked same answers.Lost work tool_phase at
-      (λ off. let one = at.going off in record { tables = tables_stay (cut_stay cut) one.tables; inspector = free_waits (now_has Insp) (lost_now cut Insp same); phase = ap (λ (p : Phase). cuts.inspector_phase work.cutover p answers.Lost) one.phase; renamer = one.renamer })
+      (λ off. let one = at.going off in record { tables = tables_stay (cut_stay cut) one.tables; inspector = λ request some. none_some (WritesLog plan request) request (now_has Insp).waits (free_waits (now_has Insp) (lost_now cut Insp same)) some; phase = ap (λ (p : Phase). cuts.inspector_phase work.cutover p answers.Lost) one.phase; renamer = one.renamer })
 
   copy_lost : entry.asked ≡ Cut → entry.actor ≡ Copy → (tool_phase : ToolPhase) → now.tool.tool_phase ≡ tool_phase → ToolPhaseTables plan before has tool_phase → Tabled (actor_took plan Copy answers.Lost tool_phase tool)
   copy_lost cut same (SettingUp setup tries) tool_phase at =
@@ -642,7 +645,7 @@ module _ (plan : PlanData) (journal : List Entry) (entry : Entry) (is : AllToget
   ren_lost cut same (SettingUp setup tries) tool_phase at = subst (ToolPhaseTables plan after now_has) (sym tool_phase) (still (SettingUp setup tries) (cut_stay cut) (others Ren same Insp refl) (others Ren same Copy refl) at)
   ren_lost cut same (Migrating work) tool_phase at =
       ren_asked same answers.Lost work tool_phase at
-      (λ off. let one = at.going off in record { tables = tables_stay (cut_stay cut) one.tables; inspector = ap (λ (s : Standing). s.waits) (others Ren same Insp refl) ∙ one.inspector; phase = ap (λ (p : Phase). cuts.renamer_phase p answers.Lost) one.phase; renamer = refl })
+      (λ off. let one = at.going off in record { tables = tables_stay (cut_stay cut) one.tables; inspector = λ request some. one.inspector request (ap (λ (s : Standing). s.waits) (sym (others Ren same Insp refl)) ∙ some); phase = ap (λ (p : Phase). cuts.renamer_phase p answers.Lost) one.phase; renamer = refl })
 
   -- EVERY TURN
 
@@ -653,11 +656,23 @@ module _ (plan : PlanData) (journal : List Entry) (entry : Entry) (is : AllToget
   setup_none actor none no_call (calls_so request asks idle call) = no_call request call
   setup_none actor none no_call (polls_so request asks some) = none_some ⊥ request (has actor).waits (free_waits (has actor) none) some
 
+  -- a note changes nothing of it
+  noted : entry.actor ≡ Insp → Asking plan journal Insp entry.asked → (work : Work) → now.tool.tool_phase ≡ Migrating work → Uncopied plan before has work → Uncopied plan after now_has (record work { cutover = cuts.took Inspector work.cutover entry.answer })
+  unfolding cuts.took
+  noted same asks work tool_phase at =
+      insp_notes work tool_phase at asks (Uncopied plan after now_has (record work { cutover = cuts.took Inspector work.cutover entry.answer }))
+      (λ request is_about kind. record {
+        tables = tables_stay (λ name. stays name Insp request same is_about (quiet_keeps name request (log_quiet plan request kind))) at.tables;
+        inspector = λ other some. waits_same (WritesLog plan) request other entry.answer (has Insp) kind (ap (λ (s : Standing). s.waits) (sym (has_now Insp request same is_about)) ∙ some);
+        phase = ap (λ (p : Phase). cuts.inspector_phase work.cutover p entry.answer) at.phase;
+        renamer = at.renamer;
+      })
+
   insp_turn : entry.actor ≡ Insp → Asking plan journal Insp entry.asked → (tool_phase : ToolPhase) → now.tool.tool_phase ≡ tool_phase → ToolPhaseTables plan before has tool_phase → Tabled (actor_took plan Insp entry.answer tool_phase tool)
   insp_turn same (calls_so request asks idle call) (SettingUp setup tries) tool_phase at =
       setup_asked same setup tries tool_phase at request (is_called asks idle) (unless_called (is_reverting now.tool.reason) (setup_call plan setup) request (ap (λ (c : ToolPhase). tool_call plan now.server journal now.tool c Insp) (sym tool_phase) ∙ call))
   insp_turn same (polls_so request asks some) (SettingUp setup tries) tool_phase at = setup_asked same setup tries tool_phase at request (is_polled asks some) (at.waits request some)
-  insp_turn same asks (Migrating work) tool_phase at = insp_asked same entry.answer work tool_phase at (λ off. absurd (insp_none work tool_phase (at.going off) asks))
+  insp_turn same asks (Migrating work) tool_phase at = insp_asked same entry.answer work tool_phase at (λ off. noted same asks work tool_phase (at.going off))
 
   lock_turn : entry.actor ≡ Lock → Asking plan journal Lock entry.asked → (tool_phase : ToolPhase) → now.tool.tool_phase ≡ tool_phase → ToolPhaseTables plan before has tool_phase → Tabled (actor_took plan Lock entry.answer tool_phase tool)
   lock_turn same asks (SettingUp setup tries) tool_phase at = absurd (setup_none Lock (setup_has setup tries tool_phase).locker (λ request call. none-some request (ap (λ (c : ToolPhase). tool_call plan now.server journal now.tool c Lock) (sym tool_phase) ∙ call)) asks)

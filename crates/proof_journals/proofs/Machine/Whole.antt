@@ -50,7 +50,8 @@ use Rattle.proof_journals.specs.Machine.MigrationTables.{schema_of, ghost_schema
 use Rattle.proof_journals.specs.Machine.TableKeys.{kinds_of, IsClosedKey, IsKeyed, IsMapped, ToolPhaseKeyed}
 use Rattle.proof_journals.specs.Machine.Runnable.{IsRunnable}
 use Rattle.proof_journals.specs.Machine.Laws.{has_keys, IsCalledWell, GivenCallsMayBeCalled, GivenPollsMayBeCalled, LossesMayBe}
-use Rattle.proof_journals.proofs.Machine.Asking.{some_request, WaitsWith, unless_called, applier_next, setup_next, inspector_next, renamer_next}
+use Rattle.proof_journals.proofs.Machine.Asking.{some_request, WaitsWith, unless_called, applier_next, setup_next, renamer_next}
+use Rattle.proof_journals.proofs.Machine.Inspecting.{inspector_called}
 use Rattle.proof_journals.proofs.Machine.Journals.{IsRun, all_runs, Asking, calls_so, polls_so, asking, apply_called}
 use Rattle.proof_journals.proofs.Machine.Clients.{Next, calls_line, polls_line, client_next}
 use Rattle.proof_journals.proofs.Machine.Calling.{given_calls, reverting_or}
@@ -173,7 +174,7 @@ not_keys actor request none has = absurd (true≢false (sym has ∙ none))
 
 call_keys : (plan : PlanData) (journal : List Entry) (actor : Actor) (request : Request) (tool_phase : ToolPhase) → ToolPhaseStands journal (standing_of plan journal) (is_reverting (moment plan journal).tool.reason) tool_phase → tool_call plan (moment plan journal).server journal (moment plan journal).tool tool_phase actor ≡ Some request → KeysAreCopiers actor request
 call_keys plan journal Insp request (SettingUp setup tries) at call = not_keys Insp request (insp_keyless request (setup_next plan (is_reverting (moment plan journal).tool.reason) setup request call))
-call_keys plan journal Insp request (Migrating work) at call = not_keys Insp request (insp_keyless request (inspector_next work.cutover request call).0)
+call_keys plan journal Insp request (Migrating work) at call = not_keys Insp request (insp_keyless request (inspector_called plan journal (moment plan journal).tool work request call).0)
 call_keys plan journal Copy request (Migrating work) at call = λ has. refl
 call_keys plan journal Apply request (Migrating work) at call =
     reverting_or (KeysAreCopiers Apply request) (is_reverting (moment plan journal).tool.reason) (rolls_back (moment plan journal).server (live_session journal Apply)) (apply_call plan (moment plan journal).server journal (moment plan journal).tool work) request call

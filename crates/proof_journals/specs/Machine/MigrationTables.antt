@@ -6,8 +6,10 @@ use Rattle.base_script.specs.declared.actor.Actor.TheVariants.{Insp, Copy}
 use Rattle.base_values.specs.declared.gho_schema.schema.Schema.{Schema}
 use Rattle.table_store.specs.Databases.{Database, find_table}
 use Rattle.server_model.specs.declared.request.Request.{Request}
+use Rattle.server_model.specs.declared.request.Request.TheVariants as requests
+use Rattle.server_model.specs.Operations.{table_of}
 use Rattle.plan_data.specs.PlanData.{PlanData, old_schema, new_schema}
-use Rattle.base_values.specs.ToolNames.{ghost_name}
+use Rattle.base_values.specs.ToolNames.{ghost_name, log_name}
 use Rattle.tool_program.specs.declared.cutover_core.cutover.Phase.TheVariants.{Resting}
 use Rattle.tool_program.specs.Setups.{Setup, Listing, Clearing, MakingLog, MakingGhost, Marking, Reaching, Ready, setup_call}
 use Rattle.tool_program.specs.Tools.{ToolPhase, SettingUp, Migrating, Work}
@@ -41,10 +43,16 @@ pub record SetupTables (plan : PlanData) (tables : Database) (has : Actor → St
   pub ghost : past_ghost setup ≡ true → schema_of (ghost_name plan.table) tables ≡ Some (ghost_schema plan)
   pub waits : (request : Request) → (has Insp).waits ≡ Some request → setup_call plan setup ≡ Some request
 
--- while the range isn't copied no attempt was begun, and nothing is asked that makes, drops or renames a table
+-- a row of the changelog is written
+abbrev pub WritesLog : PlanData → Request → Type 0
+WritesLog plan (requests.Do statement) = table_of statement ≡ log_name plan.table
+WritesLog plan request = ⊥
+
+-- while the range isn't copied no attempt was begun, and nothing is asked that makes, drops or renames a table: the inspector writes
+-- notes alone
 pub record Uncopied (plan : PlanData) (stored : Database) (has : Actor → Standing) (work : Work) : Type 0 where
   pub tables : TablesExist plan stored
-  pub inspector : (has Insp).waits ≡ None
+  pub inspector : (request : Request) → (has Insp).waits ≡ Some request → WritesLog plan request
   pub phase : work.cutover.phase ≡ Resting
   pub renamer : work.cutover.renamer_waits ≡ false
 

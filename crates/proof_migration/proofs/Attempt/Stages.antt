@@ -1,6 +1,5 @@
 -- What stands on the server in each phase of the cut-over, and what each of its three actors' answers makes of that.
-use Rattle.std.proofs.Common.{◌≡◌, ◌⊎◌, ℕ, ◌+◌, ◌==◌, Bool, true, false, cond, Option, Some, None, ◌∙◌, inl, inr}
-use Rattle.std.specs.Prelude.{nat_le}
+use Rattle.std.proofs.Common.{◌≡◌, ◌⊎◌, ℕ, Bool, true, false, Option, Some, None, ◌∙◌, inl, inr}
 use Rattle.table_store.specs.Databases.{Database}
 use Rattle.server_model.specs.declared.request.Request.{Request}
 use Rattle.server_model.specs.declared.request.Request.TheVariants as requests

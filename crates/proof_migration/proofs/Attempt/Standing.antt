@@ -39,10 +39,11 @@ use Rattle.tool_program.specs.CutoverCore.Attempts as attempts
 use Rattle.tool_program.specs.CutoverCore.Attempts.{exchange, clears, first_name, is_free}
 use Rattle.tool_program.specs.CutoverCore.CutOvers as cutovers
 use Rattle.tool_program.specs.CutoverCore.CutOvers.{is_wait, applier_turn, reverted}
-use Rattle.tool_program.specs.Programs.{tool_call, given, IsGiven, Follows}
+use Rattle.tool_program.specs.Programs.{inspect_call, tool_call, given, IsGiven, Follows}
 use Rattle.tool_program.specs.Setups.{Setup, Listing, Clearing, MakingLog, MakingGhost, Marking, Reaching, Ready, setup_call, setup_step}
 use Rattle.tool_program.specs.Tools.{Work, ToolPhase, SettingUp, Migrating, Tool, Moment, stopped, is_reverting, tool_phase_of, moment}
 use Rattle.tool_program.proofs.OnlineCalls.Machines.{ToolPhaseIsNamed, named}
+use Rattle.proof_journals.proofs.Machine.Inspecting.{inspects_or}
 use Rattle.proof_journals.proofs.Actors.{same_actor_is}
 use Rattle.proof_journals.proofs.Run.Living.{Both, both_more, living_begin}
 use Rattle.proof_journals.proofs.Actors.{sessions_begin}
@@ -293,7 +294,7 @@ module _ (plan : PlanData) (journal : List Entry) (entry : Entry) (is : IsStandi
 
     -- THE INSPECTOR
 
-    -- what it calls
+    -- what the cut-over calls
     pub inspector_calls : (request : Request) → attempts.next Inspector work.cutover ≡ Some request → InspectorAt plan work.cutover.phase request
     unfolding attempts.next
     inspector_calls request call = by work.cutover.phase call at.left where
@@ -327,6 +328,16 @@ module _ (plan : PlanData) (journal : List Entry) (entry : Entry) (is : IsStandi
       by : (b : Bool) → is_free work.cutover.hold work.cutover.renamer_waits ≡ b → cond b (Some requests.ShowTables) None ≡ Some request → work.cutover.renamer_waits ≡ false
       by true frees call = free_renames work.cutover.hold work.cutover.renamer_waits frees
       by false held call = absurd cc
+
+    -- a note among it
+    pub inspector_asks : (request : Request) → inspect_call plan journal now.tool work ≡ Some request → InspectorAt plan work.cutover.phase request
+    inspector_asks request call =
+        inspects_or plan journal now.tool work request (InspectorAt plan work.cutover.phase request) call (λ note resting. subst (λ (p : Phase). InspectorAt plan p request) (sym resting) (ap is_quiet note.is)) (λ next. inspector_calls request next)
+
+    asks_free : (request : Request) → inspect_call plan journal now.tool work ≡ Some request → work.cutover.phase ≡ Ending Looking → work.cutover.renamer_waits ≡ false
+    asks_free request call looking = inspects_or plan journal now.tool work request (work.cutover.renamer_waits ≡ false) call (λ note resting. absurd (apart (sym resting ∙ looking))) (λ next. looks_free request next looking) where
+      apart : Resting ≡ Ending Looking → ⊥
+      apart both = cc
 
     module _ (request : Request) (about : IsAbout request (has entry.actor) entry.asked) (same : entry.actor ≡ Insp) where
       -- what it leaves
@@ -371,9 +382,9 @@ module _ (plan : PlanData) (journal : List Entry) (entry : Entry) (is : IsStandi
 
     inspector_turn : entry.actor ≡ Insp → Asking plan journal Insp entry.asked → (tries : List ℕ) → New (is_reverting now.tool.reason) (Migrating (record work { cutover = cutovers.took Inspector work.cutover entry.answer; attempt_tries = tries }))
     inspector_turn same (calls_so request asks idle call) tries =
-        inspector_heard request (about_own Insp request same (is_called asks idle)) same (inspector_calls request next) (λ tables looking lists. looks_free request next looking) tries where
-          next : attempts.next Inspector work.cutover ≡ Some request
-          next = ap (λ (c : ToolPhase). tool_call plan now.server journal now.tool c Insp) (sym eq) ∙ call
+        inspector_heard request (about_own Insp request same (is_called asks idle)) same (inspector_asks request here) (λ tables looking lists. asks_free request here looking) tries where
+          here : inspect_call plan journal now.tool work ≡ Some request
+          here = ap (λ (c : ToolPhase). tool_call plan now.server journal now.tool c Insp) (sym eq) ∙ call
     inspector_turn same (polls_so request asks some) tries =
         inspector_heard request (about_own Insp request same (is_polled asks some)) same (at.inspector request some) (λ tables looking lists. absurd (never tables lists)) tries where
           never : (tables : List TableName) → entry.answer ≡ answers.Tables tables → ⊥

@@ -58,8 +58,9 @@ use Rattle.proof_migration.proofs.ToolPhase.Unaltered.Away.{unaltered_front}
 use Rattle.proof_migration.specs.Program.Hints.{KnowsHints, IsBegun, is_unhinted}
 use Rattle.proof_migration.proofs.Program.Hints.Asked.{others_left, lost_left, insp_left}
 use Rattle.proof_migration.proofs.Program.Hints.Known.{hints_go, hints_known}
-use Rattle.proof_migration.proofs.Program.Hints.Logging.{LogsAway, LogsHint}
+use Rattle.proof_migration.proofs.Program.Hints.Logging.{LogsAway, LogsHint, LogsNoHint, LogsNote, away_logs, note_logs}
 use Rattle.proof_migration.proofs.Program.Hints.Phases.{may_hint}
+use Rattle.proof_migration.proofs.Program.Hints.Writes.{none_last}
 use Rattle.proof_migration.proofs.Program.Hints.States.{ToolPhaseHints, HintsGo}
 use Rattle.proof_migration.proofs.ToolPhase.Owners.{commands_operator}
 use Rattle.proof_journals.proofs.Run.Taking.{server_is}
@@ -322,19 +323,19 @@ module _ (turns : EntriesAreTurns) (plan : PlanData) (runs : IsRunnable plan) (s
   hints : HintsGo plan journal
   hints = hints_go plan journal runs serial kept_before off_before
 
-  -- nothing of the changelog is logged
-  later : LogsAway t now then → (tool_phase : ToolPhase) → ToolPhaseDrains t now.log tool_phase → Goal tool_phase
+  -- no hint row is logged
+  later : LogsNoHint t now then → (tool_phase : ToolPhase) → ToolPhaseDrains t now.log tool_phase → Goal tool_phase
   later logs (SettingUp setup tries) at = tt
-  later logs (Migrating work) at = λ drains. ap (last_hint t 0) logs.log ∙ last_both t 0 now.log logs.events ∙ last_away t (last_hint t 0 now.log) logs.events logs.away ∙ at drains
+  later logs (Migrating work) at = λ drains. ap (last_hint t 0) logs.log ∙ last_both t 0 now.log logs.events ∙ none_last t (last_hint t 0 now.log) logs.events logs.none ∙ at drains
 
   was_at : (tool_phase : ToolPhase) → (moment plan journal).tool.tool_phase ≡ tool_phase → ToolPhaseDrains t now.log tool_phase
   was_at tool_phase eq = subst (ToolPhaseDrains t now.log) eq was
 
   others_at : same_actor entry.actor Insp ≡ false → (tool_phase : ToolPhase) → (moment plan journal).tool.tool_phase ≡ tool_phase → Goal tool_phase
-  others_at differ tool_phase eq = later (others_left plan runs serial journal entry kept off hints.none differ).logs tool_phase (was_at tool_phase eq)
+  others_at differ tool_phase eq = later (away_logs t now then (others_left plan runs serial journal entry kept off hints.none differ).logs) tool_phase (was_at tool_phase eq)
 
   cut_at : entry.asked ≡ Cut → (tool_phase : ToolPhase) → (moment plan journal).tool.tool_phase ≡ tool_phase → Goal tool_phase
-  cut_at cut tool_phase eq = later (lost_left plan runs serial journal entry kept off hints.none cut).logs tool_phase (was_at tool_phase eq)
+  cut_at cut tool_phase eq = later (away_logs t now then (lost_left plan runs serial journal entry kept off hints.none cut).logs) tool_phase (was_at tool_phase eq)
 
   -- of another phase with the same attempts
   moves : (work : Work) (phase : Phase) (attempts : ℕ) → From work.cutover.phase phase → attempts ≡ work.cutover.attempts → Goal (Migrating work) → IsDraining phase → last_hint t 0 then.log ≡ attempts
@@ -433,8 +434,8 @@ module _ (turns : EntriesAreTurns) (plan : PlanData) (runs : IsRunnable plan) (s
         ap (λ (s : State). last_hint t 0 s.log) (sym servers.1) ∙ ap (last_hint t 0) row.log
         ∙ last_both t 0 (moment plan journal).server.log (record { table = log_name t; change = Write (hint_row work.cutover.attempts) } ∷ []) ∙ reads_hint t (last_hint t 0 (moment plan journal).server.log) work.cutover.attempts (some_attempt hinting)
 
-    -- while it drains the inspector logs nothing of the changelog
-    drains_away : IsDraining work.cutover.phase → LogsAway t now then
+    -- while it drains the inspector logs no hint row
+    drains_away : IsDraining work.cutover.phase → LogsNoHint t now then
     drains_away drains = by (insp_left plan runs serial journal entry kept off hints.none work eq (subst (ToolPhaseHints t now.log (standing_of plan journal Insp).waits) eq hints.tool_phase).waits_so same uncut).logs where
       never : (phase : Phase) → IsDraining phase → may_hint phase ≡ true → ⊥
       never (Attempting (Draining turns)) drains may = false≢true may
@@ -442,9 +443,10 @@ module _ (turns : EntriesAreTurns) (plan : PlanData) (runs : IsRunnable plan) (s
       never (Attempting (SettingCounter number (Turns turns))) drains may = false≢true may
       never phase drains may = drains
 
-      by : LogsAway t now then ⊎ (LogsHint t work.cutover.attempts entry.answer now then × (may_hint work.cutover.phase ≡ true)) → LogsAway t now then
-      by (inl away) = away
-      by (inr hint) = absurd (never work.cutover.phase drains hint.1)
+      by : LogsAway t now then ⊎ (LogsNote t now then ⊎ (LogsHint t work.cutover.attempts entry.answer now then × (may_hint work.cutover.phase ≡ true))) → LogsNoHint t now then
+      by (inl away) = away_logs t now then away
+      by (inr (inl note)) = note_logs t now then note
+      by (inr (inr hint)) = absurd (never work.cutover.phase drains hint.1)
 
     insp_so : CutKeeps New entry.answer tool Inspector work
     unfolding cutovers.took

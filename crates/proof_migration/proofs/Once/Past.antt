@@ -34,12 +34,11 @@ use Rattle.tool_program.specs.declared.cutover_core.cutover.Clearing.TheVariants
 use Rattle.tool_program.specs.declared.cutover_core.cutover.CutOver.{CutOver}
 use Rattle.tool_program.specs.declared.cutover_core.cutover.Phase.{Phase}
 use Rattle.tool_program.specs.declared.cutover_core.cutover.Phase.TheVariants.{Attempting, Ending, Finished, Finishing, Resting}
-use Rattle.tool_program.specs.declared.cutover_core.cutover.Role.TheVariants.{Inspector}
 use Rattle.tool_program.specs.declared.cutover_core.cutover.Stage.TheVariants.{Hinting, Showing, ReadingCounter, SettingCounter}
 use Rattle.tool_program.specs.JournalWords.Histories as histories
 use Rattle.tool_program.specs.JournalWords.Histories.{alters, entry_adds, is_alter, answer_in}
 use Rattle.tool_program.specs.JournalWords.Journals.{may_lose, opens, state_at}
-use Rattle.tool_program.specs.Programs.{IsGiven, given, tool_call}
+use Rattle.tool_program.specs.Programs.{IsGiven, given, inspect_call, tool_call}
 use Rattle.tool_program.specs.Tools.{ToolPhase, Migrating, Moment, SettingUp, Tool, Work, is_reverting, moment, stopped}
 use Rattle.tool_program.proofs.OnlineCalls.Machines.{ToolPhaseIsNamed, named}
 use Rattle.tool_program.proofs.OnlineCalls.Naming.{not_ghost}
@@ -47,6 +46,7 @@ use Rattle.server_model.proofs.LockedRows.Tests.{turned_bytes}
 use Rattle.proof_journals.specs.Plans.{IsSerialPlan, limits_of, scene_of}
 use Rattle.proof_journals.specs.Scenes.{Stored}
 use Rattle.proof_journals.specs.Turns.{IsReported, about, answer_at, missed_at, request_of, reported_at}
+use Rattle.proof_journals.proofs.Machine.Inspecting.{inspects_or, inspector_called}
 use Rattle.proof_journals.proofs.Actors.{same_actor_is}
 use Rattle.proof_journals.proofs.Joined.{reported_answer, reported_missed, reported_draw}
 use Rattle.proof_journals.proofs.Journals.{opened_waits, stored_opened}
@@ -56,7 +56,7 @@ use Rattle.proof_journals.specs.Machine.Machines.{ToolPhaseStands, WorkStands, i
 use Rattle.proof_journals.specs.Machine.Runnable.{IsRunnable}
 use Rattle.proof_journals.specs.Machine.Standings.{IsAbout, Standing, answered, free, is_called, is_polled, standing_of}
 use Rattle.proof_journals.specs.Machine.MigrationTables.{schema_of}
-use Rattle.proof_journals.proofs.Machine.Asking.{inspector_next, some_request, waits_asks}
+use Rattle.proof_journals.proofs.Machine.Asking.{some_request, waits_asks}
 use Rattle.proof_journals.proofs.Machine.Journals.{Asking, IsRun, IsTogether, asking, calls_so, has_now, lock_about, never_commands, polls_so, ren_about}
 use Rattle.proof_journals.proofs.Machine.Marks.{ghost_not_old, locker_keeps}
 use Rattle.proof_journals.proofs.Machine.Renaming.{renamed_or_stays}
@@ -421,9 +421,9 @@ module _ (definitions_are_done : DefinitionsAreDone) (plan : PlanData) (journal 
     insp_both : entry.actor ≡ Insp → Asking plan journal Insp entry.asked → Both
     unfolding cutovers.next
     insp_both same (calls_so request asks idle call) =
-        let next : cutovers.next Inspector work.cutover ≡ Some request = ap (λ (c : ToolPhase). tool_call plan now.server journal now.tool c Insp) (sym tool_phase) ∙ call in
-        let off : makes request ≡ false = call_makes work.cutover work.cutover.phase request next in
-        (insp_one same request (is_called asks idle) (inspector_next work.cutover request next).0 off, insp_waits same request (is_called asks idle) off)
+        let here : inspect_call plan journal now.tool work ≡ Some request = ap (λ (c : ToolPhase). tool_call plan now.server journal now.tool c Insp) (sym tool_phase) ∙ call in
+        let off : makes request ≡ false = inspects_or plan journal now.tool work request (makes request ≡ false) here (λ note resting. ap makes note.is) (λ next. call_makes work.cutover work.cutover.phase request next) in
+        (insp_one same request (is_called asks idle) (inspector_called plan journal now.tool work request here).0 off, insp_waits same request (is_called asks idle) off)
     insp_both same (polls_so request asks some) =
         let off : makes request ≡ false = subst NoMake some unmade in
         (insp_one same request (is_polled asks some) (asks_kind request (waits_asks inspector_waits (has Insp).waits request work_stands.inspector.waits some)) off, insp_waits same request (is_polled asks some) off)

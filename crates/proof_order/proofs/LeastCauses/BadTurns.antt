@@ -112,13 +112,13 @@ module _ (plan : PlanData) (journal : List Entry) (entry : Entry) (together : Is
   Why turn task other moment = ((is_actor_of task other.actor ≡ true) × IsBad plan more turn other moment) ⊎ ((task ≡ tasks.CutOver) × IsUndrained plan more turn other moment)
 
   pub record IsLastTry (task : Task) : Type 0 where
-    pub hand : is_at task now.tool.tool_phase ≡ true
+    pub hand : is_at task entry.actor now.tool.tool_phase ≡ true
     pub why : Why tool.turns task entry now
 
   -- one of the last turn
   pub last_try : (task : Task) (turn : ℕ) → turn ≡ length journal + 1 → IsFailedTry plan more task turn → IsLastTry task
   last_try task turn same is = record {
-    hand = ap (λ (m : Moment). is_at task m.tool.tool_phase) (sym moments) ∙ is.at;
+    hand = subst (λ (e : Entry). is_at task e.actor now.tool.tool_phase ≡ true) entries (ap (λ (m : Moment). is_at task is.entry.actor m.tool.tool_phase) (sym moments) ∙ is.at);
     why = subst (λ (n : ℕ). Why n task entry now) (same ∙ sym turns) (subst (λ (m : Moment). Why turn task entry m) moments (subst (λ (e : Entry). Why turn task e is.before) entries is.why));
   } where
     turns : tool.turns ≡ length journal + 1

@@ -33,7 +33,6 @@ use Rattle.proof_migration.proofs.Program.Turns.Follows.{kept_front, kept_run}
 use Rattle.proof_order.specs.LeastCauses.{last_of, last_turn, rank, IsNoLater}
 use Rattle.proof_order.proofs.Least.{IsSplit, split, stays, stood_by, unrenamed, panic_reverts}
 use Rattle.proof_order.proofs.LeastUnfit.{no_cut, applier_reverted, unfit_reverts, concerned_by}
-use Rattle.proof_migration.specs.InspectorWaits.{InspectorsWaitToSet}
 use Rattle.proof_order.proofs.LeastCauses.BadTurns.{IsBadTurn, Why, IsLastTry, last_try, call_uncut, poll_uncut, final, bad_turn, not_command, lost_taken, heard_taken, took_by}
 use Rattle.proof_order.proofs.LeastCauses.Ranks.{AtMost, rank_of, cause_rank, setup_answer, copy_answer, apply_answer, panic_most, drain_stays}
 use Rattle.proof_order.proofs.LeastCauses.CountedTries.{HasTry, IsCounted, Grows, tries_of, not_over, actor_grows}
@@ -133,7 +132,7 @@ calm_place most reason calm = subst (AtMost most) (sym calm) tt
 
 -- A TURN OF EACH KIND
 
-module _ (waits : InspectorsWaitToSet) (plan : PlanData) (runs : IsRunnable plan) (serial : IsSerialPlan plan) (reads : ReadsRise plan) (some : 1 ≤ plan.options.default_retries) (left : TriesLeft plan) where
+module _ (plan : PlanData) (runs : IsRunnable plan) (serial : IsSerialPlan plan) (reads : ReadsRise plan) (some : 1 ≤ plan.options.default_retries) (left : TriesLeft plan) where
   module _ (before : List Entry) (entry : Entry) (kept : IsKept plan (before ++ entry ∷ [])) (calm : (moment plan before).tool.reason ≡ None) where
     abbrev now : Moment
     now = moment plan before
@@ -194,7 +193,7 @@ module _ (waits : InspectorsWaitToSet) (plan : PlanData) (runs : IsRunnable plan
     -- A TASK THAT IS SPENT
 
     -- with the batch's last try all is reverted, before the turn counts for the drain
-    batch_reverts : (position : ℕ) (turns : List ℕ) (rest : List Entry) → entry.actor ≡ Apply → IsBadTurn plan before entry → (work : Work) → now.tool.tool_phase ≡ Migrating work → is_at (tasks.Batch position) (Migrating work) ≡ true → is_renamed now.tool.tool_phase ≡ false
+    batch_reverts : (position : ℕ) (turns : List ℕ) (rest : List Entry) → entry.actor ≡ Apply → IsBadTurn plan before entry → (work : Work) → now.tool.tool_phase ≡ Migrating work → is_at (tasks.Batch position) entry.actor (Migrating work) ≡ true → is_renamed now.tool.tool_phase ≡ false
         → length before + 1 ≡ last_of turns → IsSpent plan ((before ++ entry ∷ []) ++ rest) (tasks.Batch position) turns → is_reverting (actor_took plan Apply entry.answer (Migrating work) tool).reason ≡ true
     batch_reverts position turns rest who bad work at hand off long spent = by taken.reason refl where
       taken : Tool
@@ -223,7 +222,7 @@ module _ (waits : InspectorsWaitToSet) (plan : PlanData) (runs : IsRunnable plan
         earlier : (turn : ℕ) → turn ≤ length before → IsFailedTry plan ((before ++ entry ∷ []) ++ rest) task turn → IsIn turn (tries_of task taken.tool_phase)
         earlier turn within is =
             counted turn (grows task turn
-            (subst (IsCounted task turn) at (all_counted waits plan runs serial reads before front_kept calm task turn
+            (subst (IsCounted task turn) at (all_counted plan runs serial reads before front_kept calm task turn
             (front_try plan before (entry ∷ rest) turn within task (subst (λ (j : List Entry). IsFailedTry plan j task turn) (append_assoc before (entry ∷ []) rest) is)))))
 
         at_turn : (turn : ℕ) → turn ≤ last_of turns → IsFailedTry plan ((before ++ entry ∷ []) ++ rest) task turn → IsIn turn (tries_of task taken.tool_phase)
@@ -262,7 +261,7 @@ module _ (waits : InspectorsWaitToSet) (plan : PlanData) (runs : IsRunnable plan
       spent_place : (task : Task) → IsSpent plan whole task turns → IsLastTry plan before entry together run task → AtMost (rank (causes.Spent task turns)) last.reason
       spent_place tasks.CutOver spent tried = any_place last.reason
       spent_place tasks.Setup spent tried = by tried.why now.tool.tool_phase refl tried.hand where
-        by : Why plan before entry together run tool.turns tasks.Setup entry now → (tool_phase : ToolPhase) → now.tool.tool_phase ≡ tool_phase → is_at tasks.Setup tool_phase ≡ true → AtMost 1 last.reason
+        by : Why plan before entry together run tool.turns tasks.Setup entry now → (tool_phase : ToolPhase) → now.tool.tool_phase ≡ tool_phase → is_at tasks.Setup entry.actor tool_phase ≡ true → AtMost 1 last.reason
         by (inl why) (SettingUp setup tries) at hand =
             place_of 1 (actor_took plan Insp entry.answer (SettingUp setup tries) tool) (took_by plan before entry together run Insp (setup_actor entry.actor why.0) (λ same. cc) (λ t. refl) (SettingUp setup tries) at (bad_turn plan before entry together run tool.turns why.1))
             (setup_answer 1 plan setup tries entry.answer tool (was 1) (omega arith))
@@ -278,7 +277,7 @@ module _ (waits : InspectorsWaitToSet) (plan : PlanData) (runs : IsRunnable plan
         applier_place : AtMost 1 (actor_took plan Apply entry.answer now.tool.tool_phase tool).reason
         applier_place = apply_answer 1 plan entry.answer now.tool.tool_phase tool (was 1) (λ bad. omega arith)
 
-        by : Why plan before entry together run tool.turns (tasks.Batch position) entry now → (tool_phase : ToolPhase) → now.tool.tool_phase ≡ tool_phase → is_at (tasks.Batch position) tool_phase ≡ true → AtMost 1 last.reason
+        by : Why plan before entry together run tool.turns (tasks.Batch position) entry now → (tool_phase : ToolPhase) → now.tool.tool_phase ≡ tool_phase → is_at (tasks.Batch position) entry.actor tool_phase ≡ true → AtMost 1 last.reason
         by (inl why) (Migrating work) at hand = asked_place entry.asked refl where
           who : entry.actor ≡ Apply
           who = batch_actor position entry.actor why.0
@@ -306,7 +305,7 @@ module _ (waits : InspectorsWaitToSet) (plan : PlanData) (runs : IsRunnable plan
 
       spent_turns : (task : Task) → IsSpent plan whole task turns → IsFailedTry plan (before ++ entry ∷ []) task (last_of turns) → is_renamed last.tool_phase ≡ false → IsTurning plan before entry (rank (causes.Spent task turns))
       spent_turns task spent try still_off = record {
-        reverts = spent_reverts waits plan runs serial reads some left task turns before entry rest kept long spent still_off;
+        reverts = spent_reverts plan runs serial reads some left task turns before entry rest kept long spent still_off;
         place = spent_place task spent (last_try plan before entry together run task (last_of turns) (sym long) try);
       }
 

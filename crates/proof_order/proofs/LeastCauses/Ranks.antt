@@ -1,5 +1,5 @@
 -- Which causes one turn may give, where nothing was reverted before it.
-use Rattle.std.proofs.Common.{◌≡◌, ◌≤◌, ℕ, ◌+◌, ◌==◌, Bool, true, false, cond, List, [], ◌∷◌, ◌++◌, length, Option, Some, None, refl, sym, ap, ◌∙◌, inl, inr, arith}
+use Rattle.std.proofs.Common.{◌≡◌, ◌≤◌, ℕ, ◌==◌, Bool, true, false, cond, List, [], ◌∷◌, ◌++◌, length, Option, Some, None, refl, sym, ap, ◌∙◌, inl, inr, arith}
 use Rattle.std.proofs.lemmas.Bool.{false≢true}
 use Rattle.base_script.specs.declared.actor.Actor.TheVariants.{Insp, Copy, Apply}
 use Rattle.base_script.specs.declared.operator.OperatorWord.TheVariants.{Panic}

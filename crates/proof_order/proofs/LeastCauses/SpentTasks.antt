@@ -23,7 +23,6 @@ use Rattle.proof_migration.proofs.Attempt.Verdicts.Tries.{Rises}
 use Rattle.proof_order.specs.LeastCauses.{last_of, last_turn}
 use Rattle.proof_order.proofs.Grounds.{Follows, reason_more}
 use Rattle.proof_order.proofs.Least.{late_at, unrenamed}
-use Rattle.proof_migration.specs.InspectorWaits.{InspectorsWaitToSet}
 use Rattle.proof_order.proofs.LeastCauses.CountedTries.{tries_of, HasTry, IsCounted, not_over}
 use Rattle.proof_order.proofs.LeastCauses.LastTurns.{still_counted, last_counted}
 use Rattle.proof_order.proofs.LeastCauses.Positions.{ReadsRise}
@@ -85,7 +84,7 @@ calm_before plan journal entry calm = by (reason_more plan journal entry) where
   by (inl same) = sym same ∙ calm
   by (inr none) = none.0
 
-module _ (waits : InspectorsWaitToSet) (plan : PlanData) (runs : IsRunnable plan) (serial : IsSerialPlan plan) (reads : ReadsRise plan) where
+module _ (plan : PlanData) (runs : IsRunnable plan) (serial : IsSerialPlan plan) (reads : ReadsRise plan) where
   -- each failed try of a task is counted, or the task is over
   abbrev pub AllCounted : List Entry → Type 0
   AllCounted journal = (moment plan journal).tool.reason ≡ None → (task : Task) (turn : ℕ) → IsFailedTry plan journal task turn → IsCounted task turn (moment plan journal).tool.tool_phase
@@ -105,8 +104,8 @@ module _ (waits : InspectorsWaitToSet) (plan : PlanData) (runs : IsRunnable plan
     earlier b same off = let most = up_to in let differ = same ∙ off in grind (arith, nat_tests, most, differ)
 
     by : (b : Bool) → (turn == length journal + 1) ≡ b → IsCounted task turn (moment plan (journal ++ entry ∷ [])).tool.tool_phase
-    by true same = inl (last_counted waits plan runs serial reads journal entry kept before calm task turn (are_one turn (length journal + 1) same) is)
-    by false differ = still_counted waits plan runs serial reads journal entry kept before calm task turn (was before task turn (front_try plan journal (entry ∷ []) turn (earlier false differ refl) task is))
+    by true same = inl (last_counted plan runs serial reads journal entry kept before calm task turn (are_one turn (length journal + 1) same) is)
+    by false differ = still_counted plan runs serial reads journal entry kept before calm task turn (was before task turn (front_try plan journal (entry ∷ []) turn (earlier false differ refl) task is))
 
   counted_begins : AllCounted []
   counted_begins calm task turn is = absurd (let none : None ≡ Some is.entry = is.is.stands in cc)
@@ -144,7 +143,7 @@ module _ (waits : InspectorsWaitToSet) (plan : PlanData) (runs : IsRunnable plan
       none : (moment plan front).tool.reason ≡ None → ⊥
       none calm = omega (arith, fewer, most, same) where
         has_last : HasTry task (last_of turns) (moment plan front).tool.tool_phase
-        has_last = last_counted waits plan runs serial reads before entry kept (calm_before plan before entry calm) calm task (last_of turns) (sym last) (of_last (IsFailedTry plan front task) turns positive each)
+        has_last = last_counted plan runs serial reads before entry kept (calm_before plan before entry calm) calm task (last_of turns) (sym last) (of_last (IsFailedTry plan front task) turns positive each)
 
         has_it : (turn : ℕ) → IsCounted task turn (moment plan front).tool.tool_phase → IsIn turn (tries_of task (moment plan front).tool.tool_phase)
         has_it turn (inl has) = has.1

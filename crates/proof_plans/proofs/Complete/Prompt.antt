@@ -59,11 +59,12 @@ unlocked_harmless names standing idle none = record {
 }
 
 -- what is done doesn't wait
+pub done_waits : (answer : Answer) → IsDone answer → is_wait answer ≡ false
+done_waits (answers.Waits other) is = absurd is
+done_waits answer is = refl
+
 done_unwaits : (state : State) (number : ℕ) (request : Request) → is_wait (done state number request).answer ≡ false
-done_unwaits state number request = by (done state number request).answer (done_answers state number request) where
-  by : (answer : Answer) → IsDone answer → is_wait answer ≡ false
-  by (answers.Waits other) is = absurd is
-  by answer is = refl
+done_unwaits state number request = done_waits (done state number request).answer (done_answers state number request)
 
 module _ (plan : PlanData) (journal : List Entry) (entry : Entry) (known : IsKnown plan journal) (run : IsRun plan journal entry) (living : Living journal (state_at plan journal)) (owned : AllOwned plan journal) (lively : NoneWaits (state_at plan journal)) (holds : JournalHolds (limits_of plan) (scene_of plan journal) journal) (unlost : entry.side ≡ None) where
   abbrev now : State

@@ -37,7 +37,7 @@ use Rattle.tool_program.specs.declared.cutover_core.cutover.Hold.TheVariants.{No
 use Rattle.tool_program.specs.declared.cutover_core.cutover.Phase.{Phase}
 use Rattle.tool_program.specs.declared.cutover_core.cutover.Phase.TheVariants.{Resting, Attempting, Ending, Finishing, Finished}
 use Rattle.tool_program.specs.declared.cutover_core.cutover.Stage.TheVariants.{Locking, Hinting, ReadingCounter, SettingCounter, Showing, Dropping, Unlocking}
-use Rattle.tool_program.specs.Programs.{apply_call, rolls_back, tool_call}
+use Rattle.tool_program.specs.Programs.{apply_call, inspect_call, rolls_back, tool_call}
 use Rattle.tool_program.specs.Tools.{Work, ToolPhase, SettingUp, Migrating, Moment, is_renamed, is_reverting, moment}
 use Rattle.proof_journals.specs.Plans.{limits_of, scene_of}
 use Rattle.proof_journals.proofs.Actors.{same_actor_is}
@@ -51,6 +51,7 @@ use Rattle.proof_migration.proofs.ToolPhase.Owners.{AllOwned}
 use Rattle.proof_journals.specs.Machine.Machines.{ApplierStands, ToolPhaseStands, PhaseHolds, SetupStands, Stands, WorkStands, applier_busy, both_names, copier_asks, copier_busy, held, renaming}
 use Rattle.proof_journals.specs.Machine.Standings.{Standing, answered, free, needs_names, serves_to, standing_in, standing_of, IsAbout, is_called}
 use Rattle.proof_journals.specs.Machine.MigrationTables.{ToolPhaseTables, Uncopied, WorkTables}
+use Rattle.proof_journals.proofs.Machine.Inspecting.{IsNote, inspects_or}
 use Rattle.proof_journals.proofs.Machine.CuttingOver.{LockerAsks}
 use Rattle.proof_journals.proofs.Machine.Fitting.{IsPrompt}
 use Rattle.proof_journals.proofs.Machine.Journals.{Asking, IsRun, apply_called, calls_so, copier_had, lock_about, polls_so}
@@ -141,7 +142,8 @@ locked_off_log table = (Rattle.tool_program.proofs.OnlineCalls.Naming.not_log ta
 
 module _ (plan : PlanData) (journal : List Entry) (entry : Entry) (uncounted : has_counter plan ≡ false) (is : IsStanding plan journal) (none : (moment plan journal).tool.reason ≡ None) (on : gives_up (moment plan journal).tool.tool_phase ≡ false) (going : is_renamed (moment plan journal).tool.tool_phase ≡ false) (run : IsRun plan journal entry) (asks : Asking plan journal entry.actor entry.asked)
     (uncut : entry.asked ≢ Cut) (unlost : entry.side ≡ None) (nobody : Nobody journal) (living : Living journal (state_at plan journal)) (owned : AllOwned plan journal) (lively : NoneWaits (state_at plan journal)) (holds : JournalHolds (limits_of plan) (scene_of plan journal) journal)
-    (reads : ReadsOn (moment plan journal).tool.tool_phase) (chosen : Chosen (moment plan journal).tool.tool_phase) (waits : Unwaited plan journal) where
+    (reads : ReadsOn (moment plan journal).tool.tool_phase) (chosen : Chosen (moment plan journal).tool.tool_phase) (waits : Unwaited plan journal)
+    (notes_done : (request : Request) → IsNote plan.table request → entry.actor ≡ Insp → entry.asked ≡ Call request → is_wait entry.answer ≡ false) where
   abbrev now : Moment
   now = moment plan journal
 
@@ -269,15 +271,15 @@ module _ (plan : PlanData) (journal : List Entry) (entry : Entry) (uncounted : h
 
     insp_unwaits : entry.actor ≡ Insp → is_wait entry.answer ≡ false
     unfolding attempts.next
-    insp_unwaits who = by work.cutover.phase refl next where
+    insp_unwaits who = inspects_or plan journal now.tool work one.request (is_wait entry.answer ≡ false) here (λ note resting. notes_done one.request note who one.asked) (λ next. by work.cutover.phase refl next) where
       other : same_actor entry.actor Ren ≡ false
       other = ap (λ (a : Actor). same_actor a Ren) who
 
       one : IsCalled
       one = called_so other
 
-      next : attempts.inspector_call work.cutover work.cutover.phase ≡ Some one.request
-      next = ap (λ (c : ToolPhase). tool_call plan now.server journal now.tool c Insp) (sym eq) ∙ ap (tool_call plan now.server journal now.tool now.tool.tool_phase) (sym who) ∙ one.call
+      here : inspect_call plan journal now.tool work ≡ Some one.request
+      here = ap (λ (c : ToolPhase). tool_call plan now.server journal now.tool c Insp) (sym eq) ∙ ap (tool_call plan now.server journal now.tool now.tool.tool_phase) (sym who) ∙ one.call
 
       hinting : work.cutover.phase ≡ Attempting Hinting → attempts.writes_hint work.cutover.table work.cutover.attempts ≡ one.request → is_wait entry.answer ≡ false
       hinting phase same =

@@ -7,9 +7,11 @@ use Rattle.base_script.specs.declared.actor.Actor.TheVariants.{Op, Insp, Copy, A
 use Rattle.server_model.specs.Along.{Along}
 use Rattle.server_model.specs.declared.answer.Answer.{Answer}
 use Rattle.server_model.specs.declared.answer.Answer.TheVariants as answers
-use Rattle.server_model.specs.declared.entry.Asked.TheVariants.{Cut}
+use Rattle.server_model.specs.declared.entry.Asked.TheVariants.{Call, Cut}
 use Rattle.server_model.specs.declared.entry.Entry.{Entry}
+use Rattle.server_model.specs.declared.request.Request.{Request}
 use Rattle.server_model.specs.Entries.{same_actor}
+use Rattle.server_model.specs.States.{names_in}
 use Rattle.plan_data.specs.PlanData.{PlanData, has_counter}
 use Rattle.tool_program.specs.JournalWords.Journals.{state_after}
 use Rattle.tool_program.specs.JournalWords.Sessions.{live_session}
@@ -17,6 +19,7 @@ use Rattle.tool_program.specs.ChunkCopier.Copiers as copiers
 use Rattle.tool_program.specs.declared.chunk_copier.copier.Copier.{Copier}
 use Rattle.tool_program.specs.declared.chunk_copier.copier.CopyStep.{CopyStep}
 use Rattle.tool_program.specs.declared.chunk_copier.copier.CopyStep.TheVariants.{Choosing, Spanning, Copying, Committing}
+use Rattle.tool_program.specs.CutoverCore.CutOvers.{is_wait}
 use Rattle.tool_program.specs.Setups.{Setup, Listing, Clearing, MakingLog, MakingGhost, Marking, Reaching, Ready, setup_after}
 use Rattle.tool_program.specs.Tools.{Work, ToolPhase, SettingUp, Migrating, Moment, Tool, tool_phase_of, is_renamed, is_reverting, moment}
 use Rattle.proof_journals.specs.Plans.{limits_of, scene_of, IsSerialPlan}
@@ -29,10 +32,14 @@ use Rattle.proof_migration.proofs.ToolPhase.ToolPhaseTurns.{AnswerKeeps, Kept, R
 use Rattle.proof_migration.proofs.ToolPhase.Owners.{together_owned}
 use Rattle.proof_journals.specs.Machine.Laws.{VerdictsTellTheAlter}
 use Rattle.proof_journals.specs.Machine.Runnable.{IsRunnable}
+use Rattle.proof_journals.proofs.Machine.Inspecting.{IsNote}
 use Rattle.proof_journals.proofs.Machine.Journals.{Asking, IsRun}
+use Rattle.proof_migration.proofs.HeldNames.Changelog.{log_at_once}
+use Rattle.proof_migration.proofs.HeldNames.Holders.{all_held_well}
 use Rattle.proof_migration.proofs.Program.Turns.Follows.{kept_front, kept_run}
 use Rattle.proof_plans.specs.Complete.Quiet.{IsQuiet, IsWithin, QuietRunsAreDone, RowsHaveConvertedRows, is_timed_out}
 use Rattle.proof_plans.proofs.Complete.Alone.{asks_so, never_cut, unlost}
+use Rattle.proof_plans.proofs.Complete.Prompt.{done_waits}
 use Rattle.proof_plans.proofs.Complete.Quiet.{IsBounded, IsQuietSo, quiet_begins, quiet_more}
 use Rattle.proof_plans.proofs.Complete.Smooth.{renamed_more, unreverted}
 use Rattle.proof_plans.proofs.Complete.Untouched.{IsUntouched, unaltered, untouched}
@@ -132,21 +139,25 @@ module _ (again : StoresAgain) (plan : PlanData) (quiet : IsQuiet plan) (convert
   heard : entry.side ≡ None
   heard = unlost plan quiet journal entry is.quiet.nobody kept is.quiet.calm.stands.tabled.all.tool
 
+  -- a note doesn't wait
+  notes_done : (request : Request) → IsNote plan.table request → entry.actor ≡ Insp → entry.asked ≡ Call request → is_wait entry.answer ≡ false
+  notes_done request note who asks = done_waits entry.answer (log_at_once plan runs journal entry earlier here (all_held_well plan journal runs serial earlier) who request (ap names_in note.is) asks heard)
+
   module _ (going : is_renamed (moment plan journal).tool.tool_phase ≡ false) where
     scene : IsUntouched plan journal
     scene = untouched plan journal runs serial earlier (unaltered plan journal runs serial earlier going is.quiet.calm.on.on) is.quiet.nobody (is.quiet.nothing going journal is.quiet.nobody)
 
     in_time : has_counter plan ≡ false → same_actor entry.actor Ren ≡ false → is_timed_out entry.answer ≡ false
     in_time uncounted = untimed plan journal entry uncounted is.quiet.calm.stands is.quiet.calm.on.none is.quiet.calm.on.on going here asked uncut heard is.quiet.nobody (all_living plan journal earlier.faithful earlier.sessions) (together_owned plan journal earlier.faithful earlier.follows).owned (all_waits plan journal earlier.faithful earlier.sessions)
-        (journal_holds (limits_of plan) (scene_of plan journal) journal scene.scene) (is.quiet.reads going) (is.chosen uncounted going) (is.waits uncounted going)
+        (journal_holds (limits_of plan) (scene_of plan journal) journal scene.scene) (is.quiet.reads going) (is.chosen uncounted going) (is.waits uncounted going) notes_done
 
     waits_now : has_counter plan ≡ false → Unwaited plan (journal ++ entry ∷ [])
     waits_now uncounted = unwaited_more plan journal entry uncounted is.quiet.calm.stands is.quiet.calm.on.none is.quiet.calm.on.on going here asked uncut heard is.quiet.nobody (all_living plan journal earlier.faithful earlier.sessions) (together_owned plan journal earlier.faithful earlier.follows).owned (all_waits plan journal earlier.faithful earlier.sessions)
-        (journal_holds (limits_of plan) (scene_of plan journal) journal scene.scene) (is.quiet.reads going) (is.chosen uncounted going) (is.waits uncounted going)
+        (journal_holds (limits_of plan) (scene_of plan journal) journal scene.scene) (is.quiet.reads going) (is.chosen uncounted going) (is.waits uncounted going) notes_done
 
     copies_left : has_counter plan ≡ false → (work : Work) → (moment plan journal).tool.tool_phase ≡ Migrating work → entry.actor ≡ Copy → work.copier.is_copied ≡ false
     copies_left uncounted = copy_left plan journal entry uncounted is.quiet.calm.stands is.quiet.calm.on.none is.quiet.calm.on.on going here asked uncut heard is.quiet.nobody (all_living plan journal earlier.faithful earlier.sessions) (together_owned plan journal earlier.faithful earlier.follows).owned (all_waits plan journal earlier.faithful earlier.sessions)
-        (journal_holds (limits_of plan) (scene_of plan journal) journal scene.scene) (is.quiet.reads going) (is.chosen uncounted going) (is.waits uncounted going)
+        (journal_holds (limits_of plan) (scene_of plan journal) journal scene.scene) (is.quiet.reads going) (is.chosen uncounted going) (is.waits uncounted going) notes_done
 
     bounded : IsWithin plan journal entry → IsBounded plan journal entry
     bounded within = record { timed = by (has_counter plan) refl (same_actor entry.actor Ren) refl; drained = within.drained } where

@@ -48,6 +48,7 @@ use Rattle.proof_journals.specs.Machine.Machines as machines
 use Rattle.proof_journals.specs.Machine.Machines.{ToolPhaseStands, PhaseHolds, WorkStands, held}
 use Rattle.proof_journals.specs.Machine.Runnable.{IsRunnable}
 use Rattle.proof_journals.specs.Machine.Standings.{IsAbout, Standing, answered, free, is_called, is_polled, standing_of}
+use Rattle.proof_journals.proofs.Machine.Inspecting.{inspects_or}
 use Rattle.proof_journals.proofs.Machine.CuttingOver.{LockerAsks}
 use Rattle.proof_journals.proofs.Machine.Journals.{Asking, IsRun, IsTogether, asking, calls_so, has_now, lock_about, never_commands, polls_so, ren_about}
 use Rattle.proof_journals.proofs.Machine.Marks.{ghost_not_old, history_more}
@@ -243,7 +244,9 @@ module _ (definitions_are_done : DefinitionsAreDone) (plan : PlanData) (runs : I
       by (calls_so request asks idle call) = record {
         request = request;
         is_about = is_called asks idle;
-        unmade = call_makes working.work.cutover working.work.cutover.phase request (ap (λ (c : ToolPhase). tool_call plan (moment plan journal).server journal (moment plan journal).tool c Insp) (sym working.tool_phase) ∙ call);
+        unmade =
+            inspects_or plan journal (moment plan journal).tool working.work request (makes request ≡ false) (ap (λ (c : ToolPhase). tool_call plan (moment plan journal).server journal (moment plan journal).tool c Insp) (sym working.tool_phase) ∙ call)
+            (λ note resting. ap makes note.is) (λ next. call_makes working.work.cutover working.work.cutover.phase request next);
       }
       by (polls_so request asks some) = record { request = request; is_about = is_polled asks some; unmade = subst NoMake some passed.inspector }
 

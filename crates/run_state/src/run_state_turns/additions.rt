@@ -92,6 +92,7 @@ fn keep(run_state: &mut RunState<'_>, entry: &Entry, facts: TurnFacts)
     run_state
         .tool
         .took(plan, entry, facts.range, facts.had_work);
+    run_state.notes.take(entry);
     clients_took(run_state, entry);
     take_turn(&mut run_state.actor_states, plan.table(), entry);
     run_state.load = facts.load;

@@ -1,5 +1,5 @@
 -- The lines of a transaction.
-use Rattle.std.proofs.Common.{◌≡◌, ◌+◌, true, List, [], ◌∷◌, ◌++◌, refl}
+use Rattle.std.proofs.Common.{◌≡◌, true, List, [], ◌∷◌, ◌++◌, refl}
 use Rattle.server_model.specs.declared.transaction.TxnLine.{TxnLine}
 use Rattle.tool_program.specs.JournalWords.Clients.{is_inside}
 

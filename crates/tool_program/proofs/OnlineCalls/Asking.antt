@@ -18,6 +18,7 @@ use Rattle.base_values.specs.ToolNames.{ghost_name, log_name, old_name}
 use Rattle.tool_changelog.specs.ToolTables.{log_schema, sentry_schema}
 use Rattle.tool_program.specs.declared.cutover_core.cutover.Leftovers.{Leftovers}
 use Rattle.tool_program.specs.CutoverCore.Attempts.{first_name, exchange, writes_hint}
+use Rattle.tool_program.specs.NoteWriter.Notes.{writes}
 use Rattle.tool_program.specs.Operators.{is_throttled}
 use Rattle.tool_program.specs.Tools.{Moment}
 use Rattle.tool_program.specs.Online.{attempt_goes_on, is_near, attempt_stands, is_written, only_reads}
@@ -90,6 +91,18 @@ makes_ghost plan now = makes plan now (record (new_schema plan) { name = ghost_n
 
 pub hints : (plan : PlanData) (now : Moment) (attempt : ℕ) → AsksWell plan now Insp (writes_hint plan.table attempt)
 hints plan now attempt =
+    record {
+      writes = written_log plan.table;
+      names = all_one (is_known plan.table) (log_name plan.table) (known_log plan.table);
+      excludes = refl;
+      guards = refl;
+      held = refl;
+      copies = refl;
+    }
+
+-- the row of a note
+pub notes : (plan : PlanData) (now : Moment) (row : List Value) → AsksWell plan now Insp (writes plan.table row)
+notes plan now row =
     record {
       writes = written_log plan.table;
       names = all_one (is_known plan.table) (log_name plan.table) (known_log plan.table);

@@ -1,5 +1,5 @@
 -- What is given to an actor of the tool is one of its machines' calls, and online.
-use Rattle.std.proofs.Common.{◌≡◌, ℕ, Bool, true, false, List, [], ◌∷◌, ◌++◌, Option, Some, None, refl, sym, ap, ◌∙◌, subst}
+use Rattle.std.proofs.Common.{◌≡◌, ℕ, ◌+◌, Bool, true, false, List, [], ◌∷◌, ◌++◌, Option, Some, None, refl, sym, ap, ◌∙◌, subst}
 use Rattle.std.specs.Prelude.{if◌then◌else◌, ◌&&◌, not, nat_le, nat_lt}
 use Rattle.std.specs.List.{slice_get}
 use Rattle.std.proofs.lemmas.Bool.{not-false}
@@ -18,6 +18,7 @@ use Rattle.plan_data.specs.PlanData.{PlanData}
 use Rattle.tool_program.specs.JournalWords.Sessions.{live_session}
 use Rattle.tool_program.specs.JournalWords.KeptPlans.{words_of}
 use Rattle.base_values.specs.ToolNames.{ghost_name}
+use Rattle.tool_changelog.specs.Heartbeats.{heartbeat_row}
 use Rattle.tool_program.specs.declared.chunk_copier.copier.Copier.{Copier}
 use Rattle.tool_program.specs.declared.chunk_copier.copier.CopyRange.{CopyRange}
 use Rattle.tool_program.specs.declared.chunk_copier.copier.CopyStep.{CopyStep}
@@ -40,10 +41,12 @@ use Rattle.tool_program.specs.declared.cutover_core.cutover.Stage.TheVariants.{L
 use Rattle.tool_program.specs.declared.cutover_core.cutover.Role.TheVariants.{Inspector, Locker, Renamer}
 use Rattle.tool_program.specs.CutoverCore.Attempts as cutovers
 use Rattle.tool_program.specs.CutoverCore.CutOvers.{stands, is_done, is_resting}
+use Rattle.tool_program.specs.declared.note_writer.notes.Notes.{Notes}
+use Rattle.tool_program.specs.NoteWriter.Notes as notes
 use Rattle.tool_program.specs.Setups as setups
 use Rattle.tool_program.specs.Operators.{is_throttled, is_postponed}
 use Rattle.tool_program.specs.Tools.{Work, ToolPhase, SettingUp, Migrating, Moment, is_reverting, moment}
-use Rattle.tool_program.specs.Programs.{in_transaction, waits, rolls_back, copy_call, unread_in, is_held, may_read, apply_call, may_begin, lock_call, tool_call, calls, commands, tool_asks, given, IsGiven, IsFollowed, Follows}
+use Rattle.tool_program.specs.Programs.{in_transaction, waits, rolls_back, copy_call, unread_in, is_held, may_read, apply_call, may_begin, lock_call, checkpoint_in, note_call, inspect_call, tool_call, calls, commands, tool_asks, given, IsGiven, IsFollowed, Follows}
 use Rattle.tool_program.specs.OnlineCalls.{AsksWell, GivenCallsAreOnline, IsAskedWell, FollowedCallsAreOnline}
 use Rattle.tool_program.proofs.OnlineCalls.Machines.{IsNamed, ToolPhaseIsNamed, named}
 use Rattle.tool_program.proofs.OnlineCalls.Asking as well
@@ -58,6 +61,11 @@ called false (Some one) request is = cc
 unheld : (held : Bool) (call : Option Request) (request : Request) → (if held then None else call) ≡ Some request → (held ≡ false) × (call ≡ Some request)
 unheld true call request is = absurd cc
 unheld false call request is = (refl, is)
+
+-- what is asked under a condition is asked
+granted : (may : Bool) (call : Option Request) (request : Request) → (if may then call else None) ≡ Some request → call ≡ Some request
+granted true call request is = is
+granted false call request is = absurd cc
 
 held_back : (starts held : Bool) → (starts && held) ≡ false → starts ≡ true → held ≡ false
 held_back true held is on = is
@@ -81,6 +89,11 @@ one_call A one request is at = subst A (let same : one ≡ request = cc in same)
 rolled : (A : Request → Type 0) (busy : Bool) (request : Request) → (if busy then Some requests.Rollback else None) ≡ Some request → A requests.Rollback → A request
 rolled A true request is at = one_call A requests.Rollback request is at
 rolled A false request is at = absurd cc
+
+-- one of two calls
+either_call : (A : Type 0) (first : Bool) (one other : Option Request) (request : Request) → (if first then one else other) ≡ Some request → (one ≡ Some request → A) → (other ≡ Some request → A) → A
+either_call A true one other request is by_one by_other = by_one is
+either_call A false one other request is by_one by_other = by_other is
 
 module _ (plan : PlanData) (now : Moment) (journal : List Entry) where
   -- THE COPIER
@@ -223,9 +236,23 @@ module _ (plan : PlanData) (now : Moment) (journal : List Entry) where
   inspector_in cutover (Finishing clearing) request same is = table_drops cutover.table clearing request same is
   inspector_in cutover phase request same is = absurd cc
 
-  inspector_asks : (work : Work) (request : Request) → IsNamed plan work → cutovers.next Inspector work.cutover ≡ Some request → AsksWell plan now Insp request
+  note_in : (so_far : Notes) (row : Option (List Value)) (request : Request) → notes.row_or_beat row plan so_far ≡ Some request → AsksWell plan now Insp request
+  note_in so_far (Some row) request is = one_call (AsksWell plan now Insp) (notes.writes plan.table row) request is (well.notes plan now row)
+  note_in so_far None request is =
+      let row = heartbeat_row (so_far.begun + 1) in
+      one_call (AsksWell plan now Insp) (notes.writes plan.table row) request (granted (notes.may_beat plan.options.notes plan.options.note_every so_far) (Some (notes.writes plan.table row)) request is) (well.notes plan now row)
+
+  note_asks : (work : Work) (request : Request) → note_call plan journal now.tool work ≡ Some request → AsksWell plan now Insp request
+  unfolding notes.next
+  note_asks work request is =
+      let due = unheld (is_reverting now.tool.reason) (notes.next plan (checkpoint_in journal work) (notes.notes_of journal)) request is in
+      note_in (notes.notes_of journal) (notes.checkpoint_next (notes.notes_of journal).step (checkpoint_in journal work)) request due.1
+
+  inspector_asks : (work : Work) (request : Request) → IsNamed plan work → inspect_call plan journal now.tool work ≡ Some request → AsksWell plan now Insp request
   unfolding cutovers.next
-  inspector_asks work request names is = inspector_in work.cutover work.cutover.phase request names.cutover is
+  inspector_asks work request names is =
+      either_call (AsksWell plan now Insp request) (is_resting work.cutover.phase) (note_call plan journal now.tool work) (cutovers.next Inspector work.cutover) request is (λ note. note_asks work request note)
+      (λ call. inspector_in work.cutover work.cutover.phase request names.cutover call)
 
   setup_in : (setup : setups.Setup) (request : Request) → setups.setup_call plan setup ≡ Some request → AsksWell plan now Insp request
   setup_in setups.Listing request is = one_call (AsksWell plan now Insp) requests.ShowTables request is (well.looks plan now)
@@ -238,18 +265,14 @@ module _ (plan : PlanData) (now : Moment) (journal : List Entry) where
 
   -- ANY OF THEM
 
-  reverting_or : (A : Type 0) (reverting : Bool) (back call : Option Request) (request : Request) → (if reverting then back else call) ≡ Some request → (back ≡ Some request → A) → (call ≡ Some request → A) → A
-  reverting_or A true back call request is one other = one is
-  reverting_or A false back call request is one other = other is
-
   tool_asks_well : (tool_phase : ToolPhase) (actor : Actor) (request : Request) → now.tool.tool_phase ≡ tool_phase → ToolPhaseIsNamed plan tool_phase → tool_call plan now.server journal now.tool tool_phase actor ≡ Some request → AsksWell plan now actor request
   tool_asks_well (SettingUp setup tries) Insp request at names is = setup_in setup request (unheld (is_reverting now.tool.reason) (setups.setup_call plan setup) request is).1
   tool_asks_well (Migrating work) Insp request at names is = inspector_asks work request names is
   tool_asks_well (Migrating work) Copy request at names is =
-      reverting_or (AsksWell plan now Copy request) (is_reverting now.tool.reason) (rolls_back now.server (live_session journal Copy)) (copy_call plan now.server journal now.tool work) request is
+      either_call (AsksWell plan now Copy request) (is_reverting now.tool.reason) (rolls_back now.server (live_session journal Copy)) (copy_call plan now.server journal now.tool work) request is
       (λ back. rolled (AsksWell plan now Copy) (in_transaction now.server (live_session journal Copy)) request back (well.copier_rolls_back plan now)) (λ call. copier_asks work request names call)
   tool_asks_well (Migrating work) Apply request at names is =
-      reverting_or (AsksWell plan now Apply request) (is_reverting now.tool.reason) (rolls_back now.server (live_session journal Apply)) (apply_call plan now.server journal now.tool work) request is
+      either_call (AsksWell plan now Apply request) (is_reverting now.tool.reason) (rolls_back now.server (live_session journal Apply)) (apply_call plan now.server journal now.tool work) request is
       (λ back. rolled (AsksWell plan now Apply) (in_transaction now.server (live_session journal Apply)) request back (well.applier_rolls_back plan now)) (λ call. applier_asks work request at names call)
   tool_asks_well (Migrating work) Lock request at names is = locker_asks work request at names is
   tool_asks_well (Migrating work) Ren request at names is = renamer_asks work request at names is

@@ -1,6 +1,6 @@
 -- *Bound*: a number of turns for each plan. A run that hasn't ended has fewer (`law_journals::bounds`). (This project's rule; no
 -- fairness is asked of the order of turns.)
-use Rattle.std.specs.Prelude.{ℕ, ◌+◌, ◌*◌, length, map, sum, unwrap_or, if◌then◌else◌}
+use Rattle.std.specs.Prelude.{ℕ, ◌+◌, ◌*◌, ◌==◌, length, map, sum, unwrap_or, if◌then◌else◌}
 use Rattle.std.specs.Option.{option_map}
 use Rattle.table_store.specs.Databases.{find_table}
 use Rattle.plan_data.specs.PlanData.{PlanData, has_counter}
@@ -20,6 +20,8 @@ pub record Measures : Type 0 where
   pub batch : ℕ
   -- 1 where the migrated table has an AUTO_INCREMENT column, else 0
   pub counters : ℕ
+  -- how many notes may be begun: those that the plan asks for, and one for each loss
+  pub notes : ℕ
 
 unfoldable pub measures : PlanData → Measures
 measures plan =
@@ -33,6 +35,7 @@ measures plan =
       client_wait = plan.options.client_wait;
       batch = plan.options.dml_batch_size;
       counters = if has_counter plan then 1 else 0;
+      notes = if plan.options.notes == 0 then 0 else plan.options.notes + length plan.faults;
     }
 
 -- at most this many rows are ever there, and this many events and chunks
@@ -57,13 +60,13 @@ abbrev pub chunk_turns : Measures → ℕ
 chunk_turns m = chunks m * m.tries * ((keys m + 1) * (1 + m.tool_wait) + 2)
 
 abbrev pub batch_turns : Measures → ℕ
-batch_turns m = (events m + m.tries) * m.tries * (3 * m.batch * (1 + m.tool_wait) + 3)
+batch_turns m = (events m + 4 * m.notes + m.tries) * m.tries * (3 * m.batch * (1 + m.tool_wait) + 3)
 
 abbrev pub attempt_turns : Measures → ℕ
 attempt_turns m = m.tries * ((2 + m.counters) * m.tool_wait + 10 + 2 * m.counters)
 
 abbrev pub clearing_turns : Measures → ℕ
-clearing_turns m = 6 * m.losses + 5
+clearing_turns m = 6 * m.losses + 2 * m.notes + 5
 
 -- *Bound*
 unfoldable pub bound_of : Measures → ℕ

@@ -13,7 +13,6 @@ use Rattle.table_store.specs.Databases.{TableRows, find_table}
 use Rattle.base_script.specs.declared.statement.Statement.{Statement}
 use Rattle.server_model.specs.Along.{Along, gathered}
 use Rattle.server_model.specs.declared.entry.Entry.{Entry}
-use Rattle.server_model.specs.declared.session.Session.{Session}
 use Rattle.server_model.specs.declared.request.Request.{Request}
 use Rattle.server_model.specs.declared.request.Request.TheVariants as requests
 use Rattle.server_model.specs.Entries.{is_client}

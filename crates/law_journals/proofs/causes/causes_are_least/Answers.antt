@@ -4,4 +4,4 @@ use Rattle.law_journals.proofs.causes.causes_are_least.Goals as goal
 
 pub returns : goal.returns
 returns c = λ plan journal cause other alterable runs serial some kept stands verdict.
-    cause_least c.inspectors_wait_to_set.ensures plan runs serial (reads_rise plan (c.batches_go_on.ensures plan alterable runs serial)) some (tries_left plan some c.tries_are_few.ensures) journal cause kept verdict other stands
+    cause_least plan runs serial (reads_rise plan (c.batches_go_on.ensures plan alterable runs serial)) some (tries_left plan some c.tries_are_few.ensures) journal cause kept verdict other stands

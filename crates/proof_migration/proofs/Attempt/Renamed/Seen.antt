@@ -59,7 +59,7 @@ use Rattle.proof_migration.proofs.Attempt.Leaving.{AllStay, exchange_left, excha
 use Rattle.proof_migration.proofs.Attempt.LockerAnswers.{LockerLeaves}
 use Rattle.proof_migration.proofs.Attempt.RenamerAnswers.{AsksAt, either}
 use Rattle.proof_migration.proofs.Attempt.Stages.{InspectorAt, StandsAt, RenamerAt}
-use Rattle.proof_migration.proofs.Attempt.Standing.{ToolPhaseAt, IsStanding, standing_more, standing_along, about_own, quiet_stays, listed, inspector_calls, asks_at, renamer_unlocked, locker_leaves, no_asking, rest}
+use Rattle.proof_migration.proofs.Attempt.Standing.{ToolPhaseAt, IsStanding, standing_more, standing_along, about_own, quiet_stays, listed, inspector_asks, asks_at, renamer_unlocked, locker_leaves, no_asking, rest}
 use Rattle.proof_migration.specs.Attempt.Renamed.{IsRenamedAt, ToolPhaseRenamed, RenamesAreSeen}
 
 -- WHAT THE ANSWERS LEAVE OF THE PHASE
@@ -278,7 +278,7 @@ module _ (plan : PlanData) (serial : IsSerialPlan plan) (runs : IsRunnable plan)
   inspector_turn : (work : Work) → now.tool.tool_phase ≡ Migrating work → entry.actor ≡ Insp → Asking plan journal Insp entry.asked → IsRenamedAt plan before work.cutover.phase → (tries : List ℕ)
       → New (is_reverting now.tool.reason) (Migrating (record work { cutover = cutovers.took Inspector work.cutover entry.answer; attempt_tries = tries }))
   inspector_turn work eq same (calls_so request asks idle call) old tries =
-      inspector_heard work eq request (about_own plan journal entry standing run Insp request same (is_called asks idle)) (inspector_calls plan journal entry standing run work eq request (ap (λ (c : ToolPhase). tool_call plan now.server journal now.tool c Insp) (sym eq) ∙ call)) old tries
+      inspector_heard work eq request (about_own plan journal entry standing run Insp request same (is_called asks idle)) (inspector_asks plan journal entry standing run work eq request (ap (λ (c : ToolPhase). tool_call plan now.server journal now.tool c Insp) (sym eq) ∙ call)) old tries
   inspector_turn work eq same (polls_so request asks some) old tries = inspector_heard work eq request (about_own plan journal entry standing run Insp request same (is_polled asks some)) ((at_work work eq).inspector request some) old tries
 
   -- THE LOCKER

@@ -1,7 +1,9 @@
 -- Why an attempt fails: by a loss, a time-out, a refused sentry, or the drain's last turn.
-use Rattle.std.proofs.Common.{◌≡◌, ◌⊎◌, ℕ, ◌+◌, ◌<◌, ◌≤◌, ◌==◌, Bool, true, false, cond, not, ◌||◌, Option, refl, inl, inr, Some, None}
+use Rattle.std.proofs.Common.{◌≡◌, ◌⊎◌, ℕ, ◌+◌, ◌<◌, ◌≤◌, ◌==◌, Bool, true, false, cond, not, ◌||◌, Option, refl, ap, ◌∙◌, inl, inr, Some, None}
 use Rattle.std.specs.Prelude.{nat_le}
-use Rattle.std.proofs.lemmas.Bool.{false≢true, leb-true, leb-false}
+use Rattle.std.proofs.lemmas.Bool.{false≢true, leb-true, leb-false, or_left}
+use Rattle.base_script.specs.declared.actor.Actor.{Actor}
+use Rattle.base_script.specs.declared.actor.Actor.TheVariants.{Op, Insp, Copy, Apply, Lock, Ren, Client}
 use Rattle.base_values.specs.declared.gho_schema.schema.Schema.{Schema}
 use Rattle.server_model.specs.declared.answer.Answer.{Answer}
 use Rattle.server_model.specs.declared.answer.Answer.TheVariants as answers
@@ -20,13 +22,14 @@ use Rattle.base_values.specs.ToolNames.{ghost_name}
 use Rattle.tool_program.specs.CutoverCore.Attempts.{is_clear, without_first, has_name, has_sentry}
 use Rattle.tool_program.specs.CutoverCore.CutOvers as cutovers
 use Rattle.tool_program.specs.CutoverCore.CutOvers.{failed, is_bad, locker_stage, begun, locker_phase, is_resting, finishing, seen, inspector_stage, ending_after, finishing_after, inspector_phase, waits_phase, renamer_phase, may_succeed, drained, ended, is_ending, drain_of, with_drain, drains_to}
+use Rattle.tool_program.specs.Failures.{is_tried}
 use Rattle.tool_program.specs.Tools.{is_failure}
 use Rattle.tool_program.specs.declared.cutover_core.cutover.Drain.TheVariants.{Turns, Passed}
 use Rattle.tool_program.specs.declared.cutover_core.cutover.Drain.{Drain}
 use Rattle.proof_journals.specs.Machine.Standings.{answers_to}
 
 -- an attempt that fails stood, or was to begin
-pub failing_at : (before after : Phase) → is_failure before after ≡ true → (may_succeed before || is_resting before) ≡ true
+failing_at : (before after : Phase) → is_failure before after ≡ true → (may_succeed before || is_resting before) ≡ true
 failing_at Resting after fails = refl
 failing_at (Attempting stage) after fails = refl
 failing_at (Ending clearing) after fails = absurd (false≢true fails)
@@ -89,6 +92,44 @@ took_fails Locker cutover answer fails = by (locker_fails cutover.phase answer f
   by (inl bad) = inl bad
   by (inr rest) = inr (refl, rest.0, rest.1)
 took_fails Renamer cutover answer fails = inl (renamer_fails cutover.phase answer fails)
+
+-- WHO TRIES
+
+-- an attempt that may succeed is tried by whoever it is
+going_tried : (actor : Actor) (phase : Phase) → may_succeed phase ≡ true → is_tried actor phase ≡ true
+going_tried Lock phase going = or_left (may_succeed phase) (is_resting phase) going
+going_tried Op phase going = going
+going_tried Insp phase going = going
+going_tried Copy phase going = going
+going_tried Apply phase going = going
+going_tried Ren phase going = going
+going_tried (Client c) phase going = going
+
+-- while none stands the answers of the inspector and of the renamer end none
+inspector_going : (cutover : CutOver) (phase : Phase) (answer : Answer) → is_failure phase (inspector_phase cutover phase answer) ≡ true → may_succeed phase ≡ true
+inspector_going cutover Resting answer fails = absurd (false≢true fails)
+inspector_going cutover (Attempting stage) answer fails = refl
+inspector_going cutover (Ending clearing) answer fails = absurd (false≢true fails)
+inspector_going cutover (Finishing clearing) answer fails = absurd (false≢true fails)
+inspector_going cutover Finished answer fails = absurd (false≢true fails)
+
+renamer_going : (phase : Phase) (answer : Answer) → is_failure phase (renamer_phase phase answer) ≡ true → may_succeed phase ≡ true
+renamer_going Resting (answers.Ok count) fails = absurd (false≢true fails)
+renamer_going Resting (answers.Waits by) fails = absurd (false≢true fails)
+renamer_going Resting answers.Lost fails = absurd (false≢true fails)
+renamer_going Resting (answers.TimedOut waited) fails = absurd (false≢true fails)
+renamer_going Resting answer fails = absurd (false≢true fails)
+renamer_going (Attempting stage) answer fails = refl
+renamer_going (Ending clearing) answer fails = absurd (false≢true fails)
+renamer_going (Finishing clearing) answer fails = absurd (false≢true fails)
+renamer_going Finished answer fails = absurd (false≢true fails)
+
+-- *Who fails an attempt tried it*
+pub took_tried : (role : Role) (actor : Actor) (cutover : CutOver) (answer : Answer) → (role ≡ Locker → actor ≡ Lock) → is_failure cutover.phase (cutovers.took role cutover answer).phase ≡ true → is_tried actor cutover.phase ≡ true
+unfolding cutovers.took
+took_tried Inspector actor cutover answer locks fails = going_tried actor cutover.phase (inspector_going cutover cutover.phase answer fails)
+took_tried Locker actor cutover answer locks fails = ap (λ (a : Actor). is_tried a cutover.phase) (locks refl) ∙ failing_at cutover.phase (cutovers.took Locker cutover answer).phase fails
+took_tried Renamer actor cutover answer locks fails = going_tried actor cutover.phase (renamer_going cutover.phase answer fails)
 
 -- what is refused
 pub record IsRefusal (answer : Answer) : Type 0 where

@@ -38,11 +38,11 @@ use Rattle.tool_program.specs.CutoverCore.CutOvers as cutovers
 use Rattle.tool_program.specs.CutoverCore.CutOvers.{is_bad, is_resting, drain_of}
 use Rattle.tool_program.specs.declared.cutover_core.cutover.Phase.{Phase}
 use Rattle.tool_program.specs.declared.cutover_core.cutover.Phase.TheVariants.{Resting, Attempting, Ending, Finishing, Finished}
-use Rattle.tool_program.specs.declared.cutover_core.cutover.Stage.TheVariants.{Draining, Unlocking, Exchanging}
+use Rattle.tool_program.specs.declared.cutover_core.cutover.Stage.TheVariants.{Unlocking, Exchanging}
 use Rattle.tool_program.specs.declared.cutover_core.cutover.CutOver.{CutOver}
 use Rattle.tool_program.specs.declared.cutover_core.cutover.Role.{Role}
 use Rattle.tool_program.specs.declared.cutover_core.cutover.Role.TheVariants.{Inspector, Locker, Renamer}
-use Rattle.tool_program.specs.Failures.{turns_in as drain_turns, turns_of, is_actor_of, is_at, drained_for, has_passed, IsBad, IsFailedTry, IsPanic, IsSpent, waited_for}
+use Rattle.tool_program.specs.Failures.{turns_in as drain_turns, turns_of, is_actor_of, is_at, is_tried, drained_for, has_passed, IsBad, IsFailedTry, IsPanic, IsSpent, waited_for}
 use Rattle.tool_program.specs.Programs.{given, may_begin, tool_call}
 use Rattle.tool_program.specs.Operators.{commanded}
 use Rattle.tool_program.specs.Setups.{Setup, Listing, Clearing, MakingLog, MakingGhost, Marking, Reaching, Ready, setup_after}
@@ -59,7 +59,7 @@ use Rattle.proof_journals.proofs.Machine.Seated.{IsServed, own_given, own_fits}
 use Rattle.proof_journals.proofs.Sentry.Inductions.{moment_more}
 use Rattle.server_model.proofs.LockedRows.Tests.{same_number, are_one}
 use Rattle.proof_migration.specs.Attempt.Verdicts.{rests, IsFailedAttempt, IsSpentOn}
-use Rattle.proof_migration.proofs.Attempt.Verdicts.Attempts.{failing_at, took_fails, IsRefusal, sentry_fails, TurnsLeft, IsLastDrain, drain_fails, took_left, ended_left, drained_left, DrainLeft}
+use Rattle.proof_migration.proofs.Attempt.Verdicts.Attempts.{took_fails, took_tried, IsRefusal, sentry_fails, TurnsLeft, IsLastDrain, drain_fails, took_left, ended_left, drained_left, DrainLeft}
 use Rattle.proof_migration.proofs.Attempt.Verdicts.Tries.{TaskTries, AttemptTries, no_tries, panic_more, spent_more, attempts_spent_more, tries_more, attempts_more, tries_last, attempts_last, is_turn, spent_so, attempts_spent_so}
 use Rattle.proof_migration.proofs.Attempt.Verdicts.Waits.{WaitsCount, turns_in, IsOverdue, wait_is_over}
 
@@ -276,7 +276,7 @@ module _ (plan : PlanData) (journal : List Entry) (entry : Entry) (together : Is
   bad_so kind answer heard bad = absurd (false≢true bad)
 
   -- a failed try of the task that stands
-  failed : (task : Task) → is_client entry.actor ≡ false → is_actor_of task entry.actor ≡ true → is_at task now.tool.tool_phase ≡ true → (answer : Answer) → Heard now.server entry answer → is_bad answer ≡ true → IsFailedTry plan more task tool.turns
+  failed : (task : Task) → is_client entry.actor ≡ false → is_actor_of task entry.actor ≡ true → is_at task entry.actor now.tool.tool_phase ≡ true → (answer : Answer) → Heard now.server entry answer → is_bad answer ≡ true → IsFailedTry plan more task tool.turns
   failed task kind actor stands answer heard bad = record { entry = entry; before = now; is = is_turn plan journal entry tool.turns turn_is; at = stands; why = inl (actor, bad_so kind answer heard bad) }
 
   unchanged : New tool
@@ -295,7 +295,7 @@ module _ (plan : PlanData) (journal : List Entry) (entry : Entry) (together : Is
     again : is_bad answer ≡ true → TaskTries plan more tasks.Setup (tries ++ tool.turns ∷ [])
     again bad =
         tries_last plan journal entry tasks.Setup tries tool.turns turn_is (subst (ToolPhaseHolds plan journal) same was.tool_phase)
-        (failed tasks.Setup (ap is_client who) (ap (is_actor_of tasks.Setup) who) (ap (is_at tasks.Setup) same) answer heard bad)
+        (failed tasks.Setup (ap is_client who) (ap (is_actor_of tasks.Setup) who) (ap (is_at tasks.Setup entry.actor) same) answer heard bad)
 
     goes : (setup : Setup) → ToolPhaseHolds plan more (tool_phase_of plan tool.operator.size setup tries)
     goes (Ready position range) =
@@ -328,7 +328,7 @@ module _ (plan : PlanData) (journal : List Entry) (entry : Entry) (together : Is
         tries_last plan journal entry (tasks.Chunk copier.number) work.chunk_tries tool.turns turn_is
         (subst (λ (n : ℕ). TaskTries plan journal (tasks.Chunk n) work.chunk_tries) (sym stays) (work_was work same).chunk)
         (failed (tasks.Chunk copier.number) (ap is_client who) (ap (is_actor_of (tasks.Chunk copier.number)) who)
-        (ap (is_at (tasks.Chunk copier.number)) same ∙ ap (λ (n : ℕ). n == copier.number) (sym stays) ∙ same_number copier.number) answer heard (chunk_fails work.copier answer reported))
+        (ap (is_at (tasks.Chunk copier.number) entry.actor) same ∙ ap (λ (n : ℕ). n == copier.number) (sym stays) ∙ same_number copier.number) answer heard (chunk_fails work.copier answer reported))
 
     by : (progress : Progress) → copiers.progress work.copier answer ≡ progress → New (copy_after plan work progress copier tool)
     by Going reported =
@@ -359,7 +359,7 @@ module _ (plan : PlanData) (journal : List Entry) (entry : Entry) (together : Is
         tries_last plan journal entry (tasks.Batch applier.position) work.batch_tries tool.turns turn_is
         (subst (λ (n : ℕ). TaskTries plan journal (tasks.Batch n) work.batch_tries) (sym stays) (work_was work same).batch)
         (failed (tasks.Batch applier.position) (ap is_client who) (ap (is_actor_of (tasks.Batch applier.position)) who)
-        (ap (is_at (tasks.Batch applier.position)) same ∙ ap (λ (n : ℕ). n == applier.position) (sym stays) ∙ same_number applier.position) answer heard (batch_fails work.applier answer reported))
+        (ap (is_at (tasks.Batch applier.position) entry.actor) same ∙ ap (λ (n : ℕ). n == applier.position) (sym stays) ∙ same_number applier.position) answer heard (batch_fails work.applier answer reported))
 
     by : (progress : Progress) → appliers.progress work.applier answer ≡ progress → New (apply_after plan work progress applier tool)
     by Going reported =
@@ -437,8 +437,8 @@ module _ (plan : PlanData) (journal : List Entry) (entry : Entry) (together : Is
 
   attempt_failed : (answer : Answer) (role : Role) (work : Work) → now.tool.tool_phase ≡ Migrating work → IsOf role → Heard now.server entry answer → is_failure work.cutover.phase (cutovers.took role work.cutover answer).phase ≡ true → IsFailedAttempt plan more tool.turns
   attempt_failed answer role work same who heard fails = by (took_fails role work.cutover answer fails) where
-    stood : is_at tasks.CutOver now.tool.tool_phase ≡ true
-    stood = ap (is_at tasks.CutOver) same ∙ failing_at work.cutover.phase (cutovers.took role work.cutover answer).phase fails
+    stood : is_at tasks.CutOver entry.actor now.tool.tool_phase ≡ true
+    stood = ap (is_at tasks.CutOver entry.actor) same ∙ took_tried role entry.actor work.cutover answer who.locks fails
 
     refused : entry.actor ≡ Lock → work.cutover.phase ≡ Resting → (is_bad answer ≡ true) ⊎ IsRefusal answer → IsFailedAttempt plan more tool.turns
     refused lock resting (inl bad) = inl (failed tasks.CutOver who.kind who.of stood answer heard bad)
@@ -582,8 +582,8 @@ module _ (plan : PlanData) (journal : List Entry) (entry : Entry) (together : Is
         phase : from.old.cutover.phase ≡ Attempting drain.stage
         phase = from.phase ∙ drain.phase
 
-        stood : is_at tasks.CutOver now.tool.tool_phase ≡ true
-        stood = ap (is_at tasks.CutOver) from.same ∙ ap (λ (p : Phase). cutovers.may_succeed p || is_resting p) phase
+        stood : is_at tasks.CutOver entry.actor now.tool.tool_phase ≡ true
+        stood = ap (is_at tasks.CutOver entry.actor) from.same ∙ ap (λ (a : Actor). is_tried a from.old.cutover.phase) who ∙ ap cutovers.may_succeed phase
 
         drained : drained_for now.tool.tool_phase ≡ Some drain.turns
         drained = ap drained_for from.same ∙ ap drain_turns phase ∙ ap turns_of drain.drain

@@ -33,7 +33,6 @@ use Rattle.server_model.specs.Entries.{answer_at}
 use Rattle.server_model.specs.Operations.{Operation, after_events, operation_needs, operation_of, operation_result}
 use Rattle.server_model.specs.Blockers.{need_within}
 use Rattle.server_model.specs.EarlierAnswers.{events_in}
-use Rattle.server_model.specs.StatementResults.{tells}
 use Rattle.server_model.specs.Listings.{ReadEvent, after_last, events_read, read_from}
 use Rattle.server_model.specs.States.{State}
 use Rattle.base_values.specs.ToolNames.{log_name}
@@ -54,7 +53,7 @@ use Rattle.server_model.proofs.LockedRows.Points.{within-itself, within-left, wi
 use Rattle.server_model.proofs.LockedRows.Tests.{are_one, same_bytes}
 use Rattle.proof_journals.proofs.Answering.{apart_both}
 use Rattle.proof_journals.proofs.Kept.{apart-turn}
-use Rattle.proof_journals.specs.Scenes.{Besides, Scene, SessionHold, Stored, no_hold}
+use Rattle.proof_journals.specs.Scenes.{Besides, Scene, SessionHold, no_hold}
 use Rattle.proof_journals.specs.Holdings.{face_of, stored}
 use Rattle.proof_journals.specs.Turns.{inner, scene_state, reported_at}
 use Rattle.proof_journals.specs.Ghost.Rows.Moments.{LogFits, Row}
@@ -66,9 +65,8 @@ use Rattle.proof_journals.specs.Ghost.HeldKeys.{Clustered}
 use Rattle.proof_journals.specs.Ghost.Invariant.{IsServed}
 use Rattle.proof_journals.specs.Ghost.EffectStates.{EffectLeaves, effect_answer, is_lost, reported_done, undone_hold, unless_lost, was_done, where_done, with_grant}
 use Rattle.proof_journals.specs.Ghost.OwnChanges.{EventsReported, IsReported, own_changes}
-use Rattle.proof_journals.specs.Ghost.ToolTurns.{ApplyPlan, DoesOperation, KeptAt, KeptTool, ToolMoment, ToolStands, ToolTurn}
+use Rattle.proof_journals.specs.Ghost.ToolTurns.{ApplyPlan, DoesOperation, ToolMoment, ToolStands, ToolTurn}
 use Rattle.proof_journals.specs.Ghost.ToolTurns.ApplyPlan.{Resting, Planned, Returning}
-use Rattle.proof_journals.specs.Ghost.ToolTurns.ToolStands.{at_work}
 use Rattle.proof_journals.specs.Ghost.ToolTurns.ToolTurn.{batch_is_read, batch_is_passed, row_is_put, row_is_removed, row_is_changed, unfit_row_is_missed, change_is_refused, refused_row_is_removed, row_returns, batch_commits, batch_repeats, batch_is_lost}
 use Rattle.proof_journals.specs.Ghost.Statements.{DoesWork, delete_at, unfit_at, update_at}
 use Rattle.proof_journals.specs.Ghost.Tool.{CopyState}

@@ -1,5 +1,5 @@
 -- What the applier's statements are to do.
-use Rattle.std.proofs.Common.{◌≡◌, ℕ, suc, true, false, List, [], ◌∷◌, length, Some, None, Result, Ok, Err, refl, sym, ap, ◌∙◌}
+use Rattle.std.proofs.Common.{◌≡◌, ℕ, suc, List, [], ◌∷◌, length, Some, None, Result, Ok, Err, refl, sym, ap, ◌∙◌}
 use Rattle.base_values.specs.declared.gho_schema.schema.Column.{Column}
 use Rattle.base_values.specs.declared.gho_schema.schema.Schema.{Schema}
 use Rattle.base_values.specs.GhoSchema.ClusteredKey.{clustered_place}
@@ -13,7 +13,7 @@ use Rattle.base_script.specs.declared.statement.Statement.{Statement}
 use Rattle.base_script.specs.declared.statement.Statement.TheVariants as statements
 use Rattle.server_model.specs.declared.work.Work.{Work}
 use Rattle.server_model.specs.declared.work.Work.TheVariants as works
-use Rattle.server_model.specs.Answers.{refuses, refuses_value}
+use Rattle.server_model.specs.Answers.{refuses_value}
 use Rattle.server_model.specs.Checks.{work_of}
 use Rattle.server_model.specs.Operations.{table_of}
 use Rattle.tool_program.specs.declared.event_applier.applier.Applier.{Applier}

@@ -14,7 +14,7 @@ use Rattle.server_model.specs.declared.request.Request.{Request}
 use Rattle.server_model.specs.declared.request.Request.TheVariants as requests
 use Rattle.server_model.specs.Entries.{is_command, is_cut, same_actor, is_client}
 use Rattle.server_model.specs.Operations.{table_of}
-use Rattle.server_model.specs.States.{State}
+use Rattle.server_model.specs.States.{State, is_of_tool, session_of}
 use Rattle.plan_data.specs.PlanData.{PlanData}
 use Rattle.base_values.specs.ToolNames.{is_tool_name, log_name, ghost_name}
 use Rattle.tool_program.specs.JournalWords.Journals.{may_lose, opens, state_at}
@@ -42,6 +42,7 @@ use Rattle.proof_journals.specs.Machine.Runnable.{IsRunnable}
 use Rattle.proof_journals.specs.Machine.Standings.{Standing, standing_in, standing_of}
 use Rattle.proof_journals.specs.Machine.MigrationTables.{ToolPhaseTables, SetupTables}
 use Rattle.proof_journals.proofs.Machine.Asking.{some_request, unless_called}
+use Rattle.proof_journals.proofs.Machine.Inspecting.{IsNote, inspects_or}
 use Rattle.proof_journals.proofs.Machine.Journals.{Asking, IsRun, IsTogether, asking, calls_so, polls_so}
 use Rattle.proof_journals.proofs.Machine.Marks.{ghost_not_log}
 use Rattle.proof_journals.proofs.Machine.Seated.{IsServed}
@@ -52,8 +53,8 @@ use Rattle.proof_migration.proofs.ToolPhase.Unaltered.Away.{IsKnownAsked, all_as
 use Rattle.proof_migration.proofs.ToolPhase.Unaltered.Runs.{unaltered_runs}
 use Rattle.proof_migration.proofs.Program.Turns.Asked.{asked_as, waits_with}
 use Rattle.proof_migration.proofs.Program.Turns.Follows.{kept_front, kept_run}
-use Rattle.proof_migration.proofs.Program.Hints.Logging.{LeavesAway, LeavesHint, LogsAway, LogsHint, NoneWrote, away_left, cut_left, hint_left, watched}
-use Rattle.proof_migration.proofs.Program.Hints.Phases.{AsksHint, WaitsHint, may_hint}
+use Rattle.proof_migration.proofs.Program.Hints.Logging.{LeavesAway, LeavesHint, LeavesNote, LogsAway, LogsHint, LogsNote, NoneWrote, away_left, cut_left, hint_left, note_left, watched}
+use Rattle.proof_migration.proofs.Program.Hints.Phases.{AsksHint, WaitsHint, may_hint, note_asks}
 use Rattle.proof_migration.proofs.Program.Hints.Writes.{hint_insert}
 
 -- WHAT THE INSPECTOR CALLS
@@ -70,7 +71,7 @@ insp_called t cutover request own is = by cutover.phase is where
   ends false clearing is = absurd cc
 
   by : (phase : Phase) → cutovers.inspector_call cutover phase ≡ Some request → AsksHint t cutover.attempts phase request
-  by (Attempting Hinting) is = some_request (AsksHint t cutover.attempts (Attempting Hinting)) (cutovers.writes_hint cutover.table cutover.attempts) request is (ap (λ (n : List ℕ). hint_insert n cutover.attempts) own, refl)
+  by (Attempting Hinting) is = some_request (AsksHint t cutover.attempts (Attempting Hinting)) (cutovers.writes_hint cutover.table cutover.attempts) request is (inl (ap (λ (n : List ℕ). hint_insert n cutover.attempts) own, refl))
   by (Attempting (ReadingCounter drain)) is = some_request (AsksHint t cutover.attempts (Attempting (ReadingCounter drain))) (requests.ShowCounter cutover.table) request is tt
   by (Attempting (SettingCounter number drain)) is = some_request (AsksHint t cutover.attempts (Attempting (SettingCounter number drain))) (requests.SetCounter (ghost_name cutover.table) number) request is tt
   by (Attempting Showing) is = some_request (AsksHint t cutover.attempts (Attempting Showing)) requests.ShowWaiting request is tt
@@ -168,11 +169,12 @@ module _ (plan : PlanData) (runs : IsRunnable plan) (serial : IsSerialPlan plan)
         tables : SetupTables plan now.tables has setup
         tables = subst (ToolPhaseTables plan now.tables has) tool_phase known.marking.tabled.tables
 
-  -- afterwards it is the cut-over's
+  -- afterwards it is the cut-over's, or a note
   pub insp_work : (work : Work) (request : Request) → (moment plan journal).tool.tool_phase ≡ Migrating work → WaitsHint t work.cutover.attempts work.cutover.phase (has Insp).waits → entry.actor ≡ Insp → About request → AsksHint t work.cutover.attempts work.cutover.phase request
   insp_work work request tool_phase waits same is =
       insp_from (AsksHint t work.cutover.attempts work.cutover.phase request) request same is
-      (λ call. insp_called t work.cutover request (subst (ToolPhaseIsNamed plan) tool_phase (named plan journal)).cutover (ap (λ (c : ToolPhase). tool_call plan (moment plan journal).server journal (moment plan journal).tool c Insp) (sym tool_phase) ∙ call)) (λ some. waits request some)
+      (λ call. inspects_or plan journal (moment plan journal).tool work request (AsksHint t work.cutover.attempts work.cutover.phase request) (ap (λ (c : ToolPhase). tool_call plan (moment plan journal).server journal (moment plan journal).tool c Insp) (sym tool_phase) ∙ call)
+      (λ note resting. note_asks t work.cutover.attempts work.cutover.phase request note) (λ next. insp_called t work.cutover request (subst (ToolPhaseIsNamed plan) tool_phase (named plan journal)).cutover next)) (λ some. waits request some)
 
   -- WHO WRITES NO ROW OF THE CHANGELOG
 
@@ -226,7 +228,7 @@ module _ (plan : PlanData) (runs : IsRunnable plan) (serial : IsSerialPlan plan)
 
     -- the inspector's turn behind the setup
     pub record InspLeft (work : Work) : Type 0 where
-      pub logs : LogsAway t now then ⊎ (LogsHint t work.cutover.attempts entry.answer now then × (may_hint work.cutover.phase ≡ true))
+      pub logs : LogsAway t now then ⊎ (LogsNote t now then ⊎ (LogsHint t work.cutover.attempts entry.answer now then × (may_hint work.cutover.phase ≡ true)))
       pub wrote : NoneWrote t then
 
     away_so : (work : Work) → LeavesAway t now then → InspLeft work
@@ -240,19 +242,38 @@ module _ (plan : PlanData) (runs : IsRunnable plan) (serial : IsSerialPlan plan)
       by (GoesOn calls live) = ap (λ (o : Option ℕ). (standing_in now o).busy) (sym live)
       by (Begins calls uncut live above) = ap (λ s. (face_in s).busy) (together.known.fresh entry.session above) ∙ ap (λ (o : Option ℕ). (standing_in now o).busy) (sym live)
 
-    hint_so : (work : Work) (statement : Statement) → (moment plan journal).tool.tool_phase ≡ Migrating work → entry.actor ≡ Insp → is_cut entry.asked ≡ false → About (requests.Do statement) → AsksHint t work.cutover.attempts work.cutover.phase (requests.Do statement) → InspLeft work
-    hint_so work statement tool_phase same uncut is asks = record { logs = by left.logs; wrote = left.none } where
+    statement_so : (work : Work) (statement : Statement) → (moment plan journal).tool.tool_phase ≡ Migrating work → entry.actor ≡ Insp → is_cut entry.asked ≡ false → About (requests.Do statement) → AsksHint t work.cutover.attempts work.cutover.phase (requests.Do statement) → InspLeft work
+    statement_so work statement tool_phase same uncut is asks = by asks where
       stands : WorkStands journal (is_reverting (moment plan journal).tool.reason) has work
       stands = subst (ToolPhaseStands journal has (is_reverting (moment plan journal).tool.reason)) tool_phase together.stands
 
-      left : LeavesHint t work.cutover.attempts entry.answer now then
-      left =
-          hint_left t (limits_of plan) (scene_of plan more) journal entry scene_run run.answered.sides none work.cutover.attempts uncut (is ∙ ap (λ (s : Statement). Some (requests.Do s)) asks.0)
-          (idle_face same stands.inspector.busy (uncommanded (requests.Do statement) is)) (tool_serves plan journal entry before together run (uncommanded (requests.Do statement) is) (ap is_client same))
+      idle : (face_of now.sessions entry.session).busy ≡ false
+      idle = idle_face same stands.inspector.busy (uncommanded (requests.Do statement) is)
 
-      by : LogsAway t now then ⊎ LogsHint t work.cutover.attempts entry.answer now then → LogsAway t now then ⊎ (LogsHint t work.cutover.attempts entry.answer now then × (may_hint work.cutover.phase ≡ true))
-      by (inl away) = inl away
-      by (inr hint) = inr (hint, asks.1)
+      of_tool : is_of_tool (session_of entry.session (opens entry now).sessions) ≡ true
+      of_tool = tool_serves plan journal entry before together run (uncommanded (requests.Do statement) is) (ap is_client same)
+
+      hint_so : statement ≡ hint_insert t work.cutover.attempts → may_hint work.cutover.phase ≡ true → InspLeft work
+      hint_so hint may = record { logs = by_hint left.logs; wrote = left.none } where
+        left : LeavesHint t work.cutover.attempts entry.answer now then
+        left = hint_left t (limits_of plan) (scene_of plan more) journal entry scene_run run.answered.sides none work.cutover.attempts uncut (is ∙ ap (λ (s : Statement). Some (requests.Do s)) hint) idle of_tool
+
+        by_hint : LogsAway t now then ⊎ LogsHint t work.cutover.attempts entry.answer now then → LogsAway t now then ⊎ (LogsNote t now then ⊎ (LogsHint t work.cutover.attempts entry.answer now then × (may_hint work.cutover.phase ≡ true)))
+        by_hint (inl away) = inl away
+        by_hint (inr logged) = inr (inr (logged, may))
+
+      note_so : IsNote t (requests.Do statement) → InspLeft work
+      note_so note = record { logs = by_note left.logs; wrote = left.none } where
+        left : LeavesNote t now then
+        left = note_left t (limits_of plan) (scene_of plan more) journal entry scene_run run.answered.sides none note.row note.kind uncut (is ∙ ap Some note.is) idle of_tool
+
+        by_note : LogsAway t now then ⊎ LogsNote t now then → LogsAway t now then ⊎ (LogsNote t now then ⊎ (LogsHint t work.cutover.attempts entry.answer now then × (may_hint work.cutover.phase ≡ true)))
+        by_note (inl away) = inl away
+        by_note (inr logged) = inr (inl logged)
+
+      by : ((statement ≡ hint_insert t work.cutover.attempts) × (may_hint work.cutover.phase ≡ true)) ⊎ IsNote t (requests.Do statement) → InspLeft work
+      by (inl hint) = hint_so hint.0 hint.1
+      by (inr note) = note_so note
 
     same_about : (one other : Request) → About one → About other → one ≡ other
     same_about one other is also = let both : Some one ≡ Some other = sym is ∙ also in cc
@@ -263,7 +284,7 @@ module _ (plan : PlanData) (runs : IsRunnable plan) (serial : IsSerialPlan plan)
       only request is away = away_so work (leaves_away (λ other also. subst (WritesAway (watched t)) (same_about request other is also) away))
 
       asked_so : (request : Request) → About request → AsksHint t work.cutover.attempts work.cutover.phase request → ToolCall plan request Insp → InspLeft work
-      asked_so (requests.Do statement) is asks call = hint_so work statement tool_phase same uncut is asks
+      asked_so (requests.Do statement) is asks call = statement_so work statement tool_phase same uncut is asks
       asked_so (requests.CopyRow from into map key) is asks call = absurd call
       asked_so request is asks call = only request is tt
 

@@ -63,11 +63,11 @@ use Rattle.proof_migration.specs.ToolPhase.Unaltered.{IsUnaltered}
 use Rattle.proof_migration.proofs.Migration.Leaves.{not_both}
 use Rattle.proof_migration.specs.Program.Hints.{is_unhinted}
 use Rattle.proof_migration.proofs.Program.Hints.Asked.{InspLeft, before, insp_left, insp_setup, insp_work, known, lost_left, others_left, run, scene_run, served, setup_left, together}
-use Rattle.proof_migration.proofs.Program.Hints.Logging.{LeavesAway, LogsAway, LogsHint, NoneWrote}
+use Rattle.proof_migration.proofs.Program.Hints.Logging.{LeavesAway, LogsAway, LogsHint, LogsNoHint, LogsNote, NoneWrote, away_logs, note_logs}
 use Rattle.proof_migration.proofs.Program.Hints.Phases.{AsksHint, HintsIn, HintsStand, WaitsHint, asks_waits, drain_ahead, drain_passes, end_drains, end_passes, hint_below, insp_below, insp_drains, locker_drains, locker_hints, may_hint, passes, renamer_drains, renamer_passes}
 use Rattle.proof_migration.proofs.Program.Hints.Telling.{both_tables, read_later, reading_said}
 use Rattle.proof_migration.proofs.Program.Hints.States.{BatchIs, ToolPhaseAhead, ToolPhaseHints, HintsGo, SetupHints, batch_is, hints_later, last_at_most, none_hinted, weakly}
-use Rattle.proof_migration.proofs.Program.Hints.Writes.{Rises, rises_away, rises_both, below_both, none_below}
+use Rattle.proof_migration.proofs.Program.Hints.Writes.{Rises, away_none, rises_away, rises_both, below_both, none_below, none_rises}
 
 -- ONE TURN
 
@@ -158,7 +158,7 @@ module _ (plan : PlanData) (runs : IsRunnable plan) (serial : IsSerialPlan plan)
       record { away = subst (NotOf (log_name t)) (sym logs.log) (not_both (log_name t) now.log logs.events at.away logs.away); noted = grows setup (length now.log) (length then.log) (omega (arith, size)) at.noted }
   log_later logs (Migrating work) waits at = record {
     knows = subst (λ (l : List RowEvent). Knows t l work.applier) (sym logs.log) (knows_later t now.log logs.events work.applier at.knows);
-    below = subst (HintsIn (is_unhinted work.cutover.phase) t work.cutover.attempts) (sym logs.log) (hints_later t work.cutover.attempts now.log logs.events (is_unhinted work.cutover.phase) logs.away at.below);
+    below = subst (HintsIn (is_unhinted work.cutover.phase) t work.cutover.attempts) (sym logs.log) (hints_later t work.cutover.attempts now.log logs.events (is_unhinted work.cutover.phase) (away_none t logs.events logs.away) at.below);
     rises = rises_later logs at.rises;
     waits_so = waits work refl;
   }
@@ -421,26 +421,34 @@ module _ (plan : PlanData) (runs : IsRunnable plan) (serial : IsSerialPlan plan)
     next = inspector_phase work.cutover work.cutover.phase entry.answer
 
     Logs : Type 0
-    Logs = LogsAway t now then ⊎ (LogsHint t work.cutover.attempts entry.answer now then × (may_hint work.cutover.phase ≡ true))
+    Logs = LogsAway t now then ⊎ (LogsNote t now then ⊎ (LogsHint t work.cutover.attempts entry.answer now then × (may_hint work.cutover.phase ≡ true)))
 
     knows_with : (events : List RowEvent) → then.log ≡ now.log ++ events → Knows t then.log work.applier
     knows_with events is = subst (λ (l : List RowEvent). Knows t l work.applier) (sym is) (knows_later t now.log events work.applier at.knows)
 
     knows_so : Logs → Knows t then.log work.applier
     knows_so (inl away) = knows_with away.events away.log
-    knows_so (inr hint) = knows_with hint.0.events hint.0.log
+    knows_so (inr (inl note)) = let logs : LogsNoHint t now then = note_logs t now then note in knows_with logs.events logs.log
+    knows_so (inr (inr hint)) = knows_with hint.0.events hint.0.log
+
+    -- where no hint row is logged
+    below_none : LogsNoHint t now then → HintsIn (is_unhinted next) t work.cutover.attempts then.log
+    below_none logs =
+        insp_below t work.cutover work.cutover.attempts work.cutover.phase entry.answer then.log
+        (subst (HintsIn (is_unhinted work.cutover.phase) t work.cutover.attempts) (sym logs.log) (hints_later t work.cutover.attempts now.log logs.events (is_unhinted work.cutover.phase) logs.none at.below))
 
     below_so : Logs → HintsIn (is_unhinted next) t work.cutover.attempts then.log
-    below_so (inl away) =
-        insp_below t work.cutover work.cutover.attempts work.cutover.phase entry.answer then.log
-        (subst (HintsIn (is_unhinted work.cutover.phase) t work.cutover.attempts) (sym away.log) (hints_later t work.cutover.attempts now.log away.events (is_unhinted work.cutover.phase) away.away at.below))
-    below_so (inr hint) =
+    below_so (inl away) = below_none (away_logs t now then away)
+    below_so (inr (inl note)) = below_none (note_logs t now then note)
+    below_so (inr (inr hint)) =
         hint_below t work.cutover work.cutover.attempts work.cutover.phase entry.answer then.log hint.1 hint.0.said
         (subst (HintsBelow t work.cutover.attempts) (sym hint.0.log) (below_both t work.cutover.attempts now.log hint.0.events (weakly t work.cutover.attempts now.log (is_unhinted work.cutover.phase) at.below) hint.0.below))
 
     rises_so : Logs → Rises t 0 then.log
     rises_so (inl away) = rises_later away at.rises
-    rises_so (inr hint) =
+    rises_so (inr (inl note)) =
+        let logs : LogsNoHint t now then = note_logs t now then note in subst (Rises t 0) (sym logs.log) (rises_both t 0 now.log logs.events at.rises (none_rises t (last_hint t 0 now.log) logs.events logs.none))
+    rises_so (inr (inr hint)) =
         subst (Rises t 0) (sym hint.0.log)
         (rises_both t 0 now.log hint.0.events at.rises (hint.0.rises (last_hint t 0 now.log) (last_at_most t work.cutover.attempts now.log (weakly t work.cutover.attempts now.log (is_unhinted work.cutover.phase) at.below))))
 

@@ -1,11 +1,13 @@
--- What a turn logs of the changelog: nothing; or the hint row that the inspector writes.
+-- What a turn logs of the changelog: nothing; or the hint row or the row of a note that the inspector writes.
 use Rattle.proof_migration.proofs.ToolServes.{filled_so}
 use Rattle.std.proofs.Common.{◌≡◌, ◌≤◌, ◌⊎◌, ℕ, Bool, true, false, List, [], ◌∷◌, ◌++◌, Option, Some, None, refl, sym, ap, ◌∙◌, subst, inl, inr, arith}
 use Rattle.std.specs.Prelude.{◌==◌}
 use Rattle.std.proofs.lemmas.List.{append-nil}
 use Rattle.base_values.specs.declared.gho_schema.schema.Schema.{Schema}
+use Rattle.base_values.specs.declared.value.Value.{Value}
 use Rattle.base_values.specs.declared.event.RowEvent.{RowEvent}
 use Rattle.table_store.specs.Databases.{Database}
+use Rattle.base_script.specs.declared.statement.Statement.{Statement}
 use Rattle.base_script.specs.declared.actor.Side.{Side}
 use Rattle.server_model.specs.declared.answer.Answer.{Answer}
 use Rattle.server_model.specs.declared.answer.Answer.TheVariants as answers
@@ -30,6 +32,9 @@ use Rattle.proof_journals.specs.Turns.{IsSceneRun, IsReported, about, answer_at,
 use Rattle.proof_journals.specs.Ghost.Rows.Timelines.{Migration}
 use Rattle.proof_journals.specs.Ghost.Invariant.{NotOf}
 use Rattle.proof_journals.specs.Ghost.EffectStates.{EffectLeaves, effect_answer, is_lost, reported_done, undone_hold, unless_lost, was_done, where_done}
+use Rattle.proof_journals.specs.Machine.MigrationTables.{schema_of}
+use Rattle.proof_journals.proofs.Machine.Inspecting.{IsNoteRow}
+use Rattle.proof_journals.proofs.Machine.Schemas.{schema_events}
 use Rattle.proof_journals.proofs.Ghost.Leaving.{effects_are_done, holds_of}
 use Rattle.proof_journals.proofs.Ghost.Turns.{along_next, run_front}
 use Rattle.proof_journals.proofs.Ghost.Undone.{cuts_are_left, effects_answer, undone_is_left}
@@ -38,7 +43,7 @@ use Rattle.proof_migration.proofs.Migration.Copier.Served.Deeded.{outside_so, wi
 use Rattle.proof_migration.proofs.Migration.Leaves.{Cases, WritesAway, turn_leaves}
 use Rattle.server_model.proofs.LockedRows.Tests.{are_one}
 use Rattle.proof_journals.proofs.Sentry.Hinting.{HintsBelow}
-use Rattle.proof_migration.proofs.Program.Hints.Writes.{Inserts, Rises, away_hint, none_so, one_so, rises_away, rises_both, below_both, hint_insert, hint_inserts, none_below}
+use Rattle.proof_migration.proofs.Program.Hints.Writes.{Inserts, NoHint, Rises, away_hint, away_none, below_both, hint_insert, hint_inserts, none_below, none_both, none_so, note_none, note_replace, one_so, rises_away, rises_both}
 
 -- no session has written a row of the changelog in its open transaction
 abbrev pub NoneWrote : List ℕ → State → Type 0
@@ -65,6 +70,40 @@ pub record LeavesAway (t : List ℕ) (before after : State) : Type 0 where
 pub record LeavesHint (t : List ℕ) (most : ℕ) (answer : Answer) (before after : State) : Type 0 where
   pub logs : LogsAway t before after ⊎ LogsHint t most answer before after
   pub none : NoneWrote t after
+
+-- a note's row is put into the changelog, behind what its session had written of other tables
+pub record LogsNote (t : List ℕ) (before after : State) : Type 0 where
+  pub row : List Value
+  pub kind : IsNoteRow row
+  pub front : List RowEvent
+  pub away : NotOf (log_name t) front
+  pub seen : Database
+  pub shown : schema_of (log_name t) seen ≡ schema_of (log_name t) before.tables
+  pub log : after.log ≡ before.log ++ (front ++ (operation_result seen (operation_of (note_replace t row))).events)
+
+-- no hint row is logged
+pub record LogsNoHint (t : List ℕ) (before after : State) : Type 0 where
+  pub events : List RowEvent
+  pub log : after.log ≡ before.log ++ events
+  pub none : NoHint t events
+
+pub away_logs : (t : List ℕ) (before after : State) → LogsAway t before after → LogsNoHint t before after
+away_logs t before after logs = record { events = logs.events; log = logs.log; none = away_none t logs.events logs.away }
+
+pub note_logs : (t : List ℕ) (before after : State) → LogsNote t before after → LogsNoHint t before after
+note_logs t before after logs =
+    let events : List RowEvent = (operation_result logs.seen (operation_of (note_replace t logs.row))).events in
+    record { events = logs.front ++ events; log = logs.log; none = none_both t logs.front events (away_none t logs.front logs.away) (note_none t logs.row logs.seen logs.kind) }
+
+pub record LeavesNote (t : List ℕ) (before after : State) : Type 0 where
+  pub logs : LogsAway t before after ⊎ LogsNote t before after
+  pub none : NoneWrote t after
+
+-- what a statement writes is logged behind what its session had written, and the answer says so or was lost
+pub record Commits (t : List ℕ) (writes : List RowEvent) (result : StatementResult) (answer : Answer) (before after : State) : Type 0 where
+  pub log : after.log ≡ before.log ++ (writes ++ result.events)
+  pub none : NoneWrote t after
+  pub said : (answer ≡ result.answer) ⊎ (answer ≡ answers.Lost)
 
 -- the changelog, in the place of a new table
 abbrev nothing_of : List ℕ → Schema
@@ -118,13 +157,19 @@ module _ (t : List ℕ) (limits : Limits) (scene : Scene) (journal : List Entry)
     pub cut_left : is_cut entry.asked ≡ true → may_lose entry.asked ≡ false → LeavesAway t before after
     cut_left is no_side = let left = cuts_are_left limits scene journal entry is (sides no_side) in rests no_hold tt left.0 left.1
 
-    -- *The turn that asks for an attempt's hint row*
-    module _ (attempt : ℕ) (uncut : is_cut entry.asked ≡ false) (asked : about (opens entry before) entry.session entry.asked ≡ Some (requests.Do (hint_insert t attempt))) (idle : (face_of before.sessions entry.session).busy ≡ false) (tool : is_of_tool (session_of entry.session (opens entry before).sessions) ≡ true) where
+    -- *The turn that asks for a statement*, outside a transaction: nothing of the changelog is logged, or what the statement writes
+    module _ (statement : Statement) (uncut : is_cut entry.asked ≡ false) (asked : about (opens entry before) entry.session entry.asked ≡ Some (requests.Do statement)) (idle : (face_of before.sessions entry.session).busy ≡ false) (tool : is_of_tool (session_of entry.session (opens entry before).sessions) ≡ true) where
       abbrev request : Request
-      request = requests.Do (hint_insert t attempt)
+      request = requests.Do statement
+
+      abbrev seen : Database
+      seen = seen_of before entry.session
+
+      abbrev result : StatementResult
+      result = operation_result seen (operation_of statement)
 
       abbrev Goal : Type 0
-      Goal = LeavesHint t attempt entry.answer before after
+      Goal = LeavesAway t before after ⊎ Commits t own.writes result entry.answer before after
 
       run : IsSceneRun limits scene journal
       run = run_front limits scene journal (entry ∷ []) more
@@ -132,13 +177,10 @@ module _ (t : List ℕ) (limits : Limits) (scene : Scene) (journal : List Entry)
       entry_reported : IsReported limits scene journal entry
       entry_reported = along_next (IsReported limits scene) [] journal entry [] more.reported
 
-      resting : LeavesAway t before after → Goal
-      resting left = record { logs = inl left.logs; none = left.none }
-
       undone : reported_done (reported_at entry.side entry.answer entry.missed) ≡ false → Goal
       undone none =
           let left = undone_is_left limits scene journal entry request run entry_reported uncut asked none in
-          resting (rests (undone_hold entry.side entry.answer own) (held entry.side entry.answer) left.0 left.1)
+          inl (rests (undone_hold entry.side entry.answer own) (held entry.side entry.answer) left.0 left.1)
         where
           held : (side : Option Side) (answer : Answer) → NotOf (log_name t) (undone_hold side answer own).writes
           held None (answers.Waits by) = none_wrote entry.session
@@ -147,12 +189,6 @@ module _ (t : List ℕ) (limits : Limits) (scene : Scene) (journal : List Entry)
 
       abbrev effect_now : Effect
       effect_now = effect (where_done entry.asked entry.session (opens entry before)) entry.session request
-
-      abbrev seen : Database
-      seen = seen_of before entry.session
-
-      abbrev result : StatementResult
-      result = operation_result seen (operation_of (hint_insert t attempt))
 
       module _ (given : Answer) (reported : reported_at entry.side entry.answer entry.missed ≡ Some given) (done : was_done given ≡ true) where
         left_as : (one : Effect) → effect_now ≡ one → EffectLeaves one (is_lost entry.side) entry.session (stored before) (stored after) (holds_of before) (holds_of after)
@@ -166,30 +202,17 @@ module _ (t : List ℕ) (limits : Limits) (scene : Scene) (journal : List Entry)
         lost_away false = none_wrote entry.session
 
         refused : (answer : Answer) → effect_now ≡ Rests answer → Goal
-        refused answer is = let all = left_as (Rests answer) is in resting (rests (unless_lost (is_lost entry.side) own) (lost_away (is_lost entry.side)) all.0 all.1)
+        refused answer is = let all = left_as (Rests answer) is in inl (rests (unless_lost (is_lost entry.side) own) (lost_away (is_lost entry.side)) all.0 all.1)
 
-        -- what is heard of ok
-        said : (side : Option Side) → entry.side ≡ side → reported_at side entry.answer entry.missed ≡ Some given → given ≡ answers.Ok 1 → (entry.answer ≡ answers.Ok 1) ⊎ (entry.answer ≡ answers.Lost)
-        said None at_side is ok = let one : entry.answer ≡ given = cc in inl (one ∙ ok)
-        said (Some side) at_side is ok = inr (entry_reported.answer ∙ ap (λ (s : Option Side). answer_at s (inner before entry)) at_side)
+        -- what is heard of its answer
+        said : (side : Option Side) → entry.side ≡ side → reported_at side entry.answer entry.missed ≡ Some given → given ≡ result.answer → (entry.answer ≡ result.answer) ⊎ (entry.answer ≡ answers.Lost)
+        said None at_side is own_answer = let one : entry.answer ≡ given = cc in inl (one ∙ own_answer)
+        said (Some side) at_side is own_answer = inr (entry_reported.answer ∙ ap (λ (s : Option Side). answer_at s (inner before entry)) at_side)
 
         committed : effect_now ≡ Writes result.answer result.events → Goal
-        committed is = by (hint_inserts t attempt attempt seen (omega arith)) where
-          all : EffectLeaves (Writes result.answer result.events) (is_lost entry.side) entry.session (stored before) (stored after) (holds_of before) (holds_of after)
-          all = left_as (Writes result.answer result.events) is
-
-          none_after : NoneWrote t after
-          none_after = none_then (holds_of before) no_hold (λ n differ. refl) tt all.2
-
-          by : Inserts t attempt attempt result → Goal
-          by (none_so none) = record {
-            logs = inl (record { events = own.writes; log = all.1 ∙ ap (λ (e : List RowEvent). before.log ++ (own.writes ++ e)) none ∙ ap (λ (e : List RowEvent). before.log ++ e) (append-nil own.writes); away = none_wrote entry.session });
-            none = none_after;
-          }
-          by (one_so below rises ok) = record {
-            logs = inr (record { events = own.writes ++ result.events; log = all.1; below = below_both t attempt own.writes result.events (none_below t attempt own.writes (none_wrote entry.session)) below; rises = λ last less. rises_both t last own.writes result.events (rises_away t last own.writes (none_wrote entry.session)) (subst (λ (n : ℕ). Rises t n result.events) (sym (away_hint t last own.writes (none_wrote entry.session))) (rises last less)); said = said entry.side refl reported (says_so ∙ ap effect_answer is ∙ ok) });
-            none = none_after;
-          }
+        committed is =
+            let all : EffectLeaves (Writes result.answer result.events) (is_lost entry.side) entry.session (stored before) (stored after) (holds_of before) (holds_of after) = left_as (Writes result.answer result.events) is in
+            inr (record { log = all.1; none = none_then (holds_of before) no_hold (λ n differ. refl) tt all.2; said = said entry.side refl reported (says_so ∙ ap effect_answer is) })
 
         done_goal : Goal
         done_goal = by (deeded entry before request) where
@@ -202,5 +225,42 @@ module _ (t : List ℕ) (limits : Limits) (scene : Scene) (journal : List Entry)
       reported_goal None reported true done = absurd (let no : false ≡ true = done in cc)
       reported_goal (Some given) reported true done = done_goal given reported done
 
-      pub hint_left : Goal
-      hint_left = reported_goal (reported_at entry.side entry.answer entry.missed) refl (reported_done (reported_at entry.side entry.answer entry.missed)) refl
+      pub statement_left : Goal
+      statement_left = reported_goal (reported_at entry.side entry.answer entry.missed) refl (reported_done (reported_at entry.side entry.answer entry.missed)) refl
+
+    -- *The turn that asks for an attempt's hint row*
+    pub hint_left : (attempt : ℕ) → is_cut entry.asked ≡ false → about (opens entry before) entry.session entry.asked ≡ Some (requests.Do (hint_insert t attempt)) → (face_of before.sessions entry.session).busy ≡ false → is_of_tool (session_of entry.session (opens entry before).sessions) ≡ true → LeavesHint t attempt entry.answer before after
+    hint_left attempt uncut asked idle tool = by (statement_left (hint_insert t attempt) uncut asked idle tool) where
+      result : StatementResult
+      result = operation_result (seen_of before entry.session) (operation_of (hint_insert t attempt))
+
+      heard : (entry.answer ≡ result.answer) ⊎ (entry.answer ≡ answers.Lost) → result.answer ≡ answers.Ok 1 → (entry.answer ≡ answers.Ok 1) ⊎ (entry.answer ≡ answers.Lost)
+      heard (inl own_answer) ok = inl (own_answer ∙ ok)
+      heard (inr lost) ok = inr lost
+
+      wrote : Commits t own.writes result entry.answer before after → Inserts t attempt attempt result → LeavesHint t attempt entry.answer before after
+      wrote left (none_so none) = record {
+        logs = inl (record { events = own.writes; log = left.log ∙ ap (λ (e : List RowEvent). before.log ++ (own.writes ++ e)) none ∙ ap (λ (e : List RowEvent). before.log ++ e) (append-nil own.writes); away = none_wrote entry.session });
+        none = left.none;
+      }
+      wrote left (one_so below rises ok) = record {
+        logs = inr (record { events = own.writes ++ result.events; log = left.log; below = below_both t attempt own.writes result.events (none_below t attempt own.writes (none_wrote entry.session)) below; rises = λ last less. rises_both t last own.writes result.events (rises_away t last own.writes (none_wrote entry.session)) (subst (λ (n : ℕ). Rises t n result.events) (sym (away_hint t last own.writes (none_wrote entry.session))) (rises last less)); said = heard left.said ok });
+        none = left.none;
+      }
+
+      by : LeavesAway t before after ⊎ Commits t own.writes result entry.answer before after → LeavesHint t attempt entry.answer before after
+      by (inl left) = record { logs = inl left.logs; none = left.none }
+      by (inr left) = wrote left (hint_inserts t attempt attempt (seen_of before entry.session) (omega arith))
+
+    -- *The turn that asks for a note's row*
+    pub note_left : (row : List Value) → IsNoteRow row → is_cut entry.asked ≡ false → about (opens entry before) entry.session entry.asked ≡ Some (requests.Do (note_replace t row)) → (face_of before.sessions entry.session).busy ≡ false → is_of_tool (session_of entry.session (opens entry before).sessions) ≡ true → LeavesNote t before after
+    note_left row kind uncut asked idle tool = by (statement_left (note_replace t row) uncut asked idle tool) where
+      result : StatementResult
+      result = operation_result (seen_of before entry.session) (operation_of (note_replace t row))
+
+      by : LeavesAway t before after ⊎ Commits t own.writes result entry.answer before after → LeavesNote t before after
+      by (inl left) = record { logs = inl left.logs; none = left.none }
+      by (inr left) = record {
+        logs = inr (record { row = row; kind = kind; front = own.writes; away = none_wrote entry.session; seen = seen_of before entry.session; shown = schema_events (log_name t) before.tables own.writes; log = left.log });
+        none = left.none;
+      }

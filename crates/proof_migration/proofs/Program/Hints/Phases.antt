@@ -23,6 +23,7 @@ use Rattle.tool_program.specs.CutoverCore.Attempts.{has_name, has_sentry, is_cle
 use Rattle.tool_program.specs.CutoverCore.CutOvers.{attempts_after, begun, drained, ended, ending_after, failed, finishing, finishing_after, hinted, inspector_phase, inspector_stage, is_bad, left_at_end, locker_phase, locker_stage, renamer_phase, seen, sentry_alone, shows_wait, waits_phase}
 use Rattle.tool_program.specs.declared.cutover_core.cutover.Drain.TheVariants.{Turns, Passed}
 use Rattle.proof_journals.proofs.Machine.CuttingOver.{drain_cases, drain_cases_off}
+use Rattle.proof_journals.proofs.Machine.Inspecting.{IsNote}
 use Rattle.proof_journals.specs.Sentry.Sentries.{IsDraining}
 use Rattle.proof_journals.proofs.Sentry.Draining.{Knows}
 use Rattle.proof_journals.proofs.Sentry.Hinting.{HintsBelow}
@@ -37,9 +38,9 @@ may_hint (Finishing clearing) = true
 may_hint Finished = true
 may_hint phase = false
 
--- where the inspector's request is a statement, it is the INSERT of the last attempt's hint row
+-- where the inspector's request is a statement, it is the INSERT of the last attempt's hint row, or a note
 abbrev pub AsksHint : List ℕ → ℕ → Phase → Request → Type 0
-AsksHint t attempts phase (requests.Do statement) = (statement ≡ hint_insert t attempts) × (may_hint phase ≡ true)
+AsksHint t attempts phase (requests.Do statement) = ((statement ≡ hint_insert t attempts) × (may_hint phase ≡ true)) ⊎ IsNote t (requests.Do statement)
 AsksHint t attempts phase request = Unit {0}
 
 abbrev pub WaitsHint : List ℕ → ℕ → Phase → Option Request → Type 0
@@ -64,8 +65,13 @@ hints_weaker t attempts log true false may below = let less = below.1 in below_m
 hints_weaker t attempts log false true may below = absurd (false≢true (may refl))
 hints_weaker t attempts log false false may below = below
 
+-- a note is asked in any phase
+pub note_asks : (t : List ℕ) (attempts : ℕ) (phase : Phase) (request : Request) → IsNote t request → AsksHint t attempts phase request
+note_asks t attempts phase request note = subst (AsksHint t attempts phase) (sym note.is) (inr (record { row = note.row; kind = note.kind; is = refl }))
+
 asks_moves : (t : List ℕ) (attempts : ℕ) (phase next : Phase) (request : Request) → (may_hint phase ≡ true → may_hint next ≡ true) → AsksHint t attempts phase request → AsksHint t attempts next request
-asks_moves t attempts phase next (requests.Do statement) may asks = (asks.0, may asks.1)
+asks_moves t attempts phase next (requests.Do statement) may (inl hint) = inl (hint.0, may hint.1)
+asks_moves t attempts phase next (requests.Do statement) may (inr note) = inr note
 asks_moves t attempts phase next request may asks = tt
 
 -- what keeps it from one phase to the next
@@ -95,7 +101,8 @@ begins t attempts log true below = (attempts, omega arith, below)
 begins t attempts log false below = below_more t attempts (attempts + 1) log (omega arith) below
 
 none_asked : (t : List ℕ) (attempts more : ℕ) (next : Phase) (request : Request) → AsksHint t attempts Resting request → AsksHint t more next request
-none_asked t attempts more next (requests.Do statement) asks = absurd (false≢true asks.1)
+none_asked t attempts more next (requests.Do statement) (inl hint) = absurd (false≢true hint.1)
+none_asked t attempts more next (requests.Do statement) (inr note) = inr note
 none_asked t attempts more next request asks = tt
 
 locks : (stage : Stage) (answer : Answer) → Passes (Attempting stage) (Attempting (locker_stage stage answer))

@@ -21,7 +21,7 @@ use Rattle.proof_journals.proofs.Sentry.Hinting.{HintsBelow, none_earlier}
 use Rattle.proof_migration.proofs.Program.Starts.{NotedIn}
 use Rattle.proof_migration.proofs.Program.Hints.Logging.{NoneWrote}
 use Rattle.proof_migration.proofs.Program.Hints.Phases.{HintsIn, HintsStand, IsAhead}
-use Rattle.proof_migration.proofs.Program.Hints.Writes.{below_both, below_more, none_below}
+use Rattle.proof_migration.proofs.Program.Hints.Writes.{NoHint, below_both, below_more, none_below, none_most}
 
 -- WHAT IS KNOWN
 
@@ -47,9 +47,9 @@ pub record HintsGo (plan : PlanData) (journal : List Entry) : Type 0 where
 
 -- THE LOG GROWS
 
-pub hints_later : (t : List ℕ) (attempts : ℕ) (log events : List RowEvent) (b : Bool) → NotOf (log_name t) events → HintsIn b t attempts log → HintsIn b t attempts (log ++ events)
-hints_later t attempts log events true away below = (below.0, below.1, below_both t below.0 log events below.2 (none_below t below.0 events away))
-hints_later t attempts log events false away below = below_both t attempts log events below (none_below t attempts events away)
+pub hints_later : (t : List ℕ) (attempts : ℕ) (log events : List RowEvent) (b : Bool) → NoHint t events → HintsIn b t attempts log → HintsIn b t attempts (log ++ events)
+hints_later t attempts log events true none below = (below.0, below.1, below_both t below.0 log events below.2 (none_most t below.0 events none))
+hints_later t attempts log events false none below = below_both t attempts log events below (none_most t attempts events none)
 
 -- of hint rows in the weak sense
 pub weakly : (t : List ℕ) (attempts : ℕ) (log : List RowEvent) (b : Bool) → HintsIn b t attempts log → HintsBelow t attempts log

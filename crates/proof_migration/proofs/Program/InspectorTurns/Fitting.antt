@@ -1,6 +1,5 @@
 -- What the inspector asks and waits with, in each phase of the cut-over; and that nobody else changes it.
-use Rattle.std.proofs.Common.{◌≡◌, ℕ, ◌+◌, ◌==◌, Bool, true, false, cond, not, codes, List, ◌++◌, Option, Some, None, refl, sym, ap, ◌∙◌, subst}
-use Rattle.std.specs.Prelude.{nat_le}
+use Rattle.std.proofs.Common.{◌≡◌, ℕ, Bool, true, false, cond, not, codes, List, ◌++◌, Option, Some, None, refl, sym, ap, ◌∙◌, subst}
 use Rattle.std.specs.Str.{bytes_eq}
 use Rattle.std.proofs.lemmas.Bool.{true≢false}
 use Rattle.std.proofs.lemmas.List.{append_cancel_left}
@@ -20,13 +19,14 @@ use Rattle.tool_program.specs.declared.cutover_core.cutover.Hold.TheVariants.{No
 use Rattle.tool_program.specs.declared.cutover_core.cutover.Leftovers.{Leftovers}
 use Rattle.tool_program.specs.declared.cutover_core.cutover.Phase.{Phase}
 use Rattle.tool_program.specs.declared.cutover_core.cutover.Phase.TheVariants.{Attempting, Ending, Finished, Finishing, Resting}
-use Rattle.tool_program.specs.declared.cutover_core.cutover.Stage.TheVariants.{Drained, Draining, Dropping, Exchanging, Hinting, Locking, Showing, Unlocking, ReadingCounter, SettingCounter}
+use Rattle.tool_program.specs.declared.cutover_core.cutover.Stage.TheVariants.{Drained, Dropping, Exchanging, Hinting, Locking, Showing, Unlocking, ReadingCounter, SettingCounter}
 use Rattle.server_model.proofs.LockedRows.Tests.{are_same, same_bytes, turned_bytes}
 use Rattle.proof_journals.specs.ServerTurns.Others.{takes_names}
 use Rattle.proof_journals.specs.Machine.Machines.{both_names}
 use Rattle.proof_journals.specs.Machine.Standings.{answers_to}
 use Rattle.proof_journals.proofs.Machine.Asking.{some_request}
 use Rattle.proof_journals.proofs.Machine.CuttingOver.{LockerAsks, drain_cases}
+use Rattle.proof_journals.proofs.Machine.Inspecting.{IsNote}
 use Rattle.proof_journals.proofs.Machine.Marks.{ghost_not_log}
 use Rattle.proof_journals.proofs.Machine.Schemas.{keeps_table}
 use Rattle.tool_program.specs.declared.cutover_core.cutover.Hold.TheVariants.{Locks, WaitsToGuard, WaitsToLock}
@@ -92,7 +92,7 @@ AsksAt request table attempt (Attempting (ReadingCounter drain)) = request ≡ r
 AsksAt request table attempt (Attempting (SettingCounter number drain)) = request ≡ requests.SetCounter (ghost_name table) number
 AsksAt request table attempt (Attempting Showing) = request ≡ requests.ShowWaiting
 AsksAt request table attempt (Attempting stage) = ⊥
-AsksAt request table attempt Resting = ⊥
+AsksAt request table attempt Resting = IsNote table request
 AsksAt request table attempt (Ending Looking) = takes_names request ≡ false
 AsksAt request table attempt (Ending (Drops left)) = request ≡ requests.Drop (first_name table left)
 AsksAt request table attempt (Finishing clearing) = Unit {0}
@@ -152,7 +152,7 @@ asks_keep request table attempt (Attempting (ReadingCounter drain)) undone spare
 asks_keep request table attempt (Attempting (SettingCounter number drain)) undone spares at = ap (keeps_table (log_name table)) at
 asks_keep request table attempt (Attempting Showing) undone spares at = ap (keeps_table (log_name table)) at
 asks_keep request table attempt (Attempting stage) undone spares at = absurd at
-asks_keep request table attempt Resting undone spares at = absurd at
+asks_keep request table attempt Resting undone spares at = subst (KeepsLog table) (sym at.is) refl
 asks_keep request table attempt (Ending Looking) undone spares at = shared_keeps (log_name table) request at
 asks_keep request table attempt (Ending (Drops left)) undone spares at = subst (KeepsLog table) (sym at) (first_keeps_log table left spares)
 asks_keep request table attempt (Finishing clearing) undone spares at = absurd (true≢false undone)
@@ -160,19 +160,19 @@ asks_keep request table attempt Finished undone spares at = absurd (true≢false
 
 -- BEHIND ITS ANSWER
 
--- it waits
-pub asked_waits : (cutover : CutOver) (request : Request) (table : List ℕ) (attempt by : ℕ) (phase : Phase) → AsksAt request table attempt phase → answers_to request (answers.Waits by) ≡ true → WaitsAt (Some request) table attempt (inspector_phase cutover phase (answers.Waits by))
-asked_waits cutover request table attempt by (Attempting Hinting) at may = at
-asked_waits cutover request table attempt by (Attempting (ReadingCounter drain)) at may = absurd (true≢false (sym may ∙ ap (λ (r : Request). answers_to r (answers.Waits by)) at))
-asked_waits cutover request table attempt by (Attempting (SettingCounter number drain)) at may = at
-asked_waits cutover request table attempt by (Attempting Showing) at may = absurd (true≢false (sym may ∙ ap (λ (r : Request). answers_to r (answers.Waits by)) at))
-asked_waits cutover request table attempt by (Attempting stage) at may = absurd at
-asked_waits cutover request table attempt by Resting at may = absurd at
-asked_waits cutover request table attempt by (Ending Looking) at may = at
-asked_waits cutover request table attempt by (Ending (Drops left)) at may = at
-asked_waits cutover request table attempt by (Finishing Looking) at may = tt
-asked_waits cutover request table attempt by (Finishing (Drops left)) at may = tt
-asked_waits cutover request table attempt by Finished at may = tt
+-- it waits, but with a note
+pub asked_waits : (cutover : CutOver) (request : Request) (table : List ℕ) (attempt by : ℕ) (phase : Phase) → AsksAt request table attempt phase → answers_to request (answers.Waits by) ≡ true → (phase ≡ Resting → ⊥) → WaitsAt (Some request) table attempt (inspector_phase cutover phase (answers.Waits by))
+asked_waits cutover request table attempt by (Attempting Hinting) at may stands = at
+asked_waits cutover request table attempt by (Attempting (ReadingCounter drain)) at may stands = absurd (true≢false (sym may ∙ ap (λ (r : Request). answers_to r (answers.Waits by)) at))
+asked_waits cutover request table attempt by (Attempting (SettingCounter number drain)) at may stands = at
+asked_waits cutover request table attempt by (Attempting Showing) at may stands = absurd (true≢false (sym may ∙ ap (λ (r : Request). answers_to r (answers.Waits by)) at))
+asked_waits cutover request table attempt by (Attempting stage) at may stands = absurd at
+asked_waits cutover request table attempt by Resting at may stands = absurd (stands refl)
+asked_waits cutover request table attempt by (Ending Looking) at may stands = at
+asked_waits cutover request table attempt by (Ending (Drops left)) at may stands = at
+asked_waits cutover request table attempt by (Finishing Looking) at may stands = tt
+asked_waits cutover request table attempt by (Finishing (Drops left)) at may stands = tt
+asked_waits cutover request table attempt by Finished at may stands = tt
 
 finishing_spares : (left : Leftovers) → SparesLog (finishing left)
 finishing_spares left = by (is_clear left) where

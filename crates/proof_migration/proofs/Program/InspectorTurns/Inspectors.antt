@@ -39,6 +39,7 @@ use Rattle.tool_program.specs.Tools.{ToolPhase, Migrating, SettingUp, Work, is_r
 use Rattle.tool_program.proofs.OnlineCalls.Machines.{ToolPhaseIsNamed, named}
 use Rattle.proof_journals.specs.Plans.{IsSerialPlan}
 use Rattle.proof_journals.specs.Turns.{about, request_of}
+use Rattle.proof_journals.proofs.Machine.Inspecting.{inspects_or}
 use Rattle.proof_journals.proofs.Journals.{opened_waits}
 use Rattle.proof_journals.specs.ServerTurns.Others.{EntriesAreTurns, TurnOf, asks_names, held_at, takes_names}
 use Rattle.proof_journals.specs.Run.Kept.{IsKept}
@@ -297,7 +298,10 @@ module _ (entries_are_turns : EntriesAreTurns) (plan : PlanData) (journal : List
 
     may_so : Asking plan journal Insp entry.asked → InspectorMay work.cutover.phase work.cutover.hold work.cutover.renamer_waits entry.answer
     unfolding cutovers.next
-    may_so (calls_so request asks idle call) = called_may work.cutover work.cutover.phase request entry.answer (ap (λ (c : ToolPhase). tool_call plan (moment plan journal).server journal (moment plan journal).tool c Insp) (sym tool_phase) ∙ call)
+    may_so (calls_so request asks idle call) =
+        inspects_or plan journal (moment plan journal).tool work request (InspectorMay work.cutover.phase work.cutover.hold work.cutover.renamer_waits entry.answer)
+        (ap (λ (c : ToolPhase). tool_call plan (moment plan journal).server journal (moment plan journal).tool c Insp) (sym tool_phase) ∙ call)
+        (λ note resting. subst (λ (p : Phase). InspectorMay p work.cutover.hold work.cutover.renamer_waits entry.answer) (sym resting) tt) (λ next. called_may work.cutover work.cutover.phase request entry.answer next)
     may_so (polls_so request asks some) =
         polled_may work.cutover.phase work.cutover.hold work.cutover.renamer_waits request entry.answer (waits_kind inspector_waits (has Insp).waits request stands.inspector.waits some)
         (own_fits plan journal entry together.known (entries.seated entries_are_turns plan journal entry runs serial kept off) request (subst (λ (a : Actor). IsAbout request (has a) entry.asked) (sym inspects) (is_polled asks some)))
@@ -306,7 +310,7 @@ module _ (entries_are_turns : EntriesAreTurns) (plan : PlanData) (journal : List
     unfolding given
     statement_result gives =
         let asks : Asking plan journal Insp entry.asked = asking plan journal Insp entry.asked together.server gives in
-        insp_asks plan journal entry serial runs (entries.known entries_are_turns plan journal entry runs serial kept off) run off (all_fit plan journal runs serial (kept_front plan journal (entry ∷ []) kept) (unaltered_front plan journal (entry ∷ []) off)) work tool_phase asks
+        insp_asks plan journal entry serial runs (entries.known entries_are_turns plan journal entry runs serial kept off) run off (all_fit plan journal runs serial (kept_front plan journal (entry ∷ []) kept) (unaltered_front plan journal (entry ∷ []) off)) (kept_front plan journal (entry ∷ []) kept) work tool_phase asks
         (InspectorSays plan before after locker renamer work entry.answer entry.session)
         (λ request is_about kind. record { apart = apart; turn = turns_so work.cutover.phase (about_one request is_about kind); writes = writes_so request is_about kind work.cutover.phase refl entry.answer refl; may = may_so asks })
 

@@ -13,6 +13,7 @@ use Rattle.base_script.specs.declared.operator.OperatorWord.{OperatorWord}
 use Rattle.base_script.specs.declared.operator.OperatorWord.TheVariants.{ChunkSize}
 use Rattle.server_model.specs.Along.{Along, Along-keeps}
 use Rattle.server_model.specs.Entries.{is_client, same_actor}
+use Rattle.server_model.specs.States.{names_in}
 use Rattle.server_model.specs.declared.answer.Answer.{Answer}
 use Rattle.server_model.specs.declared.answer.Answer.TheVariants as answers
 use Rattle.server_model.specs.declared.entry.Asked.{Asked}
@@ -33,6 +34,7 @@ use Rattle.tool_program.specs.JournalWords.Journals.{may_lose, state_at}
 use Rattle.tool_program.specs.JournalWords.Sessions.{live_session}
 use Rattle.tool_program.specs.Programs.{Follows, IsGiven, given, tool_call}
 use Rattle.tool_program.specs.Setups.{Setup, Listing, Clearing, MakingLog, MakingGhost, Marking, Reaching, Ready, clearing, setup_call, setup_step}
+use Rattle.tool_program.specs.declared.cutover_core.cutover.Phase.TheVariants.{Resting}
 use Rattle.tool_program.specs.Tools.{ToolPhase, Migrating, Moment, SettingUp, Tool, Work, tool_phase_of, is_reverting, moment, stopped}
 use Rattle.tool_program.proofs.OnlineCalls.Machines.{ToolPhaseIsNamed, named}
 use Rattle.proof_journals.specs.Plans.{IsSerialPlan}
@@ -43,7 +45,9 @@ use Rattle.proof_journals.specs.Machine.Machines.{ToolPhaseStands, SetupStands, 
 use Rattle.proof_journals.specs.Machine.Runnable.{IsRunnable}
 use Rattle.proof_journals.specs.Machine.Standings.{IsAbout, Standing, answered, answers_to, free, is_called, is_polled, standing_of}
 use Rattle.proof_journals.specs.Machine.MigrationTables.{ToolPhaseTables, SetupTables, schema_of}
+use Rattle.proof_journals.proofs.Waiting.{IsDone}
 use Rattle.proof_journals.proofs.Machine.Asking.{some_request, unless_called}
+use Rattle.proof_journals.proofs.Machine.Inspecting.{IsNote, inspects_or}
 use Rattle.proof_journals.proofs.Machine.Journals.{Asking, IsRun, IsTogether, all_runs, asking, calls_so, has_now, lock_about, never_commands, polls_so, ren_about}
 use Rattle.proof_journals.proofs.Machine.Marks.{Unmarked, ghost_not_log}
 use Rattle.proof_journals.proofs.Machine.Renaming.{renamed_or_stays}
@@ -53,7 +57,9 @@ use Rattle.proof_journals.proofs.Machine.Tabling.{Following, following, quiet_st
 use Rattle.proof_migration.specs.ToolPhase.Unaltered.{IsUnaltered}
 use Rattle.proof_migration.proofs.ToolPhase.Unaltered.Asking.{exchange_takes}
 use Rattle.proof_migration.proofs.ToolPhase.Unaltered.Away.{IsKnownAsked, asked_begins, asked_more, tool_adds, unaltered_entry, unaltered_front}
-use Rattle.proof_migration.proofs.Program.Turns.Follows.{unmarked_now}
+use Rattle.proof_migration.proofs.HeldNames.Changelog.{log_at_once}
+use Rattle.proof_migration.proofs.HeldNames.Holders.{all_held_well}
+use Rattle.proof_migration.proofs.Program.Turns.Follows.{kept_front, unmarked_now}
 use Rattle.proof_migration.proofs.ToolPhase.ToolPhaseTurns.{AnswerKeeps, ApplyKeeps, CopyKeeps, CutKeeps, Kept, ResizeKeeps, SetupKeeps, TurnKeeps, UnfitKeeps, gives_asked, turn_kept}
 use Rattle.proof_migration.proofs.Program.InspectorTurns.Fitting.{AsksAt, KeepsLog, SparesLog, WaitsAt, asked_waits, asks_keep, call_asks, drained_spares, drained_waits, ended_spares, ended_waits, inspector_spares, locker_keeps_log, locker_spares, locker_waits, renamer_spares, renamer_waits, waits_asks}
 
@@ -123,7 +129,7 @@ none_fits plan tables waits work none spares log = record { waits = subst (λ (w
 
 -- ONE TURN
 
-module _ (plan : PlanData) (journal : List Entry) (entry : Entry) (serial : IsSerialPlan plan) (runs : IsRunnable plan) (known : IsKnownAsked plan journal) (run : IsRun plan journal entry) (off : IsUnaltered plan (journal ++ entry ∷ [])) (fit : IsFit plan journal) where
+module _ (plan : PlanData) (journal : List Entry) (entry : Entry) (serial : IsSerialPlan plan) (runs : IsRunnable plan) (known : IsKnownAsked plan journal) (run : IsRun plan journal entry) (off : IsUnaltered plan (journal ++ entry ∷ [])) (fit : IsFit plan journal) (kept : IsKept plan journal) where
   abbrev now : Moment
   now = moment plan journal
 
@@ -319,24 +325,43 @@ module _ (plan : PlanData) (journal : List Entry) (entry : Entry) (serial : IsSe
   pub insp_asks : (work : Work) → now.tool.tool_phase ≡ Migrating work → Asking plan journal Insp entry.asked → (P : Type 0) → ((request : Request) → IsAbout request (has Insp) entry.asked → AsksAt request work.cutover.table work.cutover.attempts work.cutover.phase → P) → P
   unfolding cutovers.next
   insp_asks work tool_phase (calls_so request asks idle call) P then =
-      then request (is_called asks idle) (call_asks work.cutover work.cutover.phase request (ap (λ (c : ToolPhase). tool_call plan now.server journal now.tool c Insp) (sym tool_phase) ∙ call))
+      then request (is_called asks idle)
+      (inspects_or plan journal now.tool work request (AsksAt request work.cutover.table work.cutover.attempts work.cutover.phase) (ap (λ (c : ToolPhase). tool_call plan now.server journal now.tool c Insp) (sym tool_phase) ∙ call)
+      (λ note resting. subst (AsksAt request work.cutover.table work.cutover.attempts) (sym resting) (subst (λ (t : List ℕ). IsNote t request) (sym (own_table work tool_phase)) note)) (λ next. call_asks work.cutover work.cutover.phase request next))
   insp_asks work tool_phase (polls_so request asks some) P then =
       then request (is_polled asks some) (waits_asks request work.cutover.table work.cutover.attempts work.cutover.phase (subst (λ (w : Option Request). WaitsAt w work.cutover.table work.cutover.attempts work.cutover.phase) some (work_fits work tool_phase).waits))
+
+  -- a note doesn't wait
+  heard_side : (entry.answer ≡ answers.Lost → ⊥) → entry.side ≡ None
+  heard_side heard = by entry.side refl where
+    by : (side : Option Side) → entry.side ≡ side → side ≡ None
+    by None at_side = refl
+    by (Some side) at_side = absurd (heard (own_missed plan journal entry together.known served side at_side))
+
+  notes_rest : entry.actor ≡ Insp → (work : Work) → now.tool.tool_phase ≡ Migrating work → work.cutover.phase ≡ Resting → (request : Request) → IsAbout request (has Insp) entry.asked → AsksAt request work.cutover.table work.cutover.attempts work.cutover.phase → (other : ℕ) → entry.answer ≡ answers.Waits other → ⊥
+  notes_rest same work tool_phase resting request (is_called asks idle) kind other waits =
+      let note : IsNote work.cutover.table request = subst (AsksAt request work.cutover.table work.cutover.attempts) resting kind in
+      subst IsDone waits
+      (log_at_once plan runs journal entry kept run (all_held_well plan journal runs serial kept) same request (ap names_in note.is ∙ ap (λ (t : List ℕ). log_name t ∷ []) (own_table work tool_phase)) asks (heard_side (λ lost. not_lost (sym lost ∙ waits)))) where
+        not_lost : answers.Lost ≡ answers.Waits other → ⊥
+        not_lost both = cc
+  notes_rest same work tool_phase resting request (is_polled asks some) kind other waits =
+      subst (WaitsAt (Some request) work.cutover.table work.cutover.attempts) resting (subst (λ (w : Option Request). WaitsAt w work.cutover.table work.cutover.attempts work.cutover.phase) some (work_fits work tool_phase).waits)
 
   insp_keeps : entry.actor ≡ Insp → (work : Work) → now.tool.tool_phase ≡ Migrating work → Asking plan journal Insp entry.asked → CutKeeps New entry.answer tool Inspector work
   unfolding cuts.took
   insp_keeps same work tool_phase asks = insp_asks work tool_phase asks (CutKeeps New entry.answer tool Inspector work) (λ request is_about kind tries. record {
-    waits = by request kind (ap (λ (s : Standing). s.waits) (has_now plan journal entry together run Insp request same is_about)) (own_fits plan journal entry together.known served request (about_own Insp request same is_about)) (following request entry.answer (has Insp));
+    waits = by request is_about kind (ap (λ (s : Standing). s.waits) (has_now plan journal entry together run Insp request same is_about)) (own_fits plan journal entry together.known served request (about_own Insp request same is_about)) (following request entry.answer (has Insp));
     spares = inspector_spares work.cutover work.cutover.phase entry.answer (work_fits work tool_phase).spares;
     log = kept_so Insp request same is_about (subst (λ (t : List ℕ). KeepsLog t request) (own_table work tool_phase) (asks_keep request work.cutover.table work.cutover.attempts work.cutover.phase (unmarked work tool_phase).undone.undone (work_fits work tool_phase).spares kind)) ∙ (work_fits work tool_phase).log;
   }) where
-    by : (request : Request) → AsksAt request work.cutover.table work.cutover.attempts work.cutover.phase → (now_has Insp).waits ≡ (answered request entry.answer (has Insp)).waits → answers_to request entry.answer ≡ true → Following request entry.answer (has Insp)
+    by : (request : Request) → IsAbout request (has Insp) entry.asked → AsksAt request work.cutover.table work.cutover.attempts work.cutover.phase → (now_has Insp).waits ≡ (answered request entry.answer (has Insp)).waits → answers_to request entry.answer ≡ true → Following request entry.answer (has Insp)
         → WaitsAt (now_has Insp).waits work.cutover.table work.cutover.attempts (cuts.inspector_phase work.cutover work.cutover.phase entry.answer)
-    by request kind now_so fits (rests none) = subst (λ (w : Option Request). WaitsAt w work.cutover.table work.cutover.attempts (cuts.inspector_phase work.cutover work.cutover.phase entry.answer)) (sym (now_so ∙ none)) tt
-    by request kind now_so fits (waits_on one is) =
+    by request is_about kind now_so fits (rests none) = subst (λ (w : Option Request). WaitsAt w work.cutover.table work.cutover.attempts (cuts.inspector_phase work.cutover work.cutover.phase entry.answer)) (sym (now_so ∙ none)) tt
+    by request is_about kind now_so fits (waits_on one is) =
         subst (λ (w : Option Request). WaitsAt w work.cutover.table work.cutover.attempts (cuts.inspector_phase work.cutover work.cutover.phase entry.answer)) (sym (now_so ∙ ap (λ (a : Answer). (answered request a (has Insp)).waits) is))
         (subst (λ (a : Answer). WaitsAt (Some request) work.cutover.table work.cutover.attempts (cuts.inspector_phase work.cutover work.cutover.phase a)) (sym is)
-        (asked_waits work.cutover request work.cutover.table work.cutover.attempts one work.cutover.phase kind (subst (λ (a : Answer). answers_to request a ≡ true) is fits)))
+        (asked_waits work.cutover request work.cutover.table work.cutover.attempts one work.cutover.phase kind (subst (λ (a : Answer). answers_to request a ≡ true) is fits) (λ resting. notes_rest same work tool_phase resting request is_about kind one is)))
 
   insp_lost : now_has Insp ≡ free → Stays → (work : Work) → now.tool.tool_phase ≡ Migrating work → CutKeeps New answers.Lost tool Inspector work
   unfolding cuts.took
@@ -498,18 +523,21 @@ fit_begins plan = λ past. absurd (false≢true past)
 
 -- what is so of each entry of such a journal
 abbrev IsGood : PlanData → List Entry → Entry → Type 0
-IsGood plan before one = IsRun plan before one × IsUnaltered plan (before ++ one ∷ [])
+IsGood plan before one = IsRun plan before one × IsUnaltered plan (before ++ one ∷ []) × IsKept plan before
 
 abbrev IsKnownFit : PlanData → List Entry → Type 0
 IsKnownFit plan journal = IsKnownAsked plan journal × IsFit plan journal
 
-all_good : (plan : PlanData) (before journal : List Entry) → Along (IsRun plan) before journal → IsUnaltered plan (before ++ journal) → Along (IsGood plan) before journal
-all_good plan some [] runs off = tt
-all_good plan some (entry ∷ journal) runs off =
-    let later : IsUnaltered plan ((some ++ entry ∷ []) ++ journal) = subst (IsUnaltered plan) (sym (append_assoc some (entry ∷ []) journal)) off in ((runs.0, unaltered_front plan (some ++ entry ∷ []) journal later), all_good plan (some ++ entry ∷ []) journal runs.1 later)
+all_good : (plan : PlanData) (before journal : List Entry) → Along (IsRun plan) before journal → IsUnaltered plan (before ++ journal) → IsKept plan (before ++ journal) → Along (IsGood plan) before journal
+all_good plan some [] runs off kept = tt
+all_good plan some (entry ∷ journal) runs off kept =
+    let later : IsUnaltered plan ((some ++ entry ∷ []) ++ journal) = subst (IsUnaltered plan) (sym (append_assoc some (entry ∷ []) journal)) off in (
+      (runs.0, unaltered_front plan (some ++ entry ∷ []) journal later, kept_front plan some (entry ∷ journal) kept),
+      all_good plan (some ++ entry ∷ []) journal runs.1 later (subst (IsKept plan) (sym (append_assoc some (entry ∷ []) journal)) kept),
+    )
 
 -- *Behind every such journal*
 pub all_fit : (plan : PlanData) (journal : List Entry) → IsRunnable plan → IsSerialPlan plan → IsKept plan journal → IsUnaltered plan journal → IsFit plan journal
 unfolding Follows
 all_fit plan journal runs serial kept off =
-    (Along-keeps (IsGood plan) (IsKnownFit plan) (λ before entry good is. (asked_more plan before entry good.0 is.0, fit_more plan before entry serial runs is.0 good.0 good.1 is.1)) [] journal (all_good plan [] journal (all_runs plan [] journal kept.faithful kept.follows) off) (asked_begins plan runs, fit_begins plan)).1
+    (Along-keeps (IsGood plan) (IsKnownFit plan) (λ before entry good is. (asked_more plan before entry good.0 is.0, fit_more plan before entry serial runs is.0 good.0 good.1 is.1 good.2)) [] journal (all_good plan [] journal (all_runs plan [] journal kept.faithful kept.follows) off kept) (asked_begins plan runs, fit_begins plan)).1

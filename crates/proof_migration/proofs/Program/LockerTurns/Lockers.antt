@@ -26,7 +26,6 @@ use Rattle.tool_program.specs.declared.cutover_core.cutover.Hold.TheVariants.{Lo
 use Rattle.tool_program.specs.declared.cutover_core.cutover.Phase.{Phase}
 use Rattle.tool_program.specs.declared.cutover_core.cutover.Phase.TheVariants.{Attempting, Ending, Finished, Finishing, Resting}
 use Rattle.tool_program.specs.declared.cutover_core.cutover.Stage.TheVariants.{Drained, ReadingCounter, SettingCounter, Draining, Dropping, Exchanging, Guarding, Hinting, Locking, Showing, Unlocking}
-use Rattle.tool_program.specs.declared.cutover_core.cutover.Drain.TheVariants.{Turns}
 use Rattle.tool_program.specs.JournalWords.Journals.{state_at}
 use Rattle.tool_program.specs.JournalWords.Sessions.{live_session}
 use Rattle.tool_program.specs.Programs.{IsGiven, given}

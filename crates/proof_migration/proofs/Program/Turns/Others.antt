@@ -25,6 +25,7 @@ use Rattle.tool_program.specs.Tools.{Work, ToolPhase, Migrating, is_reverting, m
 use Rattle.tool_program.proofs.OnlineCalls.Machines.{ToolPhaseIsNamed, named}
 use Rattle.proof_journals.specs.Plans.{IsSerialPlan, client_names, scene_of}
 use Rattle.proof_journals.specs.Turns.{ClientAsks, about, reported_at}
+use Rattle.proof_journals.proofs.Machine.Inspecting.{inspects_or}
 use Rattle.proof_journals.proofs.Naming.{migrated_no_tool}
 use Rattle.proof_journals.specs.Ghost.Rows.Timelines.{Migration}
 use Rattle.server_model.proofs.LockedRows.Tests.{are_same, same_bytes, turned_bytes}
@@ -133,7 +134,8 @@ module _ (plan : PlanData) (serial : IsSerialPlan plan) (m : Migration) (of : Is
     by : Asking plan journal Insp (Call called) → KeepsGhost plan.table request
     by (calls_so other one idle call) =
         let both : other ≡ request = cc in
-        own_table request (inspector_keeps work.cutover request (ap (λ (c : ToolPhase). tool_call plan (moment plan journal).server journal (moment plan journal).tool c Insp) (sym tool_phase) ∙ call ∙ ap Some both) unmarked.undone)
+        inspects_or plan journal (moment plan journal).tool work request (KeepsGhost plan.table request) (ap (λ (c : ToolPhase). tool_call plan (moment plan journal).server journal (moment plan journal).tool c Insp) (sym tool_phase) ∙ call ∙ ap Some both)
+        (λ note resting. subst (KeepsGhost plan.table) (sym note.is) refl) (λ next. own_table request (inspector_keeps work.cutover request next unmarked.undone))
     by (polls_so other one some) = absurd (no one) where
       no : Call called ≡ Poll → ⊥
       no two = cc

@@ -2,7 +2,7 @@
 -- once.
 use Rattle.std.proofs.Common.{◌≡◌, ◌⊎◌, ℕ, ◌+◌, Bool, true, false, not, List, [], ◌∷◌, ◌++◌, cond, Some, None, refl, sym, ap, ◌∙◌, subst, inl, inr, ◌&&◌}
 use Rattle.std.specs.List.{slice_get}
-use Rattle.std.proofs.lemmas.Bool.{true≢false, false≢true, not-true}
+use Rattle.std.proofs.lemmas.Bool.{true≢false, not-true}
 use Rattle.std.proofs.lemmas.Option.{none-some}
 use Rattle.base_script.specs.declared.actor.Actor.{Actor}
 use Rattle.base_script.specs.declared.actor.Actor.TheVariants.{Op, Insp, Copy, Apply, Lock, Ren, Client}
@@ -29,10 +29,10 @@ use Rattle.tool_program.specs.Operators.{is_throttled}
 use Rattle.tool_program.specs.Programs.{in_transaction, rolls_back, copy_call, apply_call, tool_call, given, IsGiven}
 use Rattle.tool_program.specs.Setups.{Setup, Listing, Clearing, MakingLog, MakingGhost, Marking, Reaching, Ready, setup_call}
 use Rattle.tool_program.specs.Tools.{Work, ToolPhase, SettingUp, Migrating, Tool, Moment, stopped, is_reverting, moment}
-use Rattle.proof_journals.specs.Machine.Standings.{Standing, standing_of}
-use Rattle.proof_journals.specs.Machine.Machines.{inspector_asks, copier_asks, applier_asks, ApplierStands, ToolPhaseStands}
+use Rattle.proof_journals.specs.Machine.Standings.{Standing, standing_of, IsAbout, is_called, is_polled}
+use Rattle.proof_journals.specs.Machine.Machines.{copier_asks, applier_asks, ApplierStands, ToolPhaseStands}
 use Rattle.proof_journals.specs.Machine.FormedPlans.{IsFitting}
-use Rattle.proof_journals.specs.Machine.MigrationTables.{ToolPhaseTables, WorkTables, TableExists}
+use Rattle.proof_journals.specs.Machine.MigrationTables.{WritesLog, ToolPhaseTables, WorkTables, TableExists}
 use Rattle.proof_journals.proofs.Machine.Asking.{some_request, unless_called, copier_next, applier_next}
 use Rattle.proof_journals.proofs.Machine.Calling.{reverting_or}
 use Rattle.proof_journals.proofs.Machine.Clients.{Next, calls_line, polls_line, client_next}
@@ -41,7 +41,7 @@ use Rattle.proof_journals.proofs.Machine.Journals.{IsRun, Asking, calls_so, poll
 use Rattle.proof_journals.proofs.Machine.Polling.{no_word}
 use Rattle.proof_journals.proofs.Machine.Schemas.{is_quiet, quiet_keeps}
 use Rattle.proof_journals.proofs.Machine.Seated.{state_more}
-use Rattle.proof_journals.proofs.Machine.Tabling.{IsTabled, tabled_more, tabled_begins, given_quiet, back_quiet, lost_copied, setup_keeps, copied_idle, insp_none, ren_none, lock_none}
+use Rattle.proof_journals.proofs.Machine.Tabling.{IsTabled, tabled_more, tabled_begins, given_quiet, back_quiet, lost_copied, setup_keeps, copied_idle, insp_notes, ren_none, lock_none}
 use Rattle.proof_migration.proofs.ToolPhase.ToolPhaseTurns.{Kept, UnfitKeeps, CopyKeeps, ApplyKeeps, SetupKeeps, AnswerKeeps, ResizeKeeps, turn_kept, gives_asked}
 use Rattle.proof_migration.proofs.ToolPhase.Chunks.Sparing.{is_lock, Spares, IsSpared, turn_spared}
 
@@ -91,6 +91,10 @@ module _ (plan : PlanData) (journal : List Entry) (is : IsTabled plan journal) w
   quiet_spares : (actor : Actor) (request : Request) → is_quiet request ≡ true → is_lock request ≡ false → Spares plan.table request
   quiet_spares actor request quiet unlocks = record { keeps = quiet_keeps plan.table request quiet; unlocks = unlocks }
 
+  log_spares : (request : Request) → WritesLog plan request → Spares plan.table request
+  log_spares (requests.Do statement) kind = record { keeps = refl; unlocks = refl }
+  log_spares request kind = absurd kind
+
   back_unlocks : (actor : Actor) (request : Request) → rolls_back then.server (live_session journal actor) ≡ Some request → is_lock request ≡ false
   back_unlocks actor request back = ap is_lock (back_quiet (in_transaction then.server (live_session journal actor)) request back)
 
@@ -128,13 +132,17 @@ module _ (plan : PlanData) (journal : List Entry) (entry : Entry) (is : IsTabled
   no_poll : (request : Request) → Call request ≡ Poll → ⊥
   no_poll request same = cc
 
-  -- in an uncopied course the cut-over's three ask nothing, but the inspector its setup
+  -- in an uncopied course the locker and the renamer ask nothing, and the inspector its setup and notes
   none_left : (work : Work) → now.tool.tool_phase ≡ Migrating work → is_uncopied (Migrating work) ≡ true → WorkTables plan (state_at plan journal).tables has work
   none_left work tool_phase off = subst (ToolPhaseTables plan (state_at plan journal).tables has) tool_phase is.tables
 
   insp_called : (request : Request) → entry.asked ≡ Call request → Asking plan journal Insp entry.asked → (tool_phase : ToolPhase) → now.tool.tool_phase ≡ tool_phase → is_uncopied tool_phase ≡ true → Spares plan.table request
   insp_called request asks asking_so (Migrating work) tool_phase off =
-      absurd (insp_none plan journal entry is.all is.quiet run work tool_phase ((none_left work tool_phase off).going (not-true work.copier.is_copied off)) asking_so)
+      insp_notes plan journal entry is.all is.quiet run work tool_phase ((none_left work tool_phase off).going (not-true work.copier.is_copied off)) asking_so (Spares plan.table request)
+      (λ other is_about kind. noted other is_about kind) where
+        noted : (other : Request) → IsAbout other (has Insp) entry.asked → WritesLog plan other → Spares plan.table request
+        noted other (is_called called none) kind = log_spares plan journal is request (subst (WritesLog plan) (same_call other request (sym called ∙ asks)) kind)
+        noted other (is_polled polled some) kind = absurd (no_poll request (sym asks ∙ polled))
   insp_called request asks (polls_so other polled some) (SettingUp setup tries) tool_phase off = absurd (no_poll request (sym asks ∙ polled))
   insp_called request asks (calls_so other called idle call) (SettingUp setup tries) tool_phase off =
       let one : other ≡ request = same_call other request (sym called ∙ asks) in

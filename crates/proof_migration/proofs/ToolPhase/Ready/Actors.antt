@@ -43,7 +43,7 @@ use Rattle.tool_program.specs.CutoverCore.Attempts as attempts
 use Rattle.tool_program.specs.CutoverCore.CutOvers as cutovers
 use Rattle.tool_program.specs.Operators.{is_left, is_throttled, is_postponed}
 use Rattle.tool_program.specs.Orders.{actors, clients_from, is_ready}
-use Rattle.tool_program.specs.Programs.{waits, rolls_back, copy_call, apply_call, may_read, may_begin, unread_in, tool_call, tool_asks, calls, commands, given, IsFollowed, Follows}
+use Rattle.tool_program.specs.Programs.{waits, rolls_back, copy_call, apply_call, may_read, may_begin, unread_in, note_call, tool_call, tool_asks, calls, commands, given, IsFollowed, Follows}
 use Rattle.tool_program.specs.Setups.{Setup, setup_call}
 use Rattle.tool_program.specs.Tools.{Work, ToolPhase, SettingUp, Migrating, Moment, is_reverting, moment}
 use Rattle.tool_program.specs.Verdicts.{is_calm, is_over, has_ended}
@@ -277,9 +277,11 @@ module _ (plan : PlanData) (journal : List Entry) (going : IsGoing plan journal)
           (ap (λ (p : Phase). is_some (cond (cutovers.is_resting p && not (may_begin plan now.server now.tool work)) None (attempts.locker_call work.cutover p))) at
           ∙ ap (λ (b : Bool). is_some (cond (b && not (may_begin plan now.server now.tool work)) None (attempts.locker_call work.cutover phase))) begun ∙ some))
 
-      inspector_calls : (phase : Phase) → work.cutover.phase ≡ phase → is_some (attempts.inspector_call work.cutover phase) ≡ true → AnyReady
+      inspector_calls : (phase : Phase) → work.cutover.phase ≡ phase → cutovers.is_resting phase ≡ false → is_some (attempts.inspector_call work.cutover phase) ≡ true → AnyReady
       unfolding attempts.next
-      inspector_calls phase at some = insp_goes (called (Migrating work) eq Insp (ap (λ (p : Phase). is_some (attempts.inspector_call work.cutover p)) at ∙ some))
+      inspector_calls phase at off some =
+          insp_goes (called (Migrating work) eq Insp (ap (λ (p : Phase). is_some (cond (cutovers.is_resting p) (note_call plan journal now.tool work) (attempts.inspector_call work.cutover p))) at
+          ∙ ap (λ (b : Bool). is_some (cond b (note_call plan journal now.tool work) (attempts.inspector_call work.cutover phase))) off ∙ some))
 
       renamer_calls : (phase : Phase) → work.cutover.phase ≡ phase → is_some (attempts.renamer_call work.cutover phase) ≡ true → AnyReady
       unfolding attempts.next
@@ -417,13 +419,13 @@ module _ (plan : PlanData) (journal : List Entry) (going : IsGoing plan journal)
       ending clearing at WaitsToLock is b waits_so = locker_polls WaitsToLock _ is refl
       ending clearing at Nothing is true waits_so = renamer_polls waits_so
       ending clearing at Nothing is false waits_so =
-          inspector_calls (Ending clearing) at (ap (λ (h : Hold). is_some (cond (attempts.is_free h work.cutover.renamer_waits) (attempts.clears work.cutover.table clearing) None)) is ∙ ap (λ (b : Bool). is_some (cond (not b) (attempts.clears work.cutover.table clearing) None)) waits_so ∙ cleared clearing) where
+          inspector_calls (Ending clearing) at refl (ap (λ (h : Hold). is_some (cond (attempts.is_free h work.cutover.renamer_waits) (attempts.clears work.cutover.table clearing) None)) is ∙ ap (λ (b : Bool). is_some (cond (not b) (attempts.clears work.cutover.table clearing) None)) waits_so ∙ cleared clearing) where
             cleared : (clearing : Cleared) → is_some (attempts.clears work.cutover.table clearing) ≡ true
             cleared Looking = refl
             cleared (Drops left) = refl
 
       finishing : (clearing : Cleared) → work.cutover.phase ≡ Finishing clearing → AnyReady
-      finishing clearing at = inspector_calls (Finishing clearing) at (cleared clearing) where
+      finishing clearing at = inspector_calls (Finishing clearing) at refl (cleared clearing) where
         cleared : (clearing : Cleared) → is_some (attempts.clears work.cutover.table clearing) ≡ true
         cleared Looking = refl
         cleared (Drops left) = refl
@@ -437,12 +439,12 @@ module _ (plan : PlanData) (journal : List Entry) (going : IsGoing plan journal)
       migrating Resting at = inl (resting at)
       migrating (Attempting Guarding) at = guarding work.cutover.hold refl (in_phase (Attempting Guarding) at)
       migrating (Attempting Locking) at = inl (locker_calls (Attempting Locking) at refl refl)
-      migrating (Attempting Hinting) at = inl (inspector_calls (Attempting Hinting) at refl)
-      migrating (Attempting (ReadingCounter drain)) at = inl (inspector_calls (Attempting (ReadingCounter drain)) at refl)
-      migrating (Attempting (SettingCounter number drain)) at = inl (inspector_calls (Attempting (SettingCounter number drain)) at refl)
+      migrating (Attempting Hinting) at = inl (inspector_calls (Attempting Hinting) at refl refl)
+      migrating (Attempting (ReadingCounter drain)) at = inl (inspector_calls (Attempting (ReadingCounter drain)) at refl refl)
+      migrating (Attempting (SettingCounter number drain)) at = inl (inspector_calls (Attempting (SettingCounter number drain)) at refl refl)
       migrating (Attempting (Draining turns)) at = draining turns at
       migrating (Attempting Drained) at = inl (renamer_calls (Attempting Drained) at refl)
-      migrating (Attempting Showing) at = inl (inspector_calls (Attempting Showing) at refl)
+      migrating (Attempting Showing) at = inl (inspector_calls (Attempting Showing) at refl refl)
       migrating (Attempting Dropping) at = inl (locker_calls (Attempting Dropping) at refl refl)
       migrating (Attempting Unlocking) at = inl (locker_calls (Attempting Unlocking) at refl refl)
       migrating (Attempting Exchanging) at = exchanging work.cutover.renamer_waits refl

@@ -54,6 +54,7 @@ use Rattle.proof_journals.specs.Scenes.{NamesTable}
 use Rattle.proof_journals.specs.Plans.{client_names, scene_of}
 use Rattle.proof_journals.specs.Turns.{ClientAsks}
 use Rattle.server_model.proofs.LockedRows.Tests.{same_bytes, turned_bytes}
+use Rattle.proof_journals.proofs.Machine.Inspecting.{inspects_or}
 use Rattle.proof_journals.proofs.Machine.Asking.{some_request, unless_called, renamer_next}
 use Rattle.proof_journals.proofs.Machine.Clients.{Next, calls_line, polls_line, client_next}
 use Rattle.proof_journals.proofs.Machine.Journals.{apply_called}
@@ -220,7 +221,8 @@ module _ (plan : PlanData) (journal : List Entry) where
 
   tool_rows : (tool_phase : ToolPhase) (actor : Actor) (request : Request) → ToolPhaseIsNamed plan tool_phase → tool_call plan now.server journal now.tool tool_phase actor ≡ Some request → RowCall plan actor request
   tool_rows (SettingUp setup tries) Insp request names is = setup_rows plan setup request (unless_called (is_reverting now.tool.reason) (setup_call plan setup) request is)
-  tool_rows (Migrating work) Insp request names is = inspector_rows plan work.cutover request names.cutover is
+  tool_rows (Migrating work) Insp request names is =
+      inspects_or plan journal now.tool work request (RowCall plan Insp request) is (λ note resting. subst (RowCall plan Insp) (sym note.is) refl) (λ next. inspector_rows plan work.cutover request names.cutover next)
   tool_rows (Migrating work) Copy request names is =
       back_or Copy (is_reverting now.tool.reason) (rolls_back now.server (live_session journal Copy)) (copy_call plan now.server journal now.tool work) request is
       (λ back. rolled_rows plan Copy (in_transaction now.server (live_session journal Copy)) request back)

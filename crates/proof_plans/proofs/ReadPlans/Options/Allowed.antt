@@ -1,5 +1,5 @@
--- A plan that is read lets a session wait once at least, allows one turn at least, and lets a task be tried from once to a thousand
--- times.
+-- A plan that is read lets a session wait once at least, allows one turn at least, lets a task be tried from once to a thousand
+-- times, and asks for at most a thousand notes, with 1 to 100,000 turns between two.
 use Rattle.std.proofs.Common.{◌≡◌, ◌≤◌, ℕ, Bool, true, false, not, ◌||◌, cond, List, length, Result, Ok, Err, refl, subst, arith}
 use Rattle.std.specs.Prelude.{ℤ, pos, negsuc, int_lt, nat_lt}
 use Rattle.std.proofs.lemmas.Bool.{or_parts}
@@ -36,13 +36,13 @@ once high n (pos m) is =
     subst (λ (k : ℕ). 1 ≤ k) kept.1 (grind (arith, nat_tests, low))
 once high n (negsuc m) is = absurd cc
 
-most : (high n : ℕ) (number : ℤ) → within 1 high number ≡ Ok n → n ≤ high
+most : (low high n : ℕ) (number : ℤ) → within low high number ≡ Ok n → n ≤ high
 unfolding within
-most high n (pos m) is =
-    let kept = kept_out (int_lt (pos m) (pos 1) || int_lt (pos high) (pos m)) m n keys.OutOfRange is in
-    let low = or_parts (int_lt (pos m) (pos 1)) (int_lt (pos high) (pos m)) kept.0 in
-    subst (λ (k : ℕ). k ≤ high) kept.1 (grind (arith, nat_tests, low))
-most high n (negsuc m) is = absurd cc
+most low high n (pos m) is =
+    let kept = kept_out (int_lt (pos m) (pos low) || int_lt (pos high) (pos m)) m n keys.OutOfRange is in
+    let parts = or_parts (int_lt (pos m) (pos low)) (int_lt (pos high) (pos m)) kept.0 in
+    subst (λ (k : ℕ). k ≤ high) kept.1 (grind (arith, nat_tests, parts))
+most low high n (negsuc m) is = absurd cc
 
 allowed_within : (numbers : NumberKeys) (truths : TruthKeys) (options : Options) → options_within numbers truths ≡ Ok options → IsAllowed options
 unfolding options_within
@@ -56,12 +56,17 @@ allowed_within numbers truths options is =
     let of_tool = bind_ok (within 1 100000 numbers.tool_wait) _ options of_client.2 in
     let busy = bind_ok (within 0 64 numbers.max_load) _ options of_tool.2 in
     let turns = bind_ok (within 1 1000000 numbers.turn_limit) _ options busy.2 in
-    subst IsAllowed (ok_is {C = KeyRefusal} _ options turns.2) (record {
+    let notes = bind_ok (within 0 1000 numbers.notes) _ options turns.2 in
+    let between = bind_ok (within 1 100000 numbers.note_every) _ options notes.2 in
+    subst IsAllowed (ok_is {C = KeyRefusal} _ options between.2) (record {
       client = once 100000 of_client.0 numbers.client_wait of_client.1;
       tool = once 100000 of_tool.0 numbers.tool_wait of_tool.1;
       turns = once 1000000 turns.0 numbers.turn_limit turns.1;
       tries = once 1000 failures.0 numbers.default_retries failures.1;
-      few = most 1000 failures.0 numbers.default_retries failures.1;
+      few = most 1 1000 failures.0 numbers.default_retries failures.1;
+      notes = most 0 1000 notes.0 numbers.notes notes.1;
+      between = once 100000 between.0 numbers.note_every between.1;
+      near = most 1 100000 between.0 numbers.note_every between.1;
     })
 
 allowed_in : (typed : TypedData) (found : KeyData) → in_range typed ≡ Ok found → IsAllowed found.options

@@ -39,6 +39,7 @@ use Rattle.tool_program.specs.Setups.{Setup, Listing, Clearing, MakingLog, Makin
 use Rattle.tool_program.specs.Programs.{in_transaction, rolls_back, copy_call, apply_call, may_begin, tool_call, tool_asks, given}
 use Rattle.tool_program.specs.Tools.{ToolPhase, SettingUp, Migrating, is_reverting, Moment, moment}
 use Rattle.proof_journals.specs.Machine.Machines.{copier_asks}
+use Rattle.proof_journals.proofs.Machine.Inspecting.{inspects_or}
 use Rattle.proof_journals.proofs.Machine.Asking.{some_request, unless_called, copier_next, renamer_next}
 use Rattle.proof_journals.proofs.Machine.Calling.{reverting_or}
 use Rattle.proof_journals.proofs.Machine.Clients.{Next, calls_line, polls_line, client_next}
@@ -151,7 +152,7 @@ module _ (plan : PlanData) (journal : List Entry) where
 
   call_ends : (actor : Actor) (request : Request) (tool_phase : ToolPhase) → tool_call plan now.server journal now.tool tool_phase actor ≡ Some request → AsksEnds plan actor request
   call_ends Insp request (SettingUp setup tries) call = setup_ends plan setup request (unless_called (is_reverting now.tool.reason) (setup_call plan setup) request call)
-  call_ends Insp request (Migrating work) call = quiet_asks plan Insp request (inspector_quiet work.cutover request call)
+  call_ends Insp request (Migrating work) call = quiet_asks plan Insp request (inspects_or plan journal now.tool work request (is_no_ends request ≡ true) call (λ note resting. ap is_no_ends note.is) (λ next. inspector_quiet work.cutover request next))
   call_ends Copy request (Migrating work) call =
       quiet_asks plan Copy request
       (reverting_or (is_no_ends request ≡ true) (is_reverting now.tool.reason) (rolls_back now.server (live_session journal Copy)) (copy_call plan now.server journal now.tool work) request call

@@ -1,4 +1,4 @@
-use Rattle.std.proofs.Common.{◌≡◌, ℕ, ◌+◌, List, drop}
+use Rattle.std.proofs.Common.{◌≡◌, ◌+◌, drop}
 use Rattle.tool_program.specs.JournalWords.Clients.{all_over, clients_over}
 use Rattle.run_state.proofs.run_state.RunState.clients_over.Given as goal
 

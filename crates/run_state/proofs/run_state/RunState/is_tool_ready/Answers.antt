@@ -2,6 +2,7 @@ use Rattle.std.proofs.Common.{List, sym, ap, ◌∙◌}
 use Rattle.std.specs.Prelude.{is_some}
 use Rattle.server_model.specs.declared.entry.Entry.{Entry}
 use Rattle.tool_program.specs.JournalWords.Sessions.{live_session}
+use Rattle.tool_program.specs.NoteWriter.Notes.{notes_of}
 use Rattle.tool_program.specs.Programs.{tool_asks}
 use Rattle.tool_state.specs.ToolState.Meanings.{tool_of}
 use Rattle.run_state.proofs.Givens.{asks_is}
@@ -10,6 +11,9 @@ use Rattle.run_state.proofs.run_state.RunState.is_tool_ready.Goals as goal
 
 pub is_ready-requires-clause-seen : goal.is_ready-requires-clause-seen
 is_ready-requires-clause-seen g c = seen c.args.self.now.plan.now c.args.self.now.journal.items c.args.self.now (g.V.Serve.state c.args.server.now) c.requires.run_state c.requires.state
+
+pub is_ready-requires-clause-notes : goal.is_ready-requires-clause-notes
+is_ready-requires-clause-notes g c = c.requires.run_state.notes ∙ ap notes_of (sym c.as_slice.ensures.value)
 
 pub is_ready-requires-clause-session : goal.is_ready-requires-clause-session
 is_ready-requires-clause-session g c = c.session.ensures ∙ ap (λ (journal : List Entry). live_session journal c.args.actor) (sym c.as_slice.ensures.value)

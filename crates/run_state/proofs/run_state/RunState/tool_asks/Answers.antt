@@ -3,6 +3,7 @@ use Rattle.std.proofs.lemmas.Result.{IfOk-weaker, on_err_weaker}
 use Rattle.server_model.specs.declared.entry.Entry.{Entry}
 use Rattle.tool_program.specs.FreeCalls.{is_freely_asked}
 use Rattle.tool_program.specs.JournalWords.Sessions.{live_session}
+use Rattle.tool_program.specs.NoteWriter.Notes.{notes_of}
 use Rattle.tool_program.specs.Programs.{tool_asks}
 use Rattle.tool_state.specs.ToolState.Meanings.{tool_of}
 use Rattle.run_state.proofs.Givens.{asks_is}
@@ -11,6 +12,9 @@ use Rattle.run_state.proofs.run_state.RunState.tool_asks.Goals as goal
 
 pub asks-requires-clause-seen : goal.asks-requires-clause-seen
 asks-requires-clause-seen g c = seen c.args.self.now.plan.now c.args.self.now.journal.items c.args.self.now (g.V.Serve.state c.args.server.now) c.requires.run_state c.requires.state
+
+pub asks-requires-clause-notes : goal.asks-requires-clause-notes
+asks-requires-clause-notes g c = c.requires.run_state.notes ∙ ap notes_of (sym c.as_slice.ensures.value)
 
 pub asks-requires-clause-session : goal.asks-requires-clause-session
 asks-requires-clause-session g c = c.session.ensures ∙ ap (λ (journal : List Entry). live_session journal c.args.actor) (sym c.as_slice.ensures.value)

@@ -1,5 +1,7 @@
-use Rattle.std.proofs.Common.{rules, ◌≡◌, ◌<◌, ◌+◌, List, length, sym, ap, ◌∙◌, subst, arith}
+use Rattle.std.proofs.Common.{rules, ◌≡◌, ◌<◌, ◌≤◌, List, length, sym, ap, ◌∙◌, subst, arith}
 use Rattle.std.specs.List.{AllByRecursion}
+use Rattle.tool_program.specs.declared.note_writer.notes.Notes.{Notes}
+use Rattle.tool_program.proofs.NoteWriter.Counts.{begun_few, behind_few}
 use Rattle.tool_program.specs.Tools.{moment}
 use Rattle.tool_program.specs.Orders.{actors}
 use Rattle.run_actors.specs.declared.actor_state.ActorState.{ActorState}
@@ -19,6 +21,18 @@ took-requires-clause-turns c =
     let turns : c.args.run_state.now.tool.turns ≡ length c.args.run_state.now.journal.items = tool_turns c.args.run_state.now.plan.now c.args.run_state.now.journal.items c.args.run_state.now.tool c.requires.run_state.tool in
     omega (arith, turns, c.requires.few)
 
+pub take-requires-clause-begun : goal.take-requires-clause-begun
+take-requires-clause-begun c =
+    let begun : c.args.run_state.now.notes.begun ≤ length c.args.run_state.now.journal.items =
+    subst (λ (notes : Notes). notes.begun ≤ length c.args.run_state.now.journal.items) (sym c.requires.run_state.notes) (begun_few c.args.run_state.now.journal.items) in
+    omega (arith, begun, c.requires.few)
+
+pub take-requires-clause-behind : goal.take-requires-clause-behind
+take-requires-clause-behind c =
+    let behind : c.args.run_state.now.notes.behind ≤ length c.args.run_state.now.journal.items =
+    subst (λ (notes : Notes). notes.behind ≤ length c.args.run_state.now.journal.items) (sym c.requires.run_state.notes) (behind_few c.args.run_state.now.journal.items) in
+    omega (arith, behind, c.requires.few)
+
 pub take_turn-requires : goal.take_turn-requires
 take_turn-requires c =
     let few : length c.args.run_state.now.journal.items < 4294967296 = c.requires.run_state.few in
@@ -30,6 +44,7 @@ returns-clause-run_state c =
     (record {
       tool = ap (λ (run_state : RunState). tool_of run_state.tool) c.clients_took.ensures.rest ∙ c.took.ensures.took (moment c.args.run_state.now.plan.now c.args.run_state.now.journal.items).server c.requires.work;
       sound = subst (IsSound c.args.run_state.now.plan.now) (sym (ap (λ (run_state : RunState). run_state.tool) c.clients_took.ensures.rest)) c.took.ensures.sound;
+      notes = search rules;
       names = search rules;
       actor_states = search rules;
       clients = search rules;

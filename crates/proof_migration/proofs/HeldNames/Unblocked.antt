@@ -31,7 +31,7 @@ use Rattle.proof_journals.proofs.Journals.{done_waits}
 use Rattle.proof_journals.proofs.Sentry.Holding.{both_none}
 use Rattle.proof_journals.proofs.Waiting.{filter_there}
 use Rattle.proof_migration.proofs.Program.LockerTurns.Apart.{IsApart}
-use Rattle.proof_bounds.proofs.SessionNames.{WithinIn, filled_names, locks_on}
+use Rattle.proof_migration.proofs.HeldNames.SessionNames.{WithinIn, filled_names, locks_on}
 
 -- NO SESSION WAITS TWICE
 

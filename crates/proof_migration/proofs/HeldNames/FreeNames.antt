@@ -56,9 +56,9 @@ use Rattle.proof_migration.proofs.Program.LockerTurns.Apart.{opened_apart}
 use Rattle.proof_migration.proofs.ToolPhase.Chunks.Sparing.{IsSpared, opened_spared, shared_free}
 use Rattle.proof_migration.proofs.ToolPhase.CopyAnswers.{not_outside}
 use Rattle.proof_migration.proofs.ToolPhase.Owners.{AllOwned, together_owned}
-use Rattle.proof_bounds.proofs.Holders.{forbids, MayName, IsHeldWell}
-use Rattle.proof_bounds.proofs.SessionNames.{WithinIn, AllNames}
-use Rattle.proof_bounds.proofs.Unblocked.{Off, WaitsOff, WaitsApart, IsFreeName, unblocked}
+use Rattle.proof_migration.proofs.HeldNames.Holders.{forbids, MayName, IsHeldWell}
+use Rattle.proof_migration.proofs.HeldNames.SessionNames.{WithinIn, AllNames}
+use Rattle.proof_migration.proofs.HeldNames.Unblocked.{Off, WaitsOff, WaitsApart, IsFreeName, unblocked}
 
 -- WHAT IS DONE
 

@@ -7,8 +7,8 @@ use Rattle.base_values.specs.declared.value.Value.{Value}
 use Rattle.base_values.specs.declared.value.Value.TheVariants.{Num, Text}
 use Rattle.base_values.specs.Literals.{printed_row}
 use Rattle.base_values.specs.StoredValues.{character_count}
-use Rattle.extra_notes.specs.declared.checkpoint.Reach.{Reach}
-use Rattle.extra_notes.specs.declared.checkpoint.Reach.TheVariants.{Nothing, To, All}
+use Rattle.tool_changelog.specs.declared.checkpoint.Reach.{Reach}
+use Rattle.tool_changelog.specs.declared.checkpoint.Reach.TheVariants.{Nothing, To, All}
 
 -- a dash for nothing, the key as a row, and a star for all
 abbrev pub reach_text : Reach → List ℕ

@@ -77,8 +77,8 @@ use Rattle.proof_journals.proofs.Machine.Whole.{given_called, given_polled, loss
 use Rattle.proof_migration.proofs.Program.Turns.Follows.{kept_front, kept_run}
 use Rattle.proof_migration.proofs.ToolPhase.Unaltered.Asking.{given_asked}
 use Rattle.proof_migration.proofs.ToolPhase.Unaltered.Away.{IsKnownAsked, asked_more, asked_begins, tool_not_mine}
-use Rattle.proof_bounds.proofs.SessionNames.{AllNames, WithinIn, leaves_within, opened_within}
-use Rattle.proof_bounds.proofs.Unblocked.{WaitsApart, leaves_apart}
+use Rattle.proof_migration.proofs.HeldNames.SessionNames.{AllNames, WithinIn, leaves_within, opened_within}
+use Rattle.proof_migration.proofs.HeldNames.Unblocked.{WaitsApart, leaves_apart}
 
 -- EVERY FRONT OF A KEPT JOURNAL IS KEPT
 

@@ -1,0 +1,8 @@
+//! The notes: rows of the changelog by which the tool tells, from time to time, how far it is.
+
+mod answers;
+mod calls;
+mod notes;
+
+pub use calls::writes;
+pub use notes::{NoteRow, NoteStep, Notes};
