@@ -66,7 +66,7 @@ use Rattle.proof_journals.specs.Machine.MigrationTables.{schema_of}
 use Rattle.proof_journals.specs.Rising.{LeavesName}
 use Rattle.law_draws.specs.ColumnValues.{RowsBelow, EventsBelow, ValuesBelow, CopiesElsewhere, ValuesStayBelow}
 
-le_then : (a b c : ℕ) → a ≤ b → b ≤ c → a ≤ c
+pub le_then : (a b c : ℕ) → a ≤ b → b ≤ c → a ≤ c
 le_then a b c one two = omega (arith, one, two)
 
 -- BELOW A NUMBER, SO BELOW A GREATER ONE
@@ -122,7 +122,7 @@ both_below name place n (event ∷ a) b one two = (one.0, both_below name place 
 
 -- WRITES OF SESSIONS
 
-all_with : (P : Session → Type 0) (number : ℕ) (change : Session → Session) (sessions : List Session) → ((session : Session) → P session → P (change session)) → AllByRecursion P sessions → AllByRecursion P (with_session number change sessions)
+pub all_with : (P : Session → Type 0) (number : ℕ) (change : Session → Session) (sessions : List Session) → ((session : Session) → P session → P (change session)) → AllByRecursion P sessions → AllByRecursion P (with_session number change sessions)
 unfolding with_session
 all_with P number change [] goes all = tt
 all_with P number change (session ∷ sessions) goes all = at (session.number == number) (all_with P number change sessions goes all.1) where
@@ -130,7 +130,7 @@ all_with P number change (session ∷ sessions) goes all = at (session.number ==
   at true rest = (goes session all.0, all.1)
   at false rest = (all.0, rest)
 
-all_left : (P : Session → Type 0) (test : Session → Bool) (sessions : List Session) → AllByRecursion P sessions → AllByRecursion P (filter test sessions)
+pub all_left : (P : Session → Type 0) (test : Session → Bool) (sessions : List Session) → AllByRecursion P sessions → AllByRecursion P (filter test sessions)
 all_left P test [] all = tt
 all_left P test (session ∷ sessions) all = at (test session) (all_left P test sessions all.1) where
   at : (b : Bool) → AllByRecursion P (filter test sessions) → AllByRecursion P (cond b (session ∷ filter test sessions) (filter test sessions))
@@ -463,7 +463,7 @@ polled_below name schema place next m number state has less below leaves given =
   at None leaves given = after
   at (Some waiting) leaves given = unless waiting.request (blocker state number (need state number waiting.request)) leaves given
 
-lost_below : (name : List ℕ) (place n number : ℕ) (state : State) → ValuesBelow name place n state → ValuesBelow name place n (loses number state)
+pub lost_below : (name : List ℕ) (place n number : ℕ) (state : State) → ValuesBelow name place n state → ValuesBelow name place n (loses number state)
 unfolding loses
 lost_below name place n number state below = record { rows = below.rows; writes = all_left (λ session. EventsBelow name place n session.writes) (λ session. not (session.number == number)) state.sessions below.writes }
 
@@ -479,7 +479,7 @@ served_below name schema place next m state number Cut has less below leaves giv
 some_same : (a b : ℕ) → Some a ≡ Some b → a ≡ b
 some_same a b is = cc
 
-raised_to : (name : List ℕ) (n : ℕ) (counters : List Counter) (m : ℕ) → next_of name (counters_from name n counters) ≡ Some m → n ≤ m
+pub raised_to : (name : List ℕ) (n : ℕ) (counters : List Counter) (m : ℕ) → next_of name (counters_from name n counters) ≡ Some m → n ≤ m
 raised_to name n [] m is = absurd cc
 raised_to name n (one ∷ counters) m is = at (is_counter_of name one) refl is (raised_to name n counters m) where
   at : (b : Bool) → is_counter_of name one ≡ b → next_of name (cond b (record one { next = max one.next n }) one ∷ counters_from name n counters) ≡ Some m → (next_of name (counters_from name n counters) ≡ Some m → n ≤ m) → n ≤ m

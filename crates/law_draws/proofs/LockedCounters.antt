@@ -1,14 +1,15 @@
 -- While a table is locked its counter stays.
-use Rattle.std.proofs.Common.{◌≡◌, ◌≢◌, ℕ, Bool, true, false, List, [], ◌∷◌, cond, Option, Some, None, refl, sym, ap, ◌∙◌, subst}
+use Rattle.std.proofs.Common.{◌≡◌, ℕ, Bool, true, false, List, [], ◌∷◌, cond, Option, Some, None, refl, sym, ap, ◌∙◌, subst}
 use Rattle.std.specs.Prelude.{find, max}
 use Rattle.std.specs.Option.{option_map}
 use Rattle.std.specs.Str.{bytes_eq}
 use Rattle.std.proofs.lemmas.Bool.{true≢false}
 use Rattle.base_values.specs.GhoSchema.AutoIncrement.{auto_place}
+use Rattle.base_script.specs.declared.actor.Side.{Side}
 use Rattle.base_script.specs.declared.actor.Side.TheVariants.{Before, After}
 use Rattle.base_script.specs.declared.statement.Statement.{Statement}
 use Rattle.table_store.specs.Databases.{TableRows, find_table}
-use Rattle.server_locks.specs.MetadataLocks.Grants.{blocker_of_name, blocker_of_names, holds}
+use Rattle.server_locks.specs.MetadataLocks.Grants.{blocker_of_name, blocker_of_names}
 use Rattle.server_locks.specs.RowLocks.Grants.{blocker_of_set}
 use Rattle.server_locks.proofs.LeastSession.Sessions.{none_of}
 use Rattle.server_model.specs.declared.answer.Answer.{Answer}
@@ -23,7 +24,7 @@ use Rattle.server_model.specs.Blockers.{blocker, need}
 use Rattle.server_model.specs.Counting.{after_drawn, counted, counts, drawn_by, given_by, gives_in}
 use Rattle.server_model.specs.Drawing.{numbered, offered}
 use Rattle.server_model.specs.Operations.{table_of}
-use Rattle.server_model.specs.PlainServer.{asks_for, called_unless, calls, is_over, polled_of, polled_over, polled_unless, polls, request_waiting, serves}
+use Rattle.server_model.specs.PlainServer.{asks_for, called_unless, counters_left, calls, is_over, polled_of, polled_over, polled_unless, polls, request_waiting, serves}
 use Rattle.server_model.specs.States.{State, counter_of, counters_from, is_counter_of, locks_held, names_held, next_of, waiters, waiting_of}
 use Rattle.server_model.proofs.Filling.{numbered_table}
 use Rattle.server_model.proofs.LockedRows.Counters.{found_named}
@@ -90,11 +91,12 @@ other_stays name state number (requests.SetCounter table least) answer leaves of
 other_stays name state number request answer leaves off = refl
 
 -- what is about no request
-unasked_stays : (name : List ℕ) (state : State) (number : ℕ) (answer : Answer) → Stays name state number None answer
+pub unasked_stays : (name : List ℕ) (state : State) (number : ℕ) (answer : Answer) → Stays name state number None answer
 unfolding counted
 unasked_stays name state number answer = refl
 
-module _ (name : List ℕ) (locker : ℕ) (state : State) (number : ℕ) (apart : locker ≢ number) (locked : holds (names_held state.sessions) locker name true ≡ true) where
+-- where the session is granted no shared lock on the table
+module _ (name : List ℕ) (state : State) (number : ℕ) (refused : blocker_of_name (names_held state.sessions) (waiters state.waiting) number name false ≡ None → ⊥) where
   -- A statement on the table isn't granted its lock.
   ungranted : (statement : Statement) → table_of statement ≡ name → blocker state number (need state number (requests.Do statement)) ≡ None → ⊥
   unfolding blocker_of_names
@@ -102,7 +104,7 @@ module _ (name : List ℕ) (locker : ℕ) (state : State) (number : ℕ) (apart 
       let asked : need state number (requests.Do statement) ≡ need state number (requests.Do statement) = refl in
       let names = (none_of (blocker_of_names (names_held state.sessions) (waiters state.waiting) number false (table_of (numbered (offered state number statement) statement) ∷ [])) (blocker_of_set (locks_held state.sessions) number (need state number (requests.Do statement)).locks) free).0 in
       let one = (none_of (blocker_of_name (names_held state.sessions) (waiters state.waiting) number (table_of (numbered (offered state number statement) statement)) false) None names).0 in
-      refused_shared (names_held state.sessions) (waiters state.waiting) number locker name apart locked
+      refused
       (subst (λ (t : List ℕ). blocker_of_name (names_held state.sessions) (waiters state.waiting) number t false ≡ None) (numbered_table (offered state number statement) statement ∙ own) one)
 
   abbrev Own : Option Request → Answer → Type 0
@@ -158,8 +160,14 @@ module _ (name : List ℕ) (locker : ℕ) (state : State) (number : ℕ) (apart 
   served_stays (Command word) leaves = unasked_stays name state number (answers.Ok 0)
   served_stays Cut leaves = unasked_stays name state number answers.Lost
 
+-- *Refused counters stay*
+pub refused_counters_stay : (name : List ℕ) (side : Option Side) (state : State) (number : ℕ) (asked : Asked) → (blocker_of_name (names_held state.sessions) (waiters state.waiting) number name false ≡ None → ⊥) → LeavesCounter name (asks_for state number asked)
+    → next_of name (counters_left side state number asked) ≡ next_of name state.counters
+refused_counters_stay name None state number asked refused leaves = served_stays name state number refused asked leaves
+refused_counters_stay name (Some Before) state number asked refused leaves = refl
+refused_counters_stay name (Some After) state number asked refused leaves = served_stays name state number refused asked leaves
+
 -- *Locked counters stay*
 pub locked_counters_stay : LockedCountersStay
-locked_counters_stay name locker None state number asked apart locked leaves = served_stays name locker state number apart locked asked leaves
-locked_counters_stay name locker (Some Before) state number asked apart locked leaves = refl
-locked_counters_stay name locker (Some After) state number asked apart locked leaves = served_stays name locker state number apart locked asked leaves
+locked_counters_stay name locker side state number asked apart locked leaves =
+    refused_counters_stay name side state number asked (refused_shared (names_held state.sessions) (waiters state.waiting) number locker name apart locked) leaves

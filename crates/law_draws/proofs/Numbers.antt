@@ -20,8 +20,8 @@ use Rattle.server_model.specs.declared.session.Session.{Session}
 use Rattle.server_model.specs.declared.session.Waiting.{Waiting}
 use Rattle.server_model.specs.Entries.{is_client, is_command}
 use Rattle.server_model.specs.Operations.{table_of}
-use Rattle.server_model.specs.States.{State, connected, is_live, new_session, next_of, pair_names, waiting_of}
-use Rattle.server_model.specs.PlainServer.{asks_for, counters_left, leaves, loses, polled_of, polls, request_waiting, serves}
+use Rattle.server_model.specs.States.{State, connected, is_live, new_session, next_of, waiting_of}
+use Rattle.server_model.specs.PlainServer.{asks_for, counters_left, leaves, loses, polls, request_waiting, serves}
 use Rattle.server_model.specs.LockedRows.Counters.{IsBelow, NoLess, PutsBelow}
 use Rattle.tool_program.specs.JournalWords.Journals.{after_entry, opens, opens_if}
 use Rattle.tool_program.specs.JournalWords.Draws.{IsAbove, IsUnder, PutUnder, PutsUnder, AboveAt}
@@ -58,7 +58,7 @@ left_schema name (Some After) state number asked leaves = served_schema name sta
 
 -- A SESSION MORE
 
-one_more : (P : Session → Type 0) (sessions : List Session) (one : Session) → AllByRecursion P sessions → P one → AllByRecursion P (sessions ++ one ∷ [])
+pub one_more : (P : Session → Type 0) (sessions : List Session) (one : Session) → AllByRecursion P sessions → P one → AllByRecursion P (sessions ++ one ∷ [])
 one_more P [] one all is = (is, tt)
 one_more P (session ∷ sessions) one all is = (all.0, one_more P sessions one all.1 is)
 

@@ -35,7 +35,7 @@ use Rattle.server_model.specs.PlainServer.{asks_for, counters_left, leaves, serv
 use Rattle.server_model.specs.States.{State, after_value, connected, counter_of, is_live, is_of_tool, next_of, session_of, start_at, started}
 use Rattle.server_model.proofs.LockedRows.Tests.{are_same}
 use Rattle.plan_data.specs.PlanData.{PlanData}
-use Rattle.tool_program.specs.JournalWords.Draws.{asked_in, draws_on, drawn_from, IsAbove}
+use Rattle.tool_program.specs.JournalWords.Draws.{asked_in, draws_on, drawn_from, IsAbove, IsDrawn}
 use Rattle.tool_program.specs.JournalWords.Journals.{IsAnswered, after_entry, opening, opens, opens_if, state_after, state_at}
 use Rattle.tool_program.specs.Programs.{Follows, IsFollowed, IsGiven}
 use Rattle.proof_journals.specs.Machine.MigrationTables.{schema_of}
@@ -60,12 +60,12 @@ use Rattle.law_draws.proofs.Sparing.{AllWait, Spares, about_so, given_spares, le
 -- WHERE A NUMBER IS DRAWN FROM
 
 -- a table of which a number is drawn has an AUTO_INCREMENT column, and the tool's sessions draw none
-record Offers (tool : Bool) (found : Option TableRows) : Type 0 where
-  client : tool ≡ false
-  table : TableRows
-  is : found ≡ Some table
-  place : ℕ
-  auto : auto_place table.schema ≡ Some place
+pub record Offers (tool : Bool) (found : Option TableRows) : Type 0 where
+  pub client : tool ≡ false
+  pub table : TableRows
+  pub is : found ≡ Some table
+  pub place : ℕ
+  pub auto : auto_place table.schema ≡ Some place
 
 row_place : (schema : Schema) (names : Option (List (List ℕ))) (values : List Value) (auto : Option ℕ) → row_draws schema names values auto ≡ true → (place : ℕ) × (auto ≡ Some place)
 row_place schema names values None is = absurd (false≢true is)
@@ -90,7 +90,7 @@ offered_so true true offer n is = absurd cc
 offered_so true false offer n is = is
 offered_so false outside offer n is = absurd cc
 
-offers_drawn : (state : State) (number : ℕ) (statement : Statement) (answer : Answer) (n : ℕ) → drawn_by state number (Some (requests.Do statement)) answer ≡ Some n → Offers (is_of_tool (session_of number state.sessions)) (find_table (table_of statement) state.tables)
+pub offers_drawn : (state : State) (number : ℕ) (statement : Statement) (answer : Answer) (n : ℕ) → drawn_by state number (Some (requests.Do statement)) answer ≡ Some n → Offers (is_of_tool (session_of number state.sessions)) (find_table (table_of statement) state.tables)
 unfolding offered_in
 offers_drawn state number statement answer n is =
     offers_of (is_of_tool (session_of number state.sessions)) (find_table (table_of statement) state.tables) state.counters statement n
@@ -102,7 +102,7 @@ fold_least : (place first : ℕ) (rows : List (List Value)) → first ≤ fold (
 fold_least place first [] = omega arith
 fold_least place first (row ∷ rows) = let rest = fold_least place (max first (after_value (slice_get row place))) rows in omega (arith, rest)
 
-fold_rows : (place first : ℕ) (rows : List (List Value)) → AllByRecursion (λ row. after_value (slice_get row place) ≤ fold (λ most row. max most (after_value (slice_get row place))) first rows) rows
+pub fold_rows : (place first : ℕ) (rows : List (List Value)) → AllByRecursion (λ row. after_value (slice_get row place) ≤ fold (λ most row. max most (after_value (slice_get row place))) first rows) rows
 fold_rows place first [] = tt
 fold_rows place first (row ∷ rows) = let least = fold_least place (max first (after_value (slice_get row place))) rows in (omega (arith, least), fold_rows place (max first (after_value (slice_get row place))) rows)
 
@@ -116,7 +116,7 @@ rows_most table place well = by table.rows well.rows where
   by [] all = tt
   by (row ∷ rows) all = (row_small place table.schema.columns row well.counts.columns well.counts.counts all.0, by rows all.1)
 
-start_most : (table : TableRows) (place : ℕ) → StartsWell table place → start_at table place ≤ 9223372036854775808
+pub start_most : (table : TableRows) (place : ℕ) → StartsWell table place → start_at table place ≤ 9223372036854775808
 start_most table place well = let start = well.start in fold_most place (max 1 (unwrap_or table.schema.start 1)) 9223372036854775808 table.rows (omega (arith, start)) (rows_most table place well)
 
 none_other : (name : List ℕ) (table : TableRows) (counters : List Counter) → is_named name table ≡ false → next_of name (counter_of table ++ counters) ≡ next_of name counters
@@ -125,7 +125,7 @@ none_other name table counters off = by (auto_place table.schema) where
   by None = refl
   by (Some place) = rw off refl
 
-counter_found : (name : List ℕ) (place : ℕ) (tables : Database) (table : TableRows) → find_table name tables ≡ Some table → auto_place table.schema ≡ Some place → next_of name (flat_map counter_of tables) ≡ Some (start_at table place)
+pub counter_found : (name : List ℕ) (place : ℕ) (tables : Database) (table : TableRows) → find_table name tables ≡ Some table → auto_place table.schema ≡ Some place → next_of name (flat_map counter_of tables) ≡ Some (start_at table place)
 counter_found name place [] table is auto = absurd cc
 counter_found name place (first ∷ tables) table is auto = by (is_named name first) refl is (λ same. counter_found name place tables table same auto) where
   by : (b : Bool) → is_named name first ≡ b → cond b (Some first) (find_table name tables) ≡ Some table → (find_table name tables ≡ Some table → next_of name (flat_map counter_of tables) ≡ Some (start_at table place)) → next_of name (counter_of first ++ flat_map counter_of tables) ≡ Some (start_at table place)
@@ -134,7 +134,7 @@ counter_found name place (first ∷ tables) table is auto = by (is_named name fi
       subst (λ (t : TableRows). next_of name (counter_of first ++ flat_map counter_of tables) ≡ Some (start_at t place)) it (rw (ap (λ (t : TableRows). auto_place t.schema) it ∙ auto, here) refl)
   by false off same rest = none_other name first (flat_map counter_of tables) off ∙ rest same
 
-table_well : (name : List ℕ) (tables : Database) (table : TableRows) → AllByRecursion MayCount tables → find_table name tables ≡ Some table → MayCount table
+pub table_well : (name : List ℕ) (tables : Database) (table : TableRows) → AllByRecursion MayCount tables → find_table name tables ≡ Some table → MayCount table
 table_well name [] table all is = absurd cc
 table_well name (first ∷ tables) table all is = by (is_named name first) is (table_well name tables table all.1) where
   by : (b : Bool) → cond b (Some first) (find_table name tables) ≡ Some table → (find_table name tables ≡ Some table → MayCount table) → MayCount table
@@ -144,15 +144,15 @@ table_well name (first ∷ tables) table all is = by (is_named name first) is (t
 -- A TURN
 
 -- what a journal keeps of a table, from its opening on
-record Keeps (name : List ℕ) (schema : Schema) (place count : ℕ) (state : State) (earlier : List ℕ) : Type 0 where
-  has : schema_of name state.tables ≡ Some schema
-  next : ℕ
-  counter : next_of name state.counters ≡ Some next
-  small : next ≤ 9223372036854775808 + count
-  below : ValuesBelow name place next state
-  under : AllByRecursion (λ number. number < next) earlier
+pub record Keeps (name : List ℕ) (schema : Schema) (place count : ℕ) (state : State) (earlier : List ℕ) : Type 0 where
+  pub has : schema_of name state.tables ≡ Some schema
+  pub next : ℕ
+  pub counter : next_of name state.counters ≡ Some next
+  pub small : next ≤ 9223372036854775808 + count
+  pub below : ValuesBelow name place next state
+  pub under : AllByRecursion (λ number. number < next) earlier
 
-under_more : (a b : ℕ) (numbers : List ℕ) → a ≤ b → AllByRecursion (λ number. number < a) numbers → AllByRecursion (λ number. number < b) numbers
+pub under_more : (a b : ℕ) (numbers : List ℕ) → a ≤ b → AllByRecursion (λ number. number < a) numbers → AllByRecursion (λ number. number < b) numbers
 under_more a b [] less all = tt
 under_more a b (number ∷ numbers) less all = let here = all.0 in (omega (arith, less, here), under_more a b numbers less all.1)
 
@@ -160,7 +160,7 @@ under_both : (a : ℕ) (first second : List ℕ) → AllByRecursion (λ number. 
 under_both a [] second one two = two
 under_both a (number ∷ first) second one two = (one.0, under_both a first second one.1 two)
 
-leaves_name : (name : List ℕ) (asks : Option Request) → LeavesCounter name asks → LeavesName name asks
+pub leaves_name : (name : List ℕ) (asks : Option Request) → LeavesCounter name asks → LeavesName name asks
 leaves_name name (Some (requests.Create schema)) leaves = leaves
 leaves_name name (Some (requests.Drop dropped)) leaves = leaves
 leaves_name name (Some (requests.Rename pairs)) leaves = leaves
@@ -234,7 +234,7 @@ module _ (name : List ℕ) (state : State) (entry : Entry) (answered : IsAnswere
       by None drew = tt
       by (Some n) drew = asked n drew (asked_in state entry) refl
 
-    keeps_more : Keeps name schema place (count + 1) (after_entry state entry) (earlier ++ drawn_from entry.draw name (asked_in state entry))
+    pub keeps_more : Keeps name schema place (count + 1) (after_entry state entry) (earlier ++ drawn_from entry.draw name (asked_in state entry))
     keeps_more = by (next_of name (counters_left entry.side now entry.session entry.asked)) refl where
       falls : NoLess (Some keeps.next) (next_of name (counters_left entry.side now entry.session entry.asked))
       falls = subst (λ (o : Option ℕ). NoLess o (next_of name (counters_left entry.side now entry.session entry.asked))) next_now (turn_falls entry.side now entry.session entry.asked name leaves_it)
@@ -255,6 +255,20 @@ module _ (name : List ℕ) (state : State) (entry : Entry) (answered : IsAnswere
             under = under_both m earlier (drawn_from entry.draw name (asked_in state entry)) (under_more keeps.next m earlier less keeps.under) (drew_under m some);
           }
 
+-- at the opening
+pub keeps_begins : (name : List ℕ) (schema : Schema) (place : ℕ) → auto_place schema ≡ Some place → (plan : PlanData) (table : TableRows) → find_table name plan.tables ≡ Some table → table.schema ≡ schema → StartsWell table place → Keeps name schema place 0 (state_at plan []) (draws_on plan [] name)
+unfolding draws_on state_after
+keeps_begins name schema place auto plan table is same well =
+    let own : auto_place table.schema ≡ Some place = ap auto_place same ∙ auto in
+    record {
+      has = ap (option_map (λ t. t.schema)) is ∙ ap Some same;
+      next = start_at table place;
+      counter = counter_found name place plan.tables table is own;
+      small = let most = start_most table place well in omega (arith, most);
+      below = record { rows = subst (RowsBelow place (start_at table place)) (sym is) (fold_rows place (max 1 (unwrap_or table.schema.start 1)) table.rows); writes = tt };
+      under = tt;
+    }
+
 -- A JOURNAL
 
 -- what waits spares the table, and its schema is that of the opening
@@ -263,14 +277,14 @@ record Spared (name : List ℕ) (plan : PlanData) (journal : List Entry) : Type 
   same : schema_of name (state_at plan journal).tables ≡ schema_of name plan.tables
 
 -- what the turn is about spares the table
-opened_waiting : (nothing tool : Bool) (number : ℕ) (state : State) → (opens_if nothing tool number state).waiting ≡ state.waiting
+pub opened_waiting : (nothing tool : Bool) (number : ℕ) (state : State) → (opens_if nothing tool number state).waiting ≡ state.waiting
 unfolding opens_if
 opened_waiting nothing tool number state = by (nothing || is_live state number) where
   by : (b : Bool) → (cond b state (connected number tool state)).waiting ≡ state.waiting
   by true = refl
   by false = refl
 
-none_spares : (name : List ℕ) → Spares name None
+pub none_spares : (name : List ℕ) → Spares name None
 none_spares name = record { counter = tt; copies = tt }
 
 module _ (name : List ℕ) (plan : PlanData) (off : IsOther plan name) where
@@ -330,19 +344,7 @@ module _ (name : List ℕ) (plan : PlanData) (off : IsOther plan name) where
         )
 
     both_begins : (table : TableRows) → find_table name plan.tables ≡ Some table → table.schema ≡ schema → StartsWell table place → Both []
-    unfolding draws_on state_after
-    both_begins table is same well =
-        let own : auto_place table.schema ≡ Some place = ap auto_place same ∙ auto in (
-          spared_begins,
-          record {
-            has = ap (option_map (λ t. t.schema)) is ∙ ap Some same;
-            next = start_at table place;
-            counter = counter_found name place plan.tables table is own;
-            small = let most = start_most table place well in omega (arith, most);
-            below = record { rows = subst (RowsBelow place (start_at table place)) (sym is) (fold_rows place (max 1 (unwrap_or table.schema.start 1)) table.rows); writes = tt };
-            under = tt;
-          },
-        )
+    both_begins table is same well = (spared_begins, keeps_begins name schema place auto plan table is same well)
 
     all_both : (journal : List Entry) → IsKept plan journal → length journal < 9223372036854775807 → (table : TableRows) → find_table name plan.tables ≡ Some table → table.schema ≡ schema → StartsWell table place → Both journal
     unfolding Follows
@@ -377,45 +379,76 @@ drawn_in_side state entry statement number (Some After) asks drew =
     offers_drawn (opens entry state) entry.session statement (serves (opens entry state) entry.session entry.asked).answer number
     (ap (λ (r : Option Request). drawn_by (opens entry state) entry.session r (serves (opens entry state) entry.session entry.asked).answer) (sym asks) ∙ drew)
 
+-- what is drawn is drawn by a statement
+pub drawn_asks : (state : State) (entry : Entry) (number : ℕ) → IsAnswered state entry → entry.draw ≡ Some number → (statement : Statement) × (asked_in state entry ≡ Some (requests.Do statement))
+drawn_asks state entry number answered drew = let one = turn_draws entry.side (opens entry state) entry.session entry.asked number (sym (reported_draw state entry answered) ∙ drew) in (one.0, one.1)
+
+-- *What a turn draws*: the table that it is of, and the counter
+module _ (plan : PlanData) (journal : List Entry) (entry : Entry) (number : ℕ) (statement : Statement) (kept : IsKept plan journal) (answered : IsAnswered (state_at plan journal) entry) (followed : IsFollowed plan journal entry) (drew : entry.draw ≡ Some number) (asks : asked_in (state_at plan journal) entry ≡ Some (requests.Do statement)) where
+  abbrev drawn_state : State
+  drawn_state = state_at plan journal
+
+  abbrev drawn_now : State
+  drawn_now = opens entry drawn_state
+
+  abbrev drawn_name : List ℕ
+  drawn_name = table_of statement
+
+  told : drawn_side entry.side drawn_now entry.session entry.asked ≡ Some number
+  told = sym (reported_draw drawn_state entry answered) ∙ drew
+
+  pub offers : Offers (is_of_tool (session_of entry.session drawn_now.sessions)) (find_table drawn_name drawn_now.tables)
+  offers = drawn_in_side drawn_state entry statement number entry.side asks told
+
+  -- the table has an AUTO_INCREMENT column
+  pub drawn_place : (schema : Schema) → schema_of drawn_name drawn_state.tables ≡ Some schema → (place : ℕ) × (auto_place schema ≡ Some place)
+  drawn_place schema has =
+      let both : Some schema ≡ Some offers.table.schema = sym has ∙ sym (ap (schema_of drawn_name) (opened_tables (is_command entry.asked) (not (is_client entry.actor)) entry.session drawn_state)) ∙ ap (option_map (λ t. t.schema)) offers.is in
+      let same : schema ≡ offers.table.schema = cc in
+      (offers.place, ap auto_place same ∙ offers.auto)
+
+  pub drawn_schema : schema_of drawn_name drawn_state.tables ≡ Some offers.table.schema
+  drawn_schema = sym (ap (schema_of drawn_name) (opened_tables (is_command entry.asked) (not (is_client entry.actor)) entry.session drawn_state)) ∙ ap (option_map (λ t. t.schema)) offers.is
+
+  counter : next_of drawn_name drawn_state.counters ≡ Some number
+  counter =
+      let one = turn_draws entry.side drawn_now entry.session entry.asked number told in
+      let both : Some (requests.Do statement) ≡ Some (requests.Do one.0) = sym asks ∙ one.1 in
+      let same : statement ≡ one.0 = cc in
+      sym (ap (next_of drawn_name) (opened_counters (is_command entry.asked) (not (is_client entry.actor)) entry.session drawn_state)) ∙ ap (λ (s : Statement). next_of (table_of s) drawn_now.counters) same ∙ one.2
+
+  -- it is a client's
+  pub drawn_client : is_client entry.actor ≡ true
+  drawn_client =
+      client_of (is_client entry.actor) (session_of entry.session drawn_now.sessions)
+      (own_kind journal drawn_state entry (all_living plan journal kept.faithful kept.sessions) (all_together plan journal kept.faithful kept.follows).known.sessions (placed journal entry (record { session = followed.session })) answered (called_so drawn_state entry statement asks))
+      offers.client
+
+  -- *It is drawn so*, where so much is kept of its table
+  pub keeps_drawn : length journal < 9223372036854775807 → (schema : Schema) (place : ℕ) → auto_place schema ≡ Some place → Keeps drawn_name schema place (length journal) drawn_state (draws_on plan journal drawn_name) → IsDrawn plan journal entry number
+  keeps_drawn few schema place auto keeps =
+      let both : Some keeps.next ≡ Some number = sym keeps.counter ∙ counter in
+      let same : keeps.next ≡ number = cc in
+      let small = keeps.small in
+      record {
+        own = drawn_client;
+        statement = statement;
+        asked = asks;
+        counter = counter;
+        rises = subst (λ (n : ℕ). AllByRecursion (λ earlier. earlier < n) (draws_on plan journal drawn_name)) same keeps.under;
+        above = subst (λ (n : ℕ). IsAbove drawn_name n drawn_state (find_table drawn_name drawn_state.tables)) same
+            (above_all drawn_name schema place keeps.next drawn_state (find_table drawn_name drawn_state.tables) refl keeps.has auto (omega (arith, small, few)) keeps.below);
+      }
+
 -- *Other tables draw so*
 pub other_tables_draw : OtherTablesDraw
 other_tables_draw plan journal entry number statement may few kept answered followed drew asks off =
-    let offers : Offers (is_of_tool (session_of entry.session now.sessions)) (find_table name now.tables) = drawn_in_side state entry statement number entry.side asks told in
-    let here : schema_of name plan.tables ≡ Some offers.table.schema =
-    sym (all_spared name plan off journal kept).same ∙ sym (ap (schema_of name) (opened_tables (is_command entry.asked) (not (is_client entry.actor)) entry.session state)) ∙ ap (option_map (λ t. t.schema)) offers.is in
-    let found = schema_found (find_table name plan.tables) offers.table.schema here in
-    let well : StartsWell found.0 offers.place = table_well name plan.tables found.0 may found.1 offers.place (ap auto_place found.2 ∙ offers.auto) in
-    let keeps : Keeps name offers.table.schema offers.place (length journal) state (draws_on plan journal name) =
-    (all_both name plan off offers.table.schema offers.place offers.auto (subst (λ (s : Schema). CountsIn s offers.place) found.2 well.counts) journal kept few found.0 found.1 found.2 well).1 in
-    let both : Some keeps.next ≡ Some number = sym keeps.counter ∙ counter in
-    let same : keeps.next ≡ number = cc in
-    let small = keeps.small in
-    record {
-      own = client_of (is_client entry.actor) (session_of entry.session now.sessions)
-          (own_kind journal state entry (all_living plan journal kept.faithful kept.sessions) (all_together plan journal kept.faithful kept.follows).known.sessions (placed journal entry (record { session = followed.session })) answered (called_so state entry statement asks))
-          offers.client;
-      statement = statement;
-      asked = asks;
-      counter = counter;
-      rises = subst (λ (n : ℕ). AllByRecursion (λ earlier. earlier < n) (draws_on plan journal name)) same keeps.under;
-      above = subst (λ (n : ℕ). IsAbove name n state (find_table name state.tables)) same
-          (above_all name offers.table.schema offers.place keeps.next state (find_table name state.tables) refl keeps.has offers.auto (omega (arith, small, few)) keeps.below);
-    } where
-      state : State
-      state = state_at plan journal
-
-      now : State
-      now = opens entry state
-
+    let one = offers plan journal entry number statement kept answered followed drew asks in
+    let here : schema_of name plan.tables ≡ Some one.table.schema = sym (all_spared name plan off journal kept).same ∙ drawn_schema plan journal entry number statement kept answered followed drew asks in
+    let found = schema_found (find_table name plan.tables) one.table.schema here in
+    let well : StartsWell found.0 one.place = table_well name plan.tables found.0 may found.1 one.place (ap auto_place found.2 ∙ one.auto) in
+    let keeps : Keeps name one.table.schema one.place (length journal) (state_at plan journal) (draws_on plan journal name) =
+    (all_both name plan off one.table.schema one.place one.auto (subst (λ (s : Schema). CountsIn s one.place) found.2 well.counts) journal kept few found.0 found.1 found.2 well).1 in
+    keeps_drawn plan journal entry number statement kept answered followed drew asks few one.table.schema one.place one.auto keeps where
       name : List ℕ
       name = table_of statement
-
-      told : drawn_side entry.side now entry.session entry.asked ≡ Some number
-      told = sym (reported_draw state entry answered) ∙ drew
-
-      counter : next_of name state.counters ≡ Some number
-      counter =
-          let one = turn_draws entry.side now entry.session entry.asked number told in
-          let both : Some (requests.Do statement) ≡ Some (requests.Do one.0) = sym asks ∙ one.1 in
-          let same : statement ≡ one.0 = cc in
-          sym (ap (next_of name) (opened_counters (is_command entry.asked) (not (is_client entry.actor)) entry.session state)) ∙ ap (λ (s : Statement). next_of (table_of s) now.counters) same ∙ one.2

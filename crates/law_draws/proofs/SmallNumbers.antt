@@ -36,7 +36,6 @@ use Rattle.server_model.specs.LockedRows.Coverage.{IsSound, SetsFit}
 use Rattle.server_model.proofs.LockedRows.Counters.{numbers_are_counters}
 use Rattle.server_model.proofs.LockedRows.Sound.{work_sound}
 use Rattle.server_model.proofs.LockedRows.Tests.{are_same}
-use Rattle.proof_journals.specs.Machine.MigrationTables.{schema_of}
 use Rattle.law_draws.specs.LockedCounters.{LeavesCounter}
 use Rattle.law_draws.specs.SmallNumbers.{CountersStaySmall, CountsIn, GivenValuesAreSmall, IsAtMost, one_if}
 use Rattle.law_draws.proofs.LockedCounters.{other_stays}
@@ -113,7 +112,7 @@ pub more_most : (a b : ℕ) (next : Option ℕ) → a ≤ b → IsAtMost a next 
 more_most a b None less is = tt
 more_most a b (Some next) less is = omega (arith, less, is)
 
-raised_most : (name other : List ℕ) (n most : ℕ) (counters : List Counter) → n ≤ most → IsAtMost most (next_of name counters) → IsAtMost most (next_of name (counters_from other n counters))
+pub raised_most : (name other : List ℕ) (n most : ℕ) (counters : List Counter) → n ≤ most → IsAtMost most (next_of name counters) → IsAtMost most (next_of name (counters_from other n counters))
 raised_most name other n most [] less is = tt
 raised_most name other n most (one ∷ counters) less is = by (is_counter_of other one) (is_counter_of name one) refl is (raised_most name other n most counters less) where
   by : (a b : Bool) → is_counter_of name one ≡ b → IsAtMost most (option_map (λ counter. counter.next) (cond b (Some one) (find (is_counter_of name) counters))) → (IsAtMost most (next_of name counters) → IsAtMost most (next_of name (counters_from other n counters)))
@@ -135,7 +134,11 @@ given_most answer value = omega arith
 abbrev DrawnAtMost : ℕ → Option ℕ → Type 0
 DrawnAtMost most drawn = after_drawn drawn ≤ most + one_if drawn
 
-module _ (name : List ℕ) (schema : Schema) (place most : ℕ) (state : State) (number : ℕ) (has : schema_of name state.tables ≡ Some schema) (auto : auto_place schema ≡ Some place) (counts_in : CountsIn schema place) (great : 9223372036854775808 ≤ most) (is : IsAtMost most (next_of name state.counters)) where
+-- the table of this name, where it has an AUTO_INCREMENT column, may have it
+abbrev pub TableCounts : List ℕ → State → Type 0
+TableCounts name state = (table : TableRows) → find_table name state.tables ≡ Some table → (place : ℕ) → auto_place table.schema ≡ Some place → CountsIn table.schema place
+
+module _ (name : List ℕ) (most : ℕ) (state : State) (number : ℕ) (counting : TableCounts name state) (great : 9223372036854775808 ≤ most) (is : IsAtMost most (next_of name state.counters)) where
   -- the number that is drawn is the counter
   drawn_least : (statement : Statement) (answer : Answer) → table_of statement ≡ name → DrawnAtMost most (drawn_by state number (Some (requests.Do statement)) answer)
   drawn_least statement answer own = by (drawn_by state number (Some (requests.Do statement)) answer) refl where
@@ -156,20 +159,17 @@ module _ (name : List ℕ) (schema : Schema) (place most : ℕ) (state : State) 
     by : (found : Option TableRows) (drawn : Option ℕ) → find_table (table_of statement) state.tables ≡ found → DrawnAtMost most drawn → IsAtMost (most + one_if drawn) (next_of name (counts found drawn statement answer state.counters))
     by None drawn none less = more_most most (most + one_if drawn) (next_of name state.counters) (omega arith) is
     by (Some table) drawn some less =
-        let found : find_table name state.tables ≡ Some table = ap (λ (t : List ℕ). find_table t state.tables) (sym own) ∙ some in
-        let both : Some table.schema ≡ Some schema = sym (ap (option_map (λ t. t.schema)) found) ∙ has in
-        let it : table.schema ≡ schema = cc in
-        let at : auto_place table.schema ≡ Some place = ap auto_place it ∙ auto in
-        let small : given_by answer (gives_in table.schema (auto_place table.schema) (numbered drawn statement)) ≤ most + one_if drawn = rw at (given table it drawn) in
+        let small : given_by answer (gives_in table.schema (auto_place table.schema) (numbered drawn statement)) ≤ most + one_if drawn = given (auto_place table.schema) refl in
         raised_most name table.schema.name _ (most + one_if drawn) (counters_from table.schema.name (after_drawn drawn) state.counters) small
         (raised_most name table.schema.name (after_drawn drawn) (most + one_if drawn) state.counters less (more_most most (most + one_if drawn) (next_of name state.counters) (omega arith) is)) where
-          given : (table : TableRows) → table.schema ≡ schema → (drawn : Option ℕ) → given_by answer (gives place (work_of table.schema (numbered drawn statement))) ≤ most + one_if drawn
-          given table it drawn =
+          given : (auto : Option ℕ) → auto_place table.schema ≡ auto → given_by answer (gives_in table.schema auto (numbered drawn statement)) ≤ most + one_if drawn
+          given None none = let first = given_most answer None in omega (arith, first)
+          given (Some place) at =
               let first = given_most answer (gives place (work_of table.schema (numbered drawn statement))) in
-              let second = given_values_are_small table.schema place (numbered drawn statement) (subst (λ (s : Schema). CountsIn s place) (sym it) counts_in) in
+              let second = given_values_are_small table.schema place (numbered drawn statement) (counting table (ap (λ (t : List ℕ). find_table t state.tables) (sym own) ∙ some) place at) in
               omega (arith, first, second, great)
 
-  asked_small : (asks : Option Request) (answer : Answer) → LeavesCounter name asks → IsAtMost (most + one_if (drawn_by state number asks answer)) (next_of name (counted state number asks answer))
+  pub asked_small : (asks : Option Request) (answer : Answer) → LeavesCounter name asks → IsAtMost (most + one_if (drawn_by state number asks answer)) (next_of name (counted state number asks answer))
   unfolding counted
   asked_small None answer leaves = more_most most _ (next_of name state.counters) (omega arith) is
   asked_small (Some request) answer leaves = by request leaves where
@@ -185,4 +185,11 @@ module _ (name : List ℕ) (schema : Schema) (place most : ℕ) (state : State) 
 
 -- *Counters stay small*
 pub counters_stay_small : CountersStaySmall
-counters_stay_small name schema place most state number asks answer has auto counts_in leaves great is = asked_small name schema place most state number has auto counts_in great is asks answer leaves
+counters_stay_small name schema place most state number asks answer has auto counts_in leaves great is = asked_small name most state number counting great is asks answer leaves where
+  counting : TableCounts name state
+  counting table found other at =
+      let both : Some table.schema ≡ Some schema = sym (ap (option_map (λ t. t.schema)) found) ∙ has in
+      let it : table.schema ≡ schema = cc in
+      let places : Some place ≡ Some other = sym auto ∙ ap auto_place (sym it) ∙ at in
+      let same : place ≡ other = cc in
+      subst (λ (s : Schema). CountsIn s other) (sym it) (subst (CountsIn schema) same counts_in)

@@ -80,7 +80,7 @@ word_spares name words.Commit = record { counter = tt; copies = tt }
 word_spares name words.Rollback = record { counter = tt; copies = tt }
 word_spares name (words.Do statement) = record { counter = tt; copies = tt }
 
-client_spares : (plan : PlanData) (journal : List Entry) (c : ℕ) (name : List ℕ) (request : Request) → client_asks plan journal c ≡ Some (Call request) → Spares name (Some request)
+pub client_spares : (plan : PlanData) (journal : List Entry) (c : ℕ) (name : List ℕ) (request : Request) → client_asks plan journal c ≡ Some (Call request) → Spares name (Some request)
 client_spares plan journal c name request gives = by (client_next plan journal c (Call request) gives) where
   by : Next (client_at plan journal c) (Call request) → Spares name (Some request)
   by (calls_line line lines going off left same) = let one : word_asks line.word ≡ request = cc in subst (λ (r : Request). Spares name (Some r)) one (word_spares name line.word)

@@ -1,3 +1,4 @@
+pub mod AllTables
 pub mod ColumnValues
 pub mod LockedCounters
 pub mod Numbers

@@ -1,4 +1,6 @@
 //! What holds of the numbers that are drawn for AUTO_INCREMENT columns: functions that do nothing, whose contracts are the laws.
+//! That in each run of an accepted plan the numbers of every table rise, over the RENAME too, is proved here from laws over journals,
+//! and stated where they are: `top_call::draws`.
 #![tactic(auto)]
 
 ghost use Rattle.law_draws.specs.ColumnValues.{ValuesStayBelow};

@@ -4,6 +4,7 @@
 #![tactic(auto)]
 
 mod audits;
+pub mod draws;
 pub mod marks;
 mod outcome;
 pub mod plan_rebuilds;

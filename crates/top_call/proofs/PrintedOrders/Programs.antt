@@ -1,6 +1,7 @@
 -- What a plan gives, and what it allows, is the same whatever order of turns it asks for.
 use Rattle.std.proofs.Common.{◌≡◌, ℕ, ◌+◌, Bool, true, false, if◌then◌else◌, List, [], ◌∷◌, ◌++◌, Option, Some, None, refl, ap, ◌∙◌}
 use Rattle.std.specs.List.{fold, slice_get}
+use Rattle.base_values.specs.declared.value.Value.{Value}
 use Rattle.base_script.specs.declared.actor.Actor.{Actor}
 use Rattle.base_script.specs.declared.actor.Actor.TheVariants.{Op, Insp, Copy, Apply, Lock, Ren, Client}
 use Rattle.server_model.specs.Along.{Along}
@@ -26,11 +27,15 @@ use Rattle.tool_program.specs.EventApplier.Appliers as appliers
 use Rattle.tool_program.specs.declared.cutover_core.cutover.CutOver.{CutOver}
 use Rattle.tool_program.specs.declared.cutover_core.cutover.Role.{Role}
 use Rattle.tool_program.specs.declared.cutover_core.cutover.Role.TheVariants.{Inspector, Locker, Renamer}
-use Rattle.tool_program.specs.CutoverCore.CutOvers.{is_bad}
+use Rattle.tool_program.specs.CutoverCore.CutOvers.{is_bad, is_resting}
+use Rattle.tool_program.specs.CutoverCore.Attempts as attempts
 use Rattle.tool_program.specs.CutoverCore.CutOvers as cutovers
+use Rattle.tool_program.specs.declared.note_writer.notes.Notes.{Notes}
+use Rattle.tool_program.specs.NoteWriter.Notes.{checkpoint_next, notes_of, row_or_beat}
+use Rattle.tool_program.specs.NoteWriter.Notes as notes
 use Rattle.tool_program.specs.Setups.{Setup, Listing, Clearing, MakingLog, MakingGhost, Marking, Reaching, Ready, setup_after, setup_call}
 use Rattle.tool_program.specs.Tools.{Work, ToolPhase, SettingUp, Migrating, Tool, Moment, actor_took, after_turn, apply_after, asked_took, attempt_after, copy_after, cutover_after, cutover_took, drains, is_failure, is_reverting, moment, new_tool, setup_took, spends, tool_phase_of, took, turn_counts}
-use Rattle.tool_program.specs.Programs.{calls, commands, given, Follows, IsFollowed, IsGiven, tool_asks, tool_call, waits}
+use Rattle.tool_program.specs.Programs.{calls, checkpoint_in, commands, given, Follows, IsFollowed, IsGiven, tool_asks, tool_call, waits}
 use Rattle.top_call.specs.PrintedOrders.{ordered}
 
 fold_same : {A B : Type 0} (f g : B → A → B) → ((b : B) (a : A) → f b a ≡ g b a) → (init : B) (all : List A) → fold f init all ≡ fold g init all
@@ -152,6 +157,14 @@ module _ (plan : PlanData) (runs : List ActorRun) where
   setup_call_same (Reaching position) = refl
   setup_call_same (Ready position range) = refl
 
+  row_or_beat_same : (row : Option (List Value)) (now : Notes) → row_or_beat row (ordered plan runs) now ≡ row_or_beat row plan now
+  row_or_beat_same None now = refl
+  row_or_beat_same (Some row) now = refl
+
+  note_same : (row : Option (List Value)) (now : Notes) → notes.next (ordered plan runs) row now ≡ notes.next plan row now
+  unfolding notes.next
+  note_same row now = row_or_beat_same (checkpoint_next now.step row) now
+
   tool_call_same : (state : State) (journal : List Entry) (tool : Tool) (phase : ToolPhase) (actor : Actor) → tool_call (ordered plan runs) state journal tool phase actor ≡ tool_call plan state journal tool phase actor
   unfolding words_of
   tool_call_same state journal tool (SettingUp setup tries) Op = refl
@@ -162,7 +175,9 @@ module _ (plan : PlanData) (runs : List ActorRun) where
   tool_call_same state journal tool (SettingUp setup tries) Ren = refl
   tool_call_same state journal tool (SettingUp setup tries) (Client client) = refl
   tool_call_same state journal tool (Migrating work) Op = refl
-  tool_call_same state journal tool (Migrating work) Insp = refl
+  tool_call_same state journal tool (Migrating work) Insp =
+      ap (λ call. if is_resting work.cutover.phase then (if is_reverting tool.reason then None else call) else attempts.next Inspector work.cutover)
+      (note_same (checkpoint_in journal work) (notes_of journal))
   tool_call_same state journal tool (Migrating work) Copy = refl
   tool_call_same state journal tool (Migrating work) Apply = refl
   tool_call_same state journal tool (Migrating work) Lock = refl

@@ -1,14 +1,15 @@
 -- Kept runs of accepted plans are sound.
 use Rattle.proof_plans.specs.Laws.{AcceptedRunsAreSerial, AcceptedRenamesFindTheAltered, AcceptedRunsFindTheTable, AcceptedRunsKeepTheOldTable, AcceptedRunsAreOnline, AcceptedCausesStand}
+use Rattle.law_draws.specs.AllTables.{AcceptedRunsDraw}
 use Rattle.law_journals.specs.Bounds.{RunsAreBounded}
 use Rattle.law_journals.specs.Causes.{AcceptedCausesAreLeast}
 use Rattle.law_journals.specs.Orders.{AcceptedRunsApplyInserts, AcceptedRunsCopyUnderLocks, AcceptedRunsKeepOrder}
 use Rattle.top_call.specs.WholeReplays.SoundRuns.{KeptRunsAreSound}
 
 -- *Kept runs are sound*
-pub sound : AcceptedRunsAreSerial → AcceptedRenamesFindTheAltered → AcceptedRunsFindTheTable → AcceptedRunsKeepTheOldTable → AcceptedRunsAreOnline → AcceptedRunsKeepOrder → AcceptedRunsCopyUnderLocks → AcceptedRunsApplyInserts → AcceptedCausesStand → AcceptedCausesAreLeast → RunsAreBounded → KeptRunsAreSound
+pub sound : AcceptedRunsAreSerial → AcceptedRenamesFindTheAltered → AcceptedRunsFindTheTable → AcceptedRunsKeepTheOldTable → AcceptedRunsAreOnline → AcceptedRunsKeepOrder → AcceptedRunsCopyUnderLocks → AcceptedRunsApplyInserts → AcceptedRunsDraw → AcceptedCausesStand → AcceptedCausesAreLeast → RunsAreBounded → KeptRunsAreSound
 unfolding KeptRunsAreSound
-sound serial altered found old online order locks inserts causes least bounded plan journal was kept bound stops = record {
+sound serial altered found old online order locks inserts draws causes least bounded plan journal was kept bound stops = record {
   kept = kept;
   bound = bound;
   stops = stops;
@@ -21,6 +22,7 @@ sound serial altered found old online order locks inserts causes least bounded p
   order = order plan journal was kept;
   locks = locks plan journal was kept;
   inserts = inserts plan journal was kept;
+  draws = draws plan journal was kept bound;
   causes = λ cause is. causes plan journal cause was kept is;
   least = λ cause other is stands. least plan journal cause other was kept stands is;
 }

@@ -6,6 +6,7 @@ use Rattle.server_model.specs.declared.outcome.Cause.{Cause}
 use Rattle.server_model.specs.declared.outcome.Verdict.TheVariants.{Reverted}
 use Rattle.plan_data.specs.PlanData.{PlanData, Altered, altered_by}
 use Rattle.tool_program.specs.JournalWords.Bounds.{bound}
+use Rattle.tool_program.specs.JournalWords.Draws.{Draws}
 use Rattle.tool_program.specs.JournalWords.Journals.{state_at}
 use Rattle.tool_program.specs.JournalWords.Serials.{IsSerial}
 use Rattle.tool_program.specs.Failures.{Stands}
@@ -40,7 +41,9 @@ EndsInTime plan journal = has_ended plan journal ≡ false → length journal < 
 -- are left are those of their ended transactions, one at a time, with the ALTER at one instant or not at all. The RENAME finds
 -- the altered table; what names the migrated one alone finds it, and the old one is kept as it was. The migrated one is used
 -- while the migration goes on. The steps of the cut-over come in their order, rows are copied under locks, and logged inserts
--- are applied as REPLACE. Where the verdict is a revert, the cause is in the journal, and none that stands there comes before it.
+-- are applied as REPLACE. Each number that is drawn from tables of one name is above those drawn before and above every value of
+-- the column, over the RENAME too. Where the verdict is a revert, the cause is in the journal, and none that stands there comes
+-- before it.
 pub record IsSoundRun (plan : PlanData) (journal : List Entry) : Type 0 where
   pub kept : IsKept plan journal
   pub bound : length journal ≤ plan.options.turn_limit
@@ -54,6 +57,7 @@ pub record IsSoundRun (plan : PlanData) (journal : List Entry) : Type 0 where
   pub order : KeepsOrder plan journal
   pub locks : CopiesUnderLocks plan journal
   pub inserts : AppliesInserts plan journal
+  pub draws : Draws plan journal
   pub causes : (cause : Cause) → verdict_of plan journal ≡ Reverted cause → Stands plan journal cause
   pub least : (cause other : Cause) → verdict_of plan journal ≡ Reverted cause → Stands plan journal other → IsNoLater cause other
 

@@ -2,6 +2,7 @@
 
 ghost use Rattle.top_call.specs.WholeReplays.SoundRuns.{KeptRunsAreSound};
 
+use crate::draws::accepted_runs_draw;
 use law_journals::bounds::runs_are_bounded;
 use law_journals::causes::accepted_causes_are_least;
 use law_journals::order::accepted_runs_keep_order;
@@ -16,6 +17,7 @@ pub fn kept_runs_are_sound()
     accepted_runs_are_serial();
     accepted_runs_keep_tables();
     accepted_runs_keep_order();
+    accepted_runs_draw();
     accepted_runs_go_on();
     accepted_causes_are_least();
     runs_are_bounded();
