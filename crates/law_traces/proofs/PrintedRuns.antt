@@ -35,7 +35,7 @@ use Rattle.top_trace_reader.specs.Traces.{read_trace}
 use Rattle.top_trace_reader.specs.Turns.{fits, fits_actor, was_missed}
 use Rattle.law_texts.specs.PrintedTraces.{CanDraw, CanHaveSide, CanPrintAnswer, CanPrintTrace, CanPrintTurn, PrintedTracesAreRead, text_of}
 use Rattle.law_traces.specs.Laws.{TracesAreAudited}
-use Rattle.law_traces.specs.Printed.{HasPlainValues, PrintedTracesAreAudited, tables_at, text_at, trace_at}
+use Rattle.law_traces.specs.Printed.{HasPlainValues, PrintedTracesAreAudited, ValuesArePlain, tables_at, text_at, trace_at}
 use Rattle.server_model.specs.declared.outcome.Cause.{Cause}
 use Rattle.server_model.specs.declared.outcome.Verdict.TheVariants.{Reverted}
 use Rattle.tool_program.specs.Failures.{Stands}
@@ -175,8 +175,9 @@ trace_prints bytes plan journal clients tries kept causes plain short =
     }
 
 -- *Printed traces are audited yes*
-pub printed_audited : ReadPlansAreAccepted → ReadOptionsAllow → AcceptedCausesStand → PrintedTracesAreRead → TracesAreAudited → PrintedTracesAreAudited
-printed_audited accepted allow causes reads audits = λ bytes plan journal is text kept within plain utf8 short.
+pub printed_audited : ReadPlansAreAccepted → ReadOptionsAllow → AcceptedCausesStand → ValuesArePlain → PrintedTracesAreRead → TracesAreAudited → PrintedTracesAreAudited
+printed_audited accepted allow causes values reads audits = λ bytes plan journal is text kept within named typed utf8 short.
+    let plain = values bytes plan journal is text kept within named typed in
     let same = same_text bytes plan journal in
     let was : WasRead plan = record { bytes = bytes; is = is; text = text } in (
       subst (λ (printed : List ℕ). read_trace printed ≡ Ok (plan, trace_at plan journal)) same

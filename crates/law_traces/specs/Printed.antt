@@ -14,6 +14,7 @@ use Rattle.tool_program.specs.JournalWords.Journals.{state_at}
 use Rattle.tool_program.specs.JournalWords.Serials.{tables_left}
 use Rattle.tool_program.specs.Verdicts.{verdict_of}
 use Rattle.proof_journals.specs.Run.Kept.{IsKept}
+use Rattle.proof_plain.specs.Plans.{HasPlainNames, IsTyped}
 use Rattle.run_audit.specs.declared.trace.Audit.TheVariants.{Yes}
 use Rattle.run_audit.specs.declared.trace.Trace.{Trace}
 use Rattle.run_audit.specs.Audits.{audited}
@@ -51,11 +52,17 @@ pub record HasPlainValues (plan : PlanData) (journal : List Entry) : Type 0 wher
   pub tables : AllByRecursion CanPrintTable (tables_left plan (tables_at plan journal))
   pub names : AllByRecursion (λ table. IsOneLine table.schema.name) (tables_at plan journal)
 
--- *Printed traces are audited yes*: the text that `trace` prints of a run with such values, where it isn't longer than traces may
--- be, is read as the plan and the run's trace, which is audited yes.
+-- *Values are plain* in every run of an accepted plan whose names hold no line feed.
+abbrev pub ValuesArePlain : Type 0
+ValuesArePlain =
+    (bytes : List ℕ) (plan : PlanData) (journal : List Entry)
+    → read bytes ≡ Ok plan → IsUtf8 plan.table → IsKept plan journal → length journal ≤ plan.options.turn_limit → HasPlainNames plan → IsTyped plan journal → HasPlainValues plan journal
+
+-- *Printed traces are audited yes*: the text that `trace` prints of a run of a plan whose names hold no line feed, where it isn't
+-- longer than traces may be, is read as the plan and the run's trace, which is audited yes.
 abbrev pub PrintedTracesAreAudited : Type 0
 PrintedTracesAreAudited =
     (bytes : List ℕ) (plan : PlanData) (journal : List Entry)
-    → read bytes ≡ Ok plan → IsUtf8 plan.table → IsKept plan journal → length journal ≤ plan.options.turn_limit → HasPlainValues plan journal
+    → read bytes ≡ Ok plan → IsUtf8 plan.table → IsKept plan journal → length journal ≤ plan.options.turn_limit → HasPlainNames plan → IsTyped plan journal
     → IsUtf8 (text_at bytes plan journal) → length (text_at bytes plan journal) ≤ TRACE_LIMIT
     → (read_trace (text_at bytes plan journal) ≡ Ok (plan, trace_at plan journal)) × (audited plan (trace_at plan journal) ≡ Yes)

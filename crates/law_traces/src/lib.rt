@@ -2,10 +2,11 @@
 #![tactic(auto)]
 
 ghost use Rattle.law_traces.specs.Laws.{TracesAreAudited};
-ghost use Rattle.law_traces.specs.Printed.{PrintedTracesAreAudited};
+ghost use Rattle.law_traces.specs.Printed.{PrintedTracesAreAudited, ValuesArePlain};
 ghost use Rattle.proof_audit.specs.AuditedTraces.{AuditsNameTheFirst, AuditsSayYes, LinesDecideTables};
 ghost use Rattle.proof_audit.specs.Laws.{LinesTellClients, LinesTellSessions};
 
+use base_values::laws::stored_values_store_again;
 use law_journals::cut_over::renames_come_once;
 use law_journals::marked::marked_journals_are_runs;
 use law_journals::plans::{
@@ -53,14 +54,26 @@ pub fn traces_are_audited()
     read_plans_are_worded();
 }
 
-/// The text that `trace` prints of such a run, where no name has a line feed and it isn't longer than traces may be, is read as the
-/// plan and the run's trace, which is audited yes.
+/// The values of such a run are plain, where no name of the plan has a line feed.
+pub fn values_are_plain()
+    ensures { ValuesArePlain }
+{
+    read_plans_are_accepted();
+    read_plans_are_runnable();
+    read_plans_are_serial();
+    accepted_runs_go_on();
+    stored_values_store_again();
+}
+
+/// The text that `trace` prints of such a run, where no name of the plan has a line feed and it isn't longer than traces may be, is read as
+/// the plan and the run's trace, which is audited yes.
 pub fn printed_traces_are_audited()
     ensures { PrintedTracesAreAudited }
 {
     read_plans_are_accepted();
     read_options_allow();
     accepted_runs_go_on();
+    values_are_plain();
     printed_traces_are_read();
     traces_are_audited();
 }

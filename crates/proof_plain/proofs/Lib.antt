@@ -1,0 +1,13 @@
+pub mod Counts
+pub mod Finals
+pub mod Journals
+pub mod Machines
+pub mod Numbers
+pub mod ReadLimits
+pub mod ReadScripts
+pub mod Requests
+pub mod Serving
+pub mod Starts
+pub mod Statements
+pub mod UnfitKeys
+pub mod Values

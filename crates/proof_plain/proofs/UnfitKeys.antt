@@ -1,0 +1,265 @@
+-- The key of a row that a verdict of revert names has a value.
+use Rattle.std.proofs.Common.{◌≡◌, ◌<◌, ◌==◌, ℕ, ◌+◌, ◌-◌, Bool, true, false, cond, List, [], ◌∷◌, ◌++◌, length, take, Option, Some, None, refl, sym, ap, ◌∙◌, subst, arith}
+use Rattle.std.specs.Prelude.{find, unwrap_or}
+use Rattle.std.specs.List.{AllByRecursion, list_any, slice_get}
+use Rattle.std.specs.Option.{option_map, option_to_list}
+use Rattle.std.proofs.Math.Seq.{take-append_seam}
+use Rattle.base_script.specs.declared.actor.Actor.{Actor}
+use Rattle.base_script.specs.declared.actor.Actor.TheVariants.{Copy, Apply}
+use Rattle.base_values.specs.Laws.{StoresAgain}
+use Rattle.base_values.specs.declared.gho_schema.schema.Column.{Column}
+use Rattle.base_values.specs.declared.value.Value.{Value}
+use Rattle.base_values.specs.GhoSchema.ClusteredKey.{is_not_null}
+use Rattle.base_values.specs.GhoSchema.Rows.{key_of, key_places}
+use Rattle.base_values.specs.GhoSchema.Tables.{IsRow}
+use Rattle.base_values.proofs.SchemaRules.Lists.{All-at}
+use Rattle.table_store.specs.Databases.{TableRows, find_table}
+use Rattle.table_store.specs.RowLists.{is_at}
+use Rattle.server_model.specs.declared.answer.Answer.{Answer}
+use Rattle.server_model.specs.declared.answer.Answer.TheVariants as answers
+use Rattle.server_model.specs.declared.entry.Entry.{Entry}
+use Rattle.server_model.specs.declared.outcome.Cause.TheVariants as causes
+use Rattle.server_model.specs.declared.outcome.Progress.TheVariants.{Going, TaskDone, Unfit}
+use Rattle.server_model.specs.declared.outcome.Verdict.TheVariants as verdicts
+use Rattle.server_model.specs.Entries.{answer_at}
+use Rattle.server_model.specs.EarlierAnswers.{events_in}
+use Rattle.server_model.specs.LockedRows.Coverage.{IsWellFormedTable}
+use Rattle.server_model.specs.LockedRows.Databases.{WhereFound}
+use Rattle.server_model.specs.States.{State}
+use Rattle.plan_data.specs.PlanData.{PlanData, no_schema, old_schema}
+use Rattle.tool_program.specs.declared.event_applier.applier.Applier.{Applier}
+use Rattle.tool_program.specs.declared.event_applier.applier.ApplyStep.{ApplyStep}
+use Rattle.tool_program.specs.declared.event_applier.applier.ApplyStep.TheVariants.{Reading, Beginning, Applying, Committing}
+use Rattle.tool_program.specs.declared.event_applier.applier.Part.{Part}
+use Rattle.tool_program.specs.declared.event_applier.applier.Part.TheVariants.{Whole, Removal, Return}
+use Rattle.tool_program.specs.EventApplier.Appliers.{Doing, doing_at, doing_in, in_part, row_done}
+use Rattle.tool_program.specs.EventApplier.Appliers.Doing.{Putting, Removing, Changing}
+use Rattle.tool_program.specs.EventApplier.Appliers as appliers
+use Rattle.tool_program.specs.Failures.{IsUnfit, applied_row, concerned, row_in}
+use Rattle.tool_program.specs.JournalWords.Histories.{history, is_alter}
+use Rattle.tool_program.specs.JournalWords.Journals.{state_at}
+use Rattle.tool_program.specs.Programs.{Follows}
+use Rattle.tool_program.specs.Tools.{Moment, Reason, CopyUnfit, ApplyUnfit, Spent, Panicked, Migrating, Work, is_reverting, moment}
+use Rattle.tool_program.specs.Verdicts.{cause_of, ended_so, has_ended, reverted_by, verdict_of}
+use Rattle.tool_program.proofs.OnlineCalls.Machines.{IsNamed, ToolPhaseIsNamed, named}
+use Rattle.proof_journals.specs.Ghost.Doings.{planned}
+use Rattle.proof_journals.specs.Ghost.HeldKeys.{Clustered}
+use Rattle.proof_journals.specs.Ghost.OwnChanges.{own_changes}
+use Rattle.proof_journals.specs.Ghost.Rows.Timelines.{Migration}
+use Rattle.proof_journals.specs.Machine.Runnable.{IsRunnable}
+use Rattle.proof_journals.specs.Plans.{IsSerialPlan, limits_of, scene_of}
+use Rattle.proof_journals.specs.Run.Kept.{IsKept}
+use Rattle.proof_journals.proofs.Ghost.Keys.{clustered}
+use Rattle.proof_journals.proofs.Machine.Journals.{all_runs, all_together}
+use Rattle.proof_migration.specs.Migration.Applier.ApplierPlace.{IsBatchReported, StepKnows}
+use Rattle.proof_migration.specs.Migration.Machines.{MigrationStands}
+use Rattle.proof_migration.specs.Migration.Planning.{migration_of}
+use Rattle.proof_migration.specs.Program.Turns.Goes.{Goes, machines_in}
+use Rattle.proof_migration.specs.Program.Turns.Laws.{GoesSomehow, IsMigrationOf}
+use Rattle.proof_migration.specs.ToolPhase.Runnable.{IsAlterable}
+use Rattle.proof_migration.specs.ToolPhase.Unaltered.{IsUnaltered}
+use Rattle.proof_migration.proofs.Attempt.Verdicts.Standing.{IsGround, ground}
+use Rattle.proof_migration.proofs.HeldNames.Holders.{all_held_well}
+use Rattle.proof_migration.proofs.Migration.Applier.Keys.{ValueAt, value_of}
+use Rattle.proof_migration.proofs.Migration.Applier.Planning.{DoesRows, NextDoing, next_doing, planned_alike, planned_rows}
+use Rattle.proof_migration.proofs.Program.Follows.{migration, own_table}
+use Rattle.proof_migration.proofs.Program.Starts.{followers_go}
+use Rattle.proof_migration.proofs.Program.Turns.ActorStates.{SomeActorStates, some_actor_states}
+use Rattle.proof_migration.proofs.Program.Turns.Follows.{kept_front}
+use Rattle.proof_migration.proofs.ToolPhase.Unaltered.Away.{unaltered_front}
+use Rattle.proof_migration.proofs.Unfit.Grounds.{GroundStands, HasTurn, IsGrounded, IsUnfitTurn, all_grounded, stood_in}
+
+-- ---- keys of rows
+
+-- the key of a row that fits has a value where the key has columns, none of which may be null
+row_keyed : (columns : List Column) (row : List Value) → IsRow columns row → (places : List ℕ) → 0 < length places → AllByRecursion (λ place. is_not_null (slice_get columns place) ≡ true) places → 0 < length (key_of places row)
+unfolding key_of
+row_keyed columns row fits [] some full = absurd (let no : ⊥ = omega (arith, some) in no)
+row_keyed columns row fits (place ∷ places) some full = by (slice_get columns place) refl full.0 where
+  by : (column : Option Column) → slice_get columns place ≡ column → is_not_null column ≡ true → 0 < length (option_to_list (slice_get row place) ++ key_of places row)
+  by None there is = absurd (let no : false ≡ true = is in cc)
+  by (Some column) there is =
+      let has : ValueAt column row place = value_of columns row place column fits there in
+      subst (λ (v : Option Value). 0 < length (option_to_list v ++ key_of places row)) (sym has.here) (omega (arith))
+
+-- no row has a key without values
+none_at : (places : List ℕ) (row : List Value) → 0 < length (key_of places row) → is_at places [] row ≡ false
+none_at places row some = by (key_of places row) refl some where
+  by : (key : List Value) → key_of places row ≡ key → 0 < length key → is_at places [] row ≡ false
+  by [] is some = absurd (let no : ⊥ = omega (arith, some) in no)
+  by (value ∷ key) is some = rw (is) refl
+
+none_found : (table : TableRows) → IsWellFormedTable table → (rows : List (List Value)) → AllByRecursion (IsRow table.schema.columns) rows → find (is_at (key_places table.schema) []) rows ≡ None
+none_found table well [] fit = refl
+none_found table well (row ∷ rows) fit =
+    rw (none_at (key_places table.schema) row (row_keyed table.schema.columns row fit.0 (key_places table.schema) well.keyed.some well.keyed.not_null)) (none_found table well rows fit.1)
+
+found_keyed : (found : Option TableRows) (key row : List Value) → WhereFound IsWellFormedTable found → row_in found key ≡ Some row → 0 < length key
+found_keyed None key row well is = absurd cc
+found_keyed (Some table) (value ∷ key) row well is = omega (arith)
+found_keyed (Some table) [] row well is = absurd (no (sym (none_found table well table.rows well.is_table.rows_fit) ∙ is)) where
+  no : None ≡ Some row → ⊥
+  no same = cc
+
+-- ---- what the applier does
+
+abbrev IsApplying : ApplyStep → Type 0
+IsApplying (Applying batch done part) = Unit {0}
+IsApplying step = ⊥
+
+planned_fits : (none : Bool) (place number : ℕ) → cond none TaskDone Going ≡ Unfit place number → ⊥
+planned_fits true place number is = cc
+planned_fits false place number is = cc
+
+step_applies : (applier : Applier) (step : ApplyStep) (answer : Answer) (place number : ℕ) → appliers.progress_at applier step answer ≡ Unfit place number → IsApplying step
+step_applies applier (Applying batch done part) answer place number is = tt
+step_applies applier Reading (answers.Events events following) place number is = absurd (planned_fits (length (appliers.planned applier events) == 0) place number is)
+step_applies applier (Beginning batch) answers.Lost place number is = absurd cc
+step_applies applier (Committing batch) answers.Lost place number is = absurd cc
+step_applies applier step answer place number is = absurd cc
+
+done_rows : (columns : List Column) (part : Part) (doing : Doing) → DoesRows columns doing → IsRow columns (row_done (Some (in_part part doing)))
+done_rows columns Whole (Putting row) fits = fits
+done_rows columns Whole (Removing row) fits = fits
+done_rows columns Whole (Changing before after) fits = fits.1
+done_rows columns Removal (Putting row) fits = fits
+done_rows columns Removal (Removing row) fits = fits
+done_rows columns Removal (Changing before after) fits = fits.0
+done_rows columns Return (Putting row) fits = fits
+done_rows columns Return (Removing row) fits = fits
+done_rows columns Return (Changing before after) fits = fits.1
+
+-- ---- the journal's turn
+
+got_front : (front : List Entry) (entry : Entry) (rest : List Entry) → slice_get (front ++ entry ∷ rest) (length front) ≡ Some entry
+got_front [] entry rest = refl
+got_front (first ∷ front) entry rest = got_front front entry rest
+
+module _ (journal : List Entry) (turn : ℕ) (front : List Entry) (entry : Entry) (has : HasTurn journal turn front entry) where
+  place : turn - 1 ≡ length front
+  place = let numbered : turn ≡ length front + 1 = has.numbered in omega (arith, numbered)
+
+  stands_there : slice_get journal (turn - 1) ≡ Some entry
+  stands_there = ap (slice_get journal) place ∙ ap (λ (j : List Entry). slice_get j (length front)) has.whole ∙ got_front front entry has.rest
+
+  front_is : take (turn - 1) journal ≡ front
+  front_is = ap (λ (n : ℕ). take n journal) place ∙ ap (take (length front)) has.whole ∙ take-append_seam front (entry ∷ has.rest)
+
+-- what is reverted has no ALTER in its history
+unaltered_so : (plan : PlanData) (journal : List Entry) (turn : ℕ) (key : List Value) (column : List ℕ) (number : ℕ) → verdict_of plan journal ≡ verdicts.Reverted (causes.Unfit turn key column number) → IsUnaltered plan journal
+unfolding verdict_of
+unaltered_so plan journal turn key column number is = ended (has_ended plan journal) is where
+  altered : (b : Bool) → cond b verdicts.Done (reverted_by plan journal (moment plan journal).tool (moment plan journal).tool.reason) ≡ verdicts.Reverted (causes.Unfit turn key column number) → b ≡ false
+  altered true same = absurd cc
+  altered false same = refl
+
+  ended : (b : Bool) → cond b (ended_so plan journal (moment plan journal).tool) verdicts.Unfinished ≡ verdicts.Reverted (causes.Unfit turn key column number) → IsUnaltered plan journal
+  ended false same = absurd cc
+  ended true same = altered (list_any is_alter (history plan journal)) same
+
+module _ (plan : PlanData) (is : IsAlterable plan) (again : StoresAgain) (runs : IsRunnable plan) (serial : IsSerialPlan plan) where
+  abbrev m : Migration
+  m = migration_of is.table.schema is.new
+
+  of : IsMigrationOf plan m is.table.rows
+  of = migration plan is again runs serial
+
+  at : Clustered m.schema
+  at = clustered m.schema of.planned.old_key
+
+  same_work : (one other : Work) → Migrating one ≡ Migrating other → one ≡ other
+  same_work one other same = cc
+
+  -- ---- the applier's row
+
+  applied_fits : (journal : List Entry) → IsKept plan journal → IsUnaltered plan journal → (work : Work) → (moment plan journal).tool.tool_phase ≡ Migrating work → is_reverting (moment plan journal).tool.reason ≡ false
+      → (step : ApplyStep) → work.applier.step ≡ step → IsApplying step → IsRow m.schema.columns (row_done (doing_at journal work.applier step))
+  applied_fits journal kept off work phase going (Applying batch count part) here applying =
+      let somehow : GoesSomehow plan m at is.table.rows journal = followers_go plan m at is.table.rows of (own_table plan is) journal work kept off going phase in
+      let goes : Goes plan m at is.table.rows journal work = subst (Goes plan m at is.table.rows journal) (same_work somehow.work work (sym somehow.tool_phase ∙ phase)) somehow.goes in
+      let some : SomeActorStates journal = some_actor_states journal (all_together plan journal kept.faithful kept.follows).known.sessions in
+      let stands : MigrationStands m at is.table.rows (limits_of plan) (scene_of plan []) journal (machines_in work some.copier some.applier) = goes.stands some.copier some.applier some.actor_states in
+      let knows : StepKnows m journal (Applying batch count part) = subst (StepKnows m journal) here stands.applier_knows.step in
+      let reported : IsBatchReported m journal batch = knows.0 in
+      let names : IsNamed plan work = subst (ToolPhaseIsNamed plan) phase (named plan journal) in
+      let next_one : NextDoing (planned m (own_changes m.name reported.events)) count = next_doing (planned m (own_changes m.name reported.events)) count (subst (λ (n : ℕ). count < n) reported.counted knows.1) in
+      let code_plan : appliers.planned work.applier (events_in (answer_at journal batch.read)) ≡ planned m (own_changes m.name reported.events) =
+      ap (λ (a : Option Answer). appliers.planned work.applier (events_in a)) reported.reported
+      ∙ planned_alike m work.applier reported.events of.finds (names.applier ∙ sym of.of.name) goes.schema goes.apply_map reported.rows in
+      let there : doing_at journal work.applier (Applying batch count part) ≡ Some (in_part part next_one.doing) = ap (λ (l : List Doing). doing_in part (slice_get l count)) code_plan ∙ ap (doing_in part) next_one.there in
+      let does : DoesRows m.schema.columns next_one.doing =
+      All-at (DoesRows m.schema.columns) (planned m (own_changes m.name reported.events)) count next_one.doing (planned_rows m (own_changes m.name reported.events) reported.rows) next_one.there in
+      subst (λ (d : Option Doing). IsRow m.schema.columns (row_done d)) (sym there) (done_rows m.schema.columns part next_one.doing does)
+  applied_fits journal kept off work phase going step here applying = absurd applying
+
+  old_is : old_schema plan ≡ m.schema
+  old_is = ap (λ (found : Option TableRows). unwrap_or (option_map (λ table. table.schema) found) no_schema) is.found
+
+  applied_keyed : (row : List Value) → IsRow m.schema.columns row → 0 < length (key_of (key_places (old_schema plan)) row)
+  applied_keyed row fits = rw (old_is) (row_keyed m.schema.columns row fits (key_places m.schema) of.planned.old_key.some of.planned.old_key.not_null)
+
+  -- ---- the verdict's key
+
+  module _ (journal : List Entry) (kept : IsKept plan journal) (turn : ℕ) (key : List Value) (column : List ℕ) (number : ℕ) (off : IsUnaltered plan journal) (unfit : IsUnfit plan journal turn key column number) where
+    abbrev Turn : Actor → ℕ → ℕ → Type 0
+    Turn who place reported = IsUnfitTurn plan journal (stood_in (moment plan journal).tool.tool_phase) who turn place reported
+
+    same_entry : (one other : Entry) → Some one ≡ Some other → one ≡ other
+    same_entry one other same = cc
+
+    module _ (who : Actor) (place reported : ℕ) (here : Turn who place reported) where
+      front_kept : IsKept plan here.front
+      front_kept = kept_front plan here.front (here.entry ∷ here.has.rest) (subst (IsKept plan) here.has.whole kept)
+
+      actor : unfit.entry.actor ≡ who
+      actor = ap (λ (e : Entry). e.actor) (same_entry unfit.entry here.entry (sym unfit.is.stands ∙ stands_there journal turn here.front here.entry here.has)) ∙ here.actor
+
+      concerns : concerned plan here.front (moment plan here.front) who key ≡ Some unfit.row
+      concerns =
+          let front : here.front ≡ take (turn - 1) journal = sym (front_is journal turn here.front here.entry here.has) in
+          ap (λ (j : List Entry). concerned plan j (moment plan j) who key) front
+          ∙ ap (λ (a : Actor). concerned plan (take (turn - 1) journal) (moment plan (take (turn - 1) journal)) a key) (sym actor)
+          ∙ ap (λ (b : Moment). concerned plan (take (turn - 1) journal) b unfit.entry.actor key) (sym unfit.is.moment)
+          ∙ unfit.concerned
+
+    copied : (place reported : ℕ) → Turn Copy place reported → 0 < length key
+    copied place reported here =
+        let front_kept : IsKept plan here.front = front_kept Copy place reported here in
+        let server = (all_together plan here.front front_kept.faithful front_kept.follows).server in
+        found_keyed (find_table plan.table (state_at plan here.front).tables) key unfit.row ((all_held_well plan here.front runs serial front_kept).serving.well_formed.each plan.table)
+        (ap (λ (s : State). row_in (find_table plan.table s.tables) key) (sym server) ∙ concerns Copy place reported here)
+
+    applied : (place reported : ℕ) → Turn Apply place reported → 0 < length key
+    unfolding appliers.progress
+    applied place reported here =
+        let front_kept : IsKept plan here.front = front_kept Apply place reported here in
+        let front_off : IsUnaltered plan here.front = unaltered_front plan here.front (here.entry ∷ here.has.rest) (subst (IsUnaltered plan) here.has.whole off) in
+        let applying : IsApplying here.work.applier.step = step_applies here.work.applier here.work.applier.step here.entry.answer place reported here.unfit in
+        let fits : IsRow m.schema.columns (row_done (doing_at here.front here.work.applier here.work.applier.step)) =
+        applied_fits here.front front_kept front_off here.work here.tool_phase (ap is_reverting here.going) here.work.applier.step refl applying in
+        let done : row_done (doing_at here.front here.work.applier here.work.applier.step) ≡ unfit.row =
+        same_row _ unfit.row (ap (applied_row here.front) (sym here.tool_phase) ∙ concerns Apply place reported here) in
+        subst (λ (k : List Value). 0 < length k) (ap (key_of (key_places (old_schema plan))) done ∙ unfit.keyed) (applied_keyed (row_done (doing_at here.front here.work.applier here.work.applier.step)) fits) where
+          same_row : (one other : List Value) → Some one ≡ Some other → one ≡ other
+          same_row one other same = cc
+
+  -- *The key of an unfit row has a value*
+  pub unfit_keyed : (journal : List Entry) → IsKept plan journal → (turn : ℕ) (key : List Value) (column : List ℕ) (number : ℕ) → verdict_of plan journal ≡ verdicts.Reverted (causes.Unfit turn key column number) → IsUnfit plan journal turn key column number → 0 < length key
+  unfolding Follows
+  unfit_keyed journal kept turn key column number verdict unfit = by one.reason one.same (subst (GroundStands plan journal (stood_in (moment plan journal).tool.tool_phase)) one.is grounded.ground) where
+    one : IsGround plan journal (causes.Unfit turn key column number)
+    one = ground plan journal (causes.Unfit turn key column number) verdict
+
+    grounded : IsGrounded plan journal
+    grounded = all_grounded plan journal (all_runs plan [] journal kept.faithful kept.follows)
+
+    off : IsUnaltered plan journal
+    off = unaltered_so plan journal turn key column number verdict
+
+    by : (reason : Reason) → cause_of plan journal (moment plan journal).tool reason ≡ causes.Unfit turn key column number → GroundStands plan journal (stood_in (moment plan journal).tool.tool_phase) (Some reason) → 0 < length key
+    by (CopyUnfit other place reported) same here =
+        let a : other ≡ turn = cc in copied journal kept turn key column number off unfit place reported (subst (λ (t : ℕ). IsUnfitTurn plan journal (stood_in (moment plan journal).tool.tool_phase) Copy t place reported) a here)
+    by (ApplyUnfit other place reported) same here =
+        let a : other ≡ turn = cc in applied journal kept turn key column number off unfit place reported (subst (λ (t : ℕ). IsUnfitTurn plan journal (stood_in (moment plan journal).tool.tool_phase) Apply t place reported) a here)
+    by (Spent spent tries) same here = absurd cc
+    by (Panicked other) same here = absurd cc
