@@ -65,7 +65,7 @@ class Beside:
         self.clients = [Client(server, script, plan.second is not None) for script in plan.clients]
         self.releases = 0  # how often locks were given free
         self.sequence = []  # the clients by their replies
-        self.second, self.spare = plan.second, Spare(server, "plan", "u", plan.second) if plan.spares else None
+        self.second, self.spare = plan.second, Spare(server, "plan", {"u": plan.second}) if plan.spares else None
         self.is_early = False  # whether a statement that draws has waited: the server drew before, and the model draws at its answer
 
     def waits(self, client):

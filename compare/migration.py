@@ -1,8 +1,8 @@
 """The tool's migration in SQL after gh-ost's: what each actor of the tool asks next, and what an answer means for it.
 
 The order of steps is that of docs/FORMATS.md, "The turns". It is written here apart from the program, and works from a server's answers
-alone. An answer is a tuple: ("ok", count), ("refused", number, column), ("rows", rows), ("events", events, next), ("waits", bool),
-("lost",) or ("timed out",).
+alone. An answer is a tuple: ("ok", count), ("refused", number, column), ("rows", rows), ("events", events, next), ("at", number),
+("waits", bool), ("lost",) or ("timed out",).
 """
 import dataclasses
 
@@ -11,6 +11,10 @@ from printing import printed
 SENTRY = "ghost-cut-over-sentry"
 TOOL = ("insp", "copy", "apply", "lock", "ren")
 UNFIT = (1048, 1264, 1366, 1406)
+# In the tool's sessions a 0 is a number, as gh-ost sets its mode: a row that is copied or applied draws none.
+MODE = "SET sql_mode = CONCAT(@@sql_mode, ',NO_AUTO_VALUE_ON_ZERO')"
+# MySQL 8 answers AUTO_INCREMENT from a cache of a day; MariaDB asks the table, and passes this comment over. (It wasn't tried on MySQL.)
+FRESH = "SET @fresh = 1 /*!80000 , information_schema_stats_expiry = 0 */"
 
 
 @dataclasses.dataclass
@@ -149,17 +153,17 @@ class Applier:
 
 class Attempt:
     def __init__(self, number):
-        self.number, self.lock, self.insp = number, "lock", None
-        self.hinted = self.renaming = self.dropping = self.ending = self.failed = self.drops = False
+        self.number, self.lock, self.insp, self.counter = number, "lock", None, None
+        self.hinted = self.carried = self.renaming = self.dropping = self.ending = self.failed = self.drops = False
         self.turns = 0
 
 
 class Tool:
     """What the tool knows. `state` answers what it can't know by itself: who waits, holds the table lock, or has a transaction open,
-    and how many events are unread."""
+    and how many events are unread. `has_counter` says whether the table has an AUTO_INCREMENT column."""
 
-    def __init__(self, table, options, operator, shape, state):
-        self.table, self.options, self.shape, self.state = table, options, shape, state
+    def __init__(self, table, options, operator, shape, state, has_counter):
+        self.table, self.options, self.shape, self.state, self.has_counter = table, options, shape, state, has_counter
         self.t, self.gho, self.ghc, self.old = (named(it) for it in (table, f"_{table}_gho", f"_{table}_ghc", f"_{table}_del"))
         self.operator, self.line, self.unit = operator, 0, 0
         self.throttled, self.postponed, self.size = False, options["postpone"], options["chunk_size"]
@@ -256,13 +260,20 @@ class Tool:
                 if self.state.waits("lock") or self.state.is_locked() or self.state.waits("ren"):
                     return None
                 return self.dropped(self.old) if self.attempt.drops else self.show()
-            if self.attempt.insp == "hint":
-                number = self.attempt.number
-                return Call("hint", [f"INSERT INTO {self.ghc} VALUES ({number}, 'cut-over', '{number}')"])
-            return Call("show waiting", ["SELECT ID FROM information_schema.PROCESSLIST WHERE STATE LIKE 'Waiting for table metadata lock%'"]) if self.attempt.insp else None
+            return self.given_in_attempt(self.attempt)
         if self.cause is not None:
             return None
         return self.given_setup()
+
+    def given_in_attempt(self, attempt):
+        if attempt.insp == "hint":
+            return Call("hint", [f"INSERT INTO {self.ghc} VALUES ({attempt.number}, 'cut-over', '{attempt.number}')"])
+        if attempt.insp == "counter":
+            return Call("show counter", [FRESH, f"SELECT AUTO_INCREMENT FROM information_schema.TABLES WHERE TABLE_SCHEMA = DATABASE() AND TABLE_NAME = '{self.table}'"])
+        if attempt.insp == "set":
+            # (the locker couldn't: it hasn't locked the new table, 1100)
+            return Call("set counter", [f"ALTER TABLE {self.gho} AUTO_INCREMENT={attempt.counter}"])
+        return Call("show waiting", ["SELECT ID FROM information_schema.PROCESSLIST WHERE STATE LIKE 'Waiting for table metadata lock%'"]) if attempt.insp else None
 
     def given_setup(self):
         if self.setup == "show":
@@ -316,7 +327,7 @@ class Tool:
     def given_ren(self):
         if self.renamed or self.attempt is None or self.attempt.ending or self.attempt.renaming:
             return None
-        may = self.attempt.hinted and self.applier.hint == self.attempt.number
+        may = self.attempt.hinted and self.attempt.carried and self.applier.hint == self.attempt.number
         return Call("rename", [f"RENAME TABLE {self.t} TO {self.old}, {self.gho} TO {self.t}"]) if may else None
 
     # ------------------------------------------------------------------ what a call and its answer change
@@ -392,13 +403,22 @@ class Tool:
                 self.took_end(call, answer)
             elif is_bad(answer):
                 self.fail_attempt(turn)
-            elif call.what == "hint":
-                self.attempt.hinted, self.attempt.insp = True, None
             else:
-                self.attempt.insp = None
-                self.attempt.lock = "drop" if answer[1] else self.attempt.lock
+                self.took_in_attempt(self.attempt, call, answer)
         elif self.setup != "done":
             self.took_setup(answer, turn)
+
+    def took_in_attempt(self, attempt, call, answer):
+        if call.what == "hint":
+            attempt.hinted, attempt.carried = True, not self.has_counter
+            attempt.insp = "counter" if self.has_counter else None
+        elif call.what == "show counter":
+            attempt.counter, attempt.insp = answer[1], "set"
+        elif call.what == "set counter":
+            attempt.carried, attempt.insp = True, None
+        else:
+            attempt.insp = None
+            attempt.lock = "drop" if answer[1] else attempt.lock
 
     def took_end(self, call, answer):
         if call.what == "drop":

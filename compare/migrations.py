@@ -8,8 +8,9 @@ import re
 import tomllib
 from collections import Counter
 
-from answers import EQUAL_ROW, blockers_compared, compared, printed_lines
+from answers import EQUAL_ROW, blockers_compared, compared, journal, printed_lines
 from binlog import OPTIONS as LOG_OPTIONS
+from counters import auto_column
 from cutover import NAMES_SEEN
 from migration import equal
 from program import TOP
@@ -23,6 +24,9 @@ CLASSES = f"{os.path.dirname(os.path.realpath(__file__))}/classes"
 
 
 DRAWN_EARLY = "a statement that waits draws in the turn that answers it"
+HAS_DRAWN = "a refused statement has drawn its number"
+HAS_MOVED = "an UPDATE that is refused moves nothing"
+PAST_RANGE = "a number past its column's range is refused like any other value"
 # The classes of what differs: rules of this project's own that docs/MODEL.md tells, each with a plan in compare/classes.
 EXPLAINED = {
     "the server answers where the model waits, and the plan goes another way",
@@ -32,7 +36,11 @@ EXPLAINED = {
     "sessions wait for each other, and in the model they don't",
     "a REPLACE by an equal row counts 1 in the server, and isn't logged",
     DRAWN_EARLY,
+    HAS_DRAWN,
+    HAS_MOVED,
+    PAST_RANGE,
     "the server waits longer, and the tool goes another way meanwhile",
+    "the RENAME asks for its names one after the other, and a client goes before it where the lock ends while the sentry stands",
     # (a key names one column twice)
     "the server refuses the plan's tables by 1060",
 }
@@ -94,6 +102,24 @@ ALTERS = [
 ]
 
 
+# Migrated tables that give out numbers, and their ALTERs, some of which widen the key or make it narrower.
+COUNTED = [
+    ("id INT AUTO_INCREMENT PRIMARY KEY, v INT", "id", ["id"]),
+    ("id SMALLINT NOT NULL AUTO_INCREMENT, v VARCHAR(8), PRIMARY KEY (id)", "id", ["id"]),
+    ("m VARCHAR(5), id INT UNSIGNED AUTO_INCREMENT PRIMARY KEY, v INT, UNIQUE KEY m (m)", "id", ["id", "m"]),
+    ("id TINYINT AUTO_INCREMENT PRIMARY KEY, v INT NOT NULL, m SMALLINT UNIQUE", "id", ["id", "m"]),
+]
+COUNTED_ALTERS = [
+    "MODIFY id BIGINT NOT NULL AUTO_INCREMENT",
+    "CHANGE id n BIGINT AUTO_INCREMENT, ADD COLUMN z INT NOT NULL DEFAULT 7",
+    "MODIFY id INT NOT NULL AUTO_INCREMENT, DROP COLUMN v",
+    "MODIFY id TINYINT AUTO_INCREMENT, ADD INDEX i (v)",
+    "ADD COLUMN z VARCHAR(8) DEFAULT 'x' FIRST",
+    "CHANGE v w VARCHAR(20) NOT NULL",
+]
+STARTS = ["", "", "", " AUTO_INCREMENT=5", " AUTO_INCREMENT=20"]
+# Near the end of a TINYINT.
+LAST_STARTS = ["", " AUTO_INCREMENT=124", " AUTO_INCREMENT=127"]
 # Tables beside the migrated one, which give out numbers.
 COUNTING = [
     ("id INT AUTO_INCREMENT PRIMARY KEY, v INT, m VARCHAR(3)", ""),
@@ -105,6 +131,8 @@ COUNTING = [
 class Maker:
     """A random plan: the same for a series and a number. Values are of their columns' kinds."""
 
+    counted = 40  # of a hundred plans those whose migrated table gives out numbers
+
     def __init__(self, series, number, losses):
         self.r, self.losses = random.Random(f"migration {series} {number}"), losses
 
@@ -112,7 +140,7 @@ class Maker:
         return self.r.randrange(100) < percent
 
     def kinds(self):
-        found = re.findall(r"(\w+) (INT|VARCHAR|VARBINARY|BIGINT|SMALLINT)", self.columns)
+        found = re.findall(r"(\w+) (INT|VARCHAR|VARBINARY|BIGINT|SMALLINT|TINYINT)", self.columns)
         return {name: "VAR" in kind and kind for name, kind in found if name != "KEY"}
 
     def value(self, name, number=None):
@@ -138,8 +166,24 @@ class Maker:
             return f" WHERE a = {self.r.randrange(1, 9)} AND b = {self.r.randrange(1, 9)}"
         return ""
 
+    def drawing(self, form):
+        """An INSERT or a REPLACE of which most draw a number: without the key, or with a NULL, a 0 or a number for it."""
+        names = list(self.kinds())
+        row = dict(zip(names, self.row(self.r.randrange(1, 12))))
+        row["id"] = self.r.choice(["NULL", "NULL", "0", "'0'", row["id"], row["id"]])
+        if self.chance(40):
+            del row["id"]
+        if self.chance(5):
+            row["v"] = "NULL"
+        listed = f" ({', '.join(row)})" if len(row) < len(names) or self.chance(30) else ""
+        return f"{form.upper()} INTO t{listed} VALUES ({', '.join(row.values())})"
+
     def statement(self):
-        names, form = list(self.kinds()), self.r.choice(["insert"] * 4 + ["update"] * 3 + ["delete"] * 2 + ["select", "replace"])
+        names, form = list(self.kinds()), self.r.choice(["insert"] * (8 if self.is_counted else 4) + ["update"] * 3 + ["delete"] * 2 + ["select", "replace"])
+        if form in ("insert", "replace") and self.is_counted:
+            return self.drawing(form)
+        if form == "update" and self.is_counted and self.chance(30):
+            return f"UPDATE t SET id = {self.r.randrange(1, 30)} WHERE id = {self.r.randrange(1, 9)}"
         if form in ("insert", "replace"):
             listed = f" ({', '.join(names)})" if self.chance(30) else ""
             return f"{form.upper()} INTO t{listed} VALUES ({', '.join(self.row(self.r.randrange(1, 9)))})"
@@ -161,8 +205,12 @@ class Maker:
         words = ["insp*5"] if self.chance(80) else []
         for _ in range(self.r.choice([10, 20, 40])):
             words.append(f"{self.r.choice(actors)}*{self.r.choice([1, 1, 2, 3])}")
-        if self.chance(40):
-            words += ["copy*60", "apply*40", "lock*2", *(f"{it}" for it in actors if it[0] == "c" and it[1:].isdigit()), "insp", "apply*3"]
+        clients = [it for it in actors if it[0] == "c" and it[1:].isdigit()]
+        if self.is_counted and self.chance(60):
+            # (the whole cut-over, so that numbers are left to be drawn behind it)
+            words += ["insp*5", "copy*60", "apply*40", "lock*2", *clients, "insp*3", "apply*6", "ren", "insp", "lock*2", "ren"]
+        elif self.chance(40):
+            words += ["copy*60", "apply*40", "lock*2", *clients, "insp", "apply*3"]
         return " ".join(words)
 
     def faults(self, actors):
@@ -175,8 +223,20 @@ class Maker:
     def operator(self):
         return self.r.choice(["throttle\nwait 6\nno-throttle", "wait 4\nchunk-size=1", "wait 9\nunpostpone", "wait 30\npanic"])
 
+    def alter(self):
+        if self.is_counted:
+            return self.r.choice([it for it in COUNTED_ALTERS if "w VARCHAR" not in it or "NOT NULL, m" not in self.columns])
+        return self.r.choice([it for it in ALTERS if "w VARCHAR" not in it or "v VARBINARY" not in self.columns])
+
+    def start(self):
+        """The table option, where the table gives out numbers."""
+        if not self.is_counted:
+            return ""
+        return self.r.choice(LAST_STARTS if "TINYINT" in self.columns else STARTS)
+
     def plan(self):
-        self.columns, self.key, self.keys = self.r.choice(TABLES)
+        self.is_counted = self.chance(self.counted)
+        self.columns, self.key, self.keys = self.r.choice(COUNTED if self.is_counted else TABLES)
         rows, clients = [], [self.script() for _ in range(self.r.choice([1, 2, 2, 3]))]
         for key in sorted(self.r.sample(range(1, 9), self.r.choice([0, 1, 3, 4, 6]))):
             row = self.row(key)
@@ -188,17 +248,19 @@ class Maker:
         options |= {"client_wait": self.r.choice([3, 9, 30]), "tool_wait": self.r.choice([4, 12, 40]), "approve_renamed_columns": True}
         options |= {"max_backlog": self.r.choice([0, 2, 100]), "drain_limit": self.r.choice([3, 20, 2000])}
         options |= {"ok_to_drop_table": True} if self.chance(20) else {}
-        tree = {"version": 1, "table": "t", "alter": self.r.choice([it for it in ALTERS if "w VARCHAR" not in it or "v VARBINARY" not in self.columns]), "clients": clients, "turns": self.words(actors)}
+        tree = {"version": 2 if self.is_counted else 1, "table": "t", "alter": self.alter(), "clients": clients, "turns": self.words(actors)}
         if self.chance(25):
             tree["operator"] = self.operator()
             options |= {"postpone": True} if "unpostpone" in tree["operator"] else {}
         if self.losses:
             tree["faults"] = self.faults(actors)
-        return {**tree, "options": options, "tables": [{"create": f"CREATE TABLE t ({self.columns})", "rows": rows}]}
+        return {**tree, "options": options, "tables": [{"create": f"CREATE TABLE t ({self.columns}){self.start()}", "rows": rows}]}
 
 
 class NumbersMaker(Maker):
-    """The same with a table `u` beside the migrated one, of which clients draw numbers."""
+    """The same with a table `u` beside the migrated one, of which clients draw numbers too."""
+
+    counted = 60
 
     def value_beside(self, name):
         if name == "id":
@@ -344,11 +406,29 @@ class Pair:
             self.counts.update(ways)
             if other or another:
                 return "UNEXPLAINED", f"{toml(rehearsal.ordered(turns))}--- {other or another}"
+            for table, theirs in rehearsal.counters.items() if rehearsal.is_over() else ():
+                ours = self.counter(rehearsal, turns, table)
+                if ours != theirs:
+                    told = class_of_numbers(rehearsal, len(turns), table, ours, theirs) or "UNEXPLAINED"
+                    return told, f"{toml(rehearsal.ordered(turns))}--- at the end {table} gives out {ours}, and by the server {theirs}"
+                self.counts["counters at the end that are the same"] += 1
         self.counts[f"verdict {rehearsal.verdict_kind.split()[0]}"] += 1
         for end, text in (("toml", toml(rehearsal.ordered(turns))), ("report", masked(rehearsal.report(turns)))) if self.keep else ():
             with open(f"{self.keep}/{name.replace(' ', '_').removesuffix('.toml')}.{end}", "w", encoding="utf-8") as file:
                 file.write(text)
         return "same", ""
+
+    def counter(self, rehearsal, turns, table):
+        """The number that a table gives out next, none where it has none left: the one that a client more draws in a turn more."""
+        tree = rehearsal.ordered(turns)
+        name = f"c{len(rehearsal.clients) + 1}"
+        line = f"INSERT INTO {table} ({auto_column(rehearsal.counting[table])[0]}) VALUES (NULL)"
+        tree |= {"clients": [*tree.get("clients", []), line], "turns": f"{tree['turns']} {name}", "options": {**tree["options"], "turn_limit": len(turns) + 1}}
+        *_, (last, *_) = journal(self.program.run_text("trace", toml(tree)).text) or [("",)]
+        found = re.fullmatch(rf"\d+ {name} call (ok|error) (\d+) id (\d+)", last)
+        if found is None:
+            raise Stop("UNEXPLAINED", f"the program draws no number at the end: {last}\n{toml(tree)}")
+        return None if found[2] == "1264" else int(found[3])
 
     def class_of(self, rehearsal, turns):
         """The class of the first turn after which the clients' replies differ; none where it is in no class."""
@@ -360,16 +440,19 @@ class Pair:
         turn = turns[high - 1]
         if rehearsal.early_at and high >= rehearsal.early_at:
             return "the server answers where the model waits, and the plan goes another way"
-        is_drawn_early = rehearsal.early_draw_at and high >= rehearsal.early_draw_at
         if ours == theirs or turn.actor not in rehearsal.clients:
             return None
         model, server = (it[turn.actor][-1].split(" ") if it[turn.actor] else [] for it in (ours, theirs))
         if len(ours[turn.actor]) != len(theirs[turn.actor]):
             what = "the server answers where the model waits" if len(ours[turn.actor]) < len(theirs[turn.actor]) else "the server waits longer"
             return f"{what}, and the plan goes another way" if turn.by_rows else None
-        if is_drawn_early and (len(model) == len(server) == 5 and model[:4] == server[:4] or ["error", "1264"] in (model[1:], server[1:])):
-            # (other numbers, of which one side has none left)
-            return DRAWN_EARLY
+        is_number = rehearsal.spare and len(model) == 5 and (len(server) == 5 and model[:4] == server[:4] or server[1:] == ["error", "1062"])
+        if is_number or rehearsal.spare and ["error", "1264"] in (model[1:], server[1:]):
+            # (other numbers, of which one side has none left, or one that is taken by now)
+            numbers = [int(it[4]) if len(it) == 5 else None for it in (model, server)]
+            told = class_of_numbers(rehearsal, high, rehearsal.table_at(turn), *numbers)
+            if told and (told == DRAWN_EARLY or server[1:] != ["error", "1062"]):
+                return told
         if model[:2] == server[:2] and model[1] == "error":
             return f"{FAULTS_TOLD}: {model[2]}, and {server[2]} by the server"
         if turn.line.upper().startswith("REPLACE") and model[1] == server[1] == "ok" and int(model[2]) == int(server[2]) + 1:
@@ -378,6 +461,19 @@ class Pair:
 
     def report(self, rehearsal, turns):
         return masked(sorted_rows(self.printed(rehearsal.ordered(turns)).text))
+
+
+def class_of_numbers(rehearsal, turn, table, ours, theirs):
+    """The rule by which the server's next number of a table is another than the model's; none where it isn't known."""
+    if rehearsal.early_draw_at and turn >= rehearsal.early_draw_at:
+        return DRAWN_EARLY
+    if rehearsal.owed_at and turn >= rehearsal.owed_at:
+        return HAS_DRAWN
+    if any(name == table and (ours or 0) <= number and (theirs is None or number < theirs) for name, number in rehearsal.refused_updates):
+        return HAS_MOVED
+    if table in rehearsal.spare.past_range and (ours is None or theirs is not None and ours > theirs):
+        return PAST_RANGE
+    return None
 
 
 def named_keys(rehearsal):
@@ -484,6 +580,30 @@ def other_number(rehearsal):
     rehearsal.told = next_but_one
 
 
+def no_carried_counter(rehearsal):
+    """The new table's counter stays what its rows made of it."""
+    given = rehearsal.tool.given_insp
+
+    def given_insp():
+        call = given()
+        if call and call.what == "set counter":
+            call.lines = ["DO 0"]
+        return call
+
+    rehearsal.tool.given_insp = given_insp
+
+
+def lesser_counter(rehearsal):
+    """The counter that is carried is one too small."""
+    told = rehearsal.told
+
+    def one_less(call, talk):
+        answer = told(call, talk)
+        return ("at", answer[1] - 1) if call.what == "show counter" and answer[0] == "at" else answer
+
+    rehearsal.told = one_less
+
+
 def other_blockers(rehearsal):
     """In place of those for whom a session waits all others."""
     blockers = rehearsal.blockers
@@ -496,6 +616,8 @@ FAULTS = {
     "LOCK TABLES without the table": no_lock,
     "two rows in the answer to the hint": other_answer,
     "another number where a client draws one": other_number,
+    "a counter that isn't carried to the new table": no_carried_counter,
+    "a counter that is carried as one less": lesser_counter,
     "a wait for other sessions": other_blockers,
 }
 

@@ -10,9 +10,9 @@ import time
 from answers import answer_text, loss_text
 from binlog import Columns, Log
 from clients import Client
-from counters import auto_column, draws
-from migration import TOOL, Bad, Call, Shape, Tool
-from numbers_given import NO_NUMBER_LEFT, Spare, drawn, forget
+from counters import auto_column
+from migration import MODE, TOOL, Bad, Call, Shape, Tool
+from numbers_given import NO_NUMBER_LEFT, Spare, drawn, forget, set_numbers
 from printing import printed_row, refusal_of
 from rephrasing import carried
 from words import clauses, words
@@ -73,15 +73,18 @@ class Turn:
 class Talk:
     """An actor's session, and the call that it has under way."""
 
-    def __init__(self, server, database):
+    def __init__(self, server, database, is_tool):
         self.session = server.session()
         self.session.need(f"USE {database}")
+        if is_tool:
+            self.session.need(MODE)
         self.session.need("SET innodb_lock_wait_timeout = 1000, lock_wait_timeout = 1000")
         self.call, self.left, self.answers, self.result = None, [], [], None
         self.is_open = self.is_locked = False
         self.polls, self.wait, self.seen_at, self.asked_at = 0, 0, None, None
         self.number = None  # the number that a client's statement drew, once it was asked for
         self.blocked_at, self.blockers = None, None
+        self.draws = False  # whether its call is a client's statement which draws a number
 
     def begin(self, call):
         self.number = None
@@ -111,7 +114,7 @@ class Rehearsal:
         self.clients = {f"c{number + 1}": Client(script) for number, script in enumerate(tree.get("clients", []))}
         self.operator = [it.split("#")[0].strip() for it in tree.get("operator", "").split("\n")]
         self.operator = [it for it in self.operator if it and not it.startswith("-- ")]
-        self.tool = Tool(self.table, self.options, self.operator, lambda: self.shape, self)
+        self.tool = Tool(self.table, self.options, self.operator, lambda: self.shape, self, self.table in self.counting)
         self.order = ["op", *TOOL, *self.clients]
         self.talks, self.turns, self.taken = {}, [], dict.fromkeys(self.order, 0)
         self.held, self.early = set(), set()
@@ -123,13 +126,16 @@ class Rehearsal:
         self.model_waits = lambda turns, actor, always=False: False
         self.common_order = lambda found: found
         self.read_at, self.row_waits = None, set()
-        self.early_draw_at = 0  # the turn after which a statement that draws a number first waited: the server draws before, the model then
+        self.early_draw_at = 0  # the turn at which a statement that draws a number first waited for a row: the server has drawn, the model hasn't
+        self.owed_at = 0  # the turn at which the script first couldn't let the server draw a number that the model draws
+        self.refused_updates = []  # with the table of each: the server has moved the counter with the first row
         self.early_at = 0  # the turn at which a server first answered what the model lets wait
 
     # ------------------------------------------------------------------ the plan
     def open_tables(self):
         self.monitor.need(f"DROP DATABASE IF EXISTS {self.database}")
         self.server.database(self.monitor, self.database)
+        self.monitor.need(MODE)  # (a 0 among a plan's rows is a number, as where mysqldump's files are read)
         for table in self.tree["tables"]:
             answer = self.monitor.ask(table["create"])
             for row in table.get("rows", []):
@@ -137,8 +143,8 @@ class Rehearsal:
             if isinstance(answer, Refused):
                 raise Stop(f"the server refuses the plan's tables by {answer.number}", answer.text)
         creates = {self.name_in(it["create"]).strip("`"): it["create"] for it in self.tree["tables"]}
-        self.counting = next(((name, create) for name, create in creates.items() if auto_column(create)[0]), None)
-        self.spare = Spare(self.server, self.database, *self.counting) if self.counting else None
+        self.counting = {name: create for name, create in creates.items() if auto_column(create)[0]}
+        self.spare = Spare(self.server, self.database, self.counting) if self.counting else None
         self.create = next(it["create"] for it in self.tree["tables"] if self.name_in(it["create"]).strip("`") == self.table)
         old_columns, types, key, _ = self.columns_of(self.table)
         self.shape = Shape([], old_columns, key, [])
@@ -311,6 +317,8 @@ class Rehearsal:
             how = self.wait_seen(talk)
             if how and how == before:
                 talk.seen_at = self.releases, how
+                if how == "row" and talk.draws:
+                    self.early_draw_at = self.early_draw_at or len(self.turns) + 1
                 return how
             if how == "name":
                 # (it is shown waiting until it runs again: others that are woken up now come after it)
@@ -464,7 +472,7 @@ class Rehearsal:
     def begin(self, actor):
         """Says the next call. False where the server lets it wait by a rule that the model doesn't have: the turn comes with the answer."""
         if actor not in self.talks:
-            self.talks[actor] = Talk(self.server, self.database)
+            self.talks[actor] = Talk(self.server, self.database, actor not in self.clients)
         talk, call = self.talks[actor], self.given(actor)
         if call.what == "read log":
             talk.begin(Call("read log", ["DO 0"]))
@@ -472,10 +480,11 @@ class Rehearsal:
             return True
         if self.counting and actor in self.clients:
             forget(talk.session, call.lines[-1])
+        talk.draws = actor in self.clients and self.spare is not None and self.spare.table_of(call.lines[-1]) is not None
+        if talk.draws or call.what == "show counter":
+            self.settle_numbers()
         talk.begin(call)
         how = self.is_waiting(talk)
-        if how and self.counting and draws(call.lines[-1], *self.counting):
-            self.early_draw_at = self.early_draw_at or len(self.turns) + 1
         if how == "row" and self.waits_longer(actor, talk, call):
             self.held.add(actor)
             return False
@@ -484,6 +493,16 @@ class Rehearsal:
             self.early_at = self.early_at or len(self.turns)
             self.count("the server answers where the model waits: " + told_answer(actor, call, talk.result))
         return True
+
+    def settle_numbers(self):
+        """Before a number is drawn or shown the server is to have drawn all that the model has."""
+        if not self.spare:
+            return
+        self.spare.take()
+        if self.is_locked() and not self.talks["lock"].call:
+            self.spare.take(self.talks["lock"].session)
+        if any(self.spare.owed.values()):
+            self.owed_at = self.owed_at or len(self.turns) + 1
 
     def waits_still(self, turns, actor):
         """Whether it waits in the model, where too it goes on only once a lock is given free."""
@@ -531,6 +550,8 @@ class Rehearsal:
         if actor in self.early:
             is_done = not self.waits_still(self.turns[:-1], actor)
             self.early -= {actor} if is_done else set()
+        if is_done and self.goes_before_rename(actor, talk):
+            raise Stop("the RENAME asks for its names one after the other, and a client goes before it where the lock ends while the sentry stands", f"{actor}: {call.lines[-1]}")
         if side == "after":
             self.lose_answer(actor, talk, entry, is_done, polls)
         elif not is_done:
@@ -553,7 +574,18 @@ class Rehearsal:
             self.draw_as_the_model(call, talk)
         if not is_done or actor in self.early:
             self.count("losses of a call that waits")
+        if is_done and call.what == "drop" and self.waits("ren"):
+            # (as before UNLOCK: the RENAME is to have asked for the table, which in the model it has; `--cutover` has the race)
+            self.releases += 1
+            self.is_waiting(self.talks["ren"])
         self.lost(actor, call)
+
+    def goes_before_rename(self, actor, talk):
+        """Whether a client that waited for the table's name is given it before a RENAME that waits, while the sentry stands: the RENAME
+        asked for the sentry's name alone, and is to be refused by 1050."""
+        has_waited = actor in self.clients and talk.wait and talk.seen_at and talk.seen_at[1] == "name" and not self.has_name(actor)
+        is_behind = self.waits("ren") and not self.talks["ren"].is_answered(0) and self.tool.attempt and not self.tool.attempt.dropping
+        return has_waited and is_behind and self.table.lower() in {it.name() for it in words(talk.call.lines[-1])}
 
     def has_name(self, actor):
         """Whether a client's transaction used the table in a line before."""
@@ -566,6 +598,7 @@ class Rehearsal:
             talk.wait = self.waits_begun
             self.row_waits |= {talk.wait} if talk.seen_at and talk.seen_at[1] == "row" else set()
             self.count(f"waits seen, for a {talk.seen_at[1] if talk.seen_at else 'row'}")
+            self.count("waits seen, of the ALTER TABLE that sets the counter", talk.call.what == "set counter")
             if talk.call.what == "rename":
                 self.tool.rename_waits()
         entry.wait, entry.note, entry.answer = talk.wait, "waits", "waits"
@@ -620,6 +653,8 @@ class Rehearsal:
 
     def renamed(self):
         self.history.append("ALTER")
+        if self.table in self.counting:
+            self.counting[self.table] = self.monitor.need(f"SHOW CREATE TABLE `{self.table}`").rows[0][1]
         self.count("clients that wait at a RENAME that is done", sum(self.waits(it) for it in self.clients))
 
     def answer(self, actor, talk, entry, turn):
@@ -656,8 +691,11 @@ class Rehearsal:
         """In the model a refused statement has drawn its number, also where the server refuses it before."""
         if self.spare and self.spare.see(call.lines[-1], talk.result):
             self.count("numbers that the model draws for a refused statement, and the server doesn't")
+        if isinstance(talk.result, Refused):
+            self.refused_updates += [(name, number) for name, create in self.counting.items() for number in set_numbers(call.lines[-1], name.lower(), create)]
         if talk.number:
             self.count("numbers drawn by clients")
+            self.count("numbers drawn by clients from the new table", "ALTER" in self.history and self.spare.table_of(call.lines[-1]) == self.table)
 
     @staticmethod
     def reply_of(client, told):
@@ -676,6 +714,8 @@ class Rehearsal:
             talk.is_locked = call.what == "lock tables"
         elif call.what == "create ghost":
             self.read_shape()
+        elif call.what == "set counter":
+            self.count("counters that are carried to the new table")
         elif call.what == "rename":
             self.count("RENAME done" if told[0] == "ok" else f"RENAME refused by {told[1]}")
             if told[0] == "ok":
@@ -706,6 +746,8 @@ class Rehearsal:
         if call.what == "log end":
             self.log.read()
             return "at", len(self.log.events)
+        if call.what == "show counter":
+            return "at", int(last.rows[0][0])
         if isinstance(last, Ok):
             if not self.counting or call.what != "line":
                 return "ok", last.changed
@@ -755,6 +797,25 @@ class Rehearsal:
         for actor in [it for it, talk in self.talks.items() if talk.call and talk.result is None] + list(self.talks):
             self.kill(actor)
         self.told_tables = self.tables()
+        self.settle_numbers()
+        self.counters = {name: self.counter(name) for name in self.counting}
+        self.count("counters compared", len(self.counters))
+
+    def table_at(self, turn):
+        """The table that gives out numbers and that a client's statement names."""
+        listed = {it.name() for it in words(turn.line)}
+        return next((name for name in self.counting if name.lower() in listed), None)
+
+    def counter(self, table):
+        """The number that a table gives out next; none where it has none left."""
+        told = "SELECT AUTO_INCREMENT FROM information_schema.TABLES WHERE TABLE_SCHEMA = '{0}' AND TABLE_NAME = '{1}'"
+        number = int(self.monitor.need(told.format(self.database, table)).rows[0][0])
+        self.monitor.need("SET @mode = @@sql_mode, sql_mode = ''")
+        self.monitor.need("BEGIN")
+        drawn = self.monitor.ask(f"INSERT INTO `{table}` () VALUES ()")
+        self.monitor.need("ROLLBACK")
+        self.monitor.need("SET sql_mode = @mode")
+        return None if isinstance(drawn, Refused) and drawn.number in NO_NUMBER_LEFT else number
 
     def report(self, turns):
         """The report that the program must print for these turns, rows sorted."""

@@ -100,7 +100,7 @@ class Bench:
         """The answer to each client's line, with the number that it got."""
         if not plan.second:
             return {(client, place): answer_of(self.session.ask(line)) for client, place, line in plan.turns()}
-        found, spare = {}, Spare(self.server, "plan", "u", plan.second) if plan.spares else None
+        found, spare = {}, Spare(self.server, "plan", {"u": plan.second}) if plan.spares else None
         for client, place, line in plan.turns():
             forget(self.session, line)
             answer = self.session.ask(line)
