@@ -1,5 +1,6 @@
 """The clauses of an ALTER TABLE, to those that the program reads."""
 from sql import closing, name_written, position, split, words_of, written
+from tables import left_out
 
 PLACE = "--alter"
 NO_VALUE = "it changes no value"
@@ -39,7 +40,8 @@ class Alters:
         # gh-ost is also used to build a table anew; the program wants a clause for that.
         column = next(iter(self.table.columns.values()))
         self.notes.change(PLACE, f"nothing is left of the ALTER, so that it builds the table anew: column {column.name} is declared as it is")
-        return f"MODIFY COLUMN `{column.name}` {column.kind.now}{column.text}"
+        number = " AUTO_INCREMENT" if column.is_auto and self.table.is_counting else ""
+        return f"MODIFY COLUMN `{column.name}` {column.kind.now}{column.text}{number}"
 
     def read_clause(self, words):
         try:
@@ -123,6 +125,8 @@ class Alters:
         if old is not None:
             self.check_change(old, column)
             self.keep_not_null(column)
+        if column.is_auto:
+            self.keep_number(old, column)
         self.table.columns[column.name.lower()] = column
         if width == 2 and place[1].name().lower() in self.left_out:
             self.notes.change(PLACE, f"{written(place)} is left out: that column is")
@@ -137,6 +141,13 @@ class Alters:
         if column.is_nullable and column.name.lower() in primary:
             column.text += " NOT NULL"
             self.notes.change(PLACE, f"column {column.name}: NOT NULL is added: it is in the PRIMARY KEY")
+
+    def keep_number(self, old, column):
+        """AUTO_INCREMENT stays where the column has it already: the program lets no ALTER give it to one (31)."""
+        if old is not None and old.is_auto and self.table.is_counting:
+            column.text += " AUTO_INCREMENT"
+        else:
+            self.notes.change(PLACE, left_out(column))
 
     def check_change(self, old, column):
         """Says where the values of a column stay as they are, though MySQL would write them anew, or can't go to the new kind."""
@@ -185,6 +196,6 @@ class Alters:
             return self.leave(words)
         declared = words_of(f"`{column.name}` {column.kind.was}")
         null = words_of(" NULL" if column.is_nullable else " NOT NULL")
-        default = action[1:] if action[0].is_word("SET") else []
+        default = action[1:] if action[0].is_word("SET") else words_of(" AUTO_INCREMENT") if column.is_auto else []
         self.notes.change(PLACE, f"{written(words)} as a MODIFY of the whole column")
         return self.column_clause("MODIFY COLUMN", [*declared, *null, *default])

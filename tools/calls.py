@@ -2,13 +2,21 @@
 in which the tool's actors go through their work (docs/FORMATS.md, "The turns"), and from the clients' scripts."""
 import re
 
+from sql import closing, split, words_of
+
 LIST, HINT, WHO = "list the tables", "write the hint", "who waits?"
+HEARTBEAT, CHECKPOINT = "write heartbeat", "write the checkpoint"
+NUMBER = "which number comes next?"
 LOG_END, RANGE = "where does the log end?", "least and greatest key"
 END, SPAN, COPY = "where does the chunk end?", "lock the chunk's rows", "copy a row"
 READ, CHANGE = "read the log", "apply a change"
 BEGIN, COMMIT, ROLLBACK, UNLOCK = "BEGIN", "COMMIT", "ROLLBACK", "UNLOCK"
 # The stages of an attempt in which the sentry isn't dropped yet: a revert ends it there.
-STOPPABLE = ("locking", "hinting", "draining", "showing", "dropping")
+STOPPABLE = ("locking", "hinting", "reading", "setting", "draining", "showing", "dropping")
+
+
+# What comes after each of the inspector's stages in an attempt.
+FOLLOWING = {"hinting": "reading", "reading": "setting", "setting": "draining", "showing": "dropping"}
 
 
 def lines_of(script):
@@ -23,6 +31,11 @@ def is_begin(line):
 
 def is_end(line):
     return re.fullmatch(r"(?i)commit|rollback", line) is not None
+
+
+def is_note(call):
+    """Whether the inspector writes a row of a note."""
+    return call == CHECKPOINT or call.startswith(HEARTBEAT)
 
 
 class Client:
@@ -52,6 +65,14 @@ class Client:
         self.is_inside = False
 
 
+def gives_numbers(create, table):
+    """Whether that is this table's CREATE TABLE, and a column of it has AUTO_INCREMENT."""
+    words = words_of(create)
+    if len(words) < 5 or words[2].name() != table or not words[3].is_sign("("):
+        return False
+    return any(word.is_word("AUTO_INCREMENT") for item in split(words[4 : closing(words, 3)]) for word in item[1:])
+
+
 class Tables:
     """Which of the tool's own tables exist."""
 
@@ -59,26 +80,38 @@ class Tables:
         table = plan["table"]
         self.table, self.log, self.new, self.old = table, f"_{table}_ghc", f"_{table}_gho", f"_{table}_del"
         creates = " ".join(item.get("create", "") for item in plan.get("tables", []))
+        self.is_counting = any(gives_numbers(item.get("create", ""), table) for item in plan.get("tables", []))
         self.there = {name for name in (self.log, self.new, self.old) if re.search(rf"(?i)table\s+`?{re.escape(name)}\b", creates)}
 
     def listed(self, *names):
         return [name for name in names if name in self.there]
+
+    def setting(self):
+        return f"set the counter of {self.new}"
 
     def rename(self):
         return f"RENAME {self.table} to {self.old}, {self.new} to {self.table}"
 
 
 class Inspector:
-    """It sets up, and looks after each attempt at the cut-over."""
+    """It sets up, writes notes while no attempt at the cut-over stands, and looks after each attempt. A checkpoint whose key is so
+    long that it has no row is left out, which a trace doesn't show: then the notes after it are named wrongly."""
 
     def __init__(self, tables, cutover, drops_old):
         self.tables, self.cutover, self.drops_old = tables, cutover, drops_old
         self.setup, self.rest, self.pending = "listing", [], None
+        self.begun, self.is_checking = 0, False
 
     def call(self, turn):
         if self.setup != "over":
             return self.setup_call()
-        return {"hinting": HINT, "showing": WHO}.get(self.cutover.phase) or self.clearing_call(turn)
+        if self.cutover.phase == "resting":
+            return self.note_call()
+        calls = {"hinting": HINT, "showing": WHO}
+        if self.cutover.holds:
+            # (an attempt that has ended keeps the inspector waiting until the tables are unlocked)
+            calls |= {"reading": NUMBER, "setting": self.tables.setting()}
+        return calls.get(self.cutover.phase) or self.clearing_call(turn)
 
     def setup_call(self):
         if self.setup == "listing":
@@ -88,6 +121,9 @@ class Inspector:
         making = {"log": f"CREATE {self.tables.log}", "new": f"CREATE {self.tables.new}"}
         return making.get(self.setup) or {"end": LOG_END, "range": RANGE}[self.setup]
 
+    def note_call(self):
+        return CHECKPOINT if self.is_checking else f"{HEARTBEAT} {self.begun + 1}"
+
     def clearing_call(self, turn):
         if self.cutover.phase in STOPPABLE:
             self.cutover.fail()
@@ -96,12 +132,16 @@ class Inspector:
     def took(self, turn):
         if self.setup != "over":
             self.setup_took(turn)
-        elif self.cutover.phase in ("hinting", "showing"):
+        elif self.cutover.phase == "resting":
+            self.note_took(turn)
+        elif self.cutover.phase in FOLLOWING:
             if turn.is_loss() or turn.is_timeout():
                 self.cutover.fail()
-            else:
-                self.cutover.phase = {"hinting": "draining", "showing": "dropping"}[self.cutover.phase]
-        else:
+            elif not turn.is_wait():
+                following = FOLLOWING[self.cutover.phase]
+                self.cutover.phase = "draining" if following == "reading" and not self.tables.is_counting else following
+        elif turn.call != self.tables.setting():
+            # (the counter may be set after the attempt has ended, and nothing follows from it)
             self.clearing_took(turn)
 
     def setup_took(self, turn):
@@ -120,6 +160,15 @@ class Inspector:
             there.add(self.tables.log if self.setup == "log" else self.tables.new)
         following = {"log": "new", "new": "end", "end": "range", "range": "over"}
         self.setup = following.get(self.setup) or ("dropping" if self.rest else "log")
+
+    def note_took(self, turn):
+        """A note whose row is lost begins again with its heartbeat."""
+        if turn.is_loss():
+            self.begun -= self.is_checking
+            self.is_checking = False
+        elif turn.is_done():
+            self.begun += not self.is_checking
+            self.is_checking = not self.is_checking
 
     def clearing_took(self, turn):
         if turn.is_done():

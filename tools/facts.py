@@ -2,7 +2,7 @@
 import collections
 import re
 
-from calls import BEGIN, CHANGE, COMMIT, COPY, HINT, LOG_END, RANGE, READ, ROLLBACK, SPAN, UNLOCK, is_begin, is_end
+from calls import BEGIN, CHANGE, COMMIT, COPY, HINT, LOG_END, RANGE, READ, ROLLBACK, SPAN, UNLOCK, is_begin, is_end, is_note
 
 CHANGES = re.compile(r"(?i)(?:insert\s+into|replace\s+into|update|delete\s+from)\s+(`(?:[^`]|``)+`|\w+)")
 CHUNK, TRANSACTION, BATCH, TABLE_LOCK = "chunk locked, shared", "transaction open", "batch open", "table locked"
@@ -133,12 +133,12 @@ def reads_of_nothing(trace):
 
 
 class Events:
-    """The events that the applier has still to read: those of the migrated table, and the hints."""
+    """The events that the applier has still to read: those of the migrated table, the hints and the notes."""
 
     def __init__(self, trace):
         self.table, self.most, self.mark = trace.table(), trace.option("dml_batch_size", 10), mark(trace)
         self.unread, self.open, self.batch, self.is_applying, self.has_begun = 0, {}, 0, False, False
-        self.passing = reads_of_nothing(trace)
+        self.passing, self.rows = reads_of_nothing(trace), set()
 
     def took(self, turn):
         if self.mark is not None and turn.number > self.mark:
@@ -150,6 +150,10 @@ class Events:
             self.unread, self.has_begun = 0, True
         elif turn.call == HINT and turn.is_done():
             self.unread += 1
+        elif is_note(turn.call) and turn.actor == "insp" and turn.is_done():
+            # (a row that is there already is deleted and written)
+            self.unread += 2 if turn.call in self.rows else 1
+            self.rows.add(turn.call)
         elif turn.actor == "apply":
             self.applier(turn)
         if not self.has_begun:

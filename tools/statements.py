@@ -255,16 +255,18 @@ class Scripts:
         assigned = rest[update + 4 :] if update is not None else []
         rest = rest[:update]
         names, rows, alias = self.rows_of(rest, table)
-        sets, lines = [], []
+        lines = []
         for row in rows:
             names_here, texts = self.numbered(table, names, row)
             listed = f" ({', '.join(name_written(name) for name in names_here)})" if names_here else ""
             lines.append(f"{verb} {start}{listed} VALUES ({', '.join(texts)})")
-            if assigned:
-                sets.append(self.update_of_row(table, words[at], names_here, texts, assigned, alias))
-        if assigned:
+            if assigned and not self.clashes_with_none(table, names_here, texts):
+                lines.append(self.update_of_row(table, words[at], names_here, texts, assigned, alias))
+        if len(lines) > len(rows):
             why = "ON DUPLICATE KEY UPDATE as two statements, an INSERT, which is answered 1062 where the row is there, and an UPDATE of that row"
-            return self.together([line for pair in zip(lines, sets) for line in pair], why)
+            return self.together(lines, why)
+        if assigned:
+            self.change("ON DUPLICATE KEY UPDATE is left out: each row gets a number of its own, and the table has no other unique key")
         why = f"{verb} of {len(lines)} rows as {len(lines)} statements of one transaction: one that fails doesn't undo the others"
         return self.together(lines, why)
 
@@ -321,6 +323,13 @@ class Scripts:
                 names[0] = Word("quoted", f"`{name}`")
             texts = [str(table.take_number()), *texts]
         return names, texts
+
+    def clashes_with_none(self, table, names, texts):
+        """Whether a row gets a number of its own, and the table has no other unique key."""
+        auto = table.auto_column() if table and table.is_counting else None
+        listed = [name.name().lower() for name in names] if names else list(table.columns) if table else []
+        given = dict(zip(listed, texts)).get(auto, "NULL")
+        return auto is not None and table.unique_keys() == [[auto]] and given in ("NULL", "0", "'0'")
 
     def assignment(self, words):
         """A column and the words of its new value."""

@@ -18,7 +18,7 @@ class Column:
         self.default = None
         self.is_nullable = True
         self.is_auto = False
-        self.auto_place = None  # of AUTO_INCREMENT, where it isn't known yet whether it stays
+        self.auto_place = None  # where AUTO_INCREMENT is written: whether it stays is known once all of the table is read
         self.collation = None
 
 
@@ -59,7 +59,7 @@ class Table:
         column = self.columns[self.auto_column()]
         if sum(it.is_auto for it in self.columns.values()) > 1:
             return "two columns have it"
-        if column.kind.family != "integer" or column.kind.now.upper().startswith("BIGINT UNSIGNED"):
+        if not gives_numbers(column.kind):
             return f"a column of {column.kind.now} gives out no numbers in the program"
         if self.clustered_key() != [self.auto_column()]:
             return "in the program the column is the PRIMARY KEY alone"
@@ -91,13 +91,39 @@ def left_out(column):
     return f"column {column.name}: AUTO_INCREMENT is left out: an INSERT without a number gets the next one here, as the scripts stand and not as they run"
 
 
-class Tables:
-    """Reads tables and notes what is changed. `file` names the place of each note, and `migrated` the table that is altered, in
-    lower case: others keep AUTO_INCREMENT where that is known."""
+def why_taken(clauses, table):
+    """Why the ALTER leaves the table no counter that the program has; none where it leaves it as it is."""
+    name = table.auto_column()
+    for words in clauses:
+        at = 2 if len(words) > 1 and words[1].is_word("COLUMN") else 1
+        if len(words) < at + 1 or not words[at].is_name() or words[at].name().lower() != name:
+            continue
+        if words[0].is_word("DROP"):
+            return "the ALTER drops the column"
+        declared = words[at + words[0].is_word("CHANGE") :]
+        if not words[0].is_word("MODIFY", "CHANGE") or len(declared) < 2:
+            continue
+        kind, _, _ = kind_at(declared[1:])
+        if position(declared, "AUTO_INCREMENT") is None:
+            return "the ALTER takes it away"
+        if kind is None or not gives_numbers(kind):
+            return f"the ALTER makes the column {kind.now if kind else 'one of another kind'}, which gives out no numbers in the program"
+        name = declared[0].name().lower()
+    return None
 
-    def __init__(self, notes, file, migrated=None):
-        self.notes, self.file, self.migrated = notes, file, migrated
-        self.is_beside = False  # whether the table that is read is another one
+
+def gives_numbers(kind):
+    """Whether the program lets a column of the kind give out numbers: an integer, but no BIGINT UNSIGNED, with a width or without."""
+    words = kind.now.upper().replace("(", " ").split()
+    return kind.family == "integer" and not (words[0] == "BIGINT" and "UNSIGNED" in words)
+
+
+class Tables:
+    """Reads tables and notes what is changed. `file` names the place of each note, `migrated` the table that is altered, in lower
+    case, where it is named, and `clauses` are the ALTER's: they decide whether that table keeps AUTO_INCREMENT."""
+
+    def __init__(self, notes, file, migrated=None, clauses=()):
+        self.notes, self.file, self.migrated, self.clauses = notes, file, migrated, clauses
 
     def place(self, words):
         return f"{self.file}:{words[0].line}" if words and not self.file.startswith("--") else self.file
@@ -140,8 +166,6 @@ class Tables:
             return 2, "NOT NULL"
         if word.is_word("AUTO_INCREMENT"):
             column.is_auto, column.auto_place = True, place
-            if not self.is_beside:
-                self.notes.change(place, left_out(column))
             return 1, ""
         if word.is_word("ON"):
             note("ON UPDATE is left out: an UPDATE changes it only where it names it")
@@ -258,7 +282,6 @@ class Tables:
             self.notes.leave(self.place(words), f"{written(words[: at + 2])} .. has no columns in parentheses")
             return None
         table = Table(words[at], self.place(words))
-        self.is_beside = self.migrated not in (None, table.name.lower())
         end = closing(words, at + 1)
         items = split(words[at + 2 : end])
         texts = [self.column_item(item, table) for item in items if not self.is_constraint(item)]
@@ -266,15 +289,16 @@ class Tables:
         self.add_keys([item for item in items if self.is_constraint(item)], table)
         self.keep_numbers(table)
         table.options = self.options(words[end + 1 :], table)
-        self.is_beside = False
         return table
 
     def keep_numbers(self, table):
-        """AUTO_INCREMENT of a table beside the migrated one stays, where the program takes it."""
+        """AUTO_INCREMENT stays where the program takes it, and of the table that is altered where the ALTER leaves it."""
         auto = table.auto_column()
-        if not self.is_beside or auto is None or table.is_counting:
+        if auto is None or table.is_counting:
             return
         why = table.why_no_counter()
+        if why is None and self.migrated in (None, table.name.lower()):
+            why = why_taken(self.clauses, table)
         if why is not None:
             self.notes.change(table.columns[auto].auto_place, f"{left_out(table.columns[auto])}: {why}")
             return
@@ -324,10 +348,8 @@ class Tables:
             column = table.columns.get(clause[2 if clause[1].is_word("COLUMN") else 1].name().lower())
             if column is None:
                 return False
-            self.is_beside = self.migrated not in (None, table.name.lower())
             self.attribute(column, clause, position(clause, "AUTO_INCREMENT"), self.place(clause))
             self.keep_numbers(table)
-            self.is_beside = False
         elif clause[0].is_word("AUTO_INCREMENT"):
             table.options += self.options(clause, table)
         else:

@@ -196,29 +196,67 @@ class Files(unittest.TestCase):
             self.assertNotIn("left as", notes)
 
     def test_numbers_go_on_over_all_clients(self):
+        """Where the program gives out no numbers, an INSERT without one gets the next, as the scripts stand."""
         self.write("c", "INSERT INTO t (a) VALUES (1)\nINSERT INTO t VALUES (20, 1)\nINSERT INTO t VALUES (NULL, 1)")
         self.write("d", "INSERT INTO t SET a = 1")
-        text = "CREATE TABLE t (id INT PRIMARY KEY AUTO_INCREMENT, a INT); INSERT INTO t VALUES (4, 0)"
+        text = "CREATE TABLE t (id BIGINT UNSIGNED PRIMARY KEY AUTO_INCREMENT, a INT); INSERT INTO t VALUES (4, 0)"
         plan, _ = self.convert(text, "--alter", "ADD b INT", "--client", "c", "--client", "d")
         first = "INSERT INTO t (id, a) VALUES (5, 1)\nINSERT INTO t VALUES (20, 1)\nINSERT INTO t VALUES (21, 1)\n"
-        self.assertEqual(plan["clients"], [first, "INSERT INTO t (id, a) VALUES (22, 1)\n"])
+        self.assertEqual((plan["version"], plan["clients"]), (1, [first, "INSERT INTO t (id, a) VALUES (22, 1)\n"]))
 
-    def test_numbers_of_tables_beside(self):
-        """AUTO_INCREMENT stays where a table isn't the altered one, and its INSERTs ask for numbers as they did."""
+    def test_numbers_of_several_tables(self):
+        """AUTO_INCREMENT stays, of the altered table too, and INSERTs ask for numbers as they did."""
         notes = "CREATE TABLE notes (id INT UNSIGNED NOT NULL AUTO_INCREMENT, a INT, PRIMARY KEY (id)) ENGINE=InnoDB AUTO_INCREMENT=7"
         text = f"CREATE TABLE t (id INT AUTO_INCREMENT PRIMARY KEY, a INT) AUTO_INCREMENT=4; {notes}; INSERT INTO notes VALUES (6, 1)"
         self.write("c", "INSERT INTO t (a) VALUES (1); INSERT INTO notes (a) VALUES (1); INSERT INTO notes VALUES (0, 2); REPLACE INTO notes SET a = 3, id = DEFAULT")
         plan, said = self.convert(text, "--alter", "ALTER TABLE t ADD b INT", "--client", "c")
         self.assertEqual(plan["version"], 2)
-        self.assertEqual([table["create"].split("\n")[1] for table in plan["tables"]], ["  id INT PRIMARY KEY,", "  id INT UNSIGNED NOT NULL AUTO_INCREMENT,"])
-        self.assertEqual([table["create"].strip().split("\n")[-1] for table in plan["tables"]], [")", ") ENGINE=InnoDB AUTO_INCREMENT=7"])
-        lines = "INSERT INTO t (id, a) VALUES (4, 1)\nINSERT INTO notes (a) VALUES (1)\nINSERT INTO notes VALUES (0, 2)\nREPLACE INTO notes (a, id) VALUES (3, NULL)\n"
+        columns = ["  id INT PRIMARY KEY AUTO_INCREMENT,", "  id INT UNSIGNED NOT NULL AUTO_INCREMENT,"]
+        self.assertEqual([table["create"].split("\n")[1] for table in plan["tables"]], columns)
+        self.assertEqual([table["create"].strip().split("\n")[-1] for table in plan["tables"]], [") AUTO_INCREMENT=4", ") ENGINE=InnoDB AUTO_INCREMENT=7"])
+        lines = "INSERT INTO t (a) VALUES (1)\nINSERT INTO notes (a) VALUES (1)\nINSERT INTO notes VALUES (0, 2)\nREPLACE INTO notes (a, id) VALUES (3, NULL)\n"
         self.assertEqual(plan["clients"], [lines])
-        first, second, third, _ = said.split("\n", 3)
-        self.assertEqual(first, "1: column id: AUTO_INCREMENT is left out: an INSERT without a number gets the next one here, as the scripts stand and not as they run")
-        self.assertEqual((second, third), ("1: AUTO_INCREMENT=4 is left out: the scripts' numbers go on from it", "c:1: INSERT .. SET as INSERT .. VALUES"))
-        plan, _ = self.convert(text, "--table", "NOTES", "--alter", "ADD b INT")
-        self.assertEqual([" AUTO_INCREMENT" in table["create"] for table in plan["tables"]], [True, False])
+        self.assertEqual(said, "c:1: INSERT .. SET as INSERT .. VALUES\n 1 change\n")
+
+    def test_numbers_in_an_alter(self):
+        """The ALTER's clause of the column keeps AUTO_INCREMENT, under another name too; the first that takes it away decides."""
+        text = "CREATE TABLE t (id INT NOT NULL AUTO_INCREMENT, a INT, PRIMARY KEY (id))"
+        left = "1: column id: AUTO_INCREMENT is left out: an INSERT without a number gets the next one here, as the scripts stand and not as they run: "
+        wide = "BIGINT UNSIGNED, which gives out no numbers in the program"
+        self.write("c", "INSERT INTO t (a) VALUES (1)")
+        for alter, wanted, why in (
+            ("MODIFY id BIGINT AUTO_INCREMENT", "MODIFY COLUMN id BIGINT NOT NULL AUTO_INCREMENT", None),
+            ("CHANGE COLUMN id n BIGINT NOT NULL AUTO_INCREMENT FIRST", "CHANGE COLUMN id n BIGINT NOT NULL AUTO_INCREMENT FIRST", None),
+            ("ENGINE=InnoDB", "MODIFY COLUMN `id` INT NOT NULL AUTO_INCREMENT", None),
+            ("DROP a, AUTO_INCREMENT=9", "DROP a", None),
+            ("MODIFY COLUMN ID INT NOT NULL", "MODIFY COLUMN ID INT NOT NULL", "the ALTER takes it away"),
+            ("CHANGE id n BIGINT NOT NULL AUTO_INCREMENT, MODIFY n INT NOT NULL", None, "the ALTER takes it away"),
+            ("MODIFY id BIGINT UNSIGNED NOT NULL AUTO_INCREMENT", "MODIFY COLUMN id BIGINT UNSIGNED NOT NULL", f"the ALTER makes the column {wide}"),
+            ("DROP COLUMN id, ADD COLUMN b INT", None, "the ALTER drops the column"),
+        ):
+            with self.subTest(alter):
+                plan, said = self.convert(text, "--alter", alter, "--client", "c")
+                self.assertIn(plan["alter"], (wanted, plan["alter"] if wanted is None else wanted))
+                self.assertEqual(f"{left}{why}\n" in said, why is not None)
+                line = "INSERT INTO t (id, a) VALUES (1, 1)\n" if why else "INSERT INTO t (a) VALUES (1)\n"
+                self.assertEqual((plan["version"], plan["clients"]), (1 if why else 2, [line]))
+
+    def test_number_that_an_alter_gives(self):
+        """The program lets no ALTER give a column AUTO_INCREMENT."""
+        plan, said = self.convert("CREATE TABLE t (id INT PRIMARY KEY)", "--alter", "MODIFY id INT AUTO_INCREMENT")
+        self.assertEqual((plan["version"], plan["alter"]), (1, "MODIFY COLUMN id INT NOT NULL"))
+        self.assertIn("--alter: column id: AUTO_INCREMENT is left out: ", said)
+
+    def test_rows_with_numbers_of_their_own(self):
+        """A row that draws its number clashes with none where there is no other unique key."""
+        text = "CREATE TABLE t (id INT AUTO_INCREMENT PRIMARY KEY, a INT)"
+        update = "ON DUPLICATE KEY UPDATE a = VALUES(a)"
+        self.write("c", f"INSERT INTO t (a) VALUES (1) {update}; INSERT INTO t VALUES (NULL, 2), (7, 3) {update}")
+        plan, said = self.convert(text, "--alter", "ADD b INT", "--client", "c")
+        second = "BEGIN\nINSERT INTO t VALUES (NULL, 2)\nINSERT INTO t VALUES (7, 3)\nUPDATE t SET a = 3 WHERE `id` = 7\nCOMMIT\n"
+        self.assertEqual(plan["clients"], [f"INSERT INTO t (a) VALUES (1)\n{second}"])
+        self.assertIn("c:1: ON DUPLICATE KEY UPDATE is left out: each row gets a number of its own, and the table has no other unique key\n", said)
+        self.assertNotIn("left as", said)
 
     def test_numbers_behind_the_tables(self):
         """The same where keys and numbers are added behind all tables, as phpMyAdmin prints them."""
@@ -230,6 +268,7 @@ class Files(unittest.TestCase):
     def test_numbers_that_the_program_does_not_give_out(self):
         for columns, why in (
             ("id BIGINT UNSIGNED AUTO_INCREMENT PRIMARY KEY", "a column of BIGINT UNSIGNED gives out no numbers in the program"),
+            ("id BIGINT(20) UNSIGNED AUTO_INCREMENT PRIMARY KEY", "a column of BIGINT(20) UNSIGNED gives out no numbers in the program"),
             ("id INT AUTO_INCREMENT, a INT NOT NULL, PRIMARY KEY (id, a)", "in the program the column is the PRIMARY KEY alone"),
             ("a INT PRIMARY KEY, id INT AUTO_INCREMENT UNIQUE", "in the program the column is the PRIMARY KEY alone"),
         ):
@@ -247,7 +286,7 @@ class Files(unittest.TestCase):
         text = "CREATE TABLE t (id INT AUTO_INCREMENT PRIMARY KEY, a DATE, g INT AS (id), KEY (a))"
         clauses = "MODIFY id BIGINT AUTO_INCREMENT, CHANGE a b DATETIME, ALTER b SET DEFAULT '2024-01-01', DROP b, ADD c INT AFTER g"
         plan, notes = self.convert(text, "--alter", clauses)
-        first = "MODIFY COLUMN id BIGINT NOT NULL, CHANGE COLUMN a b VARCHAR(19), "
+        first = "MODIFY COLUMN id BIGINT NOT NULL AUTO_INCREMENT, CHANGE COLUMN a b VARCHAR(19), "
         second = "MODIFY COLUMN `b` VARCHAR(19) NULL DEFAULT '2024-01-01 00:00:00', DROP b, ADD COLUMN c INT"
         self.assertEqual(plan["alter"], first + second)
         self.assertIn("--alter: column id: NOT NULL is added: it is in the PRIMARY KEY\n", notes)

@@ -37,9 +37,9 @@ HEAD = """# What do ten usual tables print?
 
 For an operator who asks how far his own table is from a plan. Ten tables as SHOW CREATE TABLE and mysqldump print them, each with an ALTER and a client, go through every step: pasted into a plan as they are, explained, converted, checked, run, traced and swept. The files are in `tools/tests/converted`, each plan with the report that it must print; the gate runs them.
 
-This page is what `tools/tests/ten_tables.py PROGRAM` prints; it was printed on 2026-11-30 by the program as `./ghost --unproved` builds it.
+This page is what `tools/tests/ten_tables.py PROGRAM` prints; it was printed on 2026-11-30 by the program as `./ghost --unproved` builds it, and what follows each conversion again on 2026-12-01.
 
-The same ten tables were also put into a MariaDB 10.11.19 (without foreign keys, which need other tables, and with a collation that it has) and dumped by its `mysqldump`, with all the comments and settings of such a file: `tools/convert` takes the ten dumps, and their plans print the same ten reports.
+The same ten tables were also put into a MariaDB 10.11.19 (without foreign keys, which need other tables, and with a collation that it has) and dumped by its `mysqldump`, with all the comments and settings of such a file: `tools/convert` took the ten dumps, and their plans printed the same ten reports. (That was when the altered table's AUTO_INCREMENT was left out.)
 
 """
 MEANING = """
