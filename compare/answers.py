@@ -62,14 +62,16 @@ def told_alike(line):
 def blockers_compared(turns, text):
     """For whom a session waits, of each turn at which it does: a count of the ways in which the program and the server agree, and the
     first turn at which they don't, in words. Sessions are numbered as they are opened; one that was lost is opened anew."""
-    live, opened, ways = {}, 0, Counter()
+    live, opened, waits, ways = {}, 0, {}, Counter()
     for turn, (line, *_) in zip(turns, journal(text)):
         if turn.actor != "op" and turn.actor not in live:
             opened += 1
             live[turn.actor] = opened
         found = re.search(WAITS, line)
+        waits[turn.actor] = int(found[1]) if found else 0
         if found and turn.blockers is not None:
-            way = way_to_agree(int(found[1]), *({live.get(it, 0) for it in some} for some in (turn.blockers, turn.behind)))
+            answered = {waits.get(it, 0) for it in turn.blockers & turn.early}
+            way = way_to_agree(int(found[1]), *({live.get(it, 0) for it in some} for some in (turn.blockers, turn.behind)), answered)
             if way is None:
                 ours = [it for it in live if live[it] == int(found[1])]
                 return ways, f"{line}, {turn.line}: the program waits for {ours}, the server for {sorted(turn.blockers)}"
@@ -79,13 +81,16 @@ def blockers_compared(turns, text):
     return ways, None
 
 
-def way_to_agree(ours, direct, behind):
-    """`direct` has the sessions that the server names, and `behind` those for whom these wait in turn."""
+def way_to_agree(ours, direct, behind, answered):
+    """`direct` has the sessions that the server names, and `behind` those for whom these wait in turn; `answered` those for whom some of
+    these wait in the model alone, as the server has answered them already."""
     if ours in direct:
         return "waits for a session that the server names too"
     if ours in behind:
         # (a server takes locks one after the other: who waits for one has others already)
         return "waits for a session, where the server names one that waits for it and has locks already"
+    if ours in answered:
+        return "waits for a session, where the server names one that it has answered, and that waits for it in the model"
     if direct and ours < min(direct):
         # (the program names the first of all that are in the way, and a server the one that it meets first)
         return "waits for a session that is numbered before those that the server names"

@@ -68,6 +68,7 @@ class Turn:
     answer: str = ""
     blockers: set = None  # for whom it waits, as the server says; none where it doesn't wait there
     behind: set = None  # for whom these wait in turn
+    early: set = None  # whom the server has answered where the model waits
 
 
 class Talk:
@@ -329,9 +330,10 @@ class Rehearsal:
         return None
 
     def wait_seen(self, talk):
-        """How the server shows a session waiting now, or none."""
+        """How the server shows a session waiting now, or none: it runs, or is to."""
         number = talk.session.number
-        return "name" if self.monitor.need(NAME_WAIT.format(number)).rows else "row" if self.monitor.need(ROW_WAIT.format(number)).rows else None
+        how = "name" if self.monitor.need(NAME_WAIT.format(number)).rows else "row" if self.monitor.need(ROW_WAIT.format(number)).rows else None
+        return how if how and self.wakeups.is_asleep(number) else None
 
     def lock_of(self, talk):
         """What a session waits for: a gap, a row with its index and the one that has it, or a name."""
@@ -603,7 +605,7 @@ class Rehearsal:
                 self.tool.rename_waits()
         entry.wait, entry.note, entry.answer = talk.wait, "waits", "waits"
         entry.blockers = None if actor in self.early else self.blockers(talk)
-        entry.behind = self.behind(entry.blockers or ())
+        entry.behind, entry.early = self.behind(entry.blockers or ()), set(self.early)
         talk.polls += polls
         if talk.polls == self.longest_wait(actor):
             entry.answer = f"timeout {talk.polls}"

@@ -2,6 +2,7 @@
 it has to run first."""
 import time
 
+OS_THREAD = "SELECT THREAD_OS_ID FROM performance_schema.threads WHERE PROCESSLIST_ID = {0}"
 STATE = "SELECT 1 FROM information_schema.PROCESSLIST WHERE ID = {0} AND STATE = 'User lock'"
 # How many sessions are woken up, one after the other, before one that was given its lock before them is taken to have run.
 COUNT = 2
@@ -13,6 +14,19 @@ class Wakeups:
     def __init__(self, server, monitor, patience):
         self.holder, self.waiter = server.session(), server.session()
         self.monitor, self.patience, self.slowest = monitor, patience, 0.0
+        self.process, self.os_threads = server.process.pid, {}
+
+    def is_asleep(self, number):
+        """Whether a session's thread sleeps. One that was given its lock is to run, though it is shown waiting until it does; where the
+        system doesn't tell, True."""
+        if number not in self.os_threads:
+            rows = self.monitor.need(OS_THREAD.format(number)).rows
+            self.os_threads[number] = rows[0][0] if rows else None
+        try:
+            with open(f"/proc/{self.process}/task/{self.os_threads[number]}/stat", encoding="ascii") as file:
+                return file.read().rpartition(")")[2].split()[0] == "S"
+        except OSError:
+            return True
 
     def pass_by(self):
         """Wakes sessions up: whoever was given a lock before has had its time when this returns."""

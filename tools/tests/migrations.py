@@ -33,7 +33,7 @@ tables t
 
 
 def turn(actor, answer, **named):
-    return types.SimpleNamespace(**{"actor": actor, "answer": answer, "note": "", "side": "", "wait": 0, "reply": None, "line": "", "what": "", "blockers": None, **named})
+    return types.SimpleNamespace(**{"actor": actor, "answer": answer, "note": "", "side": "", "wait": 0, "reply": None, "line": "", "what": "", "blockers": None, "early": set(), **named})
 
 
 def turns():
@@ -81,6 +81,15 @@ class Answers(unittest.TestCase):
             given[5].blockers, given[6].blockers, given[5].behind, given[6].behind = first, second, behind, ()
             with self.subTest(told):
                 ways, other = ANSWERS.blockers_compared(given, TRACE)
+                self.assertEqual((list(ways.values()), other and other.partition(",")[0]), told)
+
+    def test_blocker_that_is_answered(self):
+        """The server has answered the copier, who waits for c1 in the model: c2 waits for c1, and in the server for the copier."""
+        trace = "\n#journal\n1 copy call other\n2 c1 call ok 1\n3 copy call waits 2\n4 c2 call waits 2\ndone\n"
+        for early, told in (({"copy"}, ([1], None)), (set(), ([], "4 c2 call waits 2"))):
+            given = [turn("copy", "other"), turn("c1", "ok 1"), turn("copy", "waits"), turn("c2", "waits", blockers={"copy"}, behind=(), early=early)]
+            with self.subTest(told):
+                ways, other = ANSWERS.blockers_compared(given, trace)
                 self.assertEqual((list(ways.values()), other and other.partition(",")[0]), told)
 
     def test_other_answers(self):
