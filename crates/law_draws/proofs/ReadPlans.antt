@@ -31,7 +31,7 @@ use Rattle.plan_keys.specs.declared.options.NumberKeys.{NumberKeys}
 use Rattle.plan_keys.specs.declared.options.TruthKeys.{TruthKeys}
 use Rattle.plan_keys.specs.Known.{knows_keys, has_needed_keys}
 use Rattle.plan_keys.specs.Limits.{TableData, has_too_many}
-use Rattle.plan_keys.specs.Options.{within, options_within}
+use Rattle.plan_keys.specs.Options.{within, version_two_within, options_within}
 use Rattle.plan_keys.specs.PlanKeys.{KeyData, TypedData, typed_of, in_range, few, keys_of}
 use Rattle.plan_reader.specs.declared.plan_tables.fault.TableRefusal.{TableRefusal}
 use Rattle.plan_reader.specs.PlanTables.Rows.{next_number, put_texts}
@@ -209,9 +209,8 @@ turns_within numbers truths options is =
     let of_tool = bind_ok (within 1 100000 numbers.tool_wait) _ options of_client.2 in
     let busy = bind_ok (within 0 64 numbers.max_load) _ options of_tool.2 in
     let turns = bind_ok (within 1 1000000 numbers.turn_limit) _ options busy.2 in
-    let notes = bind_ok (within 0 1000 numbers.notes) _ options turns.2 in
-    let between = bind_ok (within 1 100000 numbers.note_every) _ options notes.2 in
-    subst HasFewTurns (ok_is {C = KeyRefusal} _ options between.2) (most_within 1000000 turns.0 numbers.turn_limit turns.1)
+    let second = bind_ok (version_two_within numbers.version_two) _ options turns.2 in
+    subst HasFewTurns (ok_is {C = KeyRefusal} _ options second.2) (most_within 1000000 turns.0 numbers.turn_limit turns.1)
 
 turns_in : (typed : TypedData) (found : KeyData) → in_range typed ≡ Ok found → HasFewTurns found.options
 unfolding in_range

@@ -27,6 +27,12 @@ pub struct Options {
     pub notes: u32,
     /// How many turns come between two notes at least: 1 to 100,000.
     pub note_every: u32,
+    /// How many events of the log the replica takes over at a time: 0, which means that there is none, to 1,000.
+    pub replica_step: u32,
+    /// After how many turns it takes over the next ones: 1 to 1,000.
+    pub replica_pause: u32,
+    /// How many events of the changelog it may lack where a chunk or an attempt begins (`--max-lag-millis`, in events): 1 to 1,000.
+    pub max_lag: u32,
     /// Whether the ALTER may give columns other names (`--approve-renamed-columns`).
     pub approve_renamed_columns: bool,
     /// Whether a new table that an earlier run left is dropped (`--initially-drop-ghost-table`).
@@ -66,6 +72,9 @@ impl Default for Options {
             turn_limit: 200_000,
             notes: 0,
             note_every: 100,
+            replica_step: 0,
+            replica_pause: 1,
+            max_lag: 10,
             approve_renamed_columns: false,
             initially_drop_ghost_table: false,
             initially_drop_old_table: false,

@@ -32,18 +32,19 @@ is_truth_key key =
     || bytes_eq key (codes "show_history") || bytes_eq key (codes "show_turns") || bytes_eq key (codes "show_tables")
     || bytes_eq key (codes "show_replies")
 
--- those that version 2 has besides: of notes, which have numbers too, and those that aren't built yet
+-- those that version 2 has besides: of notes and of a replica, which have numbers too, and what isn't built yet
 unfoldable pub is_note_key : List ℕ → Bool
 is_note_key key = bytes_eq key (codes "notes") || bytes_eq key (codes "note_every")
 
+unfoldable pub is_replica_key : List ℕ → Bool
+is_replica_key key = bytes_eq key (codes "replica_step") || bytes_eq key (codes "replica_pause") || bytes_eq key (codes "max_lag")
+
 unfoldable pub is_later_key : List ℕ → Bool
-is_later_key key =
-    bytes_eq key (codes "replica_step") || bytes_eq key (codes "replica_pause") || bytes_eq key (codes "max_lag")
-    || bytes_eq key (codes "resume")
+is_later_key key = bytes_eq key (codes "resume")
 
 -- the keys of the options of a plan, where `first` tells of version 1
 abbrev pub is_option_key : Bool → List ℕ → Bool
-is_option_key first key = is_number_key key || is_truth_key key || (not first && (is_note_key key || is_later_key key))
+is_option_key first key = is_number_key key || is_truth_key key || (not first && (is_note_key key || is_replica_key key || is_later_key key))
 
 -- the number 1
 abbrev pub is_one : Option ℤ → Bool

@@ -9,11 +9,29 @@ use Rattle.plan_keys.specs.declared.fault.KeyRefusal.{KeyRefusal}
 use Rattle.plan_keys.specs.declared.fault.KeyRefusal.TheVariants.{OutOfRange}
 use Rattle.plan_keys.specs.declared.options.NumberKeys.{NumberKeys}
 use Rattle.plan_keys.specs.declared.options.TruthKeys.{TruthKeys}
+use Rattle.plan_keys.specs.declared.options.VersionTwoKeys.{VersionTwoKeys}
+use Rattle.plan_keys.specs.declared.options.VersionTwoNumbers.{VersionTwoNumbers}
 use Rattle.plan_keys.specs.Documents.{number_or, truth_or}
 
 -- what is at a key of the options, where there are some
 abbrev pub option_at : List ℕ → Option Members → Option Data
 option_at key options = option_and_then (get_member key) options
+
+-- the numbers of the options that version 2 has besides
+unfoldable pub version_two_in : Option Members → Result VersionTwoKeys KeyRefusal
+version_two_in options = do
+  notes ← number_or default_options.notes (option_at (codes "notes") options)
+  note_every ← number_or default_options.note_every (option_at (codes "note_every") options)
+  replica_step ← number_or default_options.replica_step (option_at (codes "replica_step") options)
+  replica_pause ← number_or default_options.replica_pause (option_at (codes "replica_pause") options)
+  max_lag ← number_or default_options.max_lag (option_at (codes "max_lag") options)
+  Ok (record {
+    notes = notes;
+    note_every = note_every;
+    replica_step = replica_step;
+    replica_pause = replica_pause;
+    max_lag = max_lag;
+  })
 
 -- the numbers of the options
 unfoldable pub numbers_in : Option Members → Result NumberKeys KeyRefusal
@@ -27,8 +45,7 @@ numbers_in options = do
   tool_wait ← number_or default_options.tool_wait (option_at (codes "tool_wait") options)
   max_load ← number_or default_options.max_load (option_at (codes "max_load") options)
   turn_limit ← number_or default_options.turn_limit (option_at (codes "turn_limit") options)
-  notes ← number_or default_options.notes (option_at (codes "notes") options)
-  note_every ← number_or default_options.note_every (option_at (codes "note_every") options)
+  version_two ← version_two_in options
   Ok (record {
     chunk_size = chunk_size;
     dml_batch_size = dml_batch_size;
@@ -39,8 +56,7 @@ numbers_in options = do
     tool_wait = tool_wait;
     max_load = max_load;
     turn_limit = turn_limit;
-    notes = notes;
-    note_every = note_every;
+    version_two = version_two;
   })
 
 -- the options that are true or false
@@ -71,6 +87,22 @@ truths_in options = do
 unfoldable pub within : ℕ → ℕ → ℤ → Result ℕ KeyRefusal
 within low high number = if int_lt number (pos low) || int_lt (pos high) number then Err OutOfRange else Ok (nat_abs number)
 
+-- the numbers that version 2 has besides, where each is in its range
+unfoldable pub version_two_within : VersionTwoKeys → Result VersionTwoNumbers KeyRefusal
+version_two_within numbers = do
+  notes ← within 0 1000 numbers.notes
+  note_every ← within 1 100000 numbers.note_every
+  replica_step ← within 0 1000 numbers.replica_step
+  replica_pause ← within 1 1000 numbers.replica_pause
+  max_lag ← within 1 1000 numbers.max_lag
+  Ok (record {
+    notes = notes;
+    note_every = note_every;
+    replica_step = replica_step;
+    replica_pause = replica_pause;
+    max_lag = max_lag;
+  })
+
 -- the options, where each number is in its range
 unfoldable pub options_within : NumberKeys → TruthKeys → Result Options KeyRefusal
 options_within numbers truths = do
@@ -83,8 +115,7 @@ options_within numbers truths = do
   tool_wait ← within 1 100000 numbers.tool_wait
   max_load ← within 0 64 numbers.max_load
   turn_limit ← within 1 1000000 numbers.turn_limit
-  notes ← within 0 1000 numbers.notes
-  note_every ← within 1 100000 numbers.note_every
+  version_two ← version_two_within numbers.version_two
   Ok (record {
     chunk_size = chunk_size;
     dml_batch_size = dml_batch_size;
@@ -95,8 +126,11 @@ options_within numbers truths = do
     tool_wait = tool_wait;
     max_load = max_load;
     turn_limit = turn_limit;
-    notes = notes;
-    note_every = note_every;
+    notes = version_two.notes;
+    note_every = version_two.note_every;
+    replica_step = version_two.replica_step;
+    replica_pause = version_two.replica_pause;
+    max_lag = version_two.max_lag;
     approve_renamed_columns = truths.approve_renamed_columns;
     initially_drop_ghost_table = truths.initially_drop_ghost_table;
     initially_drop_old_table = truths.initially_drop_old_table;

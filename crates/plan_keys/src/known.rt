@@ -4,7 +4,7 @@ ghost use Rattle.std.specs.Prelude.{◌≡◌, not, is_some, option_map};
 ghost use Rattle.std.specs.Str.{bytes_eq};
 ghost use Rattle.toml.specs.Data.{as_array, as_table};
 ghost use Rattle.toml.specs.View.{view, table_view, items_view};
-ghost use Rattle.plan_keys.specs.Known.{is_plan_key, is_table_key, is_number_key, is_truth_key, is_note_key, is_later_key, is_option_key, is_one, is_first_version, has_later_key, all_pass, all_items_pass, array_at, table_at, knows_keys, has_key, has_create, has_needed_keys};
+ghost use Rattle.plan_keys.specs.Known.{is_plan_key, is_table_key, is_number_key, is_truth_key, is_note_key, is_replica_key, is_later_key, is_option_key, is_one, is_first_version, has_later_key, all_pass, all_items_pass, array_at, table_at, knows_keys, has_key, has_create, has_needed_keys};
 ghost use Rattle.plan_keys.specs.Walks.{all_keys, all_items};
 
 use crate::documents::member_at;
@@ -75,20 +75,26 @@ fn is_note_key(key: &[u8]) -> bool
     is_word(key, "notes") || is_word(key, "note_every")
 }
 
+#[tactic(auto, unfolding(crate::specs::Known::is_replica_key))]
+fn is_replica_key(key: &[u8]) -> bool
+    ensures { result ≡ is_replica_key key.now }
+{
+    is_word(key, "replica_step") || is_word(key, "replica_pause") || is_word(key, "max_lag")
+}
+
 #[tactic(auto, unfolding(crate::specs::Known::is_later_key))]
 fn is_later_key(key: &[u8]) -> bool
     ensures { result ≡ is_later_key key.now }
 {
-    is_word(key, "replica_step")
-        || is_word(key, "replica_pause")
-        || is_word(key, "max_lag")
-        || is_word(key, "resume")
+    is_word(key, "resume")
 }
 
 fn is_option_key(first: bool, key: &[u8]) -> bool
     ensures { result ≡ is_option_key first key.now }
 {
-    is_number_key(key) || is_truth_key(key) || (!first && (is_note_key(key) || is_later_key(key)))
+    is_number_key(key)
+        || is_truth_key(key)
+        || (!first && (is_note_key(key) || is_replica_key(key) || is_later_key(key)))
 }
 
 /// Whether the document says that it is of version 1, which has fewer options than version 2.

@@ -2,7 +2,7 @@
 
 ghost use Rattle.std.specs.Prelude.{◌≡◌, ◌<◌, ◌^◌, option_map};
 ghost use Rattle.toml.specs.View.{view, table_view};
-ghost use Rattle.plan_keys.specs.Options.{option_at, numbers_in, truths_in, within, options_within};
+ghost use Rattle.plan_keys.specs.Options.{option_at, numbers_in, truths_in, version_two_in, within, options_within, version_two_within};
 ghost use Rattle.base_values.specs.Faults.{Answers};
 
 use crate::documents::{member_at, number_or, truth_or};
@@ -31,10 +31,38 @@ pub struct NumberKeys {
     pub max_load: i64,
     /// `turn_limit`.
     pub turn_limit: i64,
+    /// Those that version 2 has besides.
+    pub version_two: VersionTwoKeys,
+}
+
+/// The options that are numbers and that version 2 has besides, as they are written.
+#[derive(Clone, Copy)]
+pub struct VersionTwoKeys {
     /// `notes`.
     pub notes: i64,
     /// `note_every`.
     pub note_every: i64,
+    /// `replica_step`.
+    pub replica_step: i64,
+    /// `replica_pause`.
+    pub replica_pause: i64,
+    /// `max_lag`.
+    pub max_lag: i64,
+}
+
+/// The same, where each is in its range.
+#[derive(Clone, Copy)]
+pub struct VersionTwoNumbers {
+    /// `notes`.
+    pub notes: u32,
+    /// `note_every`.
+    pub note_every: u32,
+    /// `replica_step`.
+    pub replica_step: u32,
+    /// `replica_pause`.
+    pub replica_pause: u32,
+    /// `max_lag`.
+    pub max_lag: u32,
 }
 
 /// The options that are true or false. Their meanings are those of `Options`.
@@ -70,6 +98,26 @@ fn option_at<'a>(options: Option<&'a Table>, key: &str) -> Option<&'a Value>
     }
 }
 
+/// The options that are numbers and that version 2 has besides.
+#[tactic(auto, unfolding(crate::specs::Options::version_two_in))]
+fn version_two_in(options: Option<&Table>) -> Result<VersionTwoKeys, KeyFault>
+    ensures { Answers (λ numbers. numbers) result (version_two_in (option_map (λ table. table_view table.now) options.entry)) }
+{
+    let default = Options::default();
+    let notes = number_or(default.notes, option_at(options, "notes"))?;
+    let note_every = number_or(default.note_every, option_at(options, "note_every"))?;
+    let replica_step = number_or(default.replica_step, option_at(options, "replica_step"))?;
+    let replica_pause = number_or(default.replica_pause, option_at(options, "replica_pause"))?;
+    let max_lag = number_or(default.max_lag, option_at(options, "max_lag"))?;
+    Ok(VersionTwoKeys {
+        notes,
+        note_every,
+        replica_step,
+        replica_pause,
+        max_lag,
+    })
+}
+
 /// The options that are numbers.
 #[tactic(auto, unfolding(crate::specs::Options::numbers_in))]
 pub fn numbers_in(options: Option<&Table>) -> Result<NumberKeys, KeyFault>
@@ -88,8 +136,7 @@ pub fn numbers_in(options: Option<&Table>) -> Result<NumberKeys, KeyFault>
     let tool_wait = number_or(default.tool_wait, option_at(options, "tool_wait"))?;
     let max_load = number_or(default.max_load, option_at(options, "max_load"))?;
     let turn_limit = number_or(default.turn_limit, option_at(options, "turn_limit"))?;
-    let notes = number_or(default.notes, option_at(options, "notes"))?;
-    let note_every = number_or(default.note_every, option_at(options, "note_every"))?;
+    let version_two = version_two_in(options)?;
     Ok(NumberKeys {
         chunk_size,
         dml_batch_size,
@@ -100,8 +147,7 @@ pub fn numbers_in(options: Option<&Table>) -> Result<NumberKeys, KeyFault>
         tool_wait,
         max_load,
         turn_limit,
-        notes,
-        note_every,
+        version_two,
     })
 }
 
@@ -157,6 +203,25 @@ pub fn within(low: u32, high: u32, number: i64) -> Result<u32, KeyFault>
     }
 }
 
+/// The numbers that version 2 has besides, where each is in its range.
+#[tactic(auto, unfolding(crate::specs::Options::version_two_within))]
+fn version_two_within(numbers: VersionTwoKeys) -> Result<VersionTwoNumbers, KeyFault>
+    ensures { Answers (λ numbers. numbers) result (version_two_within numbers) }
+{
+    let notes = within(0, 1_000, numbers.notes)?;
+    let note_every = within(1, 100_000, numbers.note_every)?;
+    let replica_step = within(0, 1_000, numbers.replica_step)?;
+    let replica_pause = within(1, 1_000, numbers.replica_pause)?;
+    let max_lag = within(1, 1_000, numbers.max_lag)?;
+    Ok(VersionTwoNumbers {
+        notes,
+        note_every,
+        replica_step,
+        replica_pause,
+        max_lag,
+    })
+}
+
 /// The options, where each number is in its range.
 #[tactic(auto, unfolding(crate::specs::Options::options_within))]
 pub fn options_within(numbers: NumberKeys, truths: TruthKeys) -> Result<Options, KeyFault>
@@ -171,8 +236,7 @@ pub fn options_within(numbers: NumberKeys, truths: TruthKeys) -> Result<Options,
     let tool_wait = within(1, 100_000, numbers.tool_wait)?;
     let max_load = within(0, 64, numbers.max_load)?;
     let turn_limit = within(1, 1_000_000, numbers.turn_limit)?;
-    let notes = within(0, 1_000, numbers.notes)?;
-    let note_every = within(1, 100_000, numbers.note_every)?;
+    let version_two = version_two_within(numbers.version_two)?;
     Ok(Options {
         chunk_size,
         dml_batch_size,
@@ -183,8 +247,11 @@ pub fn options_within(numbers: NumberKeys, truths: TruthKeys) -> Result<Options,
         tool_wait,
         max_load,
         turn_limit,
-        notes,
-        note_every,
+        notes: version_two.notes,
+        note_every: version_two.note_every,
+        replica_step: version_two.replica_step,
+        replica_pause: version_two.replica_pause,
+        max_lag: version_two.max_lag,
         approve_renamed_columns: truths.approve_renamed_columns,
         initially_drop_ghost_table: truths.initially_drop_ghost_table,
         initially_drop_old_table: truths.initially_drop_old_table,

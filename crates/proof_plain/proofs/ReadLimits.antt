@@ -26,7 +26,7 @@ use Rattle.plan_keys.specs.declared.limits.TheConstants.{TABLE_LIMIT, ROW_LIMIT,
 use Rattle.plan_keys.specs.declared.options.NumberKeys.{NumberKeys}
 use Rattle.plan_keys.specs.declared.options.TruthKeys.{TruthKeys}
 use Rattle.plan_keys.specs.Limits.{TableData, TextData, has_too_many, row_count}
-use Rattle.plan_keys.specs.Options.{within, options_within}
+use Rattle.plan_keys.specs.Options.{within, version_two_within, options_within}
 use Rattle.plan_keys.specs.PlanKeys.{KeyData, TypedData, typed_of, in_range, few, keys_of}
 use Rattle.plan_reader.specs.declared.plan_tables.fault.TableRefusal.{TableRefusal}
 use Rattle.plan_reader.specs.Plans.{read}
@@ -66,9 +66,8 @@ small numbers truths options is =
     let tool = bind_ok (within 1 100000 numbers.tool_wait) _ options client.2 in
     let load = bind_ok (within 0 64 numbers.max_load) _ options tool.2 in
     let turns = bind_ok (within 1 1000000 numbers.turn_limit) _ options load.2 in
-    let notes = bind_ok (within 0 1000 numbers.notes) _ options turns.2 in
-    let every = bind_ok (within 1 100000 numbers.note_every) _ options notes.2 in
-    subst AreSmall (ok_is {C = KeyRefusal} _ options every.2) (record {
+    let second = bind_ok (version_two_within numbers.version_two) _ options turns.2 in
+    subst AreSmall (ok_is {C = KeyRefusal} _ options second.2) (record {
       client = within_most 1 100000 client.0 numbers.client_wait client.1;
       tool = within_most 1 100000 tool.0 numbers.tool_wait tool.1;
       turns = within_most 1 1000000 turns.0 numbers.turn_limit turns.1;

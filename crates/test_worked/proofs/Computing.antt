@@ -93,6 +93,7 @@ use Rattle.tool_changelog.specs.Heartbeats as x56
 use Rattle.tool_changelog.specs.Checkpoints as x57
 use Rattle.tool_program.specs.NoteWriter.Notes as x58
 use Rattle.base_values.specs.Literals as x59
+use Rattle.tool_program.specs.Feeds as x60
 
 -- WHAT IS ASKED
 
@@ -296,5 +297,5 @@ pub record IsServed (limits : Limits) (tables : Database) (entries : List Entry)
 
 -- *Computing*: what a proof by computing opens, which is every definition.
 unfoldable pub computing : Bool
-unfolding xf.digits x0.compare_values x1.has x1.meets x2.half x2.text_number x2.character_count x2.in_range x2.text_within x2.bytes_within x2.stores x2.seeks x2.fits x3.clustered_among x4.same_name x5.key_of x5.has_key x5.with_row x6.converted_row_from x6.converted_rows x7.step x7.steps x7.same_columns x7.map_of x7.altered x8.added x8.dropped x8.renamed_in x8.renamed x8.changed x9.column_place x9.column_named x9.is_in_keys x9.is_in_primary x9.column_position_place x9.column_of x10.key_names x10.first_column x10.indexed x10.index_place x10.unindexed x11.place_after x11.index_after x12.places_from x12.with_columns x12.put_in x12.taken_out x12.moved_to x13.conflict x13.refusal x13.blocker_of_lock x13.blocker_of_set x14.holds x14.least_holder x14.least_waiter x14.place_of x14.blocker_of_name x14.blocker_of_names x14.holder_of x15.rename_tables x16.declared_column x16.declared_columns x16.schema_of x16.declared x17.defaults_fit xn.is_among xn.differ_from xn.place_of xn.places_of xn.spelled xn.numbered xn.first_free xn.first_column x18.named_keys x19.is_name_length x20.primary_item_at x20.after_key_word x20.item_at x20.items_at x20.table_at x20.written x21.lines_run x21.alone x22.places_named x22.are_distinct x22.beside x22.row_from x22.new_row x22.wanted_each x22.reach_equal x22.reach_range x22.reach_of x22.sets_from x22.work_of x23.chunk_end x23.span_keys x24.answer_at x25.operation_result x25.operation_needs x25.after_events x26.points_from x26.needs x27.lies_under x27.stands x27.change_rows x27.change_all x28.with_sets x28.updates x28.tells x29.did x29.calls x29.polls x29.loses x30.read_from x30.events_read x30.tables_shown x30.distinct x30.waits_shown x31.with_session x31.unread x32.hint_row x33.ghost_name x33.log_name x33.old_name x34.sentry_comment x34.sentry_schema x34.log_schema x35.next x35.took x35.progress x36.planned x36.next x36.took x36.progress x37.next x38.took x38.applier_turn x38.reverted x38.progress x39.altered_table x40.measures x40.bound_of x41.client_at x41.client_asks x41.all_over x42.request_waiting x42.history x42.replies_of x43.opens_if x43.state_after x43.inner_answer x44.words_of x44.cut_among x44.struck_among x45.new_schema x45.new_map x46.altered_database x46.tables_left x47.live_session x47.sessions_named x48.waited_for x49.copied_at x50.clients_from x50.actors x50.words_in x50.first_ready x50.chosen x50.queue_at x50.next_actor x50.owned_from x50.following x50.last_taken x50.worker_actor x51.given x52.took x52.moment x53.has_ended x22.value_set x22.value_given x22.draws x31.counters_renamed x54.counted x55.offered_in x53.verdict_of x56.heartbeat_row x57.checkpoint_row x58.next x58.noted x58.notes_of x59.printed x59.listed x59.printed_row
+unfolding xf.digits x0.compare_values x1.has x1.meets x2.half x2.text_number x2.character_count x2.in_range x2.text_within x2.bytes_within x2.stores x2.seeks x2.fits x3.clustered_among x4.same_name x5.key_of x5.has_key x5.with_row x6.converted_row_from x6.converted_rows x7.step x7.steps x7.same_columns x7.map_of x7.altered x8.added x8.dropped x8.renamed_in x8.renamed x8.changed x9.column_place x9.column_named x9.is_in_keys x9.is_in_primary x9.column_position_place x9.column_of x10.key_names x10.first_column x10.indexed x10.index_place x10.unindexed x11.place_after x11.index_after x12.places_from x12.with_columns x12.put_in x12.taken_out x12.moved_to x13.conflict x13.refusal x13.blocker_of_lock x13.blocker_of_set x14.holds x14.least_holder x14.least_waiter x14.place_of x14.blocker_of_name x14.blocker_of_names x14.holder_of x15.rename_tables x16.declared_column x16.declared_columns x16.schema_of x16.declared x17.defaults_fit xn.is_among xn.differ_from xn.place_of xn.places_of xn.spelled xn.numbered xn.first_free xn.first_column x18.named_keys x19.is_name_length x20.primary_item_at x20.after_key_word x20.item_at x20.items_at x20.table_at x20.written x21.lines_run x21.alone x22.places_named x22.are_distinct x22.beside x22.row_from x22.new_row x22.wanted_each x22.reach_equal x22.reach_range x22.reach_of x22.sets_from x22.work_of x23.chunk_end x23.span_keys x24.answer_at x25.operation_result x25.operation_needs x25.after_events x26.points_from x26.needs x27.lies_under x27.stands x27.change_rows x27.change_all x28.with_sets x28.updates x28.tells x29.did x29.calls x29.polls x29.loses x30.read_from x30.events_read x30.tables_shown x30.distinct x30.waits_shown x31.with_session x31.unread x32.hint_row x33.ghost_name x33.log_name x33.old_name x34.sentry_comment x34.sentry_schema x34.log_schema x35.next x35.took x35.progress x36.planned x36.next x36.took x36.progress x37.next x38.took x38.applier_turn x38.reverted x38.progress x39.altered_table x40.measures x40.bound_of x41.client_at x41.client_asks x41.all_over x42.request_waiting x42.history x42.replies_of x43.opens_if x43.state_after x43.inner_answer x44.words_of x44.cut_among x44.struck_among x45.new_schema x45.new_map x46.altered_database x46.tables_left x47.live_session x47.sessions_named x48.waited_for x49.copied_at x50.clients_from x50.actors x50.words_in x50.first_ready x50.chosen x50.queue_at x50.next_actor x50.owned_from x50.following x50.last_taken x50.worker_actor x51.given x52.took x52.moment x53.has_ended x22.value_set x22.value_given x22.draws x31.counters_renamed x54.counted x55.offered_in x53.verdict_of x56.heartbeat_row x57.checkpoint_row x58.next x58.noted x58.notes_of x59.printed x59.listed x59.printed_row x60.events_between x60.is_held_back x50.held_behind x50.replica_length
 computing = true

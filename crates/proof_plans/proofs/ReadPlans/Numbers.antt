@@ -14,7 +14,7 @@ use Rattle.plan_keys.specs.declared.fault.KeyRefusal.TheVariants.{UnknownKey, Mi
 use Rattle.plan_keys.specs.declared.options.NumberKeys.{NumberKeys}
 use Rattle.plan_keys.specs.declared.options.TruthKeys.{TruthKeys}
 use Rattle.plan_keys.specs.Limits.{has_too_many}
-use Rattle.plan_keys.specs.Options.{within, options_within}
+use Rattle.plan_keys.specs.Options.{within, version_two_within, options_within}
 use Rattle.plan_keys.specs.PlanKeys.{KeyData, TypedData, typed_of, in_range, few, keys_of}
 use Rattle.base_values.specs.SchemaRules.Results.{◌>>=◌}
 use Rattle.toml.specs.Data.{Members}
@@ -88,9 +88,8 @@ ranged numbers truths options is =
     let tool = bind_ok (within 1 100000 numbers.tool_wait) _ options client.2 in
     let load = bind_ok (within 0 64 numbers.max_load) _ options tool.2 in
     let turns = bind_ok (within 1 1000000 numbers.turn_limit) _ options load.2 in
-    let notes = bind_ok (within 0 1000 numbers.notes) _ options turns.2 in
-    let every = bind_ok (within 1 100000 numbers.note_every) _ options notes.2 in
-    subst AreRanged (ok_is {C = KeyRefusal} _ options every.2)
+    let second = bind_ok (version_two_within numbers.version_two) _ options turns.2 in
+    subst AreRanged (ok_is {C = KeyRefusal} _ options second.2)
     (record { chunk = within_is 1 100000 chunk.0 numbers.chunk_size chunk.1; batch = within_is 1 1000 batch.0 numbers.dml_batch_size batch.1; drain = within_is 1 100000 drain.0 numbers.drain_limit drain.1 })
 
 typed_ranged : (typed : TypedData) (keys : KeyData) → in_range typed ≡ Ok keys → AreRanged keys.options

@@ -5,7 +5,8 @@ use Rattle.plan_data.specs.PlanData.{PlanData}
 use Rattle.plan_reader.specs.Plans.{read}
 
 -- a client's wait and one of the tool's are polled once at least, a run has one turn at least, a task is tried from once to a
--- thousand times, and there are at most a thousand notes, with 1 to 100,000 turns between two
+-- thousand times, there are at most a thousand notes, with 1 to 100,000 turns between two, and a replica comes on after one turn
+-- at least
 pub record IsAllowed (options : Options) : Type 0 where
   pub client : 1 ≤ options.client_wait
   pub tool : 1 ≤ options.tool_wait
@@ -15,6 +16,7 @@ pub record IsAllowed (options : Options) : Type 0 where
   pub notes : options.notes ≤ 1000
   pub between : 1 ≤ options.note_every
   pub near : options.note_every ≤ 100000
+  pub pause : 1 ≤ options.replica_pause
 
 -- *Read options allow* that much.
 abbrev pub ReadOptionsAllow : Type 0

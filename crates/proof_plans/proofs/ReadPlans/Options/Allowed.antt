@@ -1,5 +1,5 @@
 -- A plan that is read lets a session wait once at least, allows one turn at least, lets a task be tried from once to a thousand
--- times, and asks for at most a thousand notes, with 1 to 100,000 turns between two.
+-- times, asks for at most a thousand notes, with 1 to 100,000 turns between two, and lets a replica come on after one turn at least.
 use Rattle.std.proofs.Common.{◌≡◌, ◌≤◌, ℕ, Bool, true, false, not, ◌||◌, cond, List, length, Result, Ok, Err, refl, subst, arith}
 use Rattle.std.specs.Prelude.{ℤ, pos, negsuc, int_lt, nat_lt}
 use Rattle.std.proofs.lemmas.Bool.{or_parts}
@@ -13,9 +13,11 @@ use Rattle.plan_keys.specs.declared.fault.KeyRefusal.{KeyRefusal}
 use Rattle.plan_keys.specs.declared.fault.KeyRefusal.TheVariants as keys
 use Rattle.plan_keys.specs.declared.options.NumberKeys.{NumberKeys}
 use Rattle.plan_keys.specs.declared.options.TruthKeys.{TruthKeys}
+use Rattle.plan_keys.specs.declared.options.VersionTwoKeys.{VersionTwoKeys}
+use Rattle.plan_keys.specs.declared.options.VersionTwoNumbers.{VersionTwoNumbers}
 use Rattle.plan_keys.specs.Known.{knows_keys, has_needed_keys}
 use Rattle.plan_keys.specs.Limits.{has_too_many}
-use Rattle.plan_keys.specs.Options.{within, options_within}
+use Rattle.plan_keys.specs.Options.{within, version_two_within, options_within}
 use Rattle.plan_keys.specs.PlanKeys.{KeyData, TypedData, typed_of, in_range, few, keys_of}
 use Rattle.plan_reader.specs.declared.limits.TheConstants.{PLAN_LIMIT}
 use Rattle.plan_reader.specs.declared.fault.PlanRefusal.{PlanRefusal}
@@ -44,6 +46,28 @@ most low high n (pos m) is =
     subst (λ (k : ℕ). k ≤ high) kept.1 (grind (arith, nat_tests, parts))
 most low high n (negsuc m) is = absurd cc
 
+-- what is allowed of the numbers that version 2 has besides
+record SecondAllowed (numbers : VersionTwoNumbers) : Type 0 where
+  pub notes : numbers.notes ≤ 1000
+  pub between : 1 ≤ numbers.note_every
+  pub near : numbers.note_every ≤ 100000
+  pub pause : 1 ≤ numbers.replica_pause
+
+second_allowed : (written : VersionTwoKeys) (numbers : VersionTwoNumbers) → version_two_within written ≡ Ok numbers → SecondAllowed numbers
+unfolding version_two_within
+second_allowed written numbers is =
+    let notes = bind_ok (within 0 1000 written.notes) _ numbers is in
+    let between = bind_ok (within 1 100000 written.note_every) _ numbers notes.2 in
+    let step = bind_ok (within 0 1000 written.replica_step) _ numbers between.2 in
+    let pause = bind_ok (within 1 1000 written.replica_pause) _ numbers step.2 in
+    let lag = bind_ok (within 1 1000 written.max_lag) _ numbers pause.2 in
+    subst SecondAllowed (ok_is {C = KeyRefusal} _ numbers lag.2) (record {
+      notes = most 0 1000 notes.0 written.notes notes.1;
+      between = once 100000 between.0 written.note_every between.1;
+      near = most 1 100000 between.0 written.note_every between.1;
+      pause = once 1000 pause.0 written.replica_pause pause.1;
+    })
+
 allowed_within : (numbers : NumberKeys) (truths : TruthKeys) (options : Options) → options_within numbers truths ≡ Ok options → IsAllowed options
 unfolding options_within
 allowed_within numbers truths options is =
@@ -56,17 +80,18 @@ allowed_within numbers truths options is =
     let of_tool = bind_ok (within 1 100000 numbers.tool_wait) _ options of_client.2 in
     let busy = bind_ok (within 0 64 numbers.max_load) _ options of_tool.2 in
     let turns = bind_ok (within 1 1000000 numbers.turn_limit) _ options busy.2 in
-    let notes = bind_ok (within 0 1000 numbers.notes) _ options turns.2 in
-    let between = bind_ok (within 1 100000 numbers.note_every) _ options notes.2 in
-    subst IsAllowed (ok_is {C = KeyRefusal} _ options between.2) (record {
+    let second = bind_ok (version_two_within numbers.version_two) _ options turns.2 in
+    let more = second_allowed numbers.version_two second.0 second.1 in
+    subst IsAllowed (ok_is {C = KeyRefusal} _ options second.2) (record {
       client = once 100000 of_client.0 numbers.client_wait of_client.1;
       tool = once 100000 of_tool.0 numbers.tool_wait of_tool.1;
       turns = once 1000000 turns.0 numbers.turn_limit turns.1;
       tries = once 1000 failures.0 numbers.default_retries failures.1;
       few = most 1 1000 failures.0 numbers.default_retries failures.1;
-      notes = most 0 1000 notes.0 numbers.notes notes.1;
-      between = once 100000 between.0 numbers.note_every between.1;
-      near = most 1 100000 between.0 numbers.note_every between.1;
+      notes = more.notes;
+      between = more.between;
+      near = more.near;
+      pause = more.pause;
     })
 
 allowed_in : (typed : TypedData) (found : KeyData) → in_range typed ≡ Ok found → IsAllowed found.options
