@@ -1,6 +1,7 @@
 //! While a run hasn't ended some actor is ready.
 
-ghost use Rattle.proof_migration.specs.ToolPhase.Ready.{SomeoneIsReady, ReadyRunsGoOn};
+ghost use Rattle.proof_feeds.specs.Laws.{ReadyRunsGoOn};
+ghost use Rattle.proof_migration.specs.ToolPhase.Ready.{SomeoneIsReady};
 ghost use Rattle.proof_migration.specs.Going.{SomeoneGoes};
 
 use crate::server_turns::entries_are_turns;

@@ -11,6 +11,7 @@ use Rattle.plan_data.specs.PlanData.{PlanData}
 use Rattle.tool_program.specs.JournalWords.Sessions.{live_session}
 use Rattle.tool_program.specs.Tools.{ToolPhase, SettingUp, Migrating, Tool, is_reverting, moment}
 use Rattle.tool_program.specs.Programs.{waits, in_transaction, rolls_back, copy_call, tool_call, calls, tool_asks, commands, given}
+use Rattle.tool_state.specs.Feeds.{read_in, starts}
 use Rattle.proof_journals.specs.Run.Counts.{numbered, IsAfter}
 
 pub waits_same : (made : ℕ) (state : State) (session : Option ℕ) → waits (numbered made state) session ≡ waits state session
@@ -56,3 +57,19 @@ asks_is plan journal state tool actor following is =
 pub command_left : (word : Option OperatorWord) → is_some word ≡ is_some (commands word)
 command_left None = refl
 command_left (Some word) = refl
+
+-- what the applier is given is what the tool asks of it
+pub given_reads : (plan : PlanData) (journal : List Entry) → read_in (tool_asks plan journal (moment plan journal) Apply) ≡ read_in (given plan journal Apply)
+unfolding given
+given_reads plan journal = refl
+
+-- and so it is of each actor that begins something
+pub given_starts : (plan : PlanData) (journal : List Entry) (actor : Actor) → starts actor (tool_asks plan journal (moment plan journal) actor) ≡ starts actor (given plan journal actor)
+unfolding given
+given_starts plan journal Op = refl
+given_starts plan journal Insp = refl
+given_starts plan journal Copy = refl
+given_starts plan journal Apply = refl
+given_starts plan journal Lock = refl
+given_starts plan journal Ren = refl
+given_starts plan journal (Client client) = refl

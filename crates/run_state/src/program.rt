@@ -1,6 +1,7 @@
 //! What the actors ask next, and when the run is over.
 
 ghost use Rattle.std.specs.Prelude.{◌≡◌, false, is_some, slice_get, IfOk, OnErr};
+ghost use Rattle.base_script.specs.declared.actor.Actor.TheVariants.{Apply};
 ghost use Rattle.plan_data.specs.PlanData.{PlanData};
 ghost use Rattle.tool_program.specs.FreeCalls.{is_freely_asked};
 ghost use Rattle.tool_program.specs.JournalWords.KeptPlans.{words_of};
@@ -10,6 +11,7 @@ ghost use Rattle.tool_program.specs.Programs.{tool_asks, commands, given};
 ghost use Rattle.tool_program.specs.Orders.{is_ready};
 ghost use Rattle.tool_program.specs.Verdicts.{is_over, has_ended, verdict_of};
 ghost use Rattle.proof_journals.specs.Run.Counts.{IsAfter};
+ghost use Rattle.tool_state.specs.Feeds.{read_in, starts};
 ghost use Rattle.tool_state.specs.ToolState.Meanings.{tool_of};
 ghost use Rattle.tool_state.specs.Verdicts.{verdict_meant};
 ghost use Rattle.run_state.specs.Books.{IsRunState};
@@ -19,7 +21,7 @@ use base_script::Actor;
 use server_api::Serve;
 use server_model::Asked;
 use std::alloc::{AllocError, Global};
-use tool_state::{ToolView, VerdictView, commands, is_over, verdict};
+use tool_state::{LogRead, ToolView, VerdictView, commands, is_over, verdict};
 
 impl RunState<'_> {
     /// What an actor of the tool but the operator asks next.
@@ -62,6 +64,42 @@ impl RunState<'_> {
             notes: self.notes,
         };
         tool_view.is_ready(actor, self.session(actor))
+    }
+
+    /// The read of the log that the applier asks next; none where it asks something else, or nothing.
+    pub fn reading<V: Serve>(&self, server: &V) -> Option<LogRead>
+        requires run_state { IsRunState self.now.plan.now self.now.journal.items self.now }
+        requires state { IsAfter (moment self.now.plan.now self.now.journal.items).server (V.state server.now) }
+        ensures { result ≡ read_in (given self.now.plan.now self.now.journal.items Apply) }
+    {
+        let tool_view = ToolView {
+            plan: self.plan,
+            journal: self.journal.as_slice(),
+            tool: &self.tool,
+            server,
+            names: &self.names,
+            load: self.load,
+            notes: self.notes,
+        };
+        tool_view.reading(self.session(Actor::Apply))
+    }
+
+    /// Whether the actor's next call begins a chunk, or an attempt to cut over.
+    pub fn starting<V: Serve>(&self, server: &V, actor: Actor) -> bool
+        requires run_state { IsRunState self.now.plan.now self.now.journal.items self.now }
+        requires state { IsAfter (moment self.now.plan.now self.now.journal.items).server (V.state server.now) }
+        ensures { result ≡ starts actor (given self.now.plan.now self.now.journal.items actor) }
+    {
+        let tool_view = ToolView {
+            plan: self.plan,
+            journal: self.journal.as_slice(),
+            tool: &self.tool,
+            server,
+            names: &self.names,
+            load: self.load,
+            notes: self.notes,
+        };
+        tool_view.starting(actor, self.session(actor))
     }
 
     /// What the actor asks next; none where it isn't ready. Calls alone take memory, but for COMMIT, ROLLBACK and UNLOCK TABLES.

@@ -2,13 +2,15 @@
 
 ghost use Rattle.std.specs.Prelude.{◌≡◌, ◌≤◌, ◌+◌, ◌<◌, ◌^◌, [], length, is_some, true, false, IfOk, OnOk, OnErr};
 ghost use Rattle.std.specs.List.{list_any};
+ghost use Rattle.base_script.specs.declared.actor.Actor.TheVariants.{Apply};
 ghost use Rattle.tool_program.specs.JournalWords.Histories.{history, is_alter};
 ghost use Rattle.tool_program.specs.JournalWords.Journals.{opening, state_at, IsFaithful};
 ghost use Rattle.tool_program.specs.JournalWords.KeptPlans.{cut_due, KeepsPlan};
 ghost use Rattle.tool_program.specs.JournalWords.Sessions.{live_session, KeepsSessions};
 ghost use Rattle.tool_program.specs.Orders.{is_ready};
-ghost use Rattle.tool_program.specs.Programs.{waits, Follows};
+ghost use Rattle.tool_program.specs.Programs.{given, waits, Follows};
 ghost use Rattle.tool_program.specs.Verdicts.{has_ended, verdict_of};
+ghost use Rattle.tool_state.specs.Feeds.{read_in, starts};
 ghost use Rattle.tool_state.specs.Verdicts.{verdict_meant};
 ghost use Rattle.proof_journals.specs.Machine.Runnable.{IsRunnable};
 ghost use Rattle.proof_journals.specs.Run.Counts.{IsAfter};
@@ -24,7 +26,7 @@ use server_api::Serve;
 use server_model::{Entry, Journal};
 use std::alloc::{AllocError, Global};
 use std::marker::Model;
-use tool_state::VerdictView;
+use tool_state::{LogRead, VerdictView};
 
 /// What became of a step.
 #[derive(Clone, Copy)]
@@ -87,6 +89,22 @@ impl<'a, V: Serve> Run<'a, V> {
         ensures { result ≡ is_ready self.now.plan self.now.journal actor }
     {
         self.run_state.is_ready(&self.server, actor)
+    }
+
+    /// The read of the log that the applier asks next; none where it asks something else, or nothing.
+    #[tactic(auto, using(crate::proofs::Steps::after_moment))]
+    pub fn reading(&self) -> Option<LogRead>
+        ensures { result ≡ read_in (given self.now.plan self.now.journal Apply) }
+    {
+        self.run_state.reading(&self.server)
+    }
+
+    /// Whether the actor's next call begins a chunk, or an attempt to cut over.
+    #[tactic(auto, using(crate::proofs::Steps::after_moment))]
+    pub fn starting(&self, actor: Actor) -> bool
+        ensures { result ≡ starts actor (given self.now.plan self.now.journal actor) }
+    {
+        self.run_state.starting(&self.server, actor)
     }
 
     /// Whether the actor's request waits.

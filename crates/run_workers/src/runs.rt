@@ -14,6 +14,7 @@ use crate::worker_run::{Turns, Worked};
 use base_edges::Gate;
 use run_desk::Passes;
 use run_desk::turn_queue_workers::{Ending, take_turns};
+use run_feed::FeedRun;
 use run_turns::Run;
 use server_api::Serve;
 use std::alloc::{AllocError, Global};
@@ -35,31 +36,31 @@ pub struct Ran<'a, V: Serve> {
     pub passes: Snapshot<Passes<Worked<'a, V>>>,
 }
 
-/// Lets `workers` workers take the turns of a run, each in a thread of its own, until it is over or there is no memory for a
+/// Lets `workers` workers take the turns of a run with its replica, each in a thread of its own, until it is over or there is no memory for a
 /// turn; what is left is the run, the worker of each of its turns, and the passes by which they were taken. Workers wait for
 /// each other's turns in the turn queue.
 pub fn run_by_workers<'a, V: Serve + Send, R: Threads + Wait + Sync, G: Gate + Sync>(
     rt: &R,
     alloc: Global,
-    run: Run<'a, V>,
+    feed: FeedRun<'a, V>,
     workers: u32,
     gate: &G,
 ) -> Result<Ran<'a, V>, AllocError>
     requires some { 1 ≤ workers }
     requires few { workers ≤ 16 }
-    requires going { IsGoing run.plan }
-    requires fresh { run.journal ≡ [] }
-    requires server { run.server ≡ opening run.plan }
-    ensures plan { IfOk result (λ ran. ran.run.plan ≡ run.entry.plan) }
-    ensures kept { IfOk result (λ ran. IsKept run.entry.plan ran.run.journal) }
+    requires going { IsGoing feed.plan }
+    requires fresh { feed.journal ≡ [] }
+    requires server { feed.server ≡ opening feed.plan }
+    ensures plan { IfOk result (λ ran. ran.run.plan ≡ feed.entry.plan) }
+    ensures kept { IfOk result (λ ran. IsKept feed.entry.plan ran.run.journal) }
     ensures numbered { IfOk result (λ ran. NumbersSessions ran.run.journal) }
-    ensures stops { IfOk result (λ ran. Stops run.entry.plan ran.run.journal) }
-    ensures order { IfOk result (λ ran. RunOrder run.entry.plan ran.run.journal ran.turns.items workers) }
+    ensures stops { IfOk result (λ ran. Stops feed.entry.plan ran.run.journal) }
+    ensures order { IfOk result (λ ran. RunOrder feed.entry.plan ran.run.journal ran.turns.items workers) }
     ensures passes { IfOk result (λ ran. IsByPasses ran.passes.value.items ran.run.journal ran.turns.items workers) }
-    ensures over { IfOk result (λ ran. ran.ending ≡ Over → is_over run.entry.plan ran.run.journal ≡ true) }
-    ensures server { IfOk result (λ ran. ran.ending ≡ Over → ran.run.server ≡ state_at run.entry.plan ran.run.journal) }
+    ensures over { IfOk result (λ ran. ran.ending ≡ Over → is_over feed.entry.plan ran.run.journal ≡ true) }
+    ensures server { IfOk result (λ ran. ran.ending ≡ Over → ran.run.server ≡ state_at feed.entry.plan ran.run.journal) }
 {
-    let worked = Worked::open(alloc, run, workers)?;
+    let worked = Worked::open(alloc, feed, workers)?;
     let done = take_turns(rt, alloc, worked, workers, gate)?;
     let (run, turns) = done.shared_state.stop();
     Ok(Ran {

@@ -144,6 +144,10 @@ impl<D: Data> Serve for Server<D> {
         self.all_sessions.holds_tables(session)
     }
 
+    fn log_length(&self) -> u64 {
+        self.all_sessions.log_end()
+    }
+
     fn unread(&self, position: u64, tables: &Names) -> u64 {
         self.all_sessions.unread(position, tables)
     }

@@ -1,6 +1,6 @@
 //! What the tool and the clients use of a server.
 
-ghost use Rattle.std.specs.Prelude.{◌≡◌, ◌≢◌, ◌+◌, ◌<◌, ℕ, true, Option, Some, None, IfOk, IsOk, OnOk, OnErr};
+ghost use Rattle.std.specs.Prelude.{◌≡◌, ◌≢◌, ◌+◌, ◌<◌, ℕ, length, true, Option, Some, None, IfOk, IsOk, OnOk, OnErr};
 ghost use Rattle.base_script.specs.declared.actor.Side.TheVariants.{After};
 ghost use Rattle.table_store.specs.Databases.{database};
 ghost use Rattle.server_model.specs.States.{State, connected, session_of, is_live, is_waiting, is_in_transaction, holds_tables, unread};
@@ -87,6 +87,10 @@ pub trait Serve: Drop {
     /// Whether the session holds LOCK TABLES.
     fn locked(&self, session: u32) -> bool
         ensures { result ≡ holds_tables (session_of session (state self.now).sessions) };
+
+    /// How many events the log has.
+    fn log_length(&self) -> u64
+        ensures { result ≡ length (state self.now).log };
 
     /// How many events of these tables are at the position or after it.
     fn unread(&self, position: u64, tables: &Names) -> u64

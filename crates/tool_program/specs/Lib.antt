@@ -6,6 +6,7 @@ pub mod Verdicts
 pub mod Failures
 pub mod FreeCalls
 pub mod Online
+pub mod Feeds
 pub mod Orders
 pub mod OnlineCalls
 pub mod Replay

@@ -1,7 +1,7 @@
--- *Orders of turns*: `replay` takes the plan's words, passing over those whose actor isn't ready, and then goes round the
--- actors in their fixed order; in `run` each worker has actors of its own. A loss between calls uses up no word, no place
--- in a pass and no place in a rotation. (This project's rule.)
-use Rattle.std.specs.Prelude.{◌≡◌, ◌<◌, ℕ, ◌+◌, ◌==◌, ◌%◌, Bool, true, false, ◌&&◌, not, if◌then◌else◌, List, [], ◌∷◌, ◌++◌, map, find, fold, zip, is_some, Option, Some, None}
+-- *Orders of turns*: `replay` takes the plan's words, passing over those whose actor may not go, and then goes round the
+-- actors in their fixed order; in `run` each worker has actors of its own. An actor may go where it is ready and no lagging
+-- replica holds it back. A loss between calls uses up no word, no place in a pass and no place in a rotation. (This project's rule.)
+use Rattle.std.specs.Prelude.{◌≡◌, ◌<◌, ℕ, ◌+◌, ◌==◌, ◌%◌, min, Bool, true, false, ◌&&◌, not, if◌then◌else◌, List, [], ◌∷◌, ◌++◌, length, map, find, fold, zip, is_some, Option, Some, None}
 use Rattle.std.specs.List.{flat_map, repeat, list_any}
 use Rattle.base_script.specs.declared.actor.Actor.{Actor}
 use Rattle.base_script.specs.declared.actor.Actor.TheVariants.{Op, Insp, Copy, Apply, Lock, Ren, Client}
@@ -12,10 +12,11 @@ use Rattle.server_model.specs.declared.entry.Asked.TheVariants.{Poll}
 use Rattle.server_model.specs.declared.entry.Entry.{Entry}
 use Rattle.server_model.specs.Entries.{same_actor, is_cut}
 use Rattle.plan_data.specs.PlanData.{PlanData}
-use Rattle.tool_program.specs.JournalWords.Journals.{IsFaithful}
+use Rattle.tool_program.specs.JournalWords.Journals.{IsFaithful, state_at}
 use Rattle.tool_program.specs.JournalWords.KeptPlans.{KeepsPlan}
 use Rattle.tool_program.specs.JournalWords.Sessions.{NumbersSessions}
 use Rattle.tool_program.specs.Programs.{given, Follows}
+use Rattle.tool_program.specs.Feeds.{is_held_back}
 
 -- the clients from this number on
 unfoldable pub clients_from : ℕ → List (List ScriptLine) → List Actor
@@ -37,8 +38,45 @@ is_poll asked = false
 abbrev pub is_ready_waiting : PlanData → List Entry → Actor → Bool
 is_ready_waiting plan journal actor = is_poll (given plan journal actor)
 
-abbrev pub is_ready_idle : PlanData → List Entry → Actor → Bool
-is_ready_idle plan journal actor = is_ready plan journal actor && not (is_poll (given plan journal actor))
+-- WHAT THE REPLICA HOLDS
+
+-- *May go*: something is given to the actor, and it isn't held back
+abbrev pub may_go_at : PlanData → List Entry → ℕ → Actor → Bool
+may_go_at plan journal held actor = is_ready plan journal actor && not (is_held_back plan journal held actor)
+
+-- *A catch-up is due* where some actor is ready and every ready actor is held back
+abbrev pub is_caught : PlanData → List Entry → ℕ → Bool
+is_caught plan journal held = list_any (is_ready plan journal) (actors plan) && not (list_any (may_go_at plan journal held) (actors plan))
+
+abbrev pub caught_up : PlanData → List Entry → ℕ → ℕ
+caught_up plan journal held = if is_caught plan journal held then length (state_at plan journal).log else held
+
+-- behind a turn: where its number is a multiple of the pause, so many events more, up to the log's end
+abbrev pub risen : PlanData → List Entry → ℕ → ℕ
+risen plan journal held = if length journal % plan.options.replica_pause == 0 then min (length (state_at plan journal).log) (held + plan.options.replica_step) else held
+
+-- the turns so far, and what the replica holds behind them, before a catch-up
+pub record Held : Type 0 where
+  pub before : List Entry
+  pub held : ℕ
+
+abbrev pub held_after : PlanData → Held → Entry → Held
+held_after plan now entry =
+    record { before = now.before ++ entry ∷ []; held = risen plan (now.before ++ entry ∷ []) (caught_up plan now.before now.held) }
+
+unfoldable pub held_behind : PlanData → List Entry → Held
+held_behind plan journal = fold (held_after plan) (record { before = []; held = 0 }) journal
+
+-- *What the replica holds* behind a journal, and behind the catch-up where one is due
+unfoldable pub replica_length : PlanData → List Entry → ℕ
+replica_length plan journal = caught_up plan journal (held_behind plan journal).held
+
+-- *May go*, judged behind the catch-up
+abbrev pub may_go : PlanData → List Entry → Actor → Bool
+may_go plan journal actor = may_go_at plan journal (replica_length plan journal) actor
+
+abbrev pub may_go_idle : PlanData → List Entry → Actor → Bool
+may_go_idle plan journal actor = may_go plan journal actor && not (is_poll (given plan journal actor))
 
 -- REPLAY
 
@@ -78,9 +116,9 @@ abbrev pub from_words : (Actor → Bool) → List Actor → Queue → Option Fou
 from_words ready all queue None = from_round ready all (first_ready ready queue.round)
 from_words ready all queue (Some found) = Some (record { actor = found.actor; queue = record { words = found.following; round = queue.round } })
 
--- the next actor: that of the first word whose actor is ready; else the first ready one of the pass, else of the next pass
+-- the next actor: that of the first word whose actor may go; else the first one of the pass that may, else of the next pass
 unfoldable pub chosen : PlanData → List Entry → Queue → Option Choice
-chosen plan before queue = from_words (is_ready plan before) (actors plan) queue (first_ready (is_ready plan before) queue.words)
+chosen plan before queue = from_words (may_go plan before) (actors plan) queue (first_ready (may_go plan before) queue.words)
 
 -- the turns so far, and what is left after them
 pub record Walk : Type 0 where
@@ -168,12 +206,12 @@ abbrev pub or_else : Option Actor → Option Actor → Option Actor
 or_else None other = other
 or_else (Some actor) other = Some actor
 
--- the first of these that is there: the worker's next ready actor in rotation; the first ready actor of others that
--- doesn't wait; the first waiting actor of others
+-- the first of these that is there: the worker's next actor in rotation that may go; the first actor of others that may and
+-- doesn't wait; the first waiting actor of others, which no replica holds back
 abbrev pub picked : PlanData → List Entry → List Actor → Option Actor → Option Actor
 picked plan before own last =
-    or_else (find (is_ready plan before) (after_last last own ++ own))
-    (or_else (find (λ actor. not (is_among actor own) && is_ready_idle plan before actor) (actors plan))
+    or_else (find (may_go plan before) (after_last last own ++ own))
+    (or_else (find (λ actor. not (is_among actor own) && may_go_idle plan before actor) (actors plan))
     (find (λ actor. not (is_among actor own) && is_ready_waiting plan before actor) (actors plan)))
 
 -- *A worker's actor* after these turns

@@ -1,3 +1,4 @@
 pub mod Seen
+pub mod Feeds
 pub mod ToolState
 pub mod Verdicts

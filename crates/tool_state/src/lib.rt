@@ -5,6 +5,8 @@
 mod calls;
 mod causes;
 mod ending;
+mod feed;
+mod log_read;
 mod note_calls;
 mod ready;
 mod short_checkpoints;
@@ -15,5 +17,6 @@ mod verdict_view;
 pub use calls::commands;
 pub use causes::verdict;
 pub use ending::is_over;
+pub use log_read::LogRead;
 pub use tool_view::ToolView;
 pub use verdict_view::{CauseView, KeyView, VerdictView};

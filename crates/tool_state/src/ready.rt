@@ -13,7 +13,7 @@ use server_api::Serve;
 use tool_program::cutover_core::Role;
 
 impl<'a, V: Serve> ToolView<'a, V> {
-    fn has_copy_call(&self) -> bool
+    pub(crate) fn has_copy_call(&self) -> bool
         requires { IsSeen (V.state self.now.server.now) self.now.tool.now self.now.names.now self.now.load }
         ensures { result ≡ is_some (copy_call self.now.plan.now (V.state self.now.server.now) self.now.journal.now (tool_of self.now.tool.now) (work_of self.now.tool.now.work)) }
     {
@@ -35,7 +35,7 @@ impl<'a, V: Serve> ToolView<'a, V> {
         !work.applier.starts() || self.may_read()
     }
 
-    fn has_lock_call(&self) -> bool
+    pub(crate) fn has_lock_call(&self) -> bool
         requires { IsSeen (V.state self.now.server.now) self.now.tool.now self.now.names.now self.now.load }
         ensures { result ≡ is_some (lock_call self.now.plan.now (V.state self.now.server.now) (tool_of self.now.tool.now) (work_of self.now.tool.now.work)) }
     {

@@ -2,3 +2,4 @@
 pub mod Programs
 pub mod Verdicts
 pub mod Orders
+pub mod Replicas

@@ -11,6 +11,7 @@ use Rattle.tool_program.specs.JournalWords.Sessions.{NumbersSessions}
 use Rattle.tool_program.specs.Orders.{IsReplay}
 use Rattle.tool_program.specs.Verdicts.{verdict_of}
 use Rattle.proof_journals.specs.Run.Kept.{IsKept}
+use Rattle.proof_feeds.specs.Laws.{TurnsMayGo}
 use Rattle.run_turns.specs.Runs.{is_over, Stops}
 use Rattle.top_report.specs.Reports.{report}
 use Rattle.top_report.specs.Turns.{turns_taken}
@@ -29,13 +30,14 @@ pub record IsReplayed (plan : PlanData) (runs : List ActorRun) (journal : List E
   pub tables_are : (state_at (ordered plan runs) journal).tables ≡ (state_at plan journal).tables
   pub report_is : (verdict : Verdict) (tables : Database) → report (ordered plan runs) journal verdict tables ≡ report plan journal verdict tables
 
--- *Printed orders replay*: where sessions are numbered one by one, a journal that is kept is replayed in an order that has its turns,
+-- *Printed orders replay*: where sessions are numbered one by one, and no turn is of an actor that a replica holds back, as in each
+-- replay and each run by workers, a journal that is kept is replayed in an order that has its turns,
 -- losses between calls aside, as the order that its report prints has.
 abbrev pub PrintedOrdersReplay : Type 0
-PrintedOrdersReplay = (plan : PlanData) (journal : List Entry) (runs : List ActorRun) → IsKept plan journal → NumbersSessions journal → turns_in runs ≡ turns_taken journal → IsReplayed plan runs journal
+PrintedOrdersReplay = (plan : PlanData) (journal : List Entry) (runs : List ActorRun) → IsKept plan journal → NumbersSessions journal → TurnsMayGo plan journal → turns_in runs ≡ turns_taken journal → IsReplayed plan runs journal
 
 -- *And so only*: where the run is over, each replay of the plan with that order that goes on until it is over is its journal.
 abbrev pub PrintedOrdersReplayOnly : Type 0
 PrintedOrdersReplayOnly =
-    (plan : PlanData) (journal : List Entry) (runs : List ActorRun) → IsKept plan journal → NumbersSessions journal → turns_in runs ≡ turns_taken journal → Stops plan journal → is_over plan journal ≡ true
+    (plan : PlanData) (journal : List Entry) (runs : List ActorRun) → IsKept plan journal → NumbersSessions journal → TurnsMayGo plan journal → turns_in runs ≡ turns_taken journal → Stops plan journal → is_over plan journal ≡ true
     → (other : List Entry) → IsReplay (ordered plan runs) other → Stops (ordered plan runs) other → is_over (ordered plan runs) other ≡ true → other ≡ journal

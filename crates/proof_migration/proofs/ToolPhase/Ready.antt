@@ -2,5 +2,4 @@
 pub mod Ends
 pub mod Going
 pub mod Idle
-pub mod Orders
 pub mod Actors

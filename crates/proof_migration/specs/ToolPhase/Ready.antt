@@ -1,7 +1,6 @@
 -- When an actor is ready.
-use Rattle.std.specs.Prelude.{◌≡◌, ◌⊎◌, Bool, true, false, List, [], ◌∷◌, Some}
+use Rattle.std.specs.Prelude.{◌≡◌, ◌⊎◌, Bool, true, false, List, [], ◌∷◌}
 use Rattle.std.specs.List.{AllByRecursion, list_any}
-use Rattle.base_script.specs.declared.actor.Actor.{Actor}
 use Rattle.base_script.specs.declared.script.ScriptLine.{ScriptLine}
 use Rattle.server_model.specs.declared.entry.Entry.{Entry}
 use Rattle.plan_data.specs.PlanData.{PlanData}
@@ -11,7 +10,7 @@ use Rattle.tool_program.specs.declared.cutover_core.cutover.Hold.TheVariants.{No
 use Rattle.tool_program.specs.declared.cutover_core.cutover.Phase.{Phase}
 use Rattle.tool_program.specs.declared.cutover_core.cutover.Phase.TheVariants.{Attempting}
 use Rattle.tool_program.specs.declared.cutover_core.cutover.Stage.TheVariants.{Guarding, Draining, Exchanging}
-use Rattle.tool_program.specs.Orders.{actors, is_ready, next_actor}
+use Rattle.tool_program.specs.Orders.{actors, is_ready}
 use Rattle.tool_program.specs.Programs.{may_read, Follows}
 use Rattle.tool_program.specs.Tools.{Work, ToolPhase, SettingUp, Migrating, Moment, moment}
 use Rattle.tool_program.specs.Verdicts.{has_ended}
@@ -46,7 +45,3 @@ abbrev pub SomeoneIsReady : Type 0
 SomeoneIsReady =
     (plan : PlanData) (journal : List Entry) → IsFitting plan → TableExists plan → ScriptsEnd plan → IsFaithful plan journal → Follows plan journal → has_ended plan journal ≡ false
     → (list_any (is_ready plan journal) (actors plan) ≡ true) ⊎ IsStuck plan (moment plan journal) (moment plan journal).tool.tool_phase
-
--- *Ready runs go on*: where some actor is ready, a replay has a next one.
-abbrev pub ReadyRunsGoOn : Type 0
-ReadyRunsGoOn = (plan : PlanData) (journal : List Entry) → list_any (is_ready plan journal) (actors plan) ≡ true → (actor : Actor) × (next_actor plan journal ≡ Some actor)

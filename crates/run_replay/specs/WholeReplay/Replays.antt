@@ -1,5 +1,5 @@
 -- *Replaying*: a run whose turns so far are a replay's, with what is left of the order. (This project's rule.)
-use Rattle.std.specs.Prelude.{◌≡◌, ℕ, ◌+◌, true, false, List, [], ◌∷◌, ◌++◌, length, None}
+use Rattle.std.specs.Prelude.{◌≡◌, ◌+◌, true, List, [], ◌∷◌, ◌++◌, length, None}
 use Rattle.server_model.specs.declared.entry.Entry.{Entry}
 use Rattle.plan_data.specs.PlanData.{PlanData}
 use Rattle.tool_program.specs.JournalWords.Journals.{opening, state_at}
@@ -27,7 +27,7 @@ pub record IsReplaying (run : RunView) (place : OrderPlace) : Type 0 where
   pub server : run.server ≡ state_at run.plan run.journal
   pub queue : queue_of run.plan place ≡ queue_at run.plan run.journal
 
--- *Stalled*: nobody is ready, and no loss between calls is due
+-- *Stalled*: nobody may go, and no loss between calls is due
 pub record IsStalled (plan : PlanData) (journal : List Entry) : Type 0 where
   pub uncut : cut_due plan journal ≡ None
   pub nobody : next_actor plan journal ≡ None

@@ -7,20 +7,20 @@ ghost use Rattle.run_replay.specs.WholeReplay.Places.{queue_of, choice_of};
 use crate::whole_replay::passes::next_in_pass;
 use crate::whole_replay::place::{NextTurn, OrderPlace};
 use crate::whole_replay::words::next_word;
-use run_turns::Run;
+use run_feed::FeedRun;
 use server_api::Serve;
 
-/// The actor whose turn comes next: that of the first word whose actor is ready; else the first ready one of the pass, else of
+/// The actor whose turn comes next: that of the first word whose actor may go; else the first one of the pass that may, else of
 /// the next pass.
 #[tactic(auto, using(crate::proofs::WholeReplay::Choices::by_words, crate::proofs::WholeReplay::Choices::by_round, crate::proofs::WholeReplay::Choices::by_pass))]
-pub(crate) fn choose<V: Serve>(run: &Run<'_, V>, place: OrderPlace) -> Option<NextTurn>
-    ensures { option_map (choice_of run.now.plan) result ≡ chosen run.now.plan run.now.journal (queue_of run.now.plan place) }
+pub(crate) fn choose<V: Serve>(feed: &FeedRun<'_, V>, place: OrderPlace) -> Option<NextTurn>
+    ensures { option_map (choice_of feed.now.plan) result ≡ chosen feed.now.plan feed.now.journal (queue_of feed.now.plan place) }
 {
-    if let Some(next) = next_word(run, place) {
+    if let Some(next) = next_word(feed, place) {
         return Some(next);
     }
-    if let Some(next) = next_in_pass(run, place.actor) {
+    if let Some(next) = next_in_pass(feed, place.actor) {
         return Some(next);
     }
-    next_in_pass(run, 0)
+    next_in_pass(feed, 0)
 }

@@ -10,10 +10,10 @@ ghost use Rattle.run_replay.specs.WholeReplay.Marks.{counted, logged_at_mark};
 ghost use Rattle.run_replay.specs.WholeReplay.Replays.{IsFresh, IsReplaying, Passes, IsStalled};
 
 use crate::whole_replay::choice::choose;
-use crate::whole_replay::passes::actor_count;
 use crate::whole_replay::place::OrderPlace;
 use base_script::Actor;
 use base_values::Names;
+use run_feed::FeedRun;
 use run_turns::{Run, Stepped};
 use server_api::Serve;
 
@@ -22,7 +22,7 @@ use server_api::Serve;
 pub enum Replayed {
     /// The run has ended, or has as many turns as the plan allows.
     Over,
-    /// Nobody is ready, and no loss between calls is due.
+    /// Nobody may go, and no loss between calls is due.
     Stalled,
     /// There was no memory for a turn.
     NoMemory,
@@ -49,20 +49,20 @@ impl ReplayOutcome {
 /// Takes the turn that comes next: a loss between calls where one is due, which uses up no word and no place; else the next
 /// actor's.
 #[tactic(auto, using(crate::proofs::WholeReplay::Passing::pass_cut, crate::proofs::WholeReplay::Passing::pass_turn, crate::proofs::WholeReplay::Passing::pass_stalls))]
-fn pass<V: Serve>(run: &mut Run<'_, V>, place: &mut OrderPlace) -> Stepped
-    requires { IsReplaying run.old place.old }
-    ensures { Passes run.old result run.new place.new }
+fn pass<V: Serve>(feed: &mut FeedRun<'_, V>, place: &mut OrderPlace) -> Stepped
+    requires { IsReplaying feed.old place.old }
+    ensures { Passes feed.old result feed.new place.new }
 {
-    if run.is_over() {
+    if feed.run().is_over() {
         return Stepped::Over;
     }
-    if run.is_cut_due() {
-        return run.step(Actor::Op);
+    if feed.run().is_cut_due() {
+        return feed.step(Actor::Op);
     }
-    let Some(next) = choose(run, *place) else {
+    let Some(next) = choose(feed, *place) else {
         return Stepped::Idle;
     };
-    match run.step(next.actor) {
+    match feed.step(next.actor) {
         Stepped::Took => {
             *place = next.following;
             Stepped::Took
@@ -84,29 +84,29 @@ fn counted<V: Serve>(run: &Run<'_, V>, tables: &Names, logged: Option<u64>) -> O
     }
 }
 
-/// Takes the turns of the plan's replay until its run is over, or nobody is ready, and counts the events of these tables at the
+/// Takes the turns of the plan's replay until its run is over, or nobody may go, and counts the events of these tables at the
 /// RENAME. Where there is no memory for a turn, those before it stay.
 #[tactic(auto, using(crate::proofs::WholeReplay::GoingOn::begins, crate::proofs::WholeReplay::GoingOn::is_replay, crate::proofs::WholeReplay::GoingOn::still_replay, crate::proofs::WholeReplay::GoingOn::it_stops, crate::proofs::WholeReplay::GoingOn::still_stops, crate::proofs::WholeReplay::Marking::goes_on_counted, crate::proofs::WholeReplay::Marking::still_counted))]
-pub fn replay<V: Serve>(run: &mut Run<'_, V>, tables: &Names) -> ReplayOutcome
-    requires { IsFresh run.old }
-    ensures plan { run.new.plan ≡ run.old.plan }
-    ensures replay { IsReplay run.new.plan run.new.journal }
-    ensures stops { Stops run.new.plan run.new.journal }
-    ensures over { result.replayed ≡ replayed.Over → is_over run.new.plan run.new.journal ≡ true }
-    ensures stalled { result.replayed ≡ replayed.Stalled → IsStalled run.new.plan run.new.journal }
-    ensures server { result.replayed ≢ replayed.NoMemory → run.new.server ≡ state_at run.new.plan run.new.journal }
-    ensures logged { result.logged ≡ logged_at_mark run.new.plan tables.now run.new.journal }
+pub fn replay<V: Serve>(feed: &mut FeedRun<'_, V>, tables: &Names) -> ReplayOutcome
+    requires { IsFresh feed.old }
+    ensures plan { feed.new.plan ≡ feed.old.plan }
+    ensures replay { IsReplay feed.new.plan feed.new.journal }
+    ensures stops { Stops feed.new.plan feed.new.journal }
+    ensures over { result.replayed ≡ replayed.Over → is_over feed.new.plan feed.new.journal ≡ true }
+    ensures stalled { result.replayed ≡ replayed.Stalled → IsStalled feed.new.plan feed.new.journal }
+    ensures server { result.replayed ≢ replayed.NoMemory → feed.new.server ≡ state_at feed.new.plan feed.new.journal }
+    ensures logged { result.logged ≡ logged_at_mark feed.new.plan tables.now feed.new.journal }
 {
     let mut logged = None;
     let mut place = OrderPlace {
         run: 0,
         used: 0,
-        actor: actor_count(run),
+        actor: feed.actor_count(),
     };
-    let limit = run.plan().options().turn_limit;
+    let limit = feed.run().plan().options().turn_limit;
     for _turn in 0..limit {
-        match pass(run, &mut place) {
-            Stepped::Took => logged = counted(run, tables, logged),
+        match pass(feed, &mut place) {
+            Stepped::Took => logged = counted(feed.run(), tables, logged),
             Stepped::Over => return ReplayOutcome::new(Replayed::Over, logged),
             Stepped::Idle => return ReplayOutcome::new(Replayed::Stalled, logged),
             Stepped::NoMemory => return ReplayOutcome::new(Replayed::NoMemory, logged),

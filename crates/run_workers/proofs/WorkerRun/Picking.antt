@@ -1,18 +1,14 @@
 -- Whose turn a worker takes, from whom it finds, and that it finds someone.
 use Rattle.std.proofs.Common.{◌≡◌, ℕ, ◌+◌, Bool, true, false, ◌&&◌, ◌||◌, not, List, [], ◌∷◌, ◌++◌, drop, cond, Option, Some, None, refl, sym, ap, ◌∙◌}
-use Rattle.std.specs.Prelude.{is_some}
 use Rattle.std.specs.List.{find, list_any}
 use Rattle.std.specs.Option.{option_or}
 use Rattle.std.proofs.lemmas.Bool.{true≢false, false≢true}
 use Rattle.std.proofs.lemmas.List.Folds.{find-append}
 use Rattle.base_script.specs.declared.actor.Actor.{Actor}
-use Rattle.server_model.specs.declared.entry.Asked.{Asked}
 use Rattle.server_model.specs.declared.entry.Entry.{Entry}
 use Rattle.plan_data.specs.PlanData.{PlanData}
-use Rattle.tool_program.specs.JournalWords.KeptPlans.{cut_due}
 use Rattle.tool_program.specs.Programs.{given}
-use Rattle.tool_program.specs.Orders.{actors, is_ready, is_poll, owned_from, owned, is_among, after_last, or_else, picked}
-use Rattle.run_turns.specs.DueTurns.Due.{given_turn, due_by, due}
+use Rattle.tool_program.specs.Orders.{actors, is_poll, may_go, owned_from, owned, is_among, after_last, or_else, picked}
 use Rattle.run_workers.specs.declared.worker_run.choice.Wanted.TheVariants.{Own, Idle, Waiting}
 use Rattle.run_workers.specs.WorkerRun.Workers.{is_wanted, GoesOnFrom}
 use Rattle.run_workers.proofs.WorkerRun.Owning.{find_owned}
@@ -34,13 +30,13 @@ module _ (plan : PlanData) (journal : List Entry) (count worker : ℕ) where
   abbrev first_waiting : Option Actor
   first_waiting = find (is_wanted Waiting plan journal own) (actors plan)
 
-  own_found : (from : ℕ) → find (is_ready plan journal) (owned_from count worker from (drop from (actors plan))) ≡ first_own from
-  own_found from = find_owned (is_ready plan journal) (λ actor. is_among actor own) count worker from (drop from (actors plan)) (λ i actor is. owned_place plan count worker (from + i) actor (sym (get_after (actors plan) from i) ∙ is))
+  own_found : (from : ℕ) → find (may_go plan journal) (owned_from count worker from (drop from (actors plan))) ≡ first_own from
+  own_found from = find_owned (may_go plan journal) (λ actor. is_among actor own) count worker from (drop from (actors plan)) (λ i actor is. owned_place plan count worker (from + i) actor (sym (get_after (actors plan) from i) ∙ is))
 
-  in_rotation : (from : ℕ) (last : Option Actor) → GoesOnFrom plan count worker from last → find (is_ready plan journal) (after_last last own ++ own) ≡ option_or (first_own from) (first_own 0)
+  in_rotation : (from : ℕ) (last : Option Actor) → GoesOnFrom plan count worker from last → find (may_go plan journal) (after_last last own ++ own) ≡ option_or (first_own from) (first_own 0)
   in_rotation from last goes =
-      find-append (is_ready plan journal) (after_last last own) own
-      ∙ ap (λ found. option_or found (find (is_ready plan journal) own)) (ap (find (is_ready plan journal)) goes ∙ own_found from)
+      find-append (may_go plan journal) (after_last last own) own
+      ∙ ap (λ found. option_or found (find (may_go plan journal) own)) (ap (find (may_go plan journal)) goes ∙ own_found from)
       ∙ ap (option_or (first_own from)) (own_found 0)
 
   picks : (from : ℕ) (last : Option Actor) → GoesOnFrom plan count worker from last → picked plan journal own last ≡ or_else (option_or (first_own from) (first_own 0)) (or_else first_idle first_waiting)
@@ -74,8 +70,8 @@ module _ (plan : PlanData) (journal : List Entry) (count worker : ℕ) where
       by true none = absurd cc
       by false none = (refl, none)
 
-  none_ready : (actor : Actor) → is_wanted Own plan journal own actor ≡ false → is_wanted Idle plan journal own actor ≡ false → is_wanted Waiting plan journal own actor ≡ false → is_ready plan journal actor ≡ false
-  none_ready actor no_own no_idle no_waiting = by (is_among actor own) (is_poll (given plan journal actor)) (is_ready plan journal actor) no_own no_idle no_waiting
+  none_goes : (actor : Actor) → is_wanted Own plan journal own actor ≡ false → is_wanted Idle plan journal own actor ≡ false → is_wanted Waiting plan journal own actor ≡ false → may_go plan journal actor ≡ false
+  none_goes actor no_own no_idle no_waiting = by (is_among actor own) (is_poll (given plan journal actor)) (may_go plan journal actor) no_own no_idle no_waiting
     where
       by : (among poll ready : Bool) → (among && ready) ≡ false → (not among && (ready && not poll)) ≡ false → (not among && poll) ≡ false → ready ≡ false
       by among poll false no_own no_idle no_waiting = refl
@@ -83,13 +79,13 @@ module _ (plan : PlanData) (journal : List Entry) (count worker : ℕ) where
       by false true true no_own no_idle no_waiting = absurd (true≢false no_waiting)
       by false false true no_own no_idle no_waiting = absurd (true≢false no_idle)
 
-  nobody : (all : List Actor) → find (is_wanted Own plan journal own) all ≡ None → find (is_wanted Idle plan journal own) all ≡ None → find (is_wanted Waiting plan journal own) all ≡ None → list_any (is_ready plan journal) all ≡ false
+  nobody : (all : List Actor) → find (is_wanted Own plan journal own) all ≡ None → find (is_wanted Idle plan journal own) all ≡ None → find (is_wanted Waiting plan journal own) all ≡ None → list_any (may_go plan journal) all ≡ false
   nobody [] no_own no_idle no_waiting = refl
   nobody (first ∷ all) no_own no_idle no_waiting =
       let a = none_found (is_wanted Own plan journal own) first all no_own in
       let b = none_found (is_wanted Idle plan journal own) first all no_idle in
       let c = none_found (is_wanted Waiting plan journal own) first all no_waiting in
-      ap (λ ready. ready || list_any (is_ready plan journal) all) (none_ready first a.0 b.0 c.0) ∙ nobody all a.1 b.1 c.1
+      ap (λ ready. ready || list_any (may_go plan journal) all) (none_goes first a.0 b.0 c.0) ∙ nobody all a.1 b.1 c.1
 
   none_of : (one two three four : Option Actor) → or_else (option_or one two) (or_else three four) ≡ None → (two ≡ None) × (three ≡ None) × (four ≡ None)
   none_of None None None four none = (refl, refl, none)
@@ -97,23 +93,8 @@ module _ (plan : PlanData) (journal : List Entry) (count worker : ℕ) where
   none_of None (Some actor) three four none = absurd cc
   none_of (Some actor) two three four none = absurd cc
 
-  -- where somebody is ready the worker finds someone
-  pub someone_picked : (from : ℕ) (last : Option Actor) → GoesOnFrom plan count worker from last → list_any (is_ready plan journal) (actors plan) ≡ true → None ≡ picked plan journal own last → ⊥
+  -- where somebody may go the worker finds someone
+  pub someone_picked : (from : ℕ) (last : Option Actor) → GoesOnFrom plan count worker from last → list_any (may_go plan journal) (actors plan) ≡ true → None ≡ picked plan journal own last → ⊥
   someone_picked from last goes ready none =
       let parts = none_of (first_own from) (first_own 0) first_idle first_waiting (sym (none ∙ picks from last goes)) in
       false≢true (sym (nobody (actors plan) parts.0 parts.1 parts.2) ∙ ready)
-
--- A TURN IS DUE
-
--- where an actor is ready a turn is due
-pub due_ready : (plan : PlanData) (journal : List Entry) (actor : Actor) → is_ready plan journal actor ≡ true → due plan journal actor ≡ None → ⊥
-unfolding due
-due_ready plan journal actor ready none = by (cut_due plan journal) none
-  where
-    at : (asked : Option Asked) → is_some asked ≡ true → given_turn plan journal actor asked ≡ None → ⊥
-    at (Some asked) so same = cc
-    at None so same = false≢true so
-
-    by : (cut : Option Actor) → due_by plan journal actor cut ≡ None → ⊥
-    by (Some other) same = cc
-    by None same = at (given plan journal actor) ready same

@@ -2,7 +2,7 @@
 use Rattle.std.proofs.Common.{◌≡◌, ℕ, ◌+◌, ◌==◌, ◌%◌, Bool, true, false, ◌&&◌, not, List, Option, Some, None, refl, sym, ap, ◌∙◌, arith}
 use Rattle.std.specs.Prelude.{is_some}
 use Rattle.std.specs.List.{slice_get}
-use Rattle.std.proofs.lemmas.Bool.{true≢false, false≢true}
+use Rattle.std.proofs.lemmas.Bool.{true≢false, false≢true, and_parts}
 use Rattle.std.proofs.lemmas.Option.{none-some}
 use Rattle.std.proofs.Math.Bool.{and-false, and-true}
 use Rattle.base_script.specs.declared.actor.Actor.{Actor}
@@ -15,7 +15,9 @@ use Rattle.plan_data.specs.PlanData.{PlanData}
 use Rattle.tool_program.specs.JournalWords.Journals.{state_at}
 use Rattle.tool_program.specs.JournalWords.Sessions.{live_session}
 use Rattle.tool_program.specs.Programs.{waits, given}
-use Rattle.tool_program.specs.Orders.{actors, is_ready, is_poll, owned, is_among}
+use Rattle.tool_program.specs.Orders.{actors, is_ready, is_poll, owned, is_among, may_go, replica_length}
+use Rattle.tool_program.specs.Feeds.{is_held_back}
+use Rattle.proof_feeds.proofs.Holding.{waiting_actors_may_go}
 use Rattle.proof_journals.specs.Run.Kept.{IsKept}
 use Rattle.proof_journals.proofs.Machine.Asking.{idle_waits, busy_waits}
 use Rattle.proof_journals.proofs.Machine.Polling.{AllTogether, given_idle, given_waits, all_formed}
@@ -68,17 +70,28 @@ module _ (plan : PlanData) (journal : List Entry) (actor : Actor) (going : IsGoi
       by (Some (Command word)) gives ready = commanded word gives
       by (Some Cut) gives ready = absurd (true≢false (given_uncut plan journal actor Cut gives))
 
+-- who may go is ready
+goes_ready : (plan : PlanData) (journal : List Entry) (actor : Actor) → may_go plan journal actor ≡ true → is_ready plan journal actor ≡ true
+goes_ready plan journal actor goes = (and_parts (is_ready plan journal actor) (not (is_held_back plan journal (replica_length plan journal) actor)) goes).0
+
 -- WHO IS SOUGHT
 
-unready_poll : (asked : Option Asked) → is_some asked ≡ false → is_poll asked ≡ false
-unready_poll None none = refl
-unready_poll (Some asked) none = absurd (true≢false none)
+-- who waits may go, so who may not doesn't wait
+stayed_poll : (plan : PlanData) (journal : List Entry) (actor : Actor) → may_go plan journal actor ≡ false → is_poll (given plan journal actor) ≡ false
+stayed_poll plan journal actor none = by (given plan journal actor) refl
+  where
+    by : (asked : Option Asked) → given plan journal actor ≡ asked → is_poll asked ≡ false
+    by None gives = refl
+    by (Some (Call request)) gives = refl
+    by (Some Poll) gives = absurd (false≢true (sym none ∙ waiting_actors_may_go plan journal actor gives))
+    by (Some (Command word)) gives = refl
+    by (Some Cut) gives = refl
 
--- who isn't ready isn't sought
-pub unready_wanted : (plan : PlanData) (journal : List Entry) (own : List Actor) (actor : Actor) (sought : Wanted) → is_ready plan journal actor ≡ false → false ≡ is_wanted sought plan journal own actor
-unready_wanted plan journal own actor Own none = sym (ap (λ b. is_among actor own && b) none ∙ and-false (is_among actor own))
-unready_wanted plan journal own actor Idle none = sym (ap (λ b. not (is_among actor own) && (b && not (is_poll (given plan journal actor)))) none ∙ and-false (not (is_among actor own)))
-unready_wanted plan journal own actor Waiting none = sym (ap (λ b. not (is_among actor own) && b) (unready_poll (given plan journal actor) none) ∙ and-false (not (is_among actor own)))
+-- who may not go isn't sought
+pub stayed_wanted : (plan : PlanData) (journal : List Entry) (own : List Actor) (actor : Actor) (sought : Wanted) → may_go plan journal actor ≡ false → false ≡ is_wanted sought plan journal own actor
+stayed_wanted plan journal own actor Own none = sym (ap (λ b. is_among actor own && b) none ∙ and-false (is_among actor own))
+stayed_wanted plan journal own actor Idle none = sym (ap (λ b. not (is_among actor own) && (b && not (is_poll (given plan journal actor)))) none ∙ and-false (not (is_among actor own)))
+stayed_wanted plan journal own actor Waiting none = sym (ap (λ b. not (is_among actor own) && b) (stayed_poll plan journal actor none) ∙ and-false (not (is_among actor own)))
 
 -- the actor at a place is the worker's own exactly where the place is
 pub owned_place : (plan : PlanData) (count worker place : ℕ) (actor : Actor) → slice_get (actors plan) place ≡ Some actor → is_among actor (owned plan count worker) ≡ (place % count == worker)
@@ -92,32 +105,32 @@ module _ (plan : PlanData) (journal : List Entry) (count worker place : ℕ) (ac
   own_is : own ≡ b
   own_is = owned_place plan count worker place actor is ∙ sym same
 
-  -- an own one is, where it is ready
-  pub own_wanted : is_ready plan journal actor ≡ true → b ≡ is_wanted Own plan journal (owned plan count worker) actor
-  own_wanted ready = sym (ap (λ r. own && r) ready ∙ and-true own ∙ own_is)
+  -- an own one is, where it may go
+  pub own_wanted : may_go plan journal actor ≡ true → b ≡ is_wanted Own plan journal (owned plan count worker) actor
+  own_wanted goes = sym (ap (λ r. own && r) goes ∙ and-true own ∙ own_is)
 
   -- an own one isn't sought among others
   pub own_unidle : b ≡ true → false ≡ is_wanted Idle plan journal (owned plan count worker) actor
-  own_unidle so = sym (ap (λ c. not c && (is_ready plan journal actor && not (is_poll (given plan journal actor)))) (own_is ∙ so))
+  own_unidle so = sym (ap (λ c. not c && (may_go plan journal actor && not (is_poll (given plan journal actor)))) (own_is ∙ so))
 
   pub own_unwaiting : b ≡ true → false ≡ is_wanted Waiting plan journal (owned plan count worker) actor
   own_unwaiting so = sym (ap (λ c. not c && is_poll (given plan journal actor)) (own_is ∙ so))
 
-  -- one of others is, where it is ready and doesn't wait
-  pub idle_wanted : IsGoing plan → IsKept plan journal → is_ready plan journal actor ≡ true → b ≡ false → (waiting : Bool) → waiting ≡ waits (state_at plan journal) (live_session journal actor) → not waiting ≡ is_wanted Idle plan journal (owned plan count worker) actor
-  idle_wanted going kept ready none waiting waits_so =
-      ap not (waits_so ∙ ready_waits plan journal actor going kept ready)
-      ∙ sym (ap (λ c. not c && (is_ready plan journal actor && not (is_poll (given plan journal actor)))) (own_is ∙ none) ∙ ap (λ r. r && not (is_poll (given plan journal actor))) ready)
+  -- one of others is, where it may go and doesn't wait
+  pub idle_wanted : IsGoing plan → IsKept plan journal → may_go plan journal actor ≡ true → b ≡ false → (waiting : Bool) → waiting ≡ waits (state_at plan journal) (live_session journal actor) → not waiting ≡ is_wanted Idle plan journal (owned plan count worker) actor
+  idle_wanted going kept goes none waiting waits_so =
+      ap not (waits_so ∙ ready_waits plan journal actor going kept (goes_ready plan journal actor goes))
+      ∙ sym (ap (λ c. not c && (may_go plan journal actor && not (is_poll (given plan journal actor)))) (own_is ∙ none) ∙ ap (λ r. r && not (is_poll (given plan journal actor))) goes)
 
   -- and where it waits
-  pub waiting_wanted : IsGoing plan → IsKept plan journal → is_ready plan journal actor ≡ true → b ≡ false → (waiting : Bool) → waiting ≡ waits (state_at plan journal) (live_session journal actor) → waiting ≡ is_wanted Waiting plan journal (owned plan count worker) actor
-  waiting_wanted going kept ready none waiting waits_so =
-      waits_so ∙ ready_waits plan journal actor going kept ready ∙ sym (ap (λ c. not c && is_poll (given plan journal actor)) (own_is ∙ none))
+  pub waiting_wanted : IsGoing plan → IsKept plan journal → may_go plan journal actor ≡ true → b ≡ false → (waiting : Bool) → waiting ≡ waits (state_at plan journal) (live_session journal actor) → waiting ≡ is_wanted Waiting plan journal (owned plan count worker) actor
+  waiting_wanted going kept goes none waiting waits_so =
+      waits_so ∙ ready_waits plan journal actor going kept (goes_ready plan journal actor goes) ∙ sym (ap (λ c. not c && is_poll (given plan journal actor)) (own_is ∙ none))
 
--- who is sought is ready
-pub wanted_ready : (plan : PlanData) (journal : List Entry) (own : List Actor) (actor : Actor) (sought : Wanted) → is_wanted sought plan journal own actor ≡ true → is_ready plan journal actor ≡ true
-wanted_ready plan journal own actor sought is = by (is_ready plan journal actor) refl
+-- who is sought may go
+pub wanted_goes : (plan : PlanData) (journal : List Entry) (own : List Actor) (actor : Actor) (sought : Wanted) → is_wanted sought plan journal own actor ≡ true → may_go plan journal actor ≡ true
+wanted_goes plan journal own actor sought is = by (may_go plan journal actor) refl
   where
-    by : (b : Bool) → is_ready plan journal actor ≡ b → b ≡ true
-    by true ready = refl
-    by false none = absurd (false≢true (unready_wanted plan journal own actor sought none ∙ is))
+    by : (b : Bool) → may_go plan journal actor ≡ b → b ≡ true
+    by true goes = refl
+    by false none = absurd (false≢true (stayed_wanted plan journal own actor sought none ∙ is))

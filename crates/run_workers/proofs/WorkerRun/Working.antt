@@ -16,7 +16,7 @@ use Rattle.tool_program.specs.JournalWords.Journals.{opening, state_at, after_en
 use Rattle.tool_program.specs.JournalWords.Sessions.{NumbersSessions}
 use Rattle.server_model.proofs.LockedRows.Tests.{are_one}
 use Rattle.proof_journals.proofs.Journals.{state_more}
-use Rattle.tool_program.specs.Orders.{actors, is_ready, owned, WorkerTurn, last_taken, picked, worker_actor, IsNext}
+use Rattle.tool_program.specs.Orders.{actors, may_go, owned, WorkerTurn, last_taken, picked, worker_actor, IsNext}
 use Rattle.tool_program.specs.Verdicts.{has_ended}
 use Rattle.proof_journals.specs.Run.Counts.{IsAfter}
 use Rattle.proof_journals.specs.Run.Kept.{IsKept}
@@ -32,13 +32,14 @@ use Rattle.run_turns.specs.declared.run.Stepped.{Stepped}
 use Rattle.run_turns.specs.declared.run.Stepped.TheVariants.{Idle}
 use Rattle.run_turns.specs.declared.run.Stepped.TheVariants as stepping
 use Rattle.run_turns.specs.Runs.{RunView, is_over, TakesTurn}
-use Rattle.run_turns.specs.Runs.{Steps}
+use Rattle.proof_feeds.proofs.Holding.{someone_may_go}
+use Rattle.run_feed.specs.FeedRuns.{FeedSteps}
 use Rattle.run_workers.specs.declared.worker_run.seats.Member.{Member}
 use Rattle.run_workers.specs.declared.worker_run.seats.Seat.{Seat}
 use Rattle.run_workers.specs.WorkerRun.Workers.{IsGoing, GoesOnFrom, places_after}
 use Rattle.run_workers.specs.WorkerRun.WorkedRuns.{turn_of, turns_of, journal_of, paired_of, listed, IsByRule, IsWorkersRun, WasOver, WorkedView, TakesOne, IsWorked}
 use Rattle.run_workers.proofs.WorkerRun.Listing.{journal_more, turns_more, paired_more, paired_entries, listed_length, listed_more, was_over, over_now}
-use Rattle.run_workers.proofs.WorkerRun.Picking.{someone_picked, due_ready}
+use Rattle.run_workers.proofs.WorkerRun.Picking.{someone_picked}
 use Rattle.run_workers.proofs.WorkerRun.Rotating.{last_more, begins_at, length-places_after, rotated}
 
 self_after : (state : State) → IsAfter state state
@@ -286,17 +287,17 @@ module _ (run : RunView) (workers : ℕ) (noted : List WorkerTurn) (used spare :
     -- someone is found
     pub finds_someone : is_over run.plan run.journal ≡ false → (found : Option Seat) → found ≡ None → ((last : Option Actor) → GoesOnFrom run.plan workers worker from last → option_map (λ seat. seat.actor) found ≡ picked run.plan run.journal (owned run.plan workers worker) last) → ⊥
     finds_someone going found none picks =
-        someone_picked run.plan run.journal workers worker from last goes_from (is.going.goes run.journal kept_so (none_by run going).0)
+        someone_picked run.plan run.journal workers worker from last goes_from (someone_may_go run.plan run.journal (is.going.goes run.journal kept_so (none_by run going).0))
         (sym (ap (option_map (λ (seat : Seat). seat.actor)) none) ∙ picks last goes_from)
 
--- a step of an actor that is ready takes a turn, unless there is no memory for it
-pub takes_or_short : (before : RunView) (actor : Actor) (stepped : Stepped) (after : RunView) → Steps before actor stepped after → is_over before.plan before.journal ≡ false → is_ready before.plan before.journal actor ≡ true → (stepped ≡ Idle) ⊎ (stepped ≡ stepping.Over) → ⊥
-takes_or_short before actor Idle after steps going ready is = due_ready before.plan before.journal actor ready steps.1
-takes_or_short before actor stepping.Over after steps going ready is = true≢false (sym steps.0 ∙ going)
-takes_or_short before actor stepping.Took after steps going ready (inl is) = cc
-takes_or_short before actor stepping.Took after steps going ready (inr is) = cc
-takes_or_short before actor stepping.NoMemory after steps going ready (inl is) = cc
-takes_or_short before actor stepping.NoMemory after steps going ready (inr is) = cc
+-- a step of an actor that may go takes a turn, unless there is no memory for it
+pub takes_or_short : (before : RunView) (actor : Actor) (stepped : Stepped) (after : RunView) → FeedSteps before actor stepped after → is_over before.plan before.journal ≡ false → may_go before.plan before.journal actor ≡ true → (stepped ≡ Idle) ⊎ (stepped ≡ stepping.Over) → ⊥
+takes_or_short before actor Idle after steps going goes is = true≢false (sym goes ∙ steps.2)
+takes_or_short before actor stepping.Over after steps going goes is = true≢false (sym steps.0 ∙ going)
+takes_or_short before actor stepping.Took after steps going goes (inl is) = cc
+takes_or_short before actor stepping.Took after steps going goes (inr is) = cc
+takes_or_short before actor stepping.NoMemory after steps going goes (inl is) = cc
+takes_or_short before actor stepping.NoMemory after steps going goes (inr is) = cc
 
 -- where there was no memory for a turn
 pub worked_short : (before after : RunView) (workers : ℕ) (noted : List WorkerTurn) (used spare : ℕ) (places : List ℕ) → IsWorked before workers noted used spare places false → is_over before.plan before.journal ≡ false → after.plan ≡ before.plan → after.journal ≡ before.journal → IsWorked after workers noted used spare places true

@@ -9,9 +9,10 @@ ghost use Rattle.run_turns.specs.Runs.{is_over};
 
 use crate::worker_run::choice::pick;
 use crate::worker_run::notes::{Turns, note, place_from};
-use crate::worker_run::seats::{Member, actor_count};
+use crate::worker_run::seats::Member;
 use plan_data::Plan;
 use run_desk::{SharedState, Turned};
+use run_feed::FeedRun;
 use run_turns::{Run, Stepped};
 use server_api::Serve;
 use server_model::Entry;
@@ -27,11 +28,11 @@ pub struct Opening {
     pub workers: u32,
 }
 
-/// A run whose turns workers take, each that of the actor that the rule gives its worker: its own next ready one in rotation,
-/// else the first ready one of others that doesn't wait, else the first one of others that waits.
+/// A run whose turns workers take, each that of the actor that the rule gives its worker: its own next one in
+/// rotation that may go, else the first one of others that may and doesn't wait, else the first one of others that waits.
 #[derive(Drop)]
 pub struct Worked<'a, V: Serve> {
-    run: Run<'a, V>,
+    feed: FeedRun<'a, V>,
     workers: u32,
     turns: Turns,
     places: Vec<usize>,
@@ -44,17 +45,17 @@ impl<'a, V: Serve> Model for Worked<'a, V> {
 
     ghost Value = { WorkedView };
 
-    ghost view = { λ worked. record { plan = worked.run.plan; workers = worked.workers; list = listed worked.turns.items worked.run.journal; is_short = worked.is_short } };
+    ghost view = { λ worked. record { plan = worked.feed.plan; workers = worked.workers; list = listed worked.turns.items worked.feed.journal; is_short = worked.is_short } };
 
-    ghost invariant = { λ worked. IsWorked worked.run worked.workers worked.turns.items (vec_len worked.turns) (vec_capacity worked.turns) worked.places.items worked.is_short };
+    ghost invariant = { λ worked. IsWorked worked.feed worked.workers worked.turns.items (vec_len worked.turns) (vec_capacity worked.turns) worked.places.items worked.is_short };
 }
 
 /// The entry of the last turn.
-fn last_entry<'r, V: Serve>(run: &'r Run<'_, V>) -> &'r Entry
-    requires { run.now.journal ≢ [] }
-    ensures { slice_get run.now.journal (length run.now.journal - 1) ≡ Some result.now }
+fn last_entry<'r, V: Serve>(feed: &'r FeedRun<'_, V>) -> &'r Entry
+    requires { feed.now.journal ≢ [] }
+    ensures { slice_get feed.now.journal (length feed.now.journal - 1) ≡ Some result.now }
 {
-    match run.journal().last() {
+    match feed.run().journal().last() {
         Some(entry) => entry,
         None => unreachable!(),
     }
@@ -63,19 +64,23 @@ fn last_entry<'r, V: Serve>(run: &'r Run<'_, V>) -> &'r Entry
 impl<'a, V: Serve> Worked<'a, V> {
     /// A run without turns, on a server at the plan's opening, for `workers` workers. The memory for the turns' workers is
     /// taken here.
-    pub fn open(alloc: Global, run: Run<'a, V>, workers: u32) -> Result<Worked<'a, V>, AllocError>
+    pub fn open(
+        alloc: Global,
+        feed: FeedRun<'a, V>,
+        workers: u32,
+    ) -> Result<Worked<'a, V>, AllocError>
         requires some { 1 ≤ workers }
-        requires going { IsGoing run.plan }
-        requires fresh { run.journal ≡ [] }
-        requires server { run.server ≡ opening run.plan }
-        ensures { IfOk result (λ worked. worked ≡ record { plan = run.entry.plan; workers = workers; list = []; is_short = false }) }
+        requires going { IsGoing feed.plan }
+        requires fresh { feed.journal ≡ [] }
+        requires server { feed.server ≡ opening feed.plan }
+        ensures { IfOk result (λ worked. worked ≡ record { plan = feed.entry.plan; workers = workers; list = []; is_short = false }) }
     {
-        let limit = run.plan().options().turn_limit;
+        let limit = feed.run().plan().options().turn_limit;
         Ok(Worked {
             turns: Vec::with_capacity(alloc, limit as usize)?,
             // The place after all actors: so each worker's rotation begins with its first actor.
-            places: vec![in alloc; actor_count(&run); workers as usize]?,
-            run,
+            places: vec![in alloc; feed.actor_count(); workers as usize]?,
+            feed,
             workers,
             is_short: false,
         })
@@ -87,7 +92,7 @@ impl<'a, V: Serve> Worked<'a, V> {
         ensures over { (result ≡ turned.Over) ↔ WasOver self.old.plan (journal_of self.old.list) }
         ensures works { Works self.old worker result self.new }
     {
-        if self.run.is_over() {
+        if self.feed.run().is_over() {
             return Turned::Over;
         }
         if self.is_short {
@@ -98,12 +103,12 @@ impl<'a, V: Serve> Worked<'a, V> {
             worker,
         };
         let from = place_from(self.places.as_slice(), worker);
-        let Some(seat) = pick(&self.run, member, from) else {
+        let Some(seat) = pick(&self.feed, member, from) else {
             unreachable!()
         };
-        match self.run.step(seat.actor) {
+        match self.feed.step(seat.actor) {
             Stepped::Took => {
-                let entry = last_entry(&self.run);
+                let entry = last_entry(&self.feed);
                 note(
                     &mut self.turns,
                     self.places.as_mut_slice(),
@@ -132,7 +137,7 @@ impl<'a, V: Serve> Worked<'a, V> {
         ensures list { listed result.1.items result.0.journal ≡ self.entry.list }
         ensures server { is_over result.0.plan result.0.journal ≡ true → result.0.server ≡ state_at result.0.plan result.0.journal }
     {
-        (self.run, self.turns)
+        (self.feed.stop(), self.turns)
     }
 }
 

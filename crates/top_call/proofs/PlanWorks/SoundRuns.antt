@@ -9,6 +9,7 @@ use Rattle.tool_program.specs.JournalWords.Sessions.{NumbersSessions}
 use Rattle.tool_program.specs.Orders.{WorkerTurn, RunOrder}
 use Rattle.tool_program.specs.Verdicts.{verdict_of}
 use Rattle.proof_journals.specs.Run.Kept.{IsKept}
+use Rattle.proof_feeds.proofs.Behind.{run_turns_may_go, turns_stay_behind}
 use Rattle.proof_plans.specs.ReadPlans.Laws.{WasRead}
 use Rattle.run_desk.specs.declared.turn_queue_workers.ending.Ending.{Ending}
 use Rattle.run_desk.specs.declared.turn_queue_workers.ending.Ending.TheVariants.{Over}
@@ -24,6 +25,7 @@ sound_by_workers sound plan journal turns workers was kept numbered order stops 
   sound = sound plan journal was kept bound stops;
   numbered = numbered;
   order = order;
+  behind = turns_stay_behind plan journal kept.follows (run_turns_may_go plan journal turns workers order);
 }
 
 -- of the run that workers left, which began with this plan, and of the journal that is taken out of it

@@ -1,25 +1,24 @@
--- A journal is replayed in an order that has its turns: each of them is ready when it comes.
-use Rattle.std.proofs.Common.{◌≡◌, ◌⊎◌, Bool, true, false, not, if◌then◌else◌, List, [], ◌∷◌, ◌++◌, map, filter, is_some, Option, Some, inl, inr, refl, sym, ap, ◌∙◌, subst, append-nil, append_assoc}
+-- A journal is replayed in an order that has its turns: each of them may go when it comes.
+use Rattle.std.proofs.Common.{◌≡◌, ◌⊎◌, Bool, true, false, not, if◌then◌else◌, List, [], ◌∷◌, ◌++◌, map, filter, Option, Some, inl, inr, refl, sym, ap, ◌∙◌, subst, append-nil, append_assoc}
 use Rattle.std.specs.List.{fold}
 use Rattle.std.proofs.lemmas.Bool.{true≢false}
 use Rattle.std.proofs.lemmas.List.Sums.{fold-append}
 use Rattle.base_script.specs.declared.actor.Actor.{Actor}
 use Rattle.server_model.specs.Along.{Along}
-use Rattle.server_model.specs.declared.entry.Asked.{Asked}
-use Rattle.server_model.specs.declared.entry.Asked.TheVariants.{Call, Poll, Command, Cut}
 use Rattle.server_model.specs.declared.entry.Entry.{Entry}
 use Rattle.server_model.specs.Entries.{is_cut}
 use Rattle.plan_data.specs.PlanData.{PlanData, turns_in}
 use Rattle.plan_data.specs.declared.runs.ActorRun.{ActorRun}
 use Rattle.tool_program.specs.JournalWords.Sessions.{NumbersSessions}
-use Rattle.tool_program.specs.Orders.{actor_of, actors, Choice, chosen, first_ready, from_words, IsNext, IsReplay, is_ready, next_actor, Queue, queue_at, queue_left, ReplayOrder, Walk, walked, words_in}
-use Rattle.tool_program.specs.Programs.{Follows, IsFollowed, IsGiven}
+use Rattle.tool_program.specs.Orders.{actor_of, actors, Choice, chosen, first_ready, from_words, IsNext, IsReplay, may_go, next_actor, Queue, queue_at, queue_left, ReplayOrder, Walk, walked, words_in}
 use Rattle.tool_program.specs.Replay.{ReplaysAgree}
 use Rattle.proof_journals.specs.Run.Kept.{IsKept}
 use Rattle.run_turns.specs.Runs.{is_over, Stops}
 use Rattle.top_report.specs.Turns.{turns_taken}
 use Rattle.top_call.specs.PrintedOrders.{IsReplayed, ordered}
-use Rattle.top_call.proofs.PrintedOrders.Programs.{follows_so, given_same, keeps_so}
+use Rattle.proof_feeds.specs.Laws.{TurnsMayGo}
+use Rattle.top_call.proofs.PrintedOrders.Programs.{follows_so, keeps_so}
+use Rattle.top_call.proofs.PrintedOrders.Replicas.{may_go_same}
 use Rattle.top_call.proofs.PrintedOrders.Verdicts.{over_same, report_same, stops_same, verdict_same}
 
 -- a loss between calls is no turn of the order
@@ -30,6 +29,10 @@ cut_taken entry rest is = ap (λ (b : Bool). map (λ (one : Entry). one.actor) (
 turn_taken : (entry : Entry) (rest : List Entry) → is_cut entry.asked ≡ false → turns_taken (entry ∷ rest) ≡ entry.actor ∷ turns_taken rest
 unfolding turns_taken
 turn_taken entry rest is = ap (λ (b : Bool). map (λ (one : Entry). one.actor) (if not b then entry ∷ filter (λ (one : Entry). not (is_cut one.asked)) rest else filter (λ (one : Entry). not (is_cut one.asked)) rest)) is
+
+-- a turn but a loss between calls is of an actor that may go
+abbrev Goes : PlanData → List Entry → Entry → Type 0
+Goes plan before entry = is_cut entry.asked ≡ false → may_go plan before entry.actor ≡ true
 
 -- the queue with these words alone
 abbrev only : List Actor → Queue
@@ -45,20 +48,13 @@ module _ (plan : PlanData) (runs : List ActorRun) where
   abbrev walk_to : List Entry → Walk
   walk_to before = fold (walked (ordered plan runs)) start before
 
-  -- what was given is ready
-  ready_by : (before : List Entry) (entry : Entry) (asked : Asked) → is_cut asked ≡ false → IsGiven plan before entry asked → is_ready (ordered plan runs) before entry.actor ≡ true
-  ready_by before entry (Call request) turn is = ap is_some (given_same plan runs before entry.actor ∙ is)
-  ready_by before entry Poll turn is = ap is_some (given_same plan runs before entry.actor ∙ is)
-  ready_by before entry (Command word) turn is = ap is_some (given_same plan runs before entry.actor ∙ is)
-  ready_by before entry Cut turn is = absurd (true≢false turn)
-
-  -- the first word is taken, where its actor is ready
-  first_word : (before : List Entry) (actor : Actor) (words : List Actor) → is_ready (ordered plan runs) before actor ≡ true → chosen (ordered plan runs) before (only (actor ∷ words)) ≡ Some (record { actor = actor; queue = only words })
+  -- the first word is taken, where its actor may go
+  first_word : (before : List Entry) (actor : Actor) (words : List Actor) → may_go (ordered plan runs) before actor ≡ true → chosen (ordered plan runs) before (only (actor ∷ words)) ≡ Some (record { actor = actor; queue = only words })
   unfolding chosen first_ready
   first_word before actor words ready =
-      ap (λ (b : Bool). from_words (is_ready (ordered plan runs) before) (actors (ordered plan runs)) (only (actor ∷ words)) (if b then Some (record { actor = actor; following = words }) else first_ready (is_ready (ordered plan runs) before) words)) ready
+      ap (λ (b : Bool). from_words (may_go (ordered plan runs) before) (actors (ordered plan runs)) (only (actor ∷ words)) (if b then Some (record { actor = actor; following = words }) else first_ready (may_go (ordered plan runs) before) words)) ready
 
-  is_next : (before : List Entry) (actor : Actor) (words : List Actor) → walk_to before ≡ at before (actor ∷ words) → is_ready (ordered plan runs) before actor ≡ true → next_actor (ordered plan runs) before ≡ Some actor
+  is_next : (before : List Entry) (actor : Actor) (words : List Actor) → walk_to before ≡ at before (actor ∷ words) → may_go (ordered plan runs) before actor ≡ true → next_actor (ordered plan runs) before ≡ Some actor
   unfolding next_actor queue_at
   is_next before actor words so_far ready = ap (λ (walk : Walk). actor_of (chosen (ordered plan runs) before walk.queue)) so_far ∙ ap actor_of (first_word before actor words ready)
 
@@ -69,47 +65,47 @@ module _ (plan : PlanData) (runs : List ActorRun) where
       ∙ ap (λ (q : Queue). record { before = before ++ entry ∷ []; queue = q }) left
 
   -- one turn is the next, and leaves the words of those after it
-  one_turn : (before : List Entry) (entry : Entry) (rest : List Entry) (b : Bool) → is_cut entry.asked ≡ b → walk_to before ≡ at before (turns_taken (entry ∷ rest)) → IsFollowed plan before entry
+  one_turn : (before : List Entry) (entry : Entry) (rest : List Entry) (b : Bool) → is_cut entry.asked ≡ b → walk_to before ≡ at before (turns_taken (entry ∷ rest)) → Goes plan before entry
       → IsNext (is_cut entry.asked) (next_actor (ordered plan runs) before) entry.actor × (walk_to (before ++ entry ∷ []) ≡ at (before ++ entry ∷ []) (turns_taken rest))
-  one_turn before entry rest true cut so_far followed =
+  one_turn before entry rest true cut so_far goes =
       let queue = only (turns_taken rest) in
       let left : (if is_cut entry.asked then queue else queue_left (chosen (ordered plan runs) before queue) queue) ≡ queue =
       ap (λ (b : Bool). if b then queue else queue_left (chosen (ordered plan runs) before queue) queue) cut in (
         subst (λ (b : Bool). IsNext b (next_actor (ordered plan runs) before) entry.actor) (sym cut) tt,
         one_more before entry queue (turns_taken rest) (so_far ∙ ap (at before) (cut_taken entry rest cut)) left,
       )
-  one_turn before entry rest false turn so_far followed =
+  one_turn before entry rest false turn so_far goes =
       let queue = only (entry.actor ∷ turns_taken rest) in
       let same : walk_to before ≡ at before (entry.actor ∷ turns_taken rest) = so_far ∙ ap (at before) (turn_taken entry rest turn) in
-      let ready : is_ready (ordered plan runs) before entry.actor ≡ true = ready_by before entry entry.asked turn followed.given in
+      let ready : may_go (ordered plan runs) before entry.actor ≡ true = may_go_same plan runs before entry.actor ∙ goes turn in
       let left : (if is_cut entry.asked then queue else queue_left (chosen (ordered plan runs) before queue) queue) ≡ only (turns_taken rest) =
       ap (λ (b : Bool). if b then queue else queue_left (chosen (ordered plan runs) before queue) queue) turn
       ∙ ap (λ (choice : Option Choice). queue_left choice queue) (first_word before entry.actor (turns_taken rest) ready) in
       (subst (λ (b : Bool). IsNext b (next_actor (ordered plan runs) before) entry.actor) (sym turn) (is_next before entry.actor (turns_taken rest) same ready), one_more before entry queue (turns_taken rest) same left)
 
   -- *In replay order*: where the words that are left are the turns that are left
-  in_order : (before rest : List Entry) → walk_to before ≡ at before (turns_taken rest) → Along (IsFollowed plan) before rest → Along (λ all entry. IsNext (is_cut entry.asked) (next_actor (ordered plan runs) all) entry.actor) before rest
-  in_order before [] so_far follows = tt
-  in_order before (entry ∷ rest) so_far follows =
-      let now = one_turn before entry rest (is_cut entry.asked) refl so_far follows.0 in
-      (now.0, in_order (before ++ entry ∷ []) rest now.1 follows.1)
+  in_order : (before rest : List Entry) → walk_to before ≡ at before (turns_taken rest) → Along (Goes plan) before rest → Along (λ all entry. IsNext (is_cut entry.asked) (next_actor (ordered plan runs) all) entry.actor) before rest
+  in_order before [] so_far goes = tt
+  in_order before (entry ∷ rest) so_far goes =
+      let now = one_turn before entry rest (is_cut entry.asked) refl so_far goes.0 in
+      (now.0, in_order (before ++ entry ∷ []) rest now.1 goes.1)
 
   first_words : (journal : List Entry) → turns_in runs ≡ turns_taken journal → walk_to [] ≡ at [] (turns_taken journal)
   unfolding words_in
   first_words journal are = ap (at []) are
 
-  replay_order : (journal : List Entry) → turns_in runs ≡ turns_taken journal → Follows plan journal → ReplayOrder (ordered plan runs) journal
-  unfolding Follows ReplayOrder
-  replay_order journal are follows = in_order [] journal (first_words journal are) follows
+  replay_order : (journal : List Entry) → turns_in runs ≡ turns_taken journal → TurnsMayGo plan journal → ReplayOrder (ordered plan runs) journal
+  unfolding ReplayOrder
+  replay_order journal are goes = in_order [] journal (first_words journal are) goes
 
 -- *Printed orders replay*
-pub replayed : (plan : PlanData) (journal : List Entry) (runs : List ActorRun) → IsKept plan journal → NumbersSessions journal → turns_in runs ≡ turns_taken journal → IsReplayed plan runs journal
-replayed plan journal runs kept numbered are = record {
+pub replayed : (plan : PlanData) (journal : List Entry) (runs : List ActorRun) → IsKept plan journal → NumbersSessions journal → TurnsMayGo plan journal → turns_in runs ≡ turns_taken journal → IsReplayed plan runs journal
+replayed plan journal runs kept numbered goes are = record {
   replay = record {
     faithful = kept.faithful;
     planned = keeps_so plan runs journal kept.planned;
     follows = follows_so plan runs journal kept.follows;
-    order = replay_order plan runs journal are kept.follows;
+    order = replay_order plan runs journal are goes;
     numbered = numbered;
   };
   over_is = over_same plan runs journal;

@@ -38,7 +38,7 @@ use Rattle.tool_program.specs.Tools.{Work, ToolPhase, SettingUp, Migrating, Tool
 use Rattle.tool_program.specs.Programs.{calls, checkpoint_in, commands, given, Follows, IsFollowed, IsGiven, tool_asks, tool_call, waits}
 use Rattle.top_call.specs.PrintedOrders.{ordered}
 
-fold_same : {A B : Type 0} (f g : B → A → B) → ((b : B) (a : A) → f b a ≡ g b a) → (init : B) (all : List A) → fold f init all ≡ fold g init all
+pub fold_same : {A B : Type 0} (f g : B → A → B) → ((b : B) (a : A) → f b a ≡ g b a) → (init : B) (all : List A) → fold f init all ≡ fold g init all
 fold_same f g same init [] = refl
 fold_same f g same init (first ∷ all) = ap (λ b. fold f b all) (same init first) ∙ fold_same f g same (g init first) all
 

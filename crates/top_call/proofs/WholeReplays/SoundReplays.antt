@@ -8,11 +8,13 @@ use Rattle.server_model.specs.States.{State}
 use Rattle.plan_data.specs.PlanData.{PlanData}
 use Rattle.tool_program.specs.JournalWords.Journals.{state_at}
 use Rattle.tool_program.specs.JournalWords.Sessions.{KeepsSessions}
-use Rattle.tool_program.specs.Orders.{actors, is_ready, Found, Queue, first_ready, from_pass, from_round, from_words, actor_of, chosen, queue_at, next_actor, IsReplay}
+use Rattle.tool_program.specs.Orders.{actors, may_go, Found, Queue, first_ready, from_pass, from_round, from_words, actor_of, chosen, queue_at, next_actor, IsReplay}
 use Rattle.tool_program.specs.Verdicts.{has_ended, verdict_of}
 use Rattle.proof_journals.specs.Run.Kept.{IsKept}
 use Rattle.tool_program.specs.Replay.{OneReplay}
 use Rattle.proof_plans.specs.ReadPlans.Laws.{WasRead}
+use Rattle.proof_feeds.proofs.Behind.{replay_turns_may_go, turns_stay_behind}
+use Rattle.proof_feeds.proofs.Holding.{someone_may_go}
 use Rattle.proof_plans.specs.Laws.{AcceptedRunsGoOn}
 use Rattle.run_turns.specs.Runs.{RunView, is_over, Stops}
 use Rattle.run_replay.specs.WholeReplay.Marks.{logged_at_mark}
@@ -31,10 +33,11 @@ unfolding KeptRunsAreSound
 sound_replay sound one plan journal was replay sessions bound stops = record {
   sound = sound plan journal was (kept_of plan journal replay sessions) bound stops;
   replay = replay;
+  behind = turns_stay_behind plan journal replay.follows (replay_turns_may_go plan journal replay.order);
   only = λ other others same. one plan other journal others replay same;
 }
 
--- NOBODY IS READY
+-- NOBODY MAY GO
 
 some_ready : (ready : Actor → Bool) (all : List Actor) → first_ready ready all ≡ None → list_any ready all ≡ false
 unfolding first_ready
@@ -56,18 +59,18 @@ none_words : (ready : Actor → Bool) (all : List Actor) (queue : Queue) (found 
 none_words ready all queue None is = none_round ready all (first_ready ready queue.round) is
 none_words ready all queue (Some found) is = absurd cc
 
-nobody_ready : (plan : PlanData) (journal : List Entry) → next_actor plan journal ≡ None → list_any (is_ready plan journal) (actors plan) ≡ false
+nobody_goes : (plan : PlanData) (journal : List Entry) → next_actor plan journal ≡ None → list_any (may_go plan journal) (actors plan) ≡ false
 unfolding next_actor chosen
-nobody_ready plan journal none =
-    some_ready (is_ready plan journal) (actors plan) (none_words (is_ready plan journal) (actors plan) (queue_at plan journal) (first_ready (is_ready plan journal) (queue_at plan journal).words) none)
+nobody_goes plan journal none =
+    some_ready (may_go plan journal) (actors plan) (none_words (may_go plan journal) (actors plan) (queue_at plan journal) (first_ready (may_go plan journal) (queue_at plan journal).words) none)
 
--- a run in which nobody is ready has ended
+-- a run in which nobody may go has ended
 stalled_over : AcceptedRunsGoOn → (plan : PlanData) (journal : List Entry) → WasRead plan → IsKept plan journal → IsStalled plan journal → is_over plan journal ≡ true
 unfolding is_over
 stalled_over goes plan journal was kept stalled = by (has_ended plan journal) refl where
   by : (b : Bool) → has_ended plan journal ≡ b → (b || nat_le plan.options.turn_limit (length journal)) ≡ true
   by true is = refl
-  by false is = absurd (let going = goes plan journal was kept is in let none = nobody_ready plan journal stalled.nobody in cc)
+  by false is = absurd (let going = someone_may_go plan journal (goes plan journal was kept is) in let none = nobody_goes plan journal stalled.nobody in cc)
 
 -- *Replays end over*
 pub over_after : AcceptedRunsGoOn → (plan : PlanData) (journal : List Entry) (answer : Replayed) → WasRead plan → IsReplay plan journal → KeepsSessions journal → answer ≢ replayed.NoMemory → (answer ≡ replayed.Over → is_over plan journal ≡ true) → (answer ≡ replayed.Stalled → IsStalled plan journal) → is_over plan journal ≡ true
@@ -76,6 +79,9 @@ over_after goes plan journal replayed.Stalled was replay sessions memory over st
 over_after goes plan journal replayed.NoMemory was replay sessions memory over stalled = absurd (memory refl)
 
 -- OF A RUN
+
+pub plan_of : (run feed : RunView) (plan : PlanData) → run ≡ feed → feed.plan ≡ plan → run.plan ≡ plan
+plan_of run feed plan is plan_is = ap (λ (r : RunView). r.plan) is ∙ plan_is
 
 -- the same of the run that it was, and of the journal that is taken out of it
 pub sound_replay_of : KeptRunsAreSound → OneReplay → (plan : PlanData) (run : RunView) (journal : List Entry) → run.plan ≡ plan → journal ≡ run.journal → WasRead plan → IsReplay run.plan run.journal → KeepsSessions run.journal → length run.journal ≤ run.plan.options.turn_limit → Stops run.plan run.journal → IsSoundReplay plan journal

@@ -1,5 +1,6 @@
 -- Kept runs of accepted plans are sound.
-use Rattle.proof_plans.specs.Laws.{AcceptedRunsAreSerial, AcceptedRenamesFindTheAltered, AcceptedRunsFindTheTable, AcceptedRunsKeepTheOldTable, AcceptedRunsAreOnline, AcceptedCausesStand}
+use Rattle.proof_plans.specs.Laws.{AcceptedRunsAreSerial, AcceptedRenamesFindTheAltered, AcceptedRunsFindTheTable, AcceptedRunsKeepTheOldTable, AcceptedRunsAreOnline, AcceptedRunsGoOn, AcceptedCausesStand}
+use Rattle.proof_feeds.proofs.Holding.{someone_may_go}
 use Rattle.law_draws.specs.AllTables.{AcceptedRunsDraw}
 use Rattle.law_journals.specs.Bounds.{RunsAreBounded}
 use Rattle.law_journals.specs.Causes.{AcceptedCausesAreLeast}
@@ -7,13 +8,14 @@ use Rattle.law_journals.specs.Orders.{AcceptedRunsApplyInserts, AcceptedRunsCopy
 use Rattle.top_call.specs.WholeReplays.SoundRuns.{KeptRunsAreSound}
 
 -- *Kept runs are sound*
-pub sound : AcceptedRunsAreSerial → AcceptedRenamesFindTheAltered → AcceptedRunsFindTheTable → AcceptedRunsKeepTheOldTable → AcceptedRunsAreOnline → AcceptedRunsKeepOrder → AcceptedRunsCopyUnderLocks → AcceptedRunsApplyInserts → AcceptedRunsDraw → AcceptedCausesStand → AcceptedCausesAreLeast → RunsAreBounded → KeptRunsAreSound
+pub sound : AcceptedRunsAreSerial → AcceptedRenamesFindTheAltered → AcceptedRunsFindTheTable → AcceptedRunsKeepTheOldTable → AcceptedRunsAreOnline → AcceptedRunsKeepOrder → AcceptedRunsCopyUnderLocks → AcceptedRunsApplyInserts → AcceptedRunsDraw → AcceptedCausesStand → AcceptedCausesAreLeast → RunsAreBounded → AcceptedRunsGoOn → KeptRunsAreSound
 unfolding KeptRunsAreSound
-sound serial altered found old online order locks inserts draws causes least bounded plan journal was kept bound stops = record {
+sound serial altered found old online order locks inserts draws causes least bounded goes plan journal was kept bound stops = record {
   kept = kept;
   bound = bound;
   stops = stops;
   ends = λ going. bounded plan journal was kept going;
+  goes = λ unended. someone_may_go plan journal (goes plan journal was kept unended);
   serial = serial plan journal was kept;
   altered = λ before entry following table new is rename stands alters. altered plan table new before entry was stands alters rename;
   found = found plan journal was kept;

@@ -7,14 +7,16 @@ use Rattle.plan_data.specs.PlanData.{PlanData}
 use Rattle.tool_program.specs.JournalWords.Journals.{state_at}
 use Rattle.tool_program.specs.Orders.{IsReplay}
 use Rattle.tool_program.specs.Verdicts.{verdict_of}
+use Rattle.proof_feeds.specs.Laws.{StaysBehind}
 use Rattle.run_turns.specs.Runs.{is_over}
 use Rattle.top_call.specs.WholeReplays.SoundRuns.{IsSoundRun}
 
--- *Sound replay*: a sound run whose turns go in a replay's order and whose sessions are numbered one by one; and no other
--- replay of the plan has as many turns. That the run is over is said apart.
+-- *Sound replay*: a sound run whose turns go in a replay's order and whose sessions are numbered one by one. It stays behind its
+-- replica, where the plan has one. No other replay of the plan has as many turns. That the run is over is said apart.
 pub record IsSoundReplay (plan : PlanData) (journal : List Entry) : Type 0 where
   pub sound : IsSoundRun plan journal
   pub replay : IsReplay plan journal
+  pub behind : StaysBehind plan journal
   pub only : (other : List Entry) → IsReplay plan other → length other ≡ length journal → other ≡ journal
 
 -- The run has ended, or has as many turns as the plan allows; the verdict is that of the journal, and the server is the one at its end.

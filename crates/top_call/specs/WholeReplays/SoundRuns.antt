@@ -1,5 +1,6 @@
 -- *Sound run* of a plan: what holds of a journal in whatever order its turns go. (This project's rule.)
-use Rattle.std.specs.Prelude.{◌≡◌, ◌≤◌, ◌<◌, false, List, ◌∷◌, ◌++◌, length, Some}
+use Rattle.std.specs.Prelude.{◌≡◌, ◌≤◌, ◌<◌, true, false, List, ◌∷◌, ◌++◌, length, Some}
+use Rattle.std.specs.List.{list_any}
 use Rattle.table_store.specs.Databases.{TableRows, find_table}
 use Rattle.server_model.specs.declared.entry.Entry.{Entry}
 use Rattle.server_model.specs.declared.outcome.Cause.{Cause}
@@ -11,6 +12,7 @@ use Rattle.tool_program.specs.JournalWords.Journals.{state_at}
 use Rattle.tool_program.specs.JournalWords.Serials.{IsSerial}
 use Rattle.tool_program.specs.Failures.{Stands}
 use Rattle.tool_program.specs.Online.{IsOnline}
+use Rattle.tool_program.specs.Orders.{actors, may_go}
 use Rattle.tool_program.specs.Verdicts.{verdict_of, has_ended}
 use Rattle.proof_journals.specs.Ghost.Copies.{IsAltered}
 use Rattle.proof_journals.specs.Run.Kept.{IsKept}
@@ -37,7 +39,8 @@ EndsInTime plan journal = has_ended plan journal ≡ false → length journal < 
 
 -- *Sound run*. Each answer is the plain server's; clients take the lines of their scripts in order, and sessions are lost where
 -- the plan says; each turn asks what was given, in its actor's session. There are no more turns than the plan allows, and none
--- is taken of a run that is over; until it has ended, there are fewer than the plan's bound. What clients got and the tables that
+-- is taken of a run that is over; until it has ended, there are fewer than the plan's bound, and some actor may go, whatever replica
+-- lags. What clients got and the tables that
 -- are left are those of their ended transactions, one at a time, with the ALTER at one instant or not at all. The RENAME finds
 -- the altered table; what names the migrated one alone finds it, and the old one is kept as it was. The migrated one is used
 -- while the migration goes on. The steps of the cut-over come in their order, rows are copied under locks, and logged inserts
@@ -49,6 +52,7 @@ pub record IsSoundRun (plan : PlanData) (journal : List Entry) : Type 0 where
   pub bound : length journal ≤ plan.options.turn_limit
   pub stops : Stops plan journal
   pub ends : EndsInTime plan journal
+  pub goes : has_ended plan journal ≡ false → list_any (may_go plan journal) (actors plan) ≡ true
   pub serial : IsSerial plan journal
   pub altered : FindsAltered plan journal
   pub found : FindsTable plan journal

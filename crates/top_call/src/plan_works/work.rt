@@ -11,8 +11,9 @@ ghost use Rattle.top_call.specs.PlanWorks.Works.{IsSoundRunByWorkers};
 use crate::whole_replays::{End, end_with, kept_runs_are_sound};
 use crate::workers::read_plans_go;
 use base_edges::Gate;
-use law_journals::plans::read_plans_are_runnable;
+use law_journals::plans::{read_options_allow, read_plans_are_runnable};
 use plan_data::Plan;
+use run_feed::FeedRun;
 use run_turns::Run;
 use run_workers::worker_run::Turns;
 use run_workers::{Ending, run_by_workers};
@@ -63,9 +64,11 @@ pub fn work_plan<V: Serve + Send, R: Threads + Wait + Sync, G: Gate + Sync>(
 {
     kept_runs_are_sound();
     read_plans_are_runnable();
+    read_options_allow();
     read_plans_go();
     let opened = Run::open(alloc, plan, server)?;
-    let ran = run_by_workers(rt, alloc, opened, workers, gate)?;
+    let feed = FeedRun::open(alloc, opened)?;
+    let ran = run_by_workers(rt, alloc, feed, workers, gate)?;
     let verdict = verdict_after(alloc, &ran.run, ran.ending);
     let (server, journal) = ran.run.stop();
     Ok(Left {

@@ -10,9 +10,10 @@ ghost use Rattle.top_call.specs.WholeReplays.Replays.{IsSoundReplay, IsEnd};
 
 use crate::whole_replays::laws::kept_runs_are_sound;
 use base_values::{Duplicate, Names, Sequence};
-use law_journals::plans::read_plans_are_runnable;
+use law_journals::plans::{read_options_allow, read_plans_are_runnable};
 use law_journals::runs::accepted_runs_go_on;
 use plan_data::Plan;
+use run_feed::FeedRun;
 use run_replay::whole_replay::{Replayed, replay};
 use run_turns::Run;
 use server_api::Serve;
@@ -81,10 +82,13 @@ pub fn replay_plan<V: Serve>(alloc: Global, plan: &Plan, server: V) -> Result<Le
     kept_runs_are_sound();
     accepted_runs_go_on();
     read_plans_are_runnable();
+    read_options_allow();
     replays_agree();
     let migrated = migrated_in(alloc, plan)?;
-    let mut run = Run::open(alloc, plan, server)?;
-    let replayed = replay(&mut run, &migrated);
+    let opened = Run::open(alloc, plan, server)?;
+    let mut feed = FeedRun::open(alloc, opened)?;
+    let replayed = replay(&mut feed, &migrated);
+    let run = feed.stop();
     let verdict = verdict_after(alloc, &run, replayed.replayed);
     // For the prover: `journal` says that each turn is in its actor's session.
     let _in_sessions = run.journal();

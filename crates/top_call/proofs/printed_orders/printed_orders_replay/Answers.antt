@@ -7,6 +7,6 @@ use Rattle.top_call.proofs.printed_orders.printed_orders_replay.Goals as goal
 pub returns : goal.returns
 returns c = record {
   replay = replayed;
-  only = λ plan journal runs kept numbered are stops over.
-      replayed_only c.replays_agree.ensures.prefix (ordered plan runs) journal (replayed plan journal runs kept numbered are).replay (stops_same plan runs journal stops) (over_same plan runs journal ∙ over);
+  only = λ plan journal runs kept numbered goes are stops over.
+      replayed_only c.replays_agree.ensures.prefix (ordered plan runs) journal (replayed plan journal runs kept numbered goes are).replay (stops_same plan runs journal stops) (over_same plan runs journal ∙ over);
 }

@@ -4,8 +4,8 @@ use Rattle.run_replay.proofs.WholeReplay.Choices.{by_words, by_round}
 use Rattle.run_replay.proofs.whole_replay.choice.choose.Goals as goal
 
 pub returns-in-Some : goal.returns-in-Some
-returns-in-Some g c = by_words c.args.run.now.plan c.args.run.now.journal (queue_of c.args.run.now.plan c.args.place) (choice_of c.args.run.now.plan c.in-Some.next) c.in-Some.ensures
+returns-in-Some g c = by_words c.args.feed.now.plan c.args.feed.now.journal (queue_of c.args.feed.now.plan c.args.place) (choice_of c.args.feed.now.plan c.in-Some.next) c.in-Some.ensures
 
 pub returns-in-Some-next_in_pass : goal.returns-in-Some-next_in_pass
 returns-in-Some-next_in_pass g c =
-    by_round c.args.run.now.plan c.args.run.now.journal (queue_of c.args.run.now.plan c.args.place) (choice_of c.args.run.now.plan c.in-Some-next_in_pass.next) (search rules) c.in-Some-next_in_pass.ensures
+    by_round c.args.feed.now.plan c.args.feed.now.journal (queue_of c.args.feed.now.plan c.args.place) (choice_of c.args.feed.now.plan c.in-Some-next_in_pass.next) (search rules) c.in-Some-next_in_pass.ensures

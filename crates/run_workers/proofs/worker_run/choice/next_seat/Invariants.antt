@@ -7,5 +7,5 @@ use Rattle.run_workers.proofs.worker_run.choice.next_seat.Given as goal
 -- the actors from here on decide
 abbrev pub invariant-loop-place : goal.invariant-loop-place
 invariant-loop-place g l =
-    find (is_wanted l.sought l.run.plan l.run.journal (owned l.run.plan l.member.workers l.member.worker)) (drop l.place (actors l.run.plan))
-    ≡ find (is_wanted l.sought l.run.plan l.run.journal (owned l.run.plan l.member.workers l.member.worker)) (drop l.from (actors l.run.plan))
+    find (is_wanted l.sought l.feed.plan l.feed.journal (owned l.feed.plan l.member.workers l.member.worker)) (drop l.place (actors l.feed.plan))
+    ≡ find (is_wanted l.sought l.feed.plan l.feed.journal (owned l.feed.plan l.member.workers l.member.worker)) (drop l.from (actors l.feed.plan))

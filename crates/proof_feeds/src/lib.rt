@@ -1,0 +1,4 @@
+//! What holds of runs with a lagging replica: it holds actors back, and yet someone may go.
+#![tactic(auto)]
+
+pub mod laws;

@@ -1,0 +1,4 @@
+pub mod ActorPlaces
+pub mod Replicas
+pub mod Holding
+pub mod FeedRuns

@@ -1,0 +1,152 @@
+//! What a lagging replica holds of the log, and whom it holds back. Nothing here takes memory, but what it begins with.
+
+ghost use Rattle.std.specs.Prelude.{◌≡◌, ◌≤◌, [], ◌∷◌, IfOk};
+ghost use Rattle.base_values.specs.ToolNames.{log_name};
+ghost use Rattle.tool_program.specs.Feeds.{events_between, holds_read, is_held_back, lags, read_tables};
+ghost use Rattle.tool_program.specs.JournalWords.Journals.{state_at};
+ghost use Rattle.tool_program.specs.Orders.{caught_up, is_caught, may_go_at, risen};
+ghost use Rattle.run_feed.specs.Replicas.{IsReplicaOf};
+
+use crate::actors::{actor_at, actor_count};
+use base_script::Actor;
+use base_values::tool_names::log_name;
+use base_values::{Duplicate, Names, Sequence};
+use plan_data::Plan;
+use run_turns::Run;
+use server_api::Serve;
+use std::alloc::{AllocError, Global};
+use std::cmp::max;
+use tool_state::LogRead;
+
+/// How much of the log a replica holds, and the tables whose events are counted in it.
+#[derive(Drop)]
+pub(crate) struct Replica {
+    /// The tables whose events the applier reads.
+    pub(crate) read: Names,
+    /// The changelog alone: how many of its events the replica doesn't hold is the lag.
+    pub(crate) log: Names,
+    /// How many of the log's first events it holds.
+    pub(crate) held: u64,
+}
+
+impl Replica {
+    /// A replica that holds nothing.
+    pub(crate) fn new(alloc: Global, plan: &Plan) -> Result<Replica, AllocError>
+        ensures of { IfOk result (λ replica. IsReplicaOf plan.now replica) }
+        ensures empty { IfOk result (λ replica. replica.held ≡ 0) }
+    {
+        let table = plan.table();
+        Ok(Replica {
+            read: Sequence::from_vec(vec![in alloc; table.copy()?, log_name(alloc, table)?]?),
+            log: Sequence::from_vec(vec![in alloc; log_name(alloc, table)?]?),
+            held: 0,
+        })
+    }
+
+    /// Whether it lags: it lacks more events of the changelog than the plan allows where a chunk or an attempt begins.
+    #[tactic(auto, using(crate::proofs::Replicas::lag_is))]
+    fn lags<V: Serve>(&self, run: &Run<'_, V>) -> bool
+        requires { IsReplicaOf run.now.plan self.now }
+        ensures { result ≡ lags run.now.plan (state_at run.now.plan run.now.journal) self.now.held }
+    {
+        u64::from(run.plan().options().max_lag) < run.server().unread(self.held, &self.log)
+    }
+
+    /// How many events of the tables that the applier reads stand from a position to where the replica is.
+    #[tactic(auto, using(crate::proofs::Replicas::fewer_left, crate::proofs::Replicas::difference_is))]
+    fn events_from<V: Serve>(&self, run: &Run<'_, V>, position: u64) -> u64
+        requires { IsReplicaOf run.now.plan self.now }
+        ensures { result ≡ events_between (read_tables run.now.plan) position self.now.held (state_at run.now.plan run.now.journal).log }
+    {
+        let server = run.server();
+        // The position may be ahead of the replica: the applier begins at the log's end.
+        server.unread(position, &self.read) - server.unread(max(position, self.held), &self.read)
+    }
+
+    /// Whether a read of the log is held back: the replica holds neither all of the log nor a whole batch from the position on.
+    #[tactic(auto, using(crate::proofs::Replicas::log_after))]
+    fn holds_read<V: Serve>(&self, run: &Run<'_, V>, read: LogRead) -> bool
+        requires { IsReplicaOf run.now.plan self.now }
+        ensures { result ≡ holds_read run.now.plan (state_at run.now.plan run.now.journal) self.now.held read.position read.limit }
+    {
+        self.held != run.server().log_length()
+            && self.events_from(run, read.position) < u64::from(read.limit)
+    }
+
+    /// Whether the actor is held back.
+    #[tactic(auto, using(crate::proofs::Replicas::none_held, crate::proofs::Replicas::read_held, crate::proofs::Replicas::else_held, crate::proofs::Replicas::starting_held, crate::proofs::Replicas::never_held))]
+    fn is_held_back<V: Serve>(&self, run: &Run<'_, V>, actor: Actor) -> bool
+        requires { IsReplicaOf run.now.plan self.now }
+        ensures { result ≡ is_held_back run.now.plan run.now.journal self.now.held actor }
+    {
+        if run.plan().options().replica_step == 0 {
+            return false;
+        }
+        match actor {
+            Actor::Apply => match run.reading() {
+                Some(read) => self.holds_read(run, read),
+                None => false,
+            },
+            Actor::Copy | Actor::Lock => run.starting(actor) && self.lags(run),
+            Actor::Op | Actor::Insp | Actor::Ren | Actor::Client(_) => false,
+        }
+    }
+
+    /// Whether the actor may go: it is ready, and isn't held back.
+    pub(crate) fn may_go<V: Serve>(&self, run: &Run<'_, V>, actor: Actor) -> bool
+        requires { IsReplicaOf run.now.plan self.now }
+        ensures { result ≡ may_go_at run.now.plan run.now.journal self.now.held actor }
+    {
+        run.ready(actor) && !self.is_held_back(run, actor)
+    }
+
+    /// Whether a catch-up is due: some actor is ready, and every ready actor is held back.
+    #[tactic(auto, using(crate::proofs::Holding::one_goes, crate::proofs::Holding::one_stays, crate::proofs::Holding::nobody_goes))]
+    fn is_caught<V: Serve>(&self, run: &Run<'_, V>) -> bool
+        requires { IsReplicaOf run.now.plan self.now }
+        ensures { result ≡ is_caught run.now.plan run.now.journal self.now.held }
+    {
+        let mut is_someone_ready = false;
+        for place in 0..actor_count(run) {
+            let actor = actor_at(run, place);
+            if self.may_go(run, actor) {
+                return false;
+            }
+            is_someone_ready = is_someone_ready || run.ready(actor);
+        }
+        is_someone_ready
+    }
+
+    /// Catches up with the log where that is due.
+    #[tactic(auto, using(crate::proofs::Replicas::log_after))]
+    pub(crate) fn catch_up<V: Serve>(&mut self, run: &Run<'_, V>)
+        requires { IsReplicaOf run.now.plan self.old }
+        ensures of { IsReplicaOf run.now.plan self.new }
+        ensures held { self.new.held ≡ caught_up run.now.plan run.now.journal self.old.held }
+    {
+        if self.is_caught(run) {
+            self.held = run.server().log_length();
+        }
+    }
+
+    /// After a turn: takes over the next events where its pause is over.
+    #[tactic(auto, using(crate::proofs::Replicas::log_after))]
+    pub(crate) fn rise<V: Serve>(&mut self, run: &Run<'_, V>)
+        requires of { IsReplicaOf run.now.plan self.old }
+        requires pause { 1 ≤ run.now.plan.options.replica_pause }
+        ensures of { IsReplicaOf run.now.plan self.new }
+        ensures held { self.new.held ≡ risen run.now.plan run.now.journal self.old.held }
+    {
+        let options = run.plan().options();
+        if run.journal().len() % options.replica_pause as usize != 0 {
+            return;
+        }
+        let end = run.server().log_length();
+        let step = u64::from(options.replica_step);
+        self.held = if self.held < end && step < end - self.held {
+            self.held + step
+        } else {
+            end
+        };
+    }
+}
