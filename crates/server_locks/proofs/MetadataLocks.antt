@@ -1,6 +1,7 @@
 pub mod HeldNames
 pub mod Holders
 pub mod Leaving
+pub mod OwnNames
 pub mod Places
 pub mod SameBlockers
 pub mod Shares

@@ -14,29 +14,37 @@ use Rattle.server_locks.specs.MetadataLocks.Requests.{locks_of, all_locks}
 full : (n : ℕ) → not (nat_eq (suc n) 0) ≡ true
 full n = grind (arith, nat_tests)
 
-names_of : (s : ℕ) (held_so : Bool) (names : List (List ℕ)) (session : ℕ) → list_any (λ (held : HeldName). nat_eq held.session session) (map (held_by s held_so) names) ≡ (nat_eq s session && not (nat_eq (length names) 0))
-names_of s held_so [] session = sym (and-false (nat_eq s session))
-names_of s held_so (name ∷ names) session =
-    ap (λ rest. nat_eq s session || rest) (names_of s held_so names session)
-    ∙ once (nat_eq s session) (not (nat_eq (length names) 0))
-    ∙ ap (λ some. nat_eq s session && some) (sym (full (length names)))
+-- what is asked of a session and a way of holding
+names_of : (test : ℕ → Bool → Bool) (s : ℕ) (held_so : Bool) (names : List (List ℕ)) → list_any (λ (held : HeldName). test held.session held.exclusive) (map (held_by s held_so) names) ≡ (test s held_so && not (nat_eq (length names) 0))
+names_of test s held_so [] = sym (and-false (test s held_so))
+names_of test s held_so (name ∷ names) =
+    ap (λ rest. test s held_so || rest) (names_of test s held_so names)
+    ∙ once (test s held_so) (not (nat_eq (length names) 0))
+    ∙ ap (λ some. test s held_so && some) (sym (full (length names)))
   where
     once : (b c : Bool) → (b || (b && c)) ≡ (b && true)
     once true c = refl
     once false c = refl
 
 pub list_any-request : (request : Request) (session : ℕ) → list_any (λ (held : HeldName). nat_eq held.session session) (locks_of request) ≡ (nat_eq request.session session && not (nat_eq (length request.names) 0))
-list_any-request request session = names_of request.session request.exclusive request.names session
+list_any-request request session = names_of (λ s held_so. nat_eq s session) request.session request.exclusive request.names
+
+pub list_any-own : (request : Request) (session : ℕ) (exclusive : Bool)
+    → list_any (is_own session exclusive) (locks_of request) ≡ ((nat_eq request.session session && cond exclusive request.exclusive (not request.exclusive)) && not (nat_eq (length request.names) 0))
+list_any-own request session exclusive = names_of (λ s held_so. nat_eq s session && cond exclusive held_so (not held_so)) request.session request.exclusive request.names
 
 pub any-append : (session : ℕ) (held more : List HeldName) → list_any (λ (held : HeldName). nat_eq held.session session) (held ++ more) ≡ (list_any (λ (held : HeldName). nat_eq held.session session) held || list_any (λ (held : HeldName). nat_eq held.session session) more)
 any-append session held more = list_any-append (λ (held : HeldName). nat_eq held.session session) held more
 
-pub ruleset of_request = (list_any-request)
+pub own-append : (session : ℕ) (exclusive : Bool) (held more : List HeldName) → list_any (is_own session exclusive) (held ++ more) ≡ (list_any (is_own session exclusive) held || list_any (is_own session exclusive) more)
+own-append session exclusive held more = list_any-append (is_own session exclusive) held more
 
-pub ruleset of_all = (any-append, drop_more, drop_all)
+pub ruleset of_request = (list_any-request, list_any-own)
+
+pub ruleset of_all = (any-append, own-append, drop_more, drop_all)
 
 -- what a session and a way of holding leaves
-names_left : (leaves : ℕ → Bool → Bool) (s : ℕ) (held_so : Bool) (names : List (List ℕ)) → filter (λ (held : HeldName). leaves held.session held.exclusive) (map (held_by s held_so) names) ≡ cond (leaves s held_so) (map (held_by s held_so) names) []
+pub names_left : (leaves : ℕ → Bool → Bool) (s : ℕ) (held_so : Bool) (names : List (List ℕ)) → filter (λ (held : HeldName). leaves held.session held.exclusive) (map (held_by s held_so) names) ≡ cond (leaves s held_so) (map (held_by s held_so) names) []
 names_left leaves s held_so [] = nothing (leaves s held_so) []
   where
     nothing : (b : Bool) (none : List HeldName) → none ≡ cond b none none

@@ -1,7 +1,7 @@
 -- The table of locks on names, and what each call leaves of it.
 use Rattle.std.specs.Prelude.{◌≡◌, ℕ, Bool, true, false, ◌&&◌, ◌||◌, not, ◌==◌, nat_eq, List, [], ◌∷◌, ◌++◌, map, filter, Option, Some, None, IsSomeAnd, is_some, if◌then◌else◌}
 use Rattle.std.specs.Cmp.Lexicographic.{pointwise}
-use Rattle.std.specs.List.{list_any}
+use Rattle.std.specs.List.{list_any, position_or_len}
 use Rattle.server_locks.specs.declared.metadata_locks.request.Waiter.{Waiter}
 use Rattle.server_locks.specs.MetadataLocks.Grants.{HeldName, QueuePlace, holds, place_of, blocker_of_names}
 
@@ -116,6 +116,14 @@ freed t session = freed_if (is_known t session) t session
 -- The lock is the session's, and is exclusive or shared as this says.
 abbrev pub is_own : ℕ → Bool → HeldName → Bool
 is_own session exclusive held = held.session == session && (if exclusive then held.exclusive else not held.exclusive)
+
+-- The names that the session holds exclusively, or else shared, in the order in which they were granted.
+abbrev pub own_names : ℕ → Bool → List HeldName → List (List ℕ)
+own_names session exclusive held = map (λ one. one.name) (filter (is_own session exclusive) held)
+
+-- How many of the names come before this one: its place, where it is one of them, and else their number.
+abbrev pub place_among : List (List ℕ) → List ℕ → ℕ
+place_among names name = position_or_len (λ other. pointwise nat_eq other name) names
 
 -- After all that the session holds exclusively was taken away, or all that it holds shared.
 abbrev pub let_go : NameTable → ℕ → Bool → NameTable

@@ -1,9 +1,10 @@
 //! What a granted request adds to what is held, and what a session that leaves takes away.
 
-ghost use Rattle.std.specs.Prelude.{◌≡◌, ◌==◌, ◌≤◌, ◌&&◌, if◌then◌else◌, not, false, filter, map, vec_len, vec_capacity, IfOk};
+ghost use Rattle.std.specs.Prelude.{◌≡◌, ◌==◌, ◌≤◌, ◌&&◌, if◌then◌else◌, nat_eq, not, false, filter, map, min, position, vec_len, vec_capacity, IfOk};
+ghost use Rattle.std.specs.Cmp.Lexicographic.{pointwise};
 ghost use Rattle.std.specs.List.{list_any};
 ghost use Rattle.server_locks.specs.MetadataLocks.Grants.{holds};
-ghost use Rattle.server_locks.specs.MetadataLocks.LockTable.{added, taken, shares, held_by, is_own};
+ghost use Rattle.server_locks.specs.MetadataLocks.LockTable.{added, taken, shares, held_by, is_own, own_names, place_among};
 ghost use Rattle.server_locks.specs.MetadataLocks.Requests.{locks_of, all_locks};
 
 use crate::metadata_locks::refusals::holds;
@@ -62,6 +63,14 @@ impl Request {
         ensures { result ≡ (self.now.session == session && (if exclusive then self.now.exclusive else not self.now.exclusive)) }
     {
         self.session == session && self.exclusive == exclusive
+    }
+
+    /// Whether the session holds a name by this request exclusively, or else shared, as is asked.
+    #[tactic(auto, using(crate::proofs::MetadataLocks::Leaving::of_request))]
+    fn has_own(&self, session: u32, exclusive: bool) -> bool
+        ensures { result ≡ list_any (is_own session exclusive) (locks_of self.now) }
+    {
+        self.is_own(session, exclusive) && !self.names.is_empty()
     }
 
     /// Whether the session holds a name by this request.
@@ -132,6 +141,43 @@ pub fn is_holding(granted: &[Request], session: u32) -> bool
         }
     }
     false
+}
+
+/// Whether the session holds a name exclusively, or else shared, as is asked.
+#[tactic(auto, using(crate::proofs::MetadataLocks::Leaving::of_all))]
+pub fn holds_own(granted: &[Request], session: u32, exclusive: bool) -> bool
+    ensures { result ≡ list_any (is_own session exclusive) (all_locks granted.now) }
+{
+    for request in granted {
+        if request.has_own(session, exclusive) {
+            return true;
+        }
+    }
+    false
+}
+
+/// The place of the name among these.
+fn place_in(names: &[Name], name: &Name) -> Option<usize>
+    ensures { result ≡ position (λ other. pointwise nat_eq other name.now) names.now }
+{
+    names.iter().position(|other| *other == *name)
+}
+
+/// How many of the names that the session holds exclusively, or else shared, come before this one. A count that would be no
+/// `usize` stands still.
+pub fn place_of_name(granted: &[Request], session: u32, name: &Name, exclusive: bool) -> usize
+    ensures { result ≡ min (place_among (own_names session exclusive (all_locks granted.now)) name.now) usize.MAX }
+{
+    let mut passed: usize = 0;
+    for request in granted {
+        if request.is_own(session, exclusive) {
+            match place_in(request.names.as_slice(), name) {
+                Some(place) => return passed.saturating_add(place),
+                None => passed = passed.saturating_add(request.names.len()),
+            }
+        }
+    }
+    passed
 }
 
 /// Takes away what the session was granted.

@@ -1,16 +1,17 @@
 //! The table of the names that are held and waited for.
 
-ghost use Rattle.std.specs.Prelude.{◌≡◌, ℕ, ◌+◌, ◌-◌, ◌<◌, ◌≤◌, [], ◌++◌, map, take, drop, length, true, false, Some, None, IfOk, OnOk, OnErr, vec_len, vec_capacity};
+ghost use Rattle.std.specs.Prelude.{◌≡◌, ℕ, ◌+◌, ◌-◌, ◌<◌, ◌≤◌, [], ◌++◌, map, take, drop, length, min, true, false, Some, None, IfOk, OnOk, OnErr, vec_len, vec_capacity};
+ghost use Rattle.std.specs.List.{list_any};
 ghost use Rattle.server_locks.specs.declared.metadata_locks.request.Waiter.{Waiter};
-ghost use Rattle.server_locks.specs.MetadataLocks.Grants.{answer_by, blocker_of_name, blocker_of_names, holder_of};
-ghost use Rattle.server_locks.specs.MetadataLocks.LockTable.{IsLastAskOf, blocker_of, blocker_of_poll, asked, asked_by, granted, with_added, held_by, lined_up, polled, polled_by, freed, let_go, undone, ended, waits, waits_ended, can_end};
+ghost use Rattle.server_locks.specs.MetadataLocks.Grants.{answer_by, blocker_of_name, blocker_of_names, holder_of, holds};
+ghost use Rattle.server_locks.specs.MetadataLocks.LockTable.{IsLastAskOf, blocker_of, blocker_of_poll, asked, asked_by, granted, with_added, held_by, lined_up, polled, polled_by, freed, let_go, undone, ended, waits, waits_ended, can_end, is_own, own_names, place_among};
 ghost use Rattle.server_locks.specs.MetadataLocks.Requests.{as_waiter};
 ghost use Rattle.server_locks.specs.MetadataLocks.WaitQueue.{IsAt, round};
 
 use crate::metadata_locks::grants::{
-    is_holding, names_to_add, names_to_take, take_away, take_away_own,
+    holds_own, is_holding, names_to_add, names_to_take, place_of_name, take_away, take_away_own,
 };
-use crate::metadata_locks::refusals::{blocker_of_name, blocker_of_names, holder_of};
+use crate::metadata_locks::refusals::{blocker_of_name, blocker_of_names, holder_of, holds};
 use crate::metadata_locks::request::{LockAnswer, Request, Waiter};
 use crate::metadata_locks::waits::{end_waits, place_of};
 use base_values::{Duplicate, Name, Names};
@@ -285,6 +286,28 @@ impl MetaLocks {
         ensures { result ≡ holder_of self.now.held name.now }
     {
         holder_of(self.granted.as_slice(), name)
+    }
+
+    /// Whether the session holds the name, exclusively where that is asked.
+    pub fn holds(&self, session: u32, name: &Name, exclusive: bool) -> bool
+        ensures { result ≡ holds self.now.held session name.now exclusive }
+    {
+        holds(self.granted.as_slice(), session, name, exclusive)
+    }
+
+    /// Whether the session holds a name exclusively, or else shared, as is asked.
+    pub fn holds_any(&self, session: u32, exclusive: bool) -> bool
+        ensures { result ≡ list_any (is_own session exclusive) self.now.held }
+    {
+        holds_own(self.granted.as_slice(), session, exclusive)
+    }
+
+    /// How many of the names that the session holds exclusively, or else shared, come before this one: its place, where it is
+    /// one of them. A count that would be no `usize` stands still.
+    pub fn place(&self, session: u32, name: &Name, exclusive: bool) -> usize
+        ensures { result ≡ min (place_among (own_names session exclusive self.now.held) name.now) usize.MAX }
+    {
+        place_of_name(self.granted.as_slice(), session, name, exclusive)
     }
 
     /// Whether the session has a request that waits.
