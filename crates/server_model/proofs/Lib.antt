@@ -1,4 +1,3 @@
-pub mod DifferentNames
 pub mod LockedRows
 pub mod Filling
 pub mod Raising

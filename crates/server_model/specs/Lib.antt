@@ -4,7 +4,6 @@ pub mod Rows
 pub mod Checks
 pub mod StatementResults
 pub mod Needs
-pub mod HeldNames
 pub mod Operations
 pub mod Chunks
 pub mod States

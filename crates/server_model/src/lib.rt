@@ -6,7 +6,6 @@
 mod answer;
 mod counter;
 mod entry;
-mod held_names;
 mod listing;
 mod need;
 mod outcome;
@@ -20,7 +19,6 @@ mod work;
 pub use answer::{Answer, KeyRange};
 pub use counter::{Counter, after_number, after_value, auto_place, first_number};
 pub use entry::{Asked, Entry, Journal};
-pub use held_names::HeldNames;
 pub use listing::{ShownWaiter, ShownWaiters, TableName, TableNames};
 pub use need::Need;
 pub use outcome::{Cause, Numbers, Progress, Task, Verdict};

@@ -1,8 +1,7 @@
 //! What the server keeps of each session.
 
-use crate::held_names::HeldNames;
 use crate::request::Request;
-use base_values::{Events, Name};
+use base_values::{Events, Name, Sequence};
 use server_locks::row_locks::LockSet;
 
 /// How often a waiting session is polled before its wait times out.
@@ -23,7 +22,8 @@ pub struct HeldName {
     pub exclusive: bool,
 }
 
-/// A live session.
+/// A live session, as definitions have it: no code keeps one, since the tables of locks alone have row locks and names.
+#[derive(Drop)]
 pub struct Session {
     /// Its number; sessions count from 1 in the order of connecting.
     pub number: u32,
@@ -35,28 +35,10 @@ pub struct Session {
     pub writes: Events,
     /// The row locks that it holds, in the order in which they were granted.
     pub row_locks: LockSet,
-    /// The names of tables that it holds.
-    pub names: HeldNames,
+    /// The names of tables that it holds, each as often as it was granted, in the order in which they were.
+    pub names: Sequence<HeldName>,
     /// How often its waiting request was polled.
     pub polls: u32,
-}
-
-// By hand, so that crates above prove it as one call.
-impl Drop for Session {
-    fn drop(self) {
-        let Session {
-            number: _,
-            is_tool: _,
-            in_transaction: _,
-            writes,
-            row_locks,
-            names,
-            polls: _,
-        } = self;
-        drop(writes);
-        drop(row_locks);
-        drop(names);
-    }
 }
 
 /// A request that waits.

@@ -1,8 +1,0 @@
-use Rattle.std.proofs.Common.{◌&&◌, ◌||◌, not, sym}
-use Rattle.std.specs.Str.{bytes_eq}
-use Rattle.server_model.specs.declared.session.HeldName.{HeldName}
-use Rattle.server_model.proofs.DifferentNames.{looked_up}
-use Rattle.server_model.proofs.held_names.HeldNames.has.Goals as goal
-
-pub returns : goal.returns
-returns c = looked_up (λ (one : HeldName). bytes_eq one.name c.args.name.now && (one.exclusive || not c.args.exclusive)) c.args.self.now c.self.inside.granted.items c.self.inside.different.items _ _ (sym c.self.view_is) c.as_slice.ensures.value c.have.ensures c.self.invariant

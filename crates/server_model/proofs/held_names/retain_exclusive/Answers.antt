@@ -1,7 +1,0 @@
-use Rattle.std.proofs.Common.{rules}
-use Rattle.std.proofs.lemmas.Fn.{filter_same}
-use Rattle.server_model.specs.declared.session.HeldName.{HeldName}
-use Rattle.server_model.proofs.held_names.retain_exclusive.Goals as goal
-
-pub returns : goal.returns
-returns c = filter_same _ (λ (one : HeldName). one.exclusive) _ (λ x b f' r. search rules) c.args.names.now.items c.retain.new.self.items c.retain.ensures.filtered
