@@ -1,6 +1,9 @@
+pub mod Grants
 pub mod HeldLocks
 pub mod HeldNames
+pub mod Locked
 pub mod OpenBytes
 pub mod Polls
 pub mod Ready
+pub mod Records
 pub mod SessionLists

@@ -1,3 +1,4 @@
 pub mod CounterMoves
+pub mod KeptSessions
 pub mod Rooms
 pub mod SessionLists

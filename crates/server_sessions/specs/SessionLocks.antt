@@ -1,3 +1,2 @@
 -- The names that a request mentions, who blocks one, and the list of waits.
 pub mod Bare
-pub mod Names

@@ -4,6 +4,7 @@
 #![tactic(auto)]
 
 mod counters;
+mod grant;
 mod growth;
 mod live_session;
 pub mod live_sessions;
@@ -14,8 +15,6 @@ mod waits;
 
 pub use counters::{counters_renamed, counters_with, counters_without, next_of, raise};
 pub use live_session::LiveSession;
-pub use lookup::{
-    holds_tables, is_in_transaction, is_live, is_of_tool, polls_of, session_of, writes_of,
-};
+pub use lookup::{is_in_transaction, is_live, is_of_tool, polls_of, writes_of};
 pub use sessions::{connect, count_polls, disconnect, hold, lock_tables, rest, unlock_tables};
 pub use waits::{begin_wait, end_wait, is_waiting, waiting_of};

@@ -1,23 +1,23 @@
 //! What is kept of one live session, and how each call changes it.
 
-ghost use Rattle.std.specs.Prelude.{◌≡◌, ◌==◌, [], false, Some, OnOk, OnErr};
-ghost use Rattle.server_model.specs.States.{holds_tables, new_session};
-ghost use Rattle.server_model.specs.PlainServer.{at_rest, counting, holding, locking, unlocking};
+ghost use Rattle.std.specs.Prelude.{◌≡◌, ◌==◌, OnOk, OnErr};
+ghost use Rattle.server_sessions.specs.LiveSessions.KeptSessions.{kept_at_rest, kept_counting, kept_holding, kept_locking, kept_unlocking, new_kept};
 
+use crate::grant::{Grant, keep_exclusive, keep_shared};
 use crate::growth::append;
-use base_values::{Events, Names, RowEvent, Sequence};
-use server_model::HeldNames;
+use base_values::{Events, RowEvent, Sequence};
 use std::alloc::{AllocError, Global};
 use std::marker::Model;
 use std::mem;
 
-/// A live session. Contracts see its record without row locks: the table of all row locks alone has those.
+/// A live session, with a grant in place of each name that it holds, and without row locks: the tables of all locks alone have
+/// those.
 pub struct LiveSession {
     number: u32,
     is_tool: bool,
     in_transaction: bool,
     writes: Events,
-    names: HeldNames,
+    granted: Vec<Grant>,
     polls: u32,
 }
 
@@ -29,34 +29,33 @@ impl Drop for LiveSession {
             is_tool: _,
             in_transaction: _,
             writes,
-            names,
+            granted,
             polls: _,
         } = self;
         drop(writes);
-        drop(names);
+        drop(granted);
     }
 }
 
 impl Model for LiveSession {
-    ghost use Rattle.std.specs.Prelude.{[]};
-    ghost use Rattle.server_model.specs.declared.session.Session.{Session};
+    ghost use Rattle.server_sessions.specs.LiveSessions.KeptSessions.{KeptSession};
 
-    ghost Value = { Session };
+    ghost Value = { KeptSession };
 
-    ghost view = { λ s. record { number = s.number; is_tool = s.is_tool; in_transaction = s.in_transaction; writes = s.writes; row_locks = []; names = s.names; polls = s.polls } };
+    ghost view = { λ s. record { number = s.number; is_tool = s.is_tool; in_transaction = s.in_transaction; writes = s.writes; granted = s.granted.items; polls = s.polls } };
 }
 
 impl LiveSession {
     /// A session that has just connected.
     pub fn new(alloc: Global, number: u32, is_tool: bool) -> LiveSession
-        ensures { result ≡ new_session number is_tool }
+        ensures { result ≡ new_kept number is_tool }
     {
         LiveSession {
             number,
             is_tool,
             in_transaction: false,
             writes: Sequence::new(alloc),
-            names: HeldNames::new(alloc),
+            granted: Vec::new(alloc),
             polls: 0,
         }
     }
@@ -89,20 +88,6 @@ impl LiveSession {
         self.writes.as_slice()
     }
 
-    /// The names that it holds.
-    pub fn names(&self) -> &HeldNames
-        ensures { result.now ≡ self.now.names }
-    {
-        &self.names
-    }
-
-    /// Whether it holds LOCK TABLES.
-    pub fn holds_tables(&self) -> bool
-        ensures { result ≡ holds_tables (Some self.now) }
-    {
-        self.names.has_exclusive()
-    }
-
     /// How often its waiting request was polled.
     pub fn polls(&self) -> u32
         ensures { result ≡ self.now.polls }
@@ -110,20 +95,26 @@ impl LiveSession {
         self.polls
     }
 
-    /// It is in a transaction, holds these names too, and wrote these events; all is as before where there is no memory.
-    pub fn grow(&mut self, alloc: Global, names: Names, events: Events) -> Result<(), AllocError>
-        ensures ok { OnOk result (self.new ≡ holding (record { exclusive = false; names = names; locks = [] }) events self.old) }
+    /// It is in a transaction, was granted these too, and wrote these events; all is as before where there is no memory.
+    pub fn grow(
+        &mut self,
+        alloc: Global,
+        grants: Vec<Grant>,
+        events: Events,
+    ) -> Result<(), AllocError>
+        ensures ok { OnOk result (self.new ≡ kept_holding grants.items events self.old) }
         ensures err { OnErr result (self.new ≡ self.old) }
     {
-        let held = self.names.len();
-        self.names.hold(names, false)?;
+        let granted = self.granted.len();
+        let mut grants = grants;
+        self.granted.append(&mut grants)?;
         match append(alloc, &mut self.writes, events) {
             Ok(()) => {
                 self.in_transaction = true;
                 Ok(())
             }
             Err(error) => {
-                self.names.cut(held);
+                self.granted.truncate(granted);
                 Err(error)
             }
         }
@@ -131,32 +122,33 @@ impl LiveSession {
 
     /// It is outside a transaction. What it wrote is given.
     pub fn rest(&mut self, alloc: Global) -> Events
-        ensures session { self.new ≡ at_rest self.old }
+        ensures session { self.new ≡ kept_at_rest self.old }
         ensures writes { result ≡ self.old.writes }
     {
-        self.names.keep_exclusive();
+        keep_exclusive(&mut self.granted);
         self.in_transaction = false;
         mem::replace(&mut self.writes, Sequence::new(alloc))
     }
 
-    /// It holds these names exclusively too; all is as before where there is no memory.
-    pub fn lock_tables(&mut self, names: Names) -> Result<(), AllocError>
-        ensures ok { OnOk result (self.new ≡ locking names self.old) }
+    /// It was granted these too; all is as before where there is no memory.
+    pub fn lock_tables(&mut self, grants: Vec<Grant>) -> Result<(), AllocError>
+        ensures ok { OnOk result (self.new ≡ kept_locking grants.items self.old) }
         ensures err { OnErr result (self.new ≡ self.old) }
     {
-        self.names.hold(names, true)
+        let mut grants = grants;
+        self.granted.append(&mut grants)
     }
 
     /// It holds no name exclusively from now on.
     pub fn unlock_tables(&mut self)
-        ensures { self.new ≡ unlocking self.old }
+        ensures { self.new ≡ kept_unlocking self.old }
     {
-        self.names.keep_shared();
+        keep_shared(&mut self.granted);
     }
 
     /// Its request was polled so often.
     pub fn count_polls(&mut self, polls: u32)
-        ensures { self.new ≡ counting polls self.old }
+        ensures { self.new ≡ kept_counting polls self.old }
     {
         self.polls = polls;
     }

@@ -1,7 +1,8 @@
 //! A live session by its number.
 
-ghost use Rattle.std.specs.Prelude.{◌≡◌, ◌==◌, is_some, position, option_copied};
-ghost use Rattle.server_model.specs.States.{holds_tables, is_in_transaction, is_of_tool, polls_of, session_of, writes_of};
+ghost use Rattle.std.specs.Prelude.{◌≡◌, ◌==◌, [], false, is_some, option_copied, position, unwrap_or};
+ghost use Rattle.std.specs.Option.{option_map};
+ghost use Rattle.server_sessions.specs.LiveSessions.KeptSessions.{kept_of};
 
 use crate::live_session::LiveSession;
 use base_values::RowEvent;
@@ -16,22 +17,22 @@ pub fn place_of(sessions: &[LiveSession], number: u32) -> Option<usize>
 }
 
 /// The session of this number.
-pub fn session_of(sessions: &[LiveSession], number: u32) -> Option<&LiveSession>
-    ensures { option_copied result ≡ session_of number sessions.now }
+fn session_of(sessions: &[LiveSession], number: u32) -> Option<&LiveSession>
+    ensures { option_copied result ≡ kept_of number sessions.now }
 {
     sessions.iter().find(|session| session.has_number(number))
 }
 
 /// Whether the session is live.
 pub fn is_live(sessions: &[LiveSession], number: u32) -> bool
-    ensures { result ≡ is_some (session_of number sessions.now) }
+    ensures { result ≡ is_some (kept_of number sessions.now) }
 {
     session_of(sessions, number).is_some()
 }
 
 /// Whether the session is in a transaction.
 pub fn is_in_transaction(sessions: &[LiveSession], number: u32) -> bool
-    ensures { result ≡ is_in_transaction (session_of number sessions.now) }
+    ensures { result ≡ unwrap_or (option_map (λ session. session.in_transaction) (kept_of number sessions.now)) false }
 {
     match session_of(sessions, number) {
         Some(session) => session.is_in_transaction(),
@@ -39,19 +40,9 @@ pub fn is_in_transaction(sessions: &[LiveSession], number: u32) -> bool
     }
 }
 
-/// Whether the session holds LOCK TABLES.
-pub fn holds_tables(sessions: &[LiveSession], number: u32) -> bool
-    ensures { result ≡ holds_tables (session_of number sessions.now) }
-{
-    match session_of(sessions, number) {
-        Some(session) => session.holds_tables(),
-        None => false,
-    }
-}
-
 /// Whether the session is the tool's.
 pub fn is_of_tool(sessions: &[LiveSession], number: u32) -> bool
-    ensures { result ≡ is_of_tool (session_of number sessions.now) }
+    ensures { result ≡ unwrap_or (option_map (λ session. session.is_tool) (kept_of number sessions.now)) false }
 {
     match session_of(sessions, number) {
         Some(session) => session.is_tool(),
@@ -61,7 +52,7 @@ pub fn is_of_tool(sessions: &[LiveSession], number: u32) -> bool
 
 /// How often the session's waiting request was polled.
 pub fn polls_of(sessions: &[LiveSession], number: u32) -> u32
-    ensures { result ≡ polls_of (session_of number sessions.now) }
+    ensures { result ≡ unwrap_or (option_map (λ session. session.polls) (kept_of number sessions.now)) 0 }
 {
     match session_of(sessions, number) {
         Some(session) => session.polls(),
@@ -71,7 +62,7 @@ pub fn polls_of(sessions: &[LiveSession], number: u32) -> u32
 
 /// What the session's transaction wrote so far.
 pub fn writes_of(sessions: &[LiveSession], number: u32) -> &[RowEvent]
-    ensures { result.now ≡ writes_of (session_of number sessions.now) }
+    ensures { result.now ≡ unwrap_or (option_map (λ session. session.writes) (kept_of number sessions.now)) [] }
 {
     match session_of(sessions, number) {
         Some(session) => session.writes(),

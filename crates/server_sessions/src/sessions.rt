@@ -1,12 +1,14 @@
-//! What a call changes of its session's record, but for its row locks.
+//! What a call changes of what is kept of its session.
 
-ghost use Rattle.std.specs.Prelude.{◌≡◌, ◌==◌, ◌++◌, [], ◌∷◌, false, not, filter, OnOk, OnErr};
-ghost use Rattle.server_model.specs.States.{new_session, session_of, with_session, writes_of};
-ghost use Rattle.server_model.specs.PlainServer.{at_rest, counting, holding, locking, unlocking};
+ghost use Rattle.std.specs.Prelude.{◌≡◌, ◌==◌, ◌++◌, [], ◌∷◌, true, false, not, filter, map, unwrap_or, OnOk, OnErr};
+ghost use Rattle.std.specs.Option.{option_map};
+ghost use Rattle.server_sessions.specs.LiveSessions.KeptSessions.{grant_of, kept_at_rest, kept_counting, kept_holding, kept_locking, kept_of, kept_unlocking, new_kept, with_kept};
 
+use crate::grant::grants_of;
 use crate::live_session::LiveSession;
 use crate::lookup::place_of;
 use base_values::{Events, Names, Sequence};
+use server_locks::metadata_locks::MetaLocks;
 use std::alloc::{AllocError, Global};
 
 /// One session more; all is as before where there is no memory.
@@ -16,7 +18,7 @@ pub fn connect(
     number: u32,
     is_tool: bool,
 ) -> Result<(), AllocError>
-    ensures ok { OnOk result (sessions.new.items ≡ sessions.old.items ++ new_session number is_tool ∷ []) }
+    ensures ok { OnOk result (sessions.new.items ≡ sessions.old.items ++ new_kept number is_tool ∷ []) }
     ensures err { OnErr result (sessions.new.items ≡ sessions.old.items) }
 {
     sessions.push(LiveSession::new(alloc, number, is_tool))?;
@@ -30,27 +32,30 @@ pub fn disconnect(sessions: &mut Vec<LiveSession>, number: u32)
     sessions.retain(|session| !session.has_number(number));
 }
 
-/// The session's transaction goes on with these names, shared, and these events; all is as before where there is no memory.
+/// The session's transaction goes on with these names, which the table has of it shared, and these events; all is as before
+/// where there is no memory.
 pub fn hold(
     alloc: Global,
     sessions: &mut Vec<LiveSession>,
+    table: &MetaLocks,
     number: u32,
-    names: Names,
+    names: &Names,
     events: Events,
 ) -> Result<(), AllocError>
-    ensures ok { OnOk result (sessions.new.items ≡ with_session number (holding (record { exclusive = false; names = names; locks = [] }) events) sessions.old.items) }
+    ensures ok { OnOk result (sessions.new.items ≡ with_kept number (kept_holding (map (grant_of table.now.held number false) names.now) events) sessions.old.items) }
     ensures err { OnErr result (sessions.new.items ≡ sessions.old.items) }
 {
+    let grants = grants_of(alloc, table, number, names.as_slice(), false)?;
     match place_of(sessions.as_slice(), number) {
-        Some(place) => sessions[place].grow(alloc, names, events),
+        Some(place) => sessions[place].grow(alloc, grants, events),
         None => Ok(()),
     }
 }
 
 /// The session's transaction is over: its shared names are free. What it wrote is given.
 pub fn rest(alloc: Global, sessions: &mut Vec<LiveSession>, number: u32) -> Events
-    ensures sessions { sessions.new.items ≡ with_session number at_rest sessions.old.items }
-    ensures writes { result ≡ writes_of (session_of number sessions.old.items) }
+    ensures sessions { sessions.new.items ≡ with_kept number kept_at_rest sessions.old.items }
+    ensures writes { result ≡ unwrap_or (option_map (λ session. session.writes) (kept_of number sessions.old.items)) [] }
 {
     match place_of(sessions.as_slice(), number) {
         Some(place) => sessions[place].rest(alloc),
@@ -58,24 +63,27 @@ pub fn rest(alloc: Global, sessions: &mut Vec<LiveSession>, number: u32) -> Even
     }
 }
 
-/// The session holds these names exclusively too; all is as before where there is no memory.
+/// The session holds these names too, which the table has of it exclusively; all is as before where there is no memory.
 pub fn lock_tables(
+    alloc: Global,
     sessions: &mut Vec<LiveSession>,
+    table: &MetaLocks,
     number: u32,
-    names: Names,
+    names: &Names,
 ) -> Result<(), AllocError>
-    ensures ok { OnOk result (sessions.new.items ≡ with_session number (locking names) sessions.old.items) }
+    ensures ok { OnOk result (sessions.new.items ≡ with_kept number (kept_locking (map (grant_of table.now.held number true) names.now)) sessions.old.items) }
     ensures err { OnErr result (sessions.new.items ≡ sessions.old.items) }
 {
+    let grants = grants_of(alloc, table, number, names.as_slice(), true)?;
     match place_of(sessions.as_slice(), number) {
-        Some(place) => sessions[place].lock_tables(names),
+        Some(place) => sessions[place].lock_tables(grants),
         None => Ok(()),
     }
 }
 
 /// The session holds no name exclusively from now on.
 pub fn unlock_tables(sessions: &mut Vec<LiveSession>, number: u32)
-    ensures { sessions.new.items ≡ with_session number unlocking sessions.old.items }
+    ensures { sessions.new.items ≡ with_kept number kept_unlocking sessions.old.items }
 {
     if let Some(place) = place_of(sessions.as_slice(), number) {
         sessions[place].unlock_tables();
@@ -84,7 +92,7 @@ pub fn unlock_tables(sessions: &mut Vec<LiveSession>, number: u32)
 
 /// The session's request was polled so often.
 pub fn count_polls(sessions: &mut Vec<LiveSession>, number: u32, polls: u32)
-    ensures { sessions.new.items ≡ with_session number (counting polls) sessions.old.items }
+    ensures { sessions.new.items ≡ with_kept number (kept_counting polls) sessions.old.items }
 {
     if let Some(place) = place_of(sessions.as_slice(), number) {
         sessions[place].count_polls(polls);

@@ -11,7 +11,7 @@ use Rattle.server_locks.specs.RowLocks.LockTable.{LockTable, held_by, freed, fre
 use Rattle.server_locks.specs.RowLocks.SameLocks.{HasLock}
 use Rattle.server_model.specs.declared.session.Session.{Session}
 use Rattle.server_model.proofs.LockedRows.Tests.{are_one, same_number}
-use Rattle.server_sessions.specs.LiveSessions.SessionLists.{rows_of}
+use Rattle.server_sessions.specs.LiveSessions.KeptSessions.{rows_of}
 
 -- the sessions without the one of this number
 abbrev pub without : ℕ → List Session → List Session

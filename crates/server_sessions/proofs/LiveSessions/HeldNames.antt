@@ -16,9 +16,9 @@ use Rattle.server_model.specs.declared.session.Session.{Session}
 use Rattle.server_model.specs.declared.session.HeldName.{HeldName}
 use Rattle.server_model.specs.declared.session.Waiting.{Waiting}
 use Rattle.server_model.specs.declared.request.Request.{Request}
-use Rattle.server_model.specs.HeldNames.{held}
 use Rattle.server_model.specs.States.{is_exclusive, name_held, names_held, names_in, new_session, session_of, waiters, waits_for, with_session}
 use Rattle.server_model.proofs.LockedRows.Tests.{are_one, are_same, same_number}
+use Rattle.server_sessions.specs.LiveSessions.KeptSessions.{held_name}
 use Rattle.server_sessions.specs.LiveSessions.SessionLists.{Differ, HasOwn, HaveNames, names_of}
 use Rattle.server_sessions.proofs.LiveSessions.HeldLocks.{apart_from, without}
 
@@ -183,34 +183,41 @@ further_name (inr b) = inr (inr b)
 abbrev unshared : List grants.HeldName → ℕ → List (List ℕ) → List (List ℕ)
 unshared table number names = filter (λ (n : List ℕ). not (shares table number n)) names
 
-taken_by : (table : List grants.HeldName) (number : ℕ) (name : List ℕ) (names : List (List ℕ)) (lock : grants.HeldName) → lock.session ≡ number → (b : Bool) → shares table number name ≡ b → HasOwn (map (held false) (name ∷ names)) lock
-    → (HasOwn (map (held false) names) lock → HasName table lock ⊎ HasName (map (held_by number false) (unshared table number names)) lock)
+taken_by : (table : List grants.HeldName) (number : ℕ) (name : List ℕ) (names : List (List ℕ)) (lock : grants.HeldName) → lock.session ≡ number → (b : Bool) → shares table number name ≡ b → HasOwn (map (held_name false) (name ∷ names)) lock
+    → (HasOwn (map (held_name false) names) lock → HasName table lock ⊎ HasName (map (held_by number false) (unshared table number names)) lock)
     → HasName table lock ⊎ HasName (map (held_by number false) (cond (not b) (name ∷ unshared table number names) (unshared table number names))) lock
 taken_by table number name names lock own true is (inl same) rest = inl (shared_there table number name lock is own same.0 same.1)
 taken_by table number name names lock own false is (inl same) rest = inr (inl (lock_is number name false lock own same.0 same.1))
 taken_by table number name names lock own true is (inr has) rest = rest has
 taken_by table number name names lock own false is (inr has) rest = further_name (rest has)
 
-taken_here : (table : List grants.HeldName) (number : ℕ) (exclusive : Bool) (names : List (List ℕ)) (lock : grants.HeldName) → lock.session ≡ number → HasOwn (map (held exclusive) names) lock → HasName table lock ⊎ HasName (taken table number exclusive names) lock
+taken_here : (table : List grants.HeldName) (number : ℕ) (exclusive : Bool) (names : List (List ℕ)) (lock : grants.HeldName) → lock.session ≡ number → HasOwn (map (held_name exclusive) names) lock → HasName table lock ⊎ HasName (taken table number exclusive names) lock
 taken_here table number exclusive [] lock own has = absurd has
 taken_here table number true (name ∷ names) lock own (inl is) = inr (inl (lock_is number name true lock own is.0 is.1))
 taken_here table number true (name ∷ names) lock own (inr has) = further_name (taken_here table number true names lock own has)
 taken_here table number false (name ∷ names) lock own has = taken_by table number name names lock own (shares table number name) refl has (taken_here table number false names lock own)
 
-all_taken : (number : ℕ) (exclusive : Bool) (names : List (List ℕ)) (lock : grants.HeldName) → HasName (map (held_by number exclusive) names) lock → (lock.session ≡ number) × HasOwn (map (held exclusive) names) lock
+-- what is granted is there then
+pub granted_here : (table : List grants.HeldName) (number : ℕ) (exclusive : Bool) (names : List (List ℕ)) (lock : grants.HeldName) → lock.session ≡ number → HasOwn (map (held_name exclusive) names) lock → HasName (table ++ taken table number exclusive names) lock
+granted_here table number exclusive names lock own has = at (taken_here table number exclusive names lock own has) where
+  at : HasName table lock ⊎ HasName (taken table number exclusive names) lock → HasName (table ++ taken table number exclusive names) lock
+  at (inl old) = first_name table (taken table number exclusive names) lock old
+  at (inr new) = second_name table (taken table number exclusive names) lock new
+
+all_taken : (number : ℕ) (exclusive : Bool) (names : List (List ℕ)) (lock : grants.HeldName) → HasName (map (held_by number exclusive) names) lock → (lock.session ≡ number) × HasOwn (map (held_name exclusive) names) lock
 all_taken number exclusive [] lock has = absurd has
 all_taken number exclusive (name ∷ names) lock (inl is) = (ap (λ (l : grants.HeldName). l.session) (sym is), inl (ap (λ (l : grants.HeldName). l.name) is, ap (λ (l : grants.HeldName). l.exclusive) is))
 all_taken number exclusive (name ∷ names) lock (inr has) = let there = all_taken number exclusive names lock has in (there.0, inr there.1)
 
-fewer : (exclusive : Bool) (test : List ℕ → Bool) (names : List (List ℕ)) (lock : grants.HeldName) → HasOwn (map (held exclusive) (filter test names)) lock → HasOwn (map (held exclusive) names) lock
+fewer : (exclusive : Bool) (test : List ℕ → Bool) (names : List (List ℕ)) (lock : grants.HeldName) → HasOwn (map (held_name exclusive) (filter test names)) lock → HasOwn (map (held_name exclusive) names) lock
 fewer exclusive test [] lock has = has
 fewer exclusive test (name ∷ names) lock has = at (test name) has (fewer exclusive test names lock) where
-  at : (b : Bool) → HasOwn (map (held exclusive) (cond b (name ∷ filter test names) (filter test names))) lock → (HasOwn (map (held exclusive) (filter test names)) lock → HasOwn (map (held exclusive) names) lock) → HasOwn (map (held exclusive) (name ∷ names)) lock
+  at : (b : Bool) → HasOwn (map (held_name exclusive) (cond b (name ∷ filter test names) (filter test names))) lock → (HasOwn (map (held_name exclusive) (filter test names)) lock → HasOwn (map (held_name exclusive) names) lock) → HasOwn (map (held_name exclusive) (name ∷ names)) lock
   at true (inl is) rest = inl is
   at true (inr more) rest = inr (rest more)
   at false more rest = inr (rest more)
 
-taken_there : (table : List grants.HeldName) (number : ℕ) (exclusive : Bool) (names : List (List ℕ)) (lock : grants.HeldName) → HasName (taken table number exclusive names) lock → (lock.session ≡ number) × HasOwn (map (held exclusive) names) lock
+taken_there : (table : List grants.HeldName) (number : ℕ) (exclusive : Bool) (names : List (List ℕ)) (lock : grants.HeldName) → HasName (taken table number exclusive names) lock → (lock.session ≡ number) × HasOwn (map (held_name exclusive) names) lock
 taken_there table number true names lock has = all_taken number true names lock has
 taken_there table number false names lock has =
     let there = all_taken number false (filter (λ (n : List ℕ). not (shares table number n)) names) lock has in
@@ -305,7 +312,7 @@ grown_live change more names None is = absurd (true≢false (sym is))
 grown_live change more names (Some s) is = names s
 
 -- a live session is granted these names, exclusively or shared
-pub names_granted : (number : ℕ) (exclusive : Bool) (more : List (List ℕ)) (change : Session → Session) (sessions : List Session) (table : List grants.HeldName) → ((s : Session) → (change s).number ≡ s.number) → ((s : Session) → (change s).names ≡ s.names ++ map (held exclusive) more)
+pub names_granted : (number : ℕ) (exclusive : Bool) (more : List (List ℕ)) (change : Session → Session) (sessions : List Session) (table : List grants.HeldName) → ((s : Session) → (change s).number ≡ s.number) → ((s : Session) → (change s).names ≡ s.names ++ map (held_name exclusive) more)
     → is_some (session_of number sessions) ≡ true → HaveNames sessions table → HaveNames (with_session number change sessions) (table ++ taken table number exclusive more)
 names_granted number exclusive more change sessions table numbers names live have =
     record {
@@ -313,25 +320,21 @@ names_granted number exclusive more change sessions table numbers names live hav
       here = λ lock has. here lock (lock.session == number) refl has;
     }
   where
-    grown : (lock : grants.HeldName) → (lock.session == number) ≡ true → names_of (session_of lock.session (with_session number change sessions)) ≡ names_of (session_of lock.session sessions) ++ map (held exclusive) more
-    grown lock is = own_names number change sessions lock numbers is ∙ grown_live change (map (held exclusive) more) names (session_of number sessions) live ∙ ap (λ (n : ℕ). names_of (session_of n sessions) ++ map (held exclusive) more) (sym (are_one lock.session number is))
+    grown : (lock : grants.HeldName) → (lock.session == number) ≡ true → names_of (session_of lock.session (with_session number change sessions)) ≡ names_of (session_of lock.session sessions) ++ map (held_name exclusive) more
+    grown lock is = own_names number change sessions lock numbers is ∙ grown_live change (map (held_name exclusive) more) names (session_of number sessions) live ∙ ap (λ (n : ℕ). names_of (session_of n sessions) ++ map (held_name exclusive) more) (sym (are_one lock.session number is))
 
     there : (lock : grants.HeldName) (b : Bool) → (lock.session == number) ≡ b → HasName table lock ⊎ HasName (taken table number exclusive more) lock → HasOwn (names_of (session_of lock.session (with_session number change sessions))) lock
-    there lock true is (inl old) = subst (λ (n : List HeldName). HasOwn n lock) (sym (grown lock is)) (first_own (names_of (session_of lock.session sessions)) (map (held exclusive) more) lock (have.there lock old))
-    there lock true is (inr new) = subst (λ (n : List HeldName). HasOwn n lock) (sym (grown lock is)) (second_own (names_of (session_of lock.session sessions)) (map (held exclusive) more) lock (taken_there table number exclusive more lock new).1)
+    there lock true is (inl old) = subst (λ (n : List HeldName). HasOwn n lock) (sym (grown lock is)) (first_own (names_of (session_of lock.session sessions)) (map (held_name exclusive) more) lock (have.there lock old))
+    there lock true is (inr new) = subst (λ (n : List HeldName). HasOwn n lock) (sym (grown lock is)) (second_own (names_of (session_of lock.session sessions)) (map (held_name exclusive) more) lock (taken_there table number exclusive more lock new).1)
     there lock false is (inl old) = subst (λ (o : Option Session). HasOwn (names_of o) lock) (sym (other_of number lock.session change sessions numbers is)) (have.there lock old)
     there lock false is (inr new) = absurd (true≢false (sym (same_number number) ∙ ap (λ (n : ℕ). n == number) (sym (taken_there table number exclusive more lock new).0) ∙ is))
 
-    new_here : (lock : grants.HeldName) → HasName table lock ⊎ HasName (taken table number exclusive more) lock → HasName (table ++ taken table number exclusive more) lock
-    new_here lock (inl old) = first_name table (taken table number exclusive more) lock old
-    new_here lock (inr new) = second_name table (taken table number exclusive more) lock new
-
-    own_here_by : (lock : grants.HeldName) → lock.session ≡ number → HasOwn (names_of (session_of lock.session sessions)) lock ⊎ HasOwn (map (held exclusive) more) lock → HasName (table ++ taken table number exclusive more) lock
+    own_here_by : (lock : grants.HeldName) → lock.session ≡ number → HasOwn (names_of (session_of lock.session sessions)) lock ⊎ HasOwn (map (held_name exclusive) more) lock → HasName (table ++ taken table number exclusive more) lock
     own_here_by lock own (inl old) = first_name table (taken table number exclusive more) lock (have.here lock old)
-    own_here_by lock own (inr new) = new_here lock (taken_here table number exclusive more lock own new)
+    own_here_by lock own (inr new) = granted_here table number exclusive more lock own new
 
     here : (lock : grants.HeldName) (b : Bool) → (lock.session == number) ≡ b → HasOwn (names_of (session_of lock.session (with_session number change sessions))) lock → HasName (table ++ taken table number exclusive more) lock
-    here lock true is has = own_here_by lock (are_one lock.session number is) (either_own (names_of (session_of lock.session sessions)) (map (held exclusive) more) lock (subst (λ (n : List HeldName). HasOwn n lock) (grown lock is) has))
+    here lock true is has = own_here_by lock (are_one lock.session number is) (either_own (names_of (session_of lock.session sessions)) (map (held_name exclusive) more) lock (subst (λ (n : List HeldName). HasOwn n lock) (grown lock is) has))
     here lock false is has = first_name table (taken table number exclusive more) lock (have.here lock (subst (λ (o : Option Session). HasOwn (names_of o) lock) (other_of number lock.session change sessions numbers is) has))
 
 -- whether the session's lock is let go, or stays

@@ -4,12 +4,12 @@ use Rattle.std.specs.List.{list_any}
 use Rattle.std.specs.Str.{bytes_eq}
 use Rattle.std.proofs.Math.Bool.{or_assoc, or-false}
 use Rattle.std.proofs.lemmas.Cmp.{nat_list_eq_equiv}
-use Rattle.server_locks.specs.MetadataLocks.Grants.{has_name}
+use Rattle.server_locks.specs.MetadataLocks.Grants as grants
+use Rattle.server_locks.specs.MetadataLocks.Grants.{has_name, holds}
 use Rattle.table_store.specs.declared.renames.Pair.{Pair}
 use Rattle.server_model.specs.declared.session.HeldName.{HeldName}
 use Rattle.server_model.specs.States.{kept_names, locked_names, pair_names}
 use Rattle.server_model.specs.Effects.{is_beyond}
-use Rattle.server_sessions.specs.SessionLocks.Names.{has_locked}
 
 -- a name of pairs passes a test where one of a pair does
 any_in_pairs : (test : List ℕ → Bool) (pairs : List Pair) → list_any test (pair_names pairs) ≡ list_any (λ pair. test pair.old || test pair.new) pairs
@@ -21,12 +21,16 @@ any_in_pairs test (pair ∷ pairs) =
 pub pairs_have : (pairs : List Pair) (name : List ℕ) → has_name (pair_names pairs) name ≡ list_any (λ pair. bytes_eq pair.old name || bytes_eq pair.new name) pairs
 pairs_have pairs name = any_in_pairs (λ other. bytes_eq other name) pairs
 
+pub pairs_any : (table : List grants.HeldName) (number : ℕ) (pairs : List Pair) → list_any (λ name. not (holds table number name true)) (pair_names pairs) ≡ list_any (λ pair. not (holds table number pair.old true) || not (holds table number pair.new true)) pairs
+pairs_any table number pairs = any_in_pairs (λ name. not (holds table number name true)) pairs
+
+-- the table is held exclusively, which LOCK TABLES alone does
+abbrev pub has_locked : List HeldName → List ℕ → Bool
+has_locked held name = list_any (λ (one : HeldName). one.exclusive && bytes_eq name one.name) held
+
 -- the table isn't locked
 abbrev is_free : List HeldName → List ℕ → Bool
 is_free held name = not (has_locked held name)
-
-pub pairs_any : (held : List HeldName) (pairs : List Pair) → list_any (is_free held) (pair_names pairs) ≡ list_any (λ pair. is_free held pair.old || is_free held pair.new) pairs
-pairs_any held pairs = any_in_pairs (is_free held) pairs
 
 locked_at : (b : Bool) (one : HeldName) (name : List ℕ) (held : List HeldName) → list_any (bytes_eq name) (map (λ (h : HeldName). h.name) (cond b (one ∷ held) held)) ≡ ((b && bytes_eq name one.name) || list_any (bytes_eq name) (map (λ (h : HeldName). h.name) held))
 locked_at true one name held = refl
@@ -64,7 +68,7 @@ some_locked : (held : List HeldName) → list_any (λ (one : HeldName). one.excl
 some_locked [] = refl
 some_locked (one ∷ held) = some_at one.exclusive (list_any (λ (h : HeldName). h.exclusive) held) one (kept_names held) (some_locked held)
 
-any_alike : (one two : List ℕ → Bool) → ((name : List ℕ) → one name ≡ two name) → (names : List (List ℕ)) → list_any one names ≡ list_any two names
+pub any_alike : (one two : List ℕ → Bool) → ((name : List ℕ) → one name ≡ two name) → (names : List (List ℕ)) → list_any one names ≡ list_any two names
 any_alike one two alike [] = refl
 any_alike one two alike (name ∷ names) = ap (λ b. b || list_any one names) (alike name) ∙ ap (λ b. two name || b) (any_alike one two alike names)
 

@@ -1,7 +1,6 @@
 -- The sessions and the requests that wait, with the tables of the locks that they hold and wait for.
-use Rattle.std.specs.Prelude.{◌≡◌, ◌==◌, ◌≤◌, ◌⊎◌, ℕ, true, false, List, [], ◌∷◌, map, filter, is_some, Option, Some, None}
+use Rattle.std.specs.Prelude.{◌≡◌, ◌==◌, ◌≤◌, ◌⊎◌, ℕ, true, false, List, [], ◌∷◌, is_some, Option, Some, None}
 use Rattle.std.specs.List.{AllByRecursion}
-use Rattle.server_locks.specs.declared.row_locks.lock.Lock.{Lock}
 use Rattle.server_locks.specs.declared.row_locks.lock.HeldLock.{HeldLock}
 use Rattle.server_locks.specs.RowLocks.SameLocks.{HasLock}
 use Rattle.server_locks.specs.MetadataLocks.Grants as grants
@@ -11,6 +10,7 @@ use Rattle.server_model.specs.declared.session.HeldName.{HeldName}
 use Rattle.server_model.specs.declared.session.Session.{Session}
 use Rattle.server_model.specs.declared.session.Waiting.{Waiting}
 use Rattle.server_model.specs.States.{session_of, waiters}
+use Rattle.server_sessions.specs.LiveSessions.KeptSessions.{ArePlaced, KeptSession, records_of}
 
 -- the live sessions, in the order of connecting, the greatest number that one was given, and the requests that wait
 pub record NumberedSessions : Type 0 where
@@ -22,17 +22,6 @@ pub record NumberedSessions : Type 0 where
 abbrev pub Differ : List Session → Type 0
 Differ [] = Unit {0}
 Differ (session ∷ sessions) = AllByRecursion (λ other. (other.number == session.number) ≡ false) sessions × Differ sessions
-
--- the row locks that the table has of a session, in the order in which they were granted
-abbrev pub rows_of : ℕ → List HeldLock → List Lock
-rows_of number held = map (λ one. one.lock) (filter (λ one. one.session == number) held)
-
--- the session's record with the row locks that the table has of it
-abbrev pub with_rows : List HeldLock → Session → Session
-with_rows held session = record session { row_locks = rows_of session.number held }
-
-abbrev pub all_with_rows : List HeldLock → List Session → List Session
-all_with_rows held sessions = map (with_rows held) sessions
 
 -- No two sessions have one number, or a greater one than was given, and each row lock is a live session's.
 pub record AreOwned (made : ℕ) (sessions : List Session) (held : List HeldLock) : Type 0 where
@@ -55,9 +44,10 @@ pub record HaveNames (sessions : List Session) (held : List grants.HeldName) : T
   pub there : (lock : grants.HeldName) → HasName held lock → HasOwn (names_of (session_of lock.session sessions)) lock
   pub here : (lock : grants.HeldName) → HasOwn (names_of (session_of lock.session sessions)) lock → HasName held lock
 
--- The row locks are the sessions', and the table of names has just the locks that they hold, and the requests for exclusive
--- names that wait.
-pub record AreInTables (made : ℕ) (sessions : List Session) (waiting : List Waiting) (locks : List HeldLock) (table : NameTable) : Type 0 where
-  pub rows : AreOwned made sessions locks
-  pub names : HaveNames sessions table.held
+-- The sessions' records have the row locks and the names of the tables, and these have no others; each grant has its place; and
+-- the table of names has the requests for exclusive names that wait.
+pub record AreInTables (made : ℕ) (sessions : List KeptSession) (waiting : List Waiting) (locks : List HeldLock) (table : NameTable) : Type 0 where
+  pub rows : AreOwned made (records_of locks table.held sessions) locks
+  pub places : ArePlaced table.held sessions
+  pub names : HaveNames (records_of locks table.held sessions) table.held
   pub waits : table.waiting ≡ waiters waiting

@@ -1,12 +1,13 @@
 //! Sessions, requests that wait, and the log.
 
 ghost use Rattle.std.specs.Prelude.{◌≡◌, ◌<◌, ◌≤◌, ◌+◌, ◌++◌, [], ◌∷◌, true, is_some, length, count_by, drop, option_copied, IfOk, OnOk, OnErr};
-ghost use Rattle.std.specs.List.{list_any};
+ghost use Rattle.std.specs.List.{AllByRecursion, list_any};
 ghost use Rattle.server_model.specs.States.{counter_of, counters_renamed, counters_without, next_of, opened, connected, session_of, with_session, is_live, is_in_transaction, is_of_tool, is_waiting, holds_tables, waiting_of, unread, is_exclusive, names_in};
 ghost use Rattle.server_model.specs.Blockers.{blocker};
 ghost use Rattle.server_model.specs.Listings.{events_read, waits_shown};
 ghost use Rattle.server_model.specs.Effects.{is_outside};
 ghost use Rattle.server_model.specs.PlainServer.{counting, forgets, goes_on, limit_if, locking, loses, polled_over, is_over, recounted, unlocking, without_waiting};
+ghost use Rattle.server_log.specs.EventCosts.TableEvents.{IsTableEvent};
 ghost use Rattle.server_sessions.specs.LiveSessions.CounterMoves.{drawn_in_move, moved};
 ghost use Rattle.server_sessions.specs.LiveSessions.Rooms.{logs};
 
@@ -18,7 +19,7 @@ use crate::{
     counters_renamed, counters_with, counters_without, is_waiting, next_of, raise, waiting_of,
 };
 use base_values::gho_schema::Schema;
-use base_values::{Duplicate, Events, Name, Names, Sequence};
+use base_values::{Events, Name, Names, Sequence};
 use server_locks::least_session::least;
 use server_locks::row_locks::{Lock, LockSet};
 use server_log::Log;
@@ -127,6 +128,7 @@ impl Sessions {
         locks: LockSet,
         events: Events,
     ) -> Result<(), AllocError>
+        requires { AllByRecursion IsTableEvent events }
         ensures ok { OnOk result (self.new ≡ goes_on session (record { exclusive = is_exclusive request.now; names = names_in request.now; locks = locks }) events self.old) }
         ensures err { OnErr result (self.new ≡ self.old) }
     {
@@ -151,6 +153,7 @@ impl Sessions {
 
     /// What the session wrote is logged with these events, and its transaction is over.
     pub fn commit_with(&mut self, session: u32, events: Events) -> Result<(), AllocError>
+        requires { AllByRecursion IsTableEvent events }
         ensures ok { OnOk result (self.new ≡ logs session events self.old) }
         ensures err { OnErr result (self.new ≡ self.old) }
     {
@@ -174,7 +177,7 @@ impl Sessions {
         ensures ok { OnOk result (self.new ≡ record self.old { sessions = with_session session (locking names.now) self.old.sessions }) }
         ensures err { OnErr result (self.new ≡ self.old) }
     {
-        self.sessions.lock_tables(session, names.copy()?)
+        self.sessions.lock_tables(self.alloc, session, names)
     }
 
     /// The session holds no name exclusively from now on (UNLOCK TABLES).

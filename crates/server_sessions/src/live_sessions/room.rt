@@ -4,15 +4,16 @@ ghost use Rattle.std.specs.Prelude.{◌≡◌, ◌≤◌, ◌+◌, IfOk, OnOk, O
 ghost use Rattle.std.specs.List.{AllByRecursion};
 ghost use Rattle.server_log.specs.Encodings.{IsEncodable};
 ghost use Rattle.server_log.specs.EventCosts.Costs.{bytes_of};
+ghost use Rattle.server_log.specs.EventCosts.TableEvents.{IsTableEvent};
 
 use base_values::RowEvent;
 use server_log::Log;
 use server_log::event_costs::{cost, encoded_size};
 use std::alloc::AllocError;
 
-/// Makes room for these events besides, and says for how many bytes. For an event that isn't encoded there is never room: it
-/// would be of a table of more than 64 columns, or of a name of more than 255 bytes, which no plan has.
+/// Makes room for these events besides, and says for how many bytes.
 pub fn make_room(log: &mut Log, events: &[RowEvent]) -> Result<u64, AllocError>
+    requires { AllByRecursion IsTableEvent events.now }
     ensures events { log.new.events ≡ log.old.events }
     ensures ok { OnOk result (log.new.spare ≡ log.old.spare + bytes_of events.now) }
     ensures more { IfOk result (λ more. more ≡ bytes_of events.now) }

@@ -11,8 +11,8 @@ ghost use Rattle.server_model.specs.PlainServer.{at_rest, counting, holding, loc
 
 use crate::session_locks::{is_exclusive, is_outside, names_blocker, names_in};
 use crate::{
-    LiveSession, begin_wait, connect, count_polls, disconnect, end_wait, hold, holds_tables,
-    is_in_transaction, is_live, is_of_tool, lock_tables, polls_of, rest, unlock_tables, writes_of,
+    LiveSession, begin_wait, connect, count_polls, disconnect, end_wait, hold, is_in_transaction,
+    is_live, is_of_tool, lock_tables, polls_of, rest, unlock_tables, writes_of,
 };
 use base_values::{Events, Names, RowEvent};
 use server_locks::metadata_locks::MetaLocks;
@@ -22,9 +22,9 @@ use std::alloc::{AllocError, Global};
 use std::marker::Model;
 
 /// The live sessions, the greatest number that one was given, and the requests that wait. The row locks of all sessions stand in
-/// one table and nowhere else, and contracts see in a session's record those that it has of them. Who refuses a row lock or a
-/// name is asked of the tables, of which that of names has just those that the sessions hold, and the requests for exclusive
-/// names that wait.
+/// one table and their names in another, and nowhere else: contracts see in a session's record those that it has of them. Who
+/// refuses a row lock or a name, and what a session has locked, is asked of the tables. That of names has the requests for
+/// exclusive names that wait, too.
 pub struct SessionList {
     made: u32,
     sessions: Vec<LiveSession>,
@@ -51,11 +51,12 @@ impl Drop for SessionList {
 }
 
 impl Model for SessionList {
-    ghost use Rattle.server_sessions.specs.LiveSessions.SessionLists.{NumberedSessions, AreInTables, all_with_rows};
+    ghost use Rattle.server_sessions.specs.LiveSessions.SessionLists.{NumberedSessions, AreInTables};
+    ghost use Rattle.server_sessions.specs.LiveSessions.KeptSessions.{records_of};
 
     ghost Value = { NumberedSessions };
 
-    ghost view = { λ l. record { made = l.made; sessions = all_with_rows l.locks.held l.sessions.items; waiting = l.waiting.items } };
+    ghost view = { λ l. record { made = l.made; sessions = records_of l.locks.held l.names.held l.sessions.items; waiting = l.waiting.items } };
 
     ghost invariant = { λ l. AreInTables l.made l.sessions.items l.waiting.items l.locks.held l.names };
 }
@@ -115,7 +116,7 @@ impl SessionList {
     pub fn holds_tables(&self, number: u32) -> bool
         ensures { result ≡ holds_tables (session_of number self.now.sessions) }
     {
-        holds_tables(self.sessions.as_slice(), number)
+        self.names.holds_any(number, true)
     }
 
     /// Whether the session is the tool's.
@@ -143,7 +144,7 @@ impl SessionList {
     pub fn is_outside(&self, number: u32, request: &Request) -> bool
         ensures { result ≡ is_outside (session_of number self.now.sessions) request.now }
     {
-        is_outside(self.sessions.as_slice(), number, request)
+        is_outside(&self.names, number, request)
     }
 
     /// The requests that wait, in the order in which they came.
@@ -212,7 +213,14 @@ impl SessionList {
             locks,
         } = need;
         grant(&mut self.locks, &mut self.names, number, &locks, &names)?;
-        match hold(alloc, &mut self.sessions, number, names, events) {
+        match hold(
+            alloc,
+            &mut self.sessions,
+            &self.names,
+            number,
+            &names,
+            events,
+        ) {
             Ok(()) => Ok(()),
             Err(error) => {
                 self.locks.undo(number);
@@ -233,15 +241,20 @@ impl SessionList {
     }
 
     /// The session holds these names exclusively too; all is as before where there is no memory.
-    pub fn lock_tables(&mut self, number: u32, names: Names) -> Result<(), AllocError>
-        ensures ok { OnOk result (self.new ≡ record self.old { sessions = with_session number (locking names) self.old.sessions }) }
+    pub fn lock_tables(
+        &mut self,
+        alloc: Global,
+        number: u32,
+        names: &Names,
+    ) -> Result<(), AllocError>
+        ensures ok { OnOk result (self.new ≡ record self.old { sessions = with_session number (locking names.now) self.old.sessions }) }
         ensures err { OnErr result (self.new ≡ self.old) }
     {
         if !is_live(self.sessions.as_slice(), number) {
             return Ok(());
         }
-        self.names.grant(number, &names, true)?;
-        match lock_tables(&mut self.sessions, number, names) {
+        self.names.grant(number, names, true)?;
+        match lock_tables(alloc, &mut self.sessions, &self.names, number, names) {
             Ok(()) => Ok(()),
             Err(error) => {
                 self.names.undo(number);

@@ -1,19 +1,17 @@
 //! The names of tables that a request mentions.
 
-ghost use Rattle.std.specs.Prelude.{◌≡◌, ◌&&◌, ◌||◌, not, [], ◌∷◌, Some, IfOk};
+ghost use Rattle.std.specs.Prelude.{◌≡◌, ◌&&◌, ◌||◌, true, not, [], ◌∷◌, IfOk};
 ghost use Rattle.std.specs.List.{list_any};
 ghost use Rattle.std.specs.Str.{bytes_eq};
-ghost use Rattle.server_locks.specs.MetadataLocks.Grants.{has_name};
+ghost use Rattle.server_locks.specs.MetadataLocks.Grants.{has_name, holds};
+ghost use Rattle.server_locks.specs.MetadataLocks.LockTable.{is_own};
 ghost use Rattle.server_model.specs.Operations.{table_of};
-ghost use Rattle.server_model.specs.States.{is_exclusive, names_in, pair_names, session_of, tables_named};
-ghost use Rattle.server_model.specs.Effects.{is_outside};
-ghost use Rattle.server_sessions.specs.SessionLocks.Names.{has_locked};
+ghost use Rattle.server_model.specs.States.{is_exclusive, names_in, pair_names, tables_named};
 
-use crate::live_session::LiveSession;
-use crate::lookup::session_of;
 use base_script::Statement;
 use base_values::{Duplicate, Name, Names, Sequence};
-use server_model::{HeldNames, Request};
+use server_locks::metadata_locks::MetaLocks;
+use server_model::Request;
 use std::alloc::{AllocError, Global};
 use table_store::Pair;
 
@@ -124,64 +122,59 @@ pub fn names_in(alloc: Global, request: &Request) -> Result<Names, AllocError>
     }
 }
 
-/// Whether the table is held exclusively, which LOCK TABLES alone does.
-fn has_locked(held: &HeldNames, name: &Name) -> bool
-    ensures { result ≡ has_locked held.now name.now }
+/// Whether the session holds the table exclusively, which LOCK TABLES alone does.
+fn has_locked(locks: &MetaLocks, number: u32, name: &Name) -> bool
+    ensures { result ≡ holds locks.now.held number name.now true }
 {
-    held.has(name, true)
+    locks.holds(number, name, true)
 }
 
-/// Whether one of the tables isn't locked.
-fn any_beyond(held: &HeldNames, names: &Names) -> bool
-    ensures { result ≡ list_any (λ name. not (has_locked held.now name)) names.now }
+/// Whether the session hasn't locked one of the tables.
+fn any_beyond(locks: &MetaLocks, number: u32, names: &Names) -> bool
+    ensures { result ≡ list_any (λ name. not (holds locks.now.held number name true)) names.now }
 {
-    names.as_slice().iter().any(|name| !has_locked(held, name))
+    names
+        .as_slice()
+        .iter()
+        .any(|name| !has_locked(locks, number, name))
 }
 
-/// Whether one of the pairs has a table that isn't locked.
-fn pairs_beyond(held: &HeldNames, pairs: &[Pair]) -> bool
-    ensures { result ≡ list_any (λ pair. not (has_locked held.now pair.old) || not (has_locked held.now pair.new)) pairs.now }
+/// Whether one of the pairs has a table that the session hasn't locked.
+fn pairs_beyond(locks: &MetaLocks, number: u32, pairs: &[Pair]) -> bool
+    ensures { result ≡ list_any (λ pair. not (holds locks.now.held number pair.old true) || not (holds locks.now.held number pair.new true)) pairs.now }
 {
-    pairs.iter().any(|pair| !has_locked(held, &pair.old) || !has_locked(held, &pair.new))
+    pairs.iter().any(|pair| {
+        !has_locked(locks, number, &pair.old) || !has_locked(locks, number, &pair.new)
+    })
 }
 
-/// Whether the request names a table that isn't locked.
+/// Whether the request names a table that the session hasn't locked.
 #[tactic(auto, using(crate::proofs::SessionLocks::Mentioned::mentions))]
-fn mentions_other(held: &HeldNames, request: &Request) -> bool
-    ensures { result ≡ list_any (λ name. not (has_locked held.now name)) (tables_named request.now) }
+fn mentions_other(locks: &MetaLocks, number: u32, request: &Request) -> bool
+    ensures { result ≡ list_any (λ name. not (holds locks.now.held number name true)) (tables_named request.now) }
 {
     match request {
-        Request::Do(statement) => !has_locked(held, table_of(statement)),
-        Request::Ends(table) => !has_locked(held, table),
-        Request::ChunkEnd { table, .. } => !has_locked(held, table),
-        Request::BeginSpan { table, .. } => !has_locked(held, table),
-        Request::CopyRow { from, into, .. } => !has_locked(held, from) || !has_locked(held, into),
-        Request::LockTables(names) => any_beyond(held, names),
-        Request::Create(schema) => !has_locked(held, &schema.name),
-        Request::Drop(table) => !has_locked(held, table),
-        Request::Rename(pairs) => pairs_beyond(held, pairs.as_slice()),
-        Request::ReadLog { tables, .. } => any_beyond(held, tables),
-        Request::ShowCounter(table) => !has_locked(held, table),
-        Request::SetCounter { table, .. } => !has_locked(held, table),
+        Request::Do(statement) => !has_locked(locks, number, table_of(statement)),
+        Request::Ends(table) => !has_locked(locks, number, table),
+        Request::ChunkEnd { table, .. } => !has_locked(locks, number, table),
+        Request::BeginSpan { table, .. } => !has_locked(locks, number, table),
+        Request::CopyRow { from, into, .. } => {
+            !has_locked(locks, number, from) || !has_locked(locks, number, into)
+        }
+        Request::LockTables(names) => any_beyond(locks, number, names),
+        Request::Create(schema) => !has_locked(locks, number, &schema.name),
+        Request::Drop(table) => !has_locked(locks, number, table),
+        Request::Rename(pairs) => pairs_beyond(locks, number, pairs.as_slice()),
+        Request::ReadLog { tables, .. } => any_beyond(locks, number, tables),
+        Request::ShowCounter(table) => !has_locked(locks, number, table),
+        Request::SetCounter { table, .. } => !has_locked(locks, number, table),
         _ => false,
     }
 }
 
 /// Whether the session holds LOCK TABLES and the request names a table that it hasn't locked.
-#[tactic(auto, using(crate::proofs::SessionLocks::Mentioned::beyond_locked))]
-fn is_outside_of(session: &LiveSession, request: &Request) -> bool
-    ensures { result ≡ is_outside (Some session.now) request.now }
+pub fn is_outside(locks: &MetaLocks, number: u32, request: &Request) -> bool
+    ensures { result ≡ (list_any (is_own number true) locks.now.held && list_any (λ name. not (holds locks.now.held number name true)) (tables_named request.now)) }
 {
-    let held = session.names();
-    held.has_exclusive() && mentions_other(held, request)
-}
-
-/// Whether the session of this number holds LOCK TABLES and the request names a table that it hasn't locked.
-pub fn is_outside(sessions: &[LiveSession], number: u32, request: &Request) -> bool
-    ensures { result ≡ is_outside (session_of number sessions.now) request.now }
-{
-    match session_of(sessions, number) {
-        Some(session) => is_outside_of(session, request),
-        None => false,
-    }
+    locks.holds_any(number, true) && mentions_other(locks, number, request)
 }

@@ -2,6 +2,9 @@ use Rattle.std.proofs.Common.{arith}
 use Rattle.server_sessions.proofs.LiveSessions.Ready.{ready_rests, writes_encodable, writes_within}
 use Rattle.server_sessions.proofs.live_sessions.all_sessions.Sessions.commit_with.Goals as goal
 
+pub make_room-requires : goal.make_room-requires
+make_room-requires c = rw c.as_slice.ensures c.requires
+
 pub append-requires-clause-encodable : goal.append-requires-clause-encodable
 append-requires-clause-encodable c = rw c.rest-writes.ensures.writes (writes_encodable c.self.inside.limits c.args.session c.self.inside.sessions.sessions c.self.inside.log.spare c.self.invariant)
 

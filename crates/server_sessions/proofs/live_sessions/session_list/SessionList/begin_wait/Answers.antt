@@ -9,6 +9,7 @@ invariant_of-self-in-Ok c =
     rw (c.in-Ok.ensures.ok, c.in_ok-line_up.ensures.ok, c.in_ok-names.ensures)
     (record {
       rows = c.self.invariant.rows;
+      places = c.self.invariant.places;
       names = c.self.invariant.names;
       waits = waits_queued c.args.number c.args.request.now c.self.inside.names.waiting c.self.inside.waiting.items exclusive c.self.invariant.waits;
     })

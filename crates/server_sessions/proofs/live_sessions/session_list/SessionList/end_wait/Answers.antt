@@ -8,6 +8,7 @@ invariant_of-self c =
     rw (c.end_wait.ensures, c.end_waits.ensures)
     (record {
       rows = c.self.invariant.rows;
+      places = c.self.invariant.places;
       names = c.self.invariant.names;
       waits = ap (filter (λ (waiter : Waiter). not (nat_eq waiter.session c.args.number))) c.self.invariant.waits ∙ sym (waits_left c.args.number c.self.inside.waiting.items);
     })
