@@ -51,7 +51,7 @@ found_fits : (change : Change) (found : Option TableRows) → WhereFound IsWellF
 found_fits change None is stands fits = absurd (false≢true stands)
 found_fits change (Some table) is stands fits = change_fits table.schema table.rows change is.keyed is.is_table fits
 
-stand_event : (tables : Database) (event : RowEvent) (events : List RowEvent) → AllExist tables events → AllExist (with_change event.table (change_table event.change) tables) events
+pub stand_event : (tables : Database) (event : RowEvent) (events : List RowEvent) → AllExist tables events → AllExist (with_change event.table (change_table event.change) tables) events
 unfolding after_events
 stand_event tables event [] stand = tt
 stand_event tables event (first ∷ events) stand = (stands_after first.table tables (event ∷ []) ∙ stand.0, stand_event tables event events stand.1)
@@ -65,16 +65,16 @@ data_fits tables (event ∷ events) is stand fits = (
   data_fits (with_change event.table (change_table event.change) tables) events (well_formed_event tables event is fits.0) (stand_event tables event events stand.1) fits.1,
 )
 
-fit_after : (tables : Database) (a b : List RowEvent) → ghost.EventsFit tables (a ++ b) → ghost.EventsFit (after_events tables a) b
+pub fit_after : (tables : Database) (a b : List RowEvent) → ghost.EventsFit tables (a ++ b) → ghost.EventsFit (after_events tables a) b
 unfolding after_events ghost.EventsFit
 fit_after tables [] b fits = fits
 fit_after tables (event ∷ a) b fits = fit_after (with_change event.table (change_table event.change) tables) a b fits.1
 
-stand_after : (tables : Database) (a b : List RowEvent) → AllExist tables (a ++ b) → AllExist tables b
+pub stand_after : (tables : Database) (a b : List RowEvent) → AllExist tables (a ++ b) → AllExist tables b
 stand_after tables [] b stand = stand
 stand_after tables (event ∷ a) b stand = stand_after tables a b stand.1
 
-stand_seen : (tables : Database) (writes events : List RowEvent) → AllExist tables events → AllExist (after_events tables writes) events
+pub stand_seen : (tables : Database) (writes events : List RowEvent) → AllExist tables events → AllExist (after_events tables writes) events
 stand_seen tables writes [] stand = tt
 stand_seen tables writes (event ∷ events) stand = (stands_after event.table tables writes ∙ stand.0, stand_seen tables writes events stand.1)
 

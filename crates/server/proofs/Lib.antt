@@ -1,4 +1,6 @@
 pub mod Fits
+pub mod ValidSchemas
+pub mod TableEvents
 pub mod Having
 pub mod Steps
 pub mod Requests

@@ -27,7 +27,7 @@ use Rattle.proof_journals.specs.ServerFacts.Invariants.{IsServing}
 use Rattle.proof_journals.proofs.ServerFacts.Calls.{connected_serves, kept_in, live_found, opened_serves}
 use Rattle.proof_journals.proofs.ServerFacts.Effects.{AtWork}
 use Rattle.proof_journals.proofs.ServerFacts.Granted.{quiet_own}
-use Rattle.server.specs.Parts.{needed, state_of, GoTogether, HaveWritten, MayDo}
+use Rattle.server.specs.Parts.{needed, state_of, GoTogether, HaveValidSchemas, HaveWritten, MayDo}
 use Rattle.server.proofs.Fits.{own_fit, own_well_formed, others_fit, others_well_formed}
 use Rattle.server.proofs.Having.{OthersSame, have_grows, have_joined, have_lost, have_rests, have_same}
 
@@ -159,6 +159,7 @@ blocked_have written after all_sessions new number by false have none kept same 
 -- the data have what they had
 pub same_together : (tables after : Database) (written later : ℕ → List RowEvent) (all_sessions : State) → GoTogether tables written all_sessions → after ≡ tables → ((n : ℕ) → later n ≡ written n) → GoTogether after later all_sessions
 same_together tables after written later all_sessions together same kept = record {
+  valid = subst HaveValidSchemas (sym same) together.valid;
   have = λ n. kept n ∙ together.have n;
   serves = subst (λ (d : Database). IsServing (state_of d all_sessions)) (sym same) together.serves;
 }
@@ -181,11 +182,11 @@ recounted_serves counters state serving = record {
   waits = serving.waits;
 }
 
-pub opened_together : (limits : Limits) (counters : List Counter) (tables : Database) (written : ℕ → List RowEvent) (all_sessions : State) → IsWellFormedDatabase tables → ((n : ℕ) → written n ≡ []) → all_sessions ≡ recounted counters (opened limits []) → GoTogether tables written all_sessions
-opened_together limits counters tables written all_sessions well_formed none is =
-    rw is (record { have = none; serves = recounted_serves counters (opened limits tables) (opened_serves limits tables well_formed) })
+pub opened_together : (limits : Limits) (counters : List Counter) (tables : Database) (written : ℕ → List RowEvent) (all_sessions : State) → HaveValidSchemas tables → IsWellFormedDatabase tables → ((n : ℕ) → written n ≡ []) → all_sessions ≡ recounted counters (opened limits []) → GoTogether tables written all_sessions
+opened_together limits counters tables written all_sessions valid well_formed none is =
+    rw is (record { valid = valid; have = none; serves = recounted_serves counters (opened limits tables) (opened_serves limits tables well_formed) })
 
 pub connected_together : {E : Type 0} (result : Result ℕ E) (tables : Database) (written : ℕ → List RowEvent) (all_sessions new : State) (number : ℕ) (is_tool : Bool) → GoTogether tables written all_sessions → OnOk result (new ≡ connected number is_tool all_sessions) → OnErr result (new ≡ all_sessions) → GoTogether tables written new
 connected_together (Ok made) tables written all_sessions new number is_tool together ok err =
-    rw ok (record { have = have_joined is_tool number written all_sessions.sessions together.have; serves = connected_serves number is_tool (state_of tables all_sessions) together.serves })
+    rw ok (record { valid = together.valid; have = have_joined is_tool number written all_sessions.sessions together.have; serves = connected_serves number is_tool (state_of tables all_sessions) together.serves })
 connected_together (Err fault) tables written all_sessions new number is_tool together ok err = rw err together

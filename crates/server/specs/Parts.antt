@@ -1,5 +1,6 @@
 -- A server in two parts: its data, and what it keeps beside them.
 use Rattle.std.specs.Prelude.{◌≡◌, ℕ, Bool, true, false, List, Option, Some, None}
+use Rattle.std.specs.List.{AllByRecursion}
 use Rattle.base_values.specs.declared.event.RowEvent.{RowEvent}
 use Rattle.server_locks.specs.declared.row_locks.lock.Lock.{Lock}
 use Rattle.table_store.specs.Databases.{Database}
@@ -9,7 +10,7 @@ use Rattle.server_model.specs.declared.entry.Asked.{Asked}
 use Rattle.server_model.specs.declared.need.Need.{Need}
 use Rattle.server_model.specs.declared.request.Request.{Request}
 use Rattle.server_model.specs.declared.request.Request.TheVariants as requests
-use Rattle.server_model.specs.Conditions.{ComesWell, IsWellFormed}
+use Rattle.server_model.specs.Conditions.{ComesWell, IsNewSchema, IsWellFormed}
 use Rattle.server_model.specs.Blockers.{blocker, need_within, row_locks_of}
 use Rattle.server_model.specs.PlainServer.{state_left}
 use Rattle.server_model.specs.States.{State, holds_tables, is_exclusive, is_in_transaction, is_live, names_in, session_of, view, writes_of}
@@ -23,8 +24,13 @@ state_of tables all_sessions = record all_sessions { tables = tables }
 abbrev pub HaveWritten : (ℕ → List RowEvent) → State → Type 0
 HaveWritten written all_sessions = (n : ℕ) → written n ≡ writes_of (session_of n all_sessions.sessions)
 
--- *The parts go together*: the data have what the sessions wrote, and both make a server that serves.
+-- each table's schema is one that may be a new table's: a valid one, of a table's name
+abbrev pub HaveValidSchemas : Database → Type 0
+HaveValidSchemas tables = AllByRecursion (λ table. IsNewSchema table.schema) tables
+
+-- *The parts go together*: the tables have valid schemas, the data have what the sessions wrote, and both make a server that serves.
 pub record GoTogether (tables : Database) (written : ℕ → List RowEvent) (all_sessions : State) : Type 0 where
+  pub valid : HaveValidSchemas tables
   pub have : HaveWritten written all_sessions
   pub serves : IsServing (state_of tables all_sessions)
 

@@ -4,6 +4,7 @@ ghost use Rattle.std.specs.Prelude.{◌≡◌, ◌≤◌, ℕ, []};
 ghost use Rattle.std.specs.List.{flat_map};
 ghost use Rattle.server_model.specs.States.{counter_of, opened};
 ghost use Rattle.server_model.specs.LockedRows.Databases.{IsWellFormedDatabase};
+ghost use Rattle.server.specs.Parts.{HaveValidSchemas};
 
 use crate::calls::{call, poll};
 use crate::known_blockers::KnownBlockers;
@@ -51,6 +52,7 @@ impl<D: Data> Server<D> {
         requires counters { counters.items ≡ flat_map counter_of (D.committed store) }
         requires clients { 1 ≤ limits.client_wait }
         requires tools { 1 ≤ limits.tool_wait }
+        requires valid { HaveValidSchemas (D.committed store) }
         requires well_formed { IsWellFormedDatabase (D.committed store) }
         requires unwritten { (session : ℕ) → D.written store session ≡ [] }
         ensures { result.state ≡ opened limits (D.committed store) }

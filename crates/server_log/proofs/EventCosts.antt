@@ -1,2 +1,2 @@
 pub mod Sums
-pub mod Fits
+pub mod TableEvents

@@ -1,7 +1,6 @@
-//! What events cost in the log: the bytes that they are encoded in, and whether they are encoded at all.
+//! What events cost in the log: the bytes that they are encoded in.
 
 mod costs;
-mod fit;
+mod table_events;
 
 pub use costs::{cost, encoded_size};
-pub use fit::{are_encodable, is_encodable};

@@ -4,6 +4,7 @@ ghost use Rattle.std.specs.Prelude.{◌≡◌, ◌≤◌, IfOk};
 ghost use Rattle.table_store.specs.Databases.{database};
 ghost use Rattle.server_model.specs.States.{opened};
 ghost use Rattle.server_model.specs.LockedRows.Databases.{IsWellFormedDatabase};
+ghost use Rattle.server.specs.Parts.{HaveValidSchemas};
 
 use crate::Server;
 use crate::final_server::counters::counters_of;
@@ -26,6 +27,7 @@ pub fn open_server(
 ) -> Result<FinalServer, AllocError>
     requires clients { 1 ≤ limits.client_wait }
     requires tools { 1 ≤ limits.tool_wait }
+    requires valid { HaveValidSchemas (database tables) }
     requires well_formed { IsWellFormedDatabase (database tables) }
     ensures { IfOk result (λ server. server.state ≡ opened limits (database tables)) }
 {

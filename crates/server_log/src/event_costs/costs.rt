@@ -1,12 +1,13 @@
 //! What events cost. Nothing here takes memory.
 
-ghost use Rattle.std.specs.Prelude.{◌≡◌, ◌<◌, ◌^◌, IfSome};
+ghost use Rattle.std.specs.Prelude.{◌≡◌, ◌≤◌, ◌^◌, IfSome, IfNone};
 ghost use Rattle.std.specs.List.{AllByRecursion};
 ghost use Rattle.server_log.specs.Encodings.{IsEncodable};
 ghost use Rattle.server_log.specs.EventCosts.Costs.{bytes_of, cost_of};
+ghost use Rattle.server_log.specs.EventCosts.TableEvents.{IsTableEvent};
 
 use crate::cost as event_cost;
-use crate::event_costs::fit::is_encodable;
+use crate::event_costs::table_events::cost_of_table_event;
 use base_values::RowEvent;
 
 /// In how many bytes the events are encoded; the greatest number where no number says how many.
@@ -22,17 +23,16 @@ pub fn cost(events: &[RowEvent]) -> u64
     sum
 }
 
-/// In how many bytes the events are encoded; none where one of them isn't encoded, or no number says how many.
+/// In how many bytes the events of tables are encoded; none where no number of 64 bits says how many.
 pub fn encoded_size(events: &[RowEvent]) -> Option<u64>
+    requires { AllByRecursion IsTableEvent events.now }
     ensures size { IfSome result (λ size. size ≡ bytes_of events.now) }
     ensures encodable { IfSome result (λ size. AllByRecursion IsEncodable events.now) }
+    ensures none { IfNone result (2 ^ 64 ≤ bytes_of events.now) }
 {
     let mut size: u64 = 0;
     for event in events {
-        if !is_encodable(event) {
-            return None;
-        }
-        size = size.checked_add(event_cost(event))?;
+        size = size.checked_add(cost_of_table_event(event))?;
     }
     Some(size)
 }

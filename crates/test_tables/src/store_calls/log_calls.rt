@@ -2,10 +2,12 @@
 //! `segments` for how many bytes each has, `end`, `after` with a position, a limit and a table, and `unread` with a position and
 //! a table.
 
+ghost use Rattle.std.specs.Prelude.{IfOk};
+ghost use Rattle.server_log.specs.Encodings.{IsEncodable};
+
 use crate::store_calls::events::push_event;
 use base_values::{Name, Names, RowEvent, Sequence, Text};
-use server_log::event_costs::encoded_size;
-use server_log::{DecodeFault, Log, decode};
+use server_log::{DecodeFault, Log, cost, decode};
 use server_model::Answer;
 use std::alloc::{AllocError, Global};
 use test_lines::{CallFault, bytes_of, say, unsigned_of};
@@ -18,17 +20,21 @@ fn table_of(alloc: Global, name: &str) -> Result<Names, AllocError> {
 }
 
 /// Makes room for an event and appends it.
-fn append(alloc: Global, log: &mut Log, event: RowEvent) -> Result<(), CallFault> {
+fn append(alloc: Global, log: &mut Log, event: RowEvent) -> Result<(), CallFault>
+    requires { IsEncodable event }
+{
+    let size = cost(&event);
     let mut events = Sequence::new(alloc);
     events.push(event)?;
-    let size = encoded_size(events.as_slice()).ok_or(CallFault::Unread)?;
     log.reserve(size)?;
     log.append(events);
     Ok(())
 }
 
 /// The event that bytes begin with.
-fn event_of(alloc: Global, bytes: &[u8]) -> Result<RowEvent, CallFault> {
+fn event_of(alloc: Global, bytes: &[u8]) -> Result<RowEvent, CallFault>
+    ensures { IfOk result IsEncodable }
+{
     match decode(alloc, bytes) {
         Ok((event, _)) => Ok(event),
         Err(DecodeFault::Memory) => Err(CallFault::Memory),

@@ -1,6 +1,9 @@
 //! A plan's opening tables on a server.
 
 ghost use Rattle.std.specs.Prelude.{◌≡◌, [], ◌∷◌, IfOk};
+ghost use Rattle.std.specs.List.{AllByRecursion};
+ghost use Rattle.std.specs.Str.{IsUtf8};
+ghost use Rattle.table_store.specs.Databases.{database};
 ghost use Rattle.tool_program.specs.JournalWords.Journals.{opening};
 ghost use Rattle.base_values.specs.ToolNames.{log_name};
 ghost use Rattle.proof_plans.specs.ReadPlans.Laws.{WasRead};
@@ -12,6 +15,7 @@ use plan_data::Plan;
 use server::final_server::{FinalServer, open_server};
 use server_model::Limits;
 use std::alloc::{AllocError, Global};
+use table_store::paged_tables::Tables;
 
 /// How often a wait is polled before it times out, as the plan says.
 fn limits_of(plan: &Plan) -> Limits
@@ -32,6 +36,15 @@ fn watched_in(alloc: Global, plan: &Plan) -> Result<Names, AllocError>
     Ok(Sequence::from_vec(vec![in alloc; table.copy()?, log_name(alloc, table)?]?))
 }
 
+/// Reads the tables' names: that each is a `str` says to the prover that it is UTF-8, and so has at most four bytes a character.
+fn read_names(tables: &Tables)
+    ensures { AllByRecursion (λ table. IsUtf8 table.schema.name) (database tables.now) }
+{
+    for n in 0..tables.len() {
+        let _name = tables.at(n).schema().name.as_str();
+    }
+}
+
 /// The final server at the plan's opening.
 #[tactic(auto, using(crate::proofs::WholeReplays::AtOpening::well_formed, crate::proofs::WholeReplays::AtOpening::at_opening))]
 pub fn open_plan(alloc: Global, plan: &Plan) -> Result<FinalServer, AllocError>
@@ -42,5 +55,6 @@ pub fn open_plan(alloc: Global, plan: &Plan) -> Result<FinalServer, AllocError>
     read_options_allow();
     let watched = watched_in(alloc, plan)?;
     let tables = plan.tables().copy_tables(alloc)?;
+    read_names(&tables);
     open_server(alloc, tables, limits_of(plan), watched)
 }

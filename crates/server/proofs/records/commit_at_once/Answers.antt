@@ -2,7 +2,12 @@ use Rattle.std.proofs.Common.{List, ◌++◌, ◌∙◌, ap}
 use Rattle.base_values.specs.declared.event.RowEvent.{RowEvent}
 use Rattle.server.specs.Parts.{needed}
 use Rattle.server.proofs.Steps.{after_leaves, after_needs, after_state, commits_have, write_leaves, write_needs}
+use Rattle.server.proofs.TableEvents.{grown_events}
 use Rattle.server.proofs.records.commit_at_once.Goals as goal
+
+pub commit_with-requires : goal.commit_with-requires
+commit_with-requires g c =
+    grown_events (g.D.Data.committed c.args.store.now) (g.D.Data.written c.args.store.now) c.args.all_sessions.now c.args.session (needed c.args.request.now c.args.locks) c.args.executed.result.events c.requires.together c.requires.grows
 
 pub write-requires-clause-fit : goal.write-requires-clause-fit
 write-requires-clause-fit g c =

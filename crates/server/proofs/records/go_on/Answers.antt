@@ -3,7 +3,12 @@ use Rattle.base_values.specs.declared.event.RowEvent.{RowEvent}
 use Rattle.server_model.specs.PlainServer.{goes_on}
 use Rattle.server.specs.Parts.{needed}
 use Rattle.server.proofs.Steps.{grows_have, state_so, write_leaves, write_needs}
+use Rattle.server.proofs.TableEvents.{grown_events}
 use Rattle.server.proofs.records.go_on.Goals as goal
+
+pub go_on-requires : goal.go_on-requires
+go_on-requires g c =
+    grown_events (g.D.Data.committed c.args.store.now) (g.D.Data.written c.args.store.now) c.args.all_sessions.now c.args.session (needed c.args.request.now c.args.locks) c.args.executed.result.events c.requires.together c.requires.grows
 
 pub write-requires-clause-fit : goal.write-requires-clause-fit
 write-requires-clause-fit g c =

@@ -4,6 +4,6 @@ use Rattle.server.proofs.server.Server.open.Goals as goal
 pub invariant_of-result : goal.invariant_of-result
 invariant_of-result g c =
     record {
-      together = opened_together c.args.limits c.args.counters.items (g.D.Data.committed c.args.store) (g.D.Data.written c.args.store) c.new.result c.requires.well_formed c.requires.unwritten c.new.ensures;
+      together = opened_together c.args.limits c.args.counters.items (g.D.Data.committed c.args.store) (g.D.Data.written c.args.store) c.new.result c.requires.valid c.requires.well_formed c.requires.unwritten c.new.ensures;
       blocked = rw c.new-2.ensures tt;
     }
