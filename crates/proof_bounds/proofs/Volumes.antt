@@ -1,7 +1,6 @@
 pub mod LineEvents
 pub mod Transactions
 pub mod Lines
-pub mod ClientSessions
 pub mod Keys
 pub mod Volumes
 pub mod Views

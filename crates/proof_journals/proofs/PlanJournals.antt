@@ -13,7 +13,7 @@ use Rattle.plan_data.specs.PlanData.{PlanData}
 use Rattle.tool_program.specs.JournalWords.Journals.{state_after, state_at, IsAnswered}
 use Rattle.tool_program.specs.JournalWords.Sessions.{live_session, IsSeated, KeepsSessions}
 use Rattle.tool_program.specs.JournalWords.Clients.{client_at}
-use Rattle.tool_program.specs.JournalWords.KeptPlans.{IsPlanned, KeepsPlan}
+use Rattle.tool_program.specs.JournalWords.KeptPlans.{IsPlanned, KeepsPlan, TakesNext}
 use Rattle.tool_program.specs.JournalWords.Histories as histories
 use Rattle.tool_program.specs.JournalWords.Histories.{HistoryItem, request_waiting}
 use Rattle.tool_program.specs.JournalWords.Serials as serials
@@ -22,7 +22,7 @@ use Rattle.proof_journals.specs.Scenes.{PlainItem, Scene, Going, not_going, tabl
 use Rattle.proof_journals.specs.Turns.{goings_at, goings_from, entry_adds, history, IsAllowed}
 use Rattle.proof_journals.specs.Holdings.{stored}
 use Rattle.proof_journals.specs.Laws.{SceneSerial, PlanRunsAreSceneRuns, JournalsAreSerial}
-use Rattle.proof_journals.specs.Plans.{client_names, is_client_session, limits_of, scene_of, KeepsAway, IsSerialPlan, IsPlanRun}
+use Rattle.proof_journals.specs.Plans.{client_names, is_client_session, limits_of, scene_of, KeepsAway, IsSerialPlan, IsPlanRun, TakesLines}
 use Rattle.proof_journals.proofs.Actors.{placed, sessions_begin, Kinds, KindSo, all_kinds}
 use Rattle.proof_journals.proofs.Journals.{JournalHolds, scene_serial, step, begins, goings_more}
 use Rattle.proof_journals.proofs.Joined.{faithful_reported, reported_answer, reported_missed, reported_draw, SerialPlain, LeadsPlain, AltersAs, serial_plain}
@@ -39,7 +39,7 @@ pub record PlanHolds (plan : PlanData) (whole journal : List Entry) : Type 0 whe
 -- what is asked of a turn
 pub record IsGood (plan : PlanData) (whole before : List Entry) (entry : Entry) : Type 0 where
   pub answered : IsAnswered (state_at plan before) entry
-  pub planned : IsPlanned plan before entry
+  pub next : TakesNext plan before entry.actor entry.asked
   pub seated : IsSeated before entry
   pub away : KeepsAway plan before entry entry.actor
   pub kind : KindSo whole entry
@@ -53,7 +53,7 @@ known_of plan whole journal entry zero good is = record {
   draw = reported_draw (state_at plan journal) entry good.answered;
   kind = λ call. (good.kind call).0;
   zero = zero;
-  next = good.planned.next;
+  next = good.next;
   away = good.away;
   fits = is.holds.holds.fits;
 }
@@ -93,11 +93,11 @@ plan_begins plan whole is = record {
 -- A WHOLE JOURNAL
 
 -- what is asked of each turn, with what holds of each entry of the whole
-all_good : (plan : PlanData) (whole before journal : List Entry) → Along (λ some entry. IsAnswered (state_at plan some) entry) before journal → Along (IsPlanned plan) before journal → Along IsSeated before journal → Along (λ some entry. KeepsAway plan some entry entry.actor) before journal
+all_good : (plan : PlanData) (whole before journal : List Entry) → Along (λ some entry. IsAnswered (state_at plan some) entry) before journal → Along (λ some entry. TakesNext plan some entry.actor entry.asked) before journal → Along IsSeated before journal → Along (λ some entry. KeepsAway plan some entry entry.actor) before journal
     → AllByRecursion (KindSo whole) journal → Along (IsGood plan whole) before journal
-all_good plan whole before [] faithful planned seated away kinds = tt
-all_good plan whole before (entry ∷ journal) faithful planned seated away kinds =
-    (record { answered = faithful.0; planned = planned.0; seated = seated.0; away = away.0; kind = kinds.0 }, all_good plan whole (before ++ entry ∷ []) journal faithful.1 planned.1 seated.1 away.1 kinds.1)
+all_good plan whole before [] faithful lines seated away kinds = tt
+all_good plan whole before (entry ∷ journal) faithful lines seated away kinds =
+    (record { answered = faithful.0; next = lines.0; seated = seated.0; away = away.0; kind = kinds.0 }, all_good plan whole (before ++ entry ∷ []) journal faithful.1 lines.1 seated.1 away.1 kinds.1)
 
 -- how far all holds, turn by turn
 goes : (plan : PlanData) (whole before journal : List Entry) → is_client_session whole 0 ≡ false → Along (IsGood plan whole) before journal → PlanHolds plan whole before → PlanHolds plan whole (before ++ journal) × Along (IsAllowed (limits_of plan) (scene_of plan whole)) before journal
@@ -109,10 +109,10 @@ goes plan whole before (entry ∷ journal) zero good is =
     )
 
 pub plan_goes : (plan : PlanData) (journal : List Entry) → IsPlanRun plan journal → PlanHolds plan journal journal × Along (IsAllowed (limits_of plan) (scene_of plan journal)) [] journal
-unfolding KeepsPlan KeepsSessions
+unfolding TakesLines KeepsSessions
 plan_goes plan journal run =
     let kinds : Kinds journal = all_kinds journal run.seated in
-    goes plan journal [] journal kinds.known_sessions.none (all_good plan journal [] journal run.faithful run.planned run.seated run.away kinds.each) (plan_begins plan journal run.serial)
+    goes plan journal [] journal kinds.known_sessions.none (all_good plan journal [] journal run.faithful run.lines run.seated run.away kinds.each) (plan_begins plan journal run.serial)
 
 -- *A plan's run is a scene's*
 pub plan_runs_are_scene_runs : PlanRunsAreSceneRuns
@@ -171,3 +171,12 @@ journals_are_serial plan journal run once =
       going = subst (λ (d : Database). (c : ℕ) → (client_at plan journal c).replies ≡ (lines_run d nothing_ran (client_at plan journal c).lines).replies) now_left
           (going_words plan journal (λ c. live_session journal (Client c)) (goings_at (limits_of plan) scene journal) (tables_left (client_names plan) now) end.linked.closed end.linked.runs law.going);
     }
+
+-- *Who keeps the plan takes its lines*
+lines_along : (plan : PlanData) (before journal : List Entry) → Along (IsPlanned plan) before journal → Along (λ some entry. TakesNext plan some entry.actor entry.asked) before journal
+lines_along plan before [] planned = tt
+lines_along plan before (entry ∷ journal) planned = (planned.0.next, lines_along plan (before ++ entry ∷ []) journal planned.1)
+
+pub takes_lines : (plan : PlanData) (journal : List Entry) → KeepsPlan plan journal → TakesLines plan journal
+unfolding KeepsPlan TakesLines
+takes_lines plan journal planned = lines_along plan [] journal planned

@@ -17,7 +17,7 @@ use Rattle.base_values.specs.ToolNames.{is_tool_name}
 use Rattle.plan_data.specs.PlanData.{PlanData}
 use Rattle.tool_program.specs.JournalWords.AlteredTables.{plan_altered_table}
 use Rattle.tool_program.specs.JournalWords.Journals.{state_at, IsFaithful}
-use Rattle.tool_program.specs.JournalWords.KeptPlans.{KeepsPlan}
+use Rattle.tool_program.specs.JournalWords.KeptPlans.{TakesNext}
 use Rattle.tool_program.specs.JournalWords.Sessions.{KeepsSessions}
 use Rattle.server_model.specs.declared.session.Limits.{Limits}
 use Rattle.server_model.specs.Along.{Along}
@@ -90,10 +90,14 @@ pub record IsSerialPlan (plan : PlanData) : Type 0 where
   pub tables : AllByRecursion IsWellFormedTable plan.tables
   pub scripts : AllByRecursion (λ name. is_tool_name plan.table name ≡ false) (script_names plan)
 
+-- *Taking lines*: each turn asks what the plan has its actor ask, whatever sessions are lost.
+unfoldable pub TakesLines : PlanData → List Entry → Type 0
+TakesLines plan journal = Along (λ before entry. TakesNext plan before entry.actor entry.asked) [] journal
+
 -- *Run of a plan*: a journal that follows from it, in which every answer is the server's and the tool keeps away
 pub record IsPlanRun (plan : PlanData) (journal : List Entry) : Type 0 where
   pub serial : IsSerialPlan plan
   pub faithful : IsFaithful plan journal
-  pub planned : KeepsPlan plan journal
+  pub lines : TakesLines plan journal
   pub seated : KeepsSessions journal
   pub away : Along (λ before entry. KeepsAway plan before entry entry.actor) [] journal

@@ -25,7 +25,7 @@ use Rattle.base_values.specs.SchemaRules.Valid.{StoresDefault}
 use Rattle.server_model.specs.LockedRows.Coverage.{IsWellFormedTable}
 use Rattle.proof_journals.specs.Plans as plans
 use Rattle.proof_journals.specs.Plans.{scene_of, KeepsAway, IsSerialPlan, IsPlanRun}
-use Rattle.proof_journals.proofs.PlanJournals.{journals_are_serial}
+use Rattle.proof_journals.proofs.PlanJournals.{journals_are_serial, takes_lines}
 use Rattle.proof_journals.proofs.Exchanging.{exchange_alters}
 use Rattle.test_worked.proofs.Computing.{computing}
 use Rattle.test_worked.proofs.Plans1.{plan_101, journal_101}
@@ -294,7 +294,7 @@ away =
 
 -- *The run is one of its plan*, and so its history is serial
 pub run_101 : IsPlanRun plan_101 journal_101
-run_101 = record { serial = opening; faithful = faithful; planned = planned; seated = seated; away = away }
+run_101 = record { serial = opening; faithful = faithful; lines = takes_lines plan_101 journal_101 planned; seated = seated; away = away }
 
 follows : Follows plan_101 journal_101
 unfolding computing Follows

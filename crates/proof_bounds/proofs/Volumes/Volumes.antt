@@ -24,7 +24,7 @@ use Rattle.proof_journals.specs.Scenes.{PlainItem, Scene, Serial, Stored, is_min
 use Rattle.proof_journals.proofs.Ghost.Fitting.{found_behind}
 use Rattle.proof_journals.proofs.Naming.{migrated_named}
 use Rattle.proof_journals.proofs.Openings.{opening_well_formed}
-use Rattle.proof_journals.proofs.PlanJournals.{PlanHolds}
+use Rattle.proof_journals.proofs.PlanJournals.{PlanHolds, plan_goes}
 use Rattle.proof_journals.proofs.Progress.{plain}
 use Rattle.proof_migration.specs.ToolPhase.Unaltered.{IsUnaltered}
 use Rattle.proof_migration.proofs.ToolPhase.Unaltered.Runs.{unaltered_runs}
@@ -34,7 +34,6 @@ use Rattle.proof_bounds.specs.Volumes.Laws.{CommittedRowsAreFew, EventsAreFew}
 use Rattle.proof_bounds.proofs.Volumes.Keys.{all_ever, ever_puts, ever_rows, is_in, puts_filtered}
 use Rattle.proof_bounds.proofs.Volumes.LineEvents.{count_of, row_count}
 use Rattle.proof_bounds.proofs.Volumes.Lines.{all_lines, open_lines}
-use Rattle.proof_bounds.proofs.Volumes.ClientSessions.{run_holds}
 use Rattle.proof_bounds.proofs.Volumes.Transactions.{HasGrown, LeadsByEvents, ended_lines, logged_count, serial_few, serial_leads}
 
 plain_lines : (items : List HistoryItem) → ended_lines (map plain items) ≡ all_lines items
@@ -66,7 +65,7 @@ module _ (plan : PlanData) (journal : List Entry) (runs : IsRunnable plan) (seri
   ended = histories.history plan journal
 
   pub holds : PlanHolds plan journal journal
-  holds = run_holds plan journal (unaltered_runs plan journal runs serial kept off)
+  holds = (plan_goes plan journal (unaltered_runs plan journal runs serial kept off)).0
 
   serial_is : Serial scene (record { tables = plan.tables; log = [] }) (map plain ended) (seen scene now)
   serial_is = subst (λ (items : List PlainItem). Serial scene (record { tables = plan.tables; log = [] }) items (seen scene now)) holds.linked.items holds.holds.holds.kept.serial

@@ -27,6 +27,7 @@ use Rattle.tool_program.specs.JournalWords.Histories.{Alter, HistoryItem, adds, 
 use Rattle.tool_program.specs.JournalWords.Journals.{state_at}
 use Rattle.tool_program.specs.Programs.{Follows}
 use Rattle.proof_journals.specs.Plans.{IsSerialPlan, KeepsAway, scene_of}
+use Rattle.proof_journals.proofs.PlanJournals.{takes_lines}
 use Rattle.proof_journals.specs.Turns.{IsExchange, RenamesSo}
 use Rattle.proof_journals.proofs.Exchanging.{exchange_alters}
 use Rattle.proof_journals.proofs.Naming.{migrated_named}
@@ -116,7 +117,7 @@ marked_runs runnable plan is worded serial journal kept marked =
     let runs : IsRunnable plan = runnable plan is worded in record {
       serial = serial;
       faithful = kept.faithful;
-      planned = kept.planned;
+      lines = takes_lines plan journal kept.planned;
       seated = kept.sessions;
       away = aways plan is runs serial [] journal (all_runs plan [] journal kept.faithful kept.follows) (asked_begins plan runs) marked;
     }

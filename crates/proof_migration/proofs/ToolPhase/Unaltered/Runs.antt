@@ -9,7 +9,7 @@ use Rattle.plan_data.specs.PlanData.{PlanData}
 use Rattle.tool_program.specs.JournalWords.Histories.{HistoryItem, history, is_alter}
 use Rattle.tool_program.specs.Programs.{Follows}
 use Rattle.proof_journals.specs.Plans.{IsSerialPlan, KeepsAway}
-use Rattle.proof_journals.proofs.PlanJournals.{journals_are_serial}
+use Rattle.proof_journals.proofs.PlanJournals.{journals_are_serial, takes_lines}
 use Rattle.proof_journals.specs.Machine.FormedPlans.{IsFitting}
 use Rattle.proof_journals.proofs.Machine.Journals.{IsRun, all_runs}
 use Rattle.proof_migration.specs.ToolPhase.Unaltered.{IsUnaltered, UnalteredJournalsAreRuns, UnalteredJournalsAreSerial}
@@ -29,7 +29,7 @@ unfolding Follows
 unaltered_runs plan journal runs serial kept off = record {
   serial = serial;
   faithful = kept.faithful;
-  planned = kept.planned;
+  lines = takes_lines plan journal kept.planned;
   seated = kept.sessions;
   away = aways plan serial runs.fitting [] journal (all_runs plan [] journal kept.faithful kept.follows) (asked_begins plan runs) off;
 }
