@@ -33,14 +33,14 @@ use Rattle.tool_program.specs.declared.cutover_core.cutover.Phase.{Phase}
 use Rattle.tool_program.specs.declared.cutover_core.cutover.Phase.TheVariants.{Resting, Attempting, Ending, Finishing, Finished}
 use Rattle.tool_program.specs.declared.cutover_core.cutover.Role.TheVariants.{Inspector, Locker, Renamer}
 use Rattle.tool_program.specs.declared.cutover_core.cutover.Stage.{Stage}
-use Rattle.tool_program.specs.declared.cutover_core.cutover.Stage.TheVariants.{Drained, Unlocking, Exchanging}
+use Rattle.tool_program.specs.declared.cutover_core.cutover.Stage.TheVariants.{Drained}
 use Rattle.tool_program.specs.declared.cutover_core.cutover.Drain.{Drain}
 use Rattle.tool_program.specs.declared.cutover_core.cutover.Drain.TheVariants.{Turns}
 use Rattle.tool_program.specs.CutoverCore.Attempts as attempts
 use Rattle.tool_program.specs.ChunkCopier.Copiers as copiers
 use Rattle.tool_program.specs.EventApplier.Appliers as appliers
 use Rattle.tool_program.specs.CutoverCore.CutOvers as cutovers
-use Rattle.tool_program.specs.CutoverCore.CutOvers.{is_bad, is_done, is_resting, attempts_after, begun, ended, waits_phase, drained, inspector_phase, locker_phase, renamer_phase}
+use Rattle.tool_program.specs.CutoverCore.CutOvers.{is_bad, is_done, is_resting, attempts_after, begun, waits_phase, drained, inspector_phase, locker_phase, renamer_phase}
 use Rattle.tool_program.specs.Operators.{commanded}
 use Rattle.tool_program.specs.Programs.{tool_call, may_begin, given, Follows}
 use Rattle.tool_program.specs.Setups.{Setup, Listing, Clearing, MakingLog, MakingGhost, Marking, Reaching, Ready, setup_after}
@@ -89,15 +89,6 @@ at_most_one (Attempting stage) = omega arith
 at_most_one (Ending clearing) = omega arith
 at_most_one (Finishing clearing) = omega arith
 at_most_one Finished = omega arith
-
-done_ended : (phase : Phase) → is_done (ended phase) ≡ is_done phase
-done_ended (Attempting Unlocking) = refl
-done_ended (Attempting Exchanging) = refl
-done_ended (Attempting stage) = refl
-done_ended Resting = refl
-done_ended (Ending clearing) = refl
-done_ended (Finishing clearing) = refl
-done_ended Finished = refl
 
 -- an attempt that is under way stays so, fails, or is done
 abbrev Stays : Phase → Phase → Type 0

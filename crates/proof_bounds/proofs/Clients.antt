@@ -27,7 +27,7 @@ use Rattle.server_model.specs.Entries.{same_actor, is_command, is_cut}
 use Rattle.plan_data.specs.PlanData.{PlanData}
 use Rattle.server_model.specs.Alone.{reply_of}
 use Rattle.tool_program.specs.JournalWords.Journals.{turns_of, state_at, IsFaithful}
-use Rattle.tool_program.specs.JournalWords.Clients.{Reached, Became, Marked, lost_side, is_inside, closes, after_transaction, left_after, marked, client_after, became, became_of, became_in, script_of, client_at, client_asks, word_asks, with_draw}
+use Rattle.tool_program.specs.JournalWords.Clients.{Reached, Became, Marked, lost_side, is_inside, left_after, marked, client_after, became, became_of, became_in, script_of, client_at, client_asks, word_asks, with_draw}
 use Rattle.tool_program.specs.JournalWords.Sessions.{live_session}
 use Rattle.tool_program.specs.declared.cutover_core.cutover.Phase.{Phase}
 use Rattle.tool_program.specs.declared.cutover_core.cutover.Phase.TheVariants.{Resting, Attempting, Ending, Finishing, Finished}
@@ -46,24 +46,9 @@ use Rattle.proof_bounds.specs.Terms.{term_of}
 use Rattle.proof_bounds.specs.Parts.{Part, OfClients, OfChunks, OfBatches, OfAttempts, OfClearing, rolls_back, work_part, is_again, ending_part, phase_part, inspector_part, part_by, part_of, same_part, turns_of_part}
 use Rattle.proof_bounds.proofs.Counting.{count_yes, count_no, count_none}
 use Rattle.proof_bounds.proofs.Waits.{waited_by, IsCounted, counted_more, counted_begins, waits_on, waits_end, waits_cut, others_wait, waits_short, idle_waited}
+use Rattle.proof_bounds.proofs.Volumes.Lines.{left_short}
 
 -- WHAT IS LEFT OF A SCRIPT
-
-after_short : (line : ScriptLine) (lines : List ScriptLine) → length (after_transaction (line ∷ lines)) ≤ length lines
-after_short line [] = by (closes line.word) where
-  by : (b : Bool) → length (cond {A = List ScriptLine} b [] []) ≤ 0
-  by true = omega arith
-  by false = omega arith
-after_short line (next ∷ lines) = by (closes line.word) (after_short next lines) where
-  by : (b : Bool) → length (after_transaction (next ∷ lines)) ≤ length lines → length (cond b (next ∷ lines) (after_transaction (next ∷ lines))) ≤ suc (length lines)
-  by true less = omega arith
-  by false less = omega (arith, less)
-
-left_short : (inside : Bool) (mark : Mark) (line : ScriptLine) (lines : List ScriptLine) → length (left_after inside mark line lines) ≤ length lines
-left_short true marks.TimedOut line lines = after_short line lines
-left_short true marks.Answered line lines = omega arith
-left_short true (marks.Lost side) line lines = omega arith
-left_short false mark line lines = omega arith
 
 -- a line that got a mark is gone
 mark_takes : (client : Reached) (mark : Mark) (reply : Option Reply) (line : ScriptLine) (lines : List ScriptLine) → client.left ≡ line ∷ lines → length (client_after (Marked mark reply) client).left + 1 ≤ length client.left

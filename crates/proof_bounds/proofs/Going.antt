@@ -69,11 +69,11 @@ use Rattle.proof_journals.specs.Turns.{request_of, about}
 use Rattle.proof_journals.proofs.Actors.{same_actor_is, others_differ, Placed, Commands, GoesOn, Begins, placed}
 use Rattle.proof_journals.proofs.Journals.{opened_waits}
 use Rattle.proof_journals.proofs.Machine.Asking.{some_request}
-use Rattle.proof_journals.proofs.Machine.CuttingOver.{LockerAsks, drain_cases}
+use Rattle.proof_journals.proofs.Machine.CuttingOver.{LockerAsks, drain_cases, lost_nothing}
 use Rattle.proof_journals.proofs.Machine.Fitting.{IsPrompt}
 use Rattle.proof_journals.proofs.Machine.Inspecting.{IsNote, Inspects, inspects, notes_so, cuts_so}
 use Rattle.proof_journals.proofs.Machine.Journals.{IsRun, IsTogether, Asking, calls_so, polls_so, asking, never_commands, lock_about, ren_about}
-use Rattle.proof_journals.proofs.Machine.Marks.{ghost_not_log, ghost_not_old}
+use Rattle.proof_journals.proofs.Machine.Marks.{ghost_not_log, ghost_not_old, old_not_log}
 use Rattle.proof_journals.proofs.Machine.Schemas.{keeps_table, schema_stays}
 use Rattle.proof_journals.proofs.Machine.Seated.{IsKnown, IsServed, others_stand, own_stands, own_given, own_heard, own_lost, own_missed, own_session, own_waiting}
 use Rattle.proof_journals.proofs.Machine.Tabling.{may_define, free_idle, quiet_stay, Following, waits_on, rests, following}
@@ -86,7 +86,7 @@ use Rattle.proof_migration.proofs.Attempt.Leaving.{AllStay, DropLeaves, has_is, 
 use Rattle.proof_migration.proofs.Attempt.LockerAnswers.{heard_leaves}
 use Rattle.proof_migration.proofs.Attempt.RenamerAnswers.{AsksAt}
 use Rattle.proof_migration.proofs.Attempt.Stages.{RenamerAt, LeftAt, StandsAt}
-use Rattle.proof_migration.proofs.Attempt.Standing.{ToolPhaseAt, IsStanding, standing_more, standing_along, quiet_stays, rest, listed as listed_so, about_own, asks_at, renamer_unlocked, no_asking, cut_stay}
+use Rattle.proof_migration.proofs.Attempt.Standing.{ToolPhaseAt, IsStanding, standing_more, standing_along, quiet_stays, rest, listed as listed_so, about_own, asks_at, renamer_unlocked, no_asking, cut_stay, none_some}
 use Rattle.proof_migration.proofs.Program.LockerTurns.Quiet.{names_granted}
 use Rattle.proof_migration.proofs.Program.Turns.Follows.{kept_front, kept_run}
 use Rattle.proof_migration.proofs.ToolPhase.Chunks.Onlines.{all_untouched}
@@ -102,9 +102,11 @@ use Rattle.proof_migration.specs.InspectorWaits.{SetsCounter, IsSettingCounter, 
 use Rattle.proof_migration.proofs.HeldNames.Changelog.{log_at_once, log_away}
 use Rattle.proof_migration.proofs.HeldNames.FreeNames.{IsAway, away_forbidden, away_free, free_name, at_once, drops_ok, creates_ok, ends_ok}
 use Rattle.proof_bounds.proofs.Inspecting.{WaitsFor, none_waits, none_for, sets_ended, sets_failed, sets_drained, sets_locked, sets_waits}
-use Rattle.proof_migration.proofs.HeldNames.Holders.{along_of, each_kept, IsHeldWell, held_well_more, held_well_begins, old_not_log}
-use Rattle.proof_bounds.proofs.Leftovers.{IsLeft, SetupFits, has_stays, setup_stay, clearing_fits, old_is_tool, first_is_tool, first_exists, listed_fewer, dropped_fewer, IsLeftAtEnd, ClearingFits, PhaseFits, RestsOrLocks, WorkFits, phase_stay, work_stay, undone_fits, ends_with, lists_end, end_is_old, end_exists, end_fewer, end_listed}
+use Rattle.proof_migration.proofs.HeldNames.Holders.{IsHeldWell, held_well_more, held_well_begins}
+use Rattle.proof_bounds.proofs.Leftovers.{IsLeft, SetupFits, has_stays, setup_stay, clearing_fits, first_is_tool, first_exists, listed_fewer, dropped_fewer, IsLeftAtEnd, ClearingFits, PhaseFits, RestsOrLocks, WorkFits, phase_stay, work_stay, undone_fits, ends_with, lists_end, end_is_old, end_exists, end_fewer, end_listed}
 use Rattle.proof_migration.proofs.HeldNames.Unblocked.{IsFreeName}
+use Rattle.proof_migration.proofs.KeptJournals.{along_of, each_kept}
+use Rattle.proof_migration.proofs.ToolPhase.Marked.{old_is_tool}
 
 -- WHAT IS SO AFTER EVERY KEPT JOURNAL
 
@@ -170,22 +172,6 @@ under_rests (Ending clearing) answer = tt
 under_rests (Finishing clearing) answer = tt
 under_rests Finished answer = tt
 
-lost_rests : (hold : Hold) (phase : Phase) → hold_after hold phase answers.Lost ≡ Nothing
-lost_rests Nothing (Attempting Locking) = refl
-lost_rests Nothing (Attempting stage) = refl
-lost_rests Nothing Resting = refl
-lost_rests Nothing (Ending clearing) = refl
-lost_rests Nothing (Finishing clearing) = refl
-lost_rests Nothing Finished = refl
-lost_rests WaitsToGuard phase = refl
-lost_rests WaitsToLock phase = refl
-lost_rests Locks (Attempting Dropping) = refl
-lost_rests Locks (Attempting stage) = refl
-lost_rests Locks Resting = refl
-lost_rests Locks (Ending clearing) = refl
-lost_rests Locks (Finishing clearing) = refl
-lost_rests Locks Finished = refl
-
 ended_undone : (phase : Phase) → is_done (ended phase) ≡ is_done phase
 ended_undone (Attempting Unlocking) = refl
 ended_undone (Attempting Exchanging) = refl
@@ -215,11 +201,6 @@ module _ (plan : PlanData) (tables : Database) (hold : Hold) (renames : Bool) wh
   drained_fits cutover hint (Ending clearing) fits = fits
   drained_fits cutover hint (Finishing clearing) fits = fits
   drained_fits cutover hint Finished fits = fits
-
-none_some : {A : Type 0} (request : Request) (waits : Option Request) → waits ≡ None → waits ≡ Some request → A
-none_some request waits none some = absurd (no (sym none ∙ some)) where
-  no : None ≡ Some request → ⊥
-  no same = cc
 
 not_lost : (answer : Answer) → answer ≡ ok → answer ≡ answers.Lost → ⊥
 not_lost answer done lost = no (sym done ∙ lost) where
@@ -776,7 +757,7 @@ module _ (plan : PlanData) (runs : IsRunnable plan) (journal : List Entry) (entr
 
     lock_lost : AllStay before after → (tries : List ℕ) → New (is_reverting now.tool.reason) (Migrating (record work { cutover = cutovers.took Locker work.cutover answers.Lost; attempt_tries = tries }))
     unfolding cutovers.took
-    lock_lost stay tries = record { done = λ done. (lost_rests work.cutover.hold work.cutover.phase, (fits.done (was work.cutover.phase done)).1); back = λ on. rw (lost_rests work.cutover.hold work.cutover.phase) tt; left = left_so work.cutover.phase fits.left } where
+    lock_lost stay tries = record { done = λ done. (lost_nothing work.cutover.hold work.cutover.phase, (fits.done (was work.cutover.phase done)).1); back = λ on. rw (lost_nothing work.cutover.hold work.cutover.phase) tt; left = left_so work.cutover.phase fits.left } where
       was : (phase : Phase) → is_done (locker_phase phase answers.Lost) ≡ true → is_done phase ≡ true
       was Resting done = absurd (false≢true done)
       was (Attempting stage) done = absurd (false≢true done)

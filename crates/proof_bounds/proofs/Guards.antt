@@ -53,10 +53,10 @@ use Rattle.proof_migration.proofs.ToolPhase.ToolPhaseTurns.{Kept, UnfitKeeps, Co
 use Rattle.proof_migration.specs.InspectorWaits.{SetsCounter}
 use Rattle.proof_bounds.specs.Guards.{IsMade, IsGuarded, WaitsForNoSentry, HasSentryAtOnce, SentriesAreMadeAtOnce}
 use Rattle.proof_migration.proofs.HeldNames.FreeNames.{IsAway, away_forbidden, away_free, free_name, at_once}
+use Rattle.proof_migration.proofs.KeptJournals.{each_kept}
+use Rattle.proof_migration.proofs.ToolPhase.Marked.{old_is_tool}
 use Rattle.proof_bounds.proofs.Going.{IsGoing, all_going, insp_free, insp_rests}
-use Rattle.proof_migration.proofs.HeldNames.Holders.{each_kept}
 use Rattle.proof_bounds.proofs.Inspecting.{WaitsFor}
-use Rattle.proof_bounds.proofs.Leftovers.{old_is_tool}
 
 -- PHASES
 

@@ -1,8 +1,7 @@
 -- Which tables exist while the setup drops what was left and makes its own, and while what is left after the RENAME is dropped.
 use Rattle.std.proofs.Common.{◌≡◌, ◌≤◌, ◌<◌, ℕ, ◌+◌, Bool, true, false, cond, not, ◌&&◌, ◌||◌, List, refl, sym, ap, ◌∙◌, arith}
 use Rattle.std.specs.Prelude.{is_some}
-use Rattle.std.specs.Str.{bytes_eq}
-use Rattle.std.proofs.lemmas.Bool.{true≢false, false≢true, or_right, and_parts}
+use Rattle.std.proofs.lemmas.Bool.{true≢false, false≢true, and_parts}
 use Rattle.base_values.specs.ToolNames.{ghost_name, log_name, old_name, is_tool_name}
 use Rattle.table_store.specs.Databases.{Database, has_table}
 use Rattle.server_model.specs.declared.listing.TableName.{TableName}
@@ -19,10 +18,10 @@ use Rattle.tool_program.specs.declared.cutover_core.cutover.Phase.TheVariants.{R
 use Rattle.tool_program.specs.CutoverCore.Attempts.{has_name, is_clear, first_name, without_first}
 use Rattle.tool_program.specs.CutoverCore.CutOvers.{is_done, finishing, left_at_end}
 use Rattle.tool_program.specs.Setups.{Setup, Listing, Clearing, MakingLog, MakingGhost, Marking, Reaching, Ready, clearing}
-use Rattle.server_model.proofs.LockedRows.Tests.{same_bytes}
 use Rattle.proof_migration.proofs.Attempt.InspectorAnswers.{listed_is}
 use Rattle.proof_migration.proofs.Attempt.Leaving.{AllStay, has_is}
 use Rattle.proof_migration.proofs.ToolPhase.Unaltered.Away.{ghost_is_tool, log_is_tool}
+use Rattle.proof_migration.proofs.ToolPhase.Marked.{old_is_tool}
 use Rattle.proof_bounds.specs.Clearings.{phase_left}
 use Rattle.proof_bounds.specs.Setups.{one_if, names_left, setup_left}
 
@@ -74,9 +73,6 @@ clearing_fits plan tables left log ghost old = by (is_clear left) refl where
   by false some = record { log = log; ghost = ghost; old = old; some = some }
 
 -- the first that is dropped is one of the tool's, and exists
-pub old_is_tool : (table : List ℕ) → is_tool_name table (old_name table) ≡ true
-old_is_tool table = or_right (bytes_eq (old_name table) (ghost_name table) || bytes_eq (old_name table) (log_name table)) (bytes_eq (old_name table) (old_name table)) (same_bytes (old_name table))
-
 pub first_is_tool : (table : List ℕ) (left : Leftovers) → is_tool_name table (first_name table left) ≡ true
 first_is_tool table left = by left.log left.new_table where
   by : (a b : Bool) → is_tool_name table (cond a (log_name table) (cond b (ghost_name table) (old_name table))) ≡ true

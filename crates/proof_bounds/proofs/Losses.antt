@@ -151,7 +151,8 @@ module _ (before : List Entry) (entry : Entry) where
 abbrev IsMet : PlanData → List Entry → Type 0
 IsMet plan journal = struck_turns journal ≤ count_by (is_spent journal) plan.faults
 
-struck_more : (journal : List Entry) (entry : Entry) → struck_turns (journal ++ entry ∷ []) ≡ struck_turns journal + cond (is_struck entry) 1 0
+-- one entry more
+pub struck_more : (journal : List Entry) (entry : Entry) → struck_turns (journal ++ entry ∷ []) ≡ struck_turns journal + cond (is_struck entry) 1 0
 struck_more journal entry = sum_by_push (λ (one : Entry). cond (is_struck one) 1 0) journal entry
 
 uncut_is : (asked : Asked) → asked ≢ Cut → is_cut asked ≡ false

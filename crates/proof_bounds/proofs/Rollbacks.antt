@@ -40,7 +40,7 @@ use Rattle.proof_journals.proofs.Machine.Journals.{IsRun, IsTogether, Asking, ca
 use Rattle.proof_journals.proofs.Machine.Seated.{IsServed, others_stand, own_stands, own_fits, own_lost}
 use Rattle.proof_bounds.specs.Laws.{back_turns, RollbacksAreFew}
 use Rattle.proof_bounds.specs.Parts as parts
-use Rattle.proof_bounds.proofs.Reverting.{reverting_more}
+use Rattle.proof_migration.proofs.Program.Turns.Reverting.{reverting_more}
 
 -- WHAT THEY ASK
 

@@ -2,7 +2,6 @@
 use Rattle.std.proofs.Common.{◌≡◌, ◌≤◌, ◌<◌, ℕ, ◌+◌, ◌*◌, Bool, true, false, cond, ◌||◌, List, [], ◌∷◌, ◌++◌, Option, Some, None, refl, sym, ap, ◌∙◌, subst, arith}
 use Rattle.std.specs.Prelude.{is_some}
 use Rattle.std.proofs.lemmas.Bool.{true≢false, false≢true}
-use Rattle.std.proofs.lemmas.List.Sums.{sum_by_push}
 use Rattle.base_script.specs.declared.actor.Actor.{Actor}
 use Rattle.base_script.specs.declared.actor.Actor.TheVariants.{Op, Insp, Copy, Apply, Lock, Ren, Client}
 use Rattle.base_script.specs.declared.actor.Side.{Side}
@@ -36,7 +35,7 @@ use Rattle.proof_bounds.specs.Setups.{setup_left, tool_phase_left, SetupGoes, Se
 use Rattle.tool_program.specs.JournalWords.Bounds.{measures}
 use Rattle.proof_bounds.specs.Terms.{term_of}
 use Rattle.proof_bounds.proofs.Counting.{count_yes, count_no, count_none}
-use Rattle.proof_bounds.proofs.Losses.{losses_strike}
+use Rattle.proof_bounds.proofs.Losses.{losses_strike, struck_more}
 
 -- WHAT IS LEFT, AT MOST
 
@@ -274,9 +273,6 @@ module _ (plan : PlanData) (before : List Entry) (entry : Entry) (goes : SetupGo
 
 abbrev IsLeft : PlanData → List Entry → Type 0
 IsLeft plan journal = turns_of_part OfSetup plan journal + tool_phase_left (moment plan journal).tool.tool_phase ≤ 8 + 8 * struck_turns journal
-
-struck_more : (journal : List Entry) (entry : Entry) → struck_turns (journal ++ entry ∷ []) ≡ struck_turns journal + cond (is_struck entry) 1 0
-struck_more journal entry = sum_by_push (λ (one : Entry). cond (is_struck one) 1 0) journal entry
 
 left_more : (plan : PlanData) (before : List Entry) (entry : Entry) → SetupGoes plan before entry → IsLeft plan before → IsLeft plan (before ++ entry ∷ [])
 unfolding part_of

@@ -10,7 +10,6 @@ use Rattle.std.proofs.lemmas.Bool.Decides.{nat_tests}
 use Rattle.base_script.specs.declared.actor.Actor.{Actor}
 use Rattle.base_script.specs.declared.actor.Actor.TheVariants.{Op, Insp, Copy, Apply, Lock, Ren, Client}
 use Rattle.base_script.specs.declared.actor.Side.{Side}
-use Rattle.base_script.specs.declared.operator.OperatorWord.{OperatorWord}
 use Rattle.server_model.specs.declared.answer.Answer.{Answer}
 use Rattle.server_model.specs.declared.answer.Answer.TheVariants as answers
 use Rattle.server_model.specs.declared.entry.Asked.{Asked}
@@ -29,7 +28,7 @@ use Rattle.tool_program.specs.JournalWords.Journals.{state_at, opens}
 use Rattle.tool_program.specs.JournalWords.KeptPlans.{words_of}
 use Rattle.tool_program.specs.JournalWords.Sessions.{live_session, session_left, sessions_named}
 use Rattle.tool_program.specs.JournalWords.Clients.{client_at, word_asks}
-use Rattle.tool_program.specs.Programs.{commands, given, IsGiven}
+use Rattle.tool_program.specs.Programs.{given, IsGiven}
 use Rattle.tool_program.specs.Tools.{moment}
 use Rattle.proof_journals.specs.Turns.{request_of}
 use Rattle.proof_journals.specs.Run.Laws.{Living}
@@ -44,8 +43,9 @@ use Rattle.proof_journals.proofs.Machine.Clients.{Next, calls_line, polls_line, 
 use Rattle.proof_journals.proofs.Machine.ClientJournals.{ClientsTogether, clients_more, clients_begin}
 use Rattle.proof_journals.proofs.Machine.Journals.{IsRun, IsTogether, Asking, calls_so, polls_so, asking, together_more, together_begins}
 use Rattle.proof_journals.proofs.Machine.Seated.{IsServed, opened_old, is_open, state_more, session_there, request_there, own_stands, own_given, own_missed, own_lost}
+use Rattle.proof_journals.proofs.Machine.Polling.{no_word}
 use Rattle.proof_bounds.specs.Laws.{MayWait}
-use Rattle.proof_bounds.proofs.Limits.{tool_waits, client_waits}
+use Rattle.proof_migration.proofs.Attempt.Verdicts.Limits.{tool_waits, client_waits}
 
 -- HOW OFTEN
 
@@ -76,13 +76,6 @@ wait_some plan may a = by (is_client a) where
 pub record About (plan : PlanData) (journal : List Entry) (entry : Entry) : Type 0 where
   pub request : Request
   pub is : IsAbout request (standing_of plan journal entry.actor) entry.asked
-
-no_command : (word : Option OperatorWord) (asked : Asked) → is_command asked ≡ false → commands word ≡ Some asked → ⊥
-no_command None asked called is = cc
-no_command (Some word) (Command other) called is = true≢false called
-no_command (Some word) (Call request) called is = cc
-no_command (Some word) Poll called is = cc
-no_command (Some word) Cut called is = cc
 
 waits_only : (request : Request) (answer : Answer) (old : Standing) → is_some (answered request answer old).waits ≡ true → (one : ℕ) × (answer ≡ answers.Waits one)
 waits_only request (answers.Waits by) old some = (by, refl)
@@ -148,7 +141,7 @@ module _ (plan : PlanData) (may : MayWait plan) (journal : List Entry) (entry : 
         record { request = word_asks held.0.word; is = subst (λ (a : Actor). IsAbout (word_asks held.0.word) (standing_of plan journal a) entry.asked) (sym who) (is_polled (what ∙ same) held.3) }
 
     each : (actor : Actor) (asked : Asked) → entry.actor ≡ actor → entry.asked ≡ asked → is_command asked ≡ false → given plan journal actor ≡ Some asked → About plan journal entry
-    each Op asked who what called gives = absurd (no_command (slice_get (words_of plan) (moment plan journal).tool.operator.taken) asked called gives)
+    each Op asked who what called gives = absurd (no_word (slice_get (words_of plan) (moment plan journal).tool.operator.taken) asked called gives)
     each Insp asked who what called gives = tool Insp asked who what (asking plan journal Insp asked together.server gives)
     each Copy asked who what called gives = tool Copy asked who what (asking plan journal Copy asked together.server gives)
     each Apply asked who what called gives = tool Apply asked who what (asking plan journal Apply asked together.server gives)

@@ -98,6 +98,13 @@ sessions_begin = record {
   none = refl;
 }
 
+-- a lost session is nobody's
+pub lost_left : (asked : Asked) (session : ℕ) → session_left asked answers.Lost session ≡ None
+lost_left (Call request) session = refl
+lost_left Poll session = refl
+lost_left Cut session = refl
+lost_left (Command word) session = refl
+
 -- the session that a turn leaves its actor is the turn's own
 pub left_own : (asked : Asked) (answer : Answer) (session n : ℕ) → session_left asked answer session ≡ Some n → (is_command asked ≡ false) × (n ≡ session)
 left_own (Command word) answer session n left = absurd (cc)

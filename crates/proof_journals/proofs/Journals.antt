@@ -422,6 +422,9 @@ stored_opened nothing tool number state = at (nothing || is_some (session_of num
   at true = refl
   at false = refl
 
+pub opened_tables : (nothing tool : Bool) (number : ℕ) (state : State) → (opens_if nothing tool number state).tables ≡ state.tables
+opened_tables nothing tool number state = ap (λ (s : Stored). s.tables) (stored_opened nothing tool number state)
+
 pub found_live : (o : Option Session) (P : Type 0) → is_some o ≡ true → ((s : Session) → o ≡ Some s → P) → P
 found_live None P live f = absurd (false≢true live)
 found_live (Some s) P live f = f s refl

@@ -25,6 +25,7 @@ pub mod Hearing
 pub mod Linking
 pub mod Naming
 pub mod PlanJournals
+pub mod Results
 pub mod ValidTables
 pub mod ServerTurns
 pub mod Ghost

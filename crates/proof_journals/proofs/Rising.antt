@@ -24,7 +24,7 @@ use Rattle.server_model.specs.Counting.{counts_if, counted}
 use Rattle.server_model.specs.PlainServer.{serves, asks_for, counters_left}
 use Rattle.server_model.specs.LockedRows.Counters.{NoLess, IsBehind, DrawnSo}
 use Rattle.server_model.proofs.LockedRows.Counters.{less_itself, counters_never_fall, numbers_are_counters}
-use Rattle.server_model.proofs.LockedRows.Tests.{are_same, turned_bytes, nor_left}
+use Rattle.server_model.proofs.LockedRows.Tests.{are_same, turned_bytes, nor_left, nor_right}
 use Rattle.tool_program.specs.JournalWords.Journals.{opens, opens_if, after_entry}
 use Rattle.tool_program.specs.JournalWords.Draws.{asked_in, drawn_from}
 use Rattle.proof_journals.specs.Turns.{drawn_side}
@@ -37,10 +37,6 @@ opened_counters nothing tool number state = by (nothing || is_live state number)
   by : (b : Bool) → (cond b state (connected number tool state)).counters ≡ state.counters
   by true = refl
   by false = refl
-
-right_none : (a b : Bool) → (a || b) ≡ false → b ≡ false
-right_none true b is = absurd (true≢false is)
-right_none false b is = is
 
 -- COUNTERS OF OTHER NAMES
 
@@ -56,7 +52,8 @@ pub none_started : (name : List ℕ) (table : TableRows) (place : Option ℕ) �
 none_started name table None off = refl
 none_started name table (Some place) off = rw off refl
 
-both_named : (name other : List ℕ) (one : Counter) → bytes_eq name other ≡ false → bytes_eq one.table other ≡ true → bytes_eq one.table name ≡ true → ⊥
+-- a counter has one name
+pub both_named : (name other : List ℕ) (one : Counter) → bytes_eq name other ≡ false → bytes_eq one.table other ≡ true → bytes_eq one.table name ≡ true → ⊥
 both_named name other one off here also =
     true≢false (sym (ap (λ (n : List ℕ). bytes_eq n other) (sym (are_same one.table name also)) ∙ here) ∙ off)
 
@@ -84,8 +81,8 @@ pub next_renamed : (name : List ℕ) (pairs : List Pair) (counters : List Counte
 unfolding counters_renamed
 next_renamed name [] counters off = refl
 next_renamed name (pair ∷ pairs) counters off =
-    next_renamed name pairs (counters_named pair.old pair.new counters) (right_none (bytes_eq name pair.new) _ (right_none (bytes_eq name pair.old) _ off))
-    ∙ next_named name pair.old pair.new counters (nor_left (bytes_eq name pair.old) _ off) (nor_left (bytes_eq name pair.new) _ (right_none (bytes_eq name pair.old) _ off))
+    next_renamed name pairs (counters_named pair.old pair.new counters) (nor_right (bytes_eq name pair.new) _ (nor_right (bytes_eq name pair.old) _ off))
+    ∙ next_named name pair.old pair.new counters (nor_left (bytes_eq name pair.old) _ off) (nor_left (bytes_eq name pair.new) _ (nor_right (bytes_eq name pair.old) _ off))
 
 pub if_counted : (P : List Counter → Type 0) (answer : Answer) (change : List Counter → List Counter) (counters : List Counter) → P counters → P (change counters) → P (counts_if answer change counters)
 if_counted P (answers.Ok count) change counters stays moves = moves

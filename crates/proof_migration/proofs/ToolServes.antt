@@ -1,12 +1,11 @@
 -- A call of the tool's is filled as it is.
 use Rattle.proof_journals.specs.Machine.Standings.{IsAbout, Standing, is_called, is_polled}
-use Rattle.std.proofs.Common.{◌≡◌, ℕ, Bool, true, false, not, List, Option, Some, None, refl, ap, ◌∙◌}
+use Rattle.std.proofs.Common.{◌≡◌, ℕ, Bool, true, false, not, List, Option, Some, None, ap, ◌∙◌}
 use Rattle.std.specs.Option.{option_map}
 use Rattle.server_model.specs.Drawing.{filled, filled_for}
 use Rattle.server_model.specs.Entries.{is_client, is_command}
 use Rattle.server_model.specs.States.{State, is_of_tool, session_of}
 use Rattle.server_model.specs.declared.entry.Asked.{Asked}
-use Rattle.server_model.specs.declared.entry.Asked.TheVariants.{Call, Poll, Command, Cut}
 use Rattle.server_model.specs.declared.entry.Entry.{Entry}
 use Rattle.server_model.specs.declared.request.Request.{Request}
 use Rattle.server_model.specs.declared.session.Session.{Session}
@@ -14,7 +13,6 @@ use Rattle.server_model.proofs.Filling.{filled_tool}
 use Rattle.plan_data.specs.PlanData.{PlanData}
 use Rattle.tool_program.specs.JournalWords.Journals.{opens, state_at}
 use Rattle.proof_journals.specs.Run.Kept.{IsKept}
-use Rattle.proof_journals.specs.Turns.{about}
 use Rattle.proof_journals.proofs.Run.Living.{all_living, own_kind}
 use Rattle.proof_journals.proofs.Machine.Journals.{IsRun, IsTogether}
 use Rattle.proof_journals.proofs.Actors.{placed}
@@ -22,12 +20,6 @@ use Rattle.proof_journals.proofs.Actors.{placed}
 -- the tool's request is filled as it is
 pub filled_so : (state : State) (number : ℕ) (request : Request) → is_of_tool (session_of number state.sessions) ≡ true → filled state number request ≡ request
 filled_so state number request tool = ap (λ (b : Bool). filled_for b state.tables state.counters request) tool ∙ filled_tool state.tables state.counters request
-
-pub about_called_so : (state : State) (number : ℕ) (asked : Asked) (request : Request) → about state number asked ≡ Some request → is_command asked ≡ false
-about_called_so state number (Call called) request is = refl
-about_called_so state number Poll request is = refl
-about_called_so state number Cut request is = refl
-about_called_so state number (Command word) request is = absurd cc
 
 pub about_uncommanded : (request : Request) (old : Standing) (asked : Asked) → IsAbout request old asked → is_command asked ≡ false
 about_uncommanded request old asked (is_called asks none) = ap is_command asks

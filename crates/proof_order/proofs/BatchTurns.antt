@@ -31,8 +31,10 @@ use Rattle.proof_journals.proofs.Machine.Calling.{reverting_or}
 use Rattle.proof_journals.proofs.Machine.Journals.{IsRun, IsTogether, Asking, calls_so, polls_so, asking, apply_called, all_runs, apply_about, together_more, together_begins}
 use Rattle.proof_journals.proofs.Machine.Seated.{IsKnown, IsServed, others_stand, own_stands, own_lost}
 use Rattle.proof_journals.proofs.Machine.Tabling.{back_quiet}
+use Rattle.proof_journals.proofs.Machine.Polling.{answered_idle}
 use Rattle.proof_migration.proofs.ToolPhase.Owners.{commands_operator}
 use Rattle.proof_migration.proofs.ToolPhase.ToolPhaseTurns.{Kept, UnfitKeeps, ApplyKeeps, SetupKeeps, AnswerKeeps, ResizeKeeps, turn_kept, gives_asked}
+use Rattle.proof_migration.proofs.Attempt.Standing.{none_some}
 use Rattle.proof_order.specs.AppliedRows.{AppliedBatch, batch_after, batch_at, IsAppliedCall, IsAppliedTurn, AppliesInserts}
 use Rattle.proof_order.specs.Laws.{JournalsApplyInserts}
 use Rattle.proof_order.proofs.Batches.{ApplierAt, AsksNext, calls_it, polls_it, applier_more, took_batch, unfit_batch, applier_applies}
@@ -51,18 +53,6 @@ pub record BatchesStand (plan : PlanData) (journal : List Entry) : Type 0 where
 batch_more : (journal : List Entry) (entry : Entry) → batch_at (journal ++ entry ∷ []) ≡ batch_after entry.actor entry.asked entry.answer (batch_at journal)
 unfolding batch_at
 batch_more journal entry = fold-append (λ batch entry. batch_after entry.actor entry.asked entry.answer batch) _ journal (entry ∷ [])
-
-none_some : {A : Type 0} (request : Request) (waits : Option Request) → waits ≡ None → waits ≡ Some request → A
-none_some request waits none some = absurd (no (sym none ∙ some)) where
-  no : None ≡ Some request → ⊥
-  no same = cc
-
--- an answer that is no wait leaves none
-unwaited : (request : Request) (answer : Answer) (old : Standing) → is_wait answer ≡ false → (answered request answer old).waits ≡ None
-unwaited request (answers.Waits by) old off = absurd (true≢false off)
-unwaited request answers.Lost old off = refl
-unwaited request (answers.TimedOut waited) old off = refl
-unwaited request answer old off = refl
 
 called_one : (other request : Request) → Call other ≡ Call request → other ≡ request
 called_one other request both = let one : other ≡ request = cc in one
@@ -172,7 +162,7 @@ module _ (plan : PlanData) (journal : List Entry) (entry : Entry) (run : IsRun p
   quiet : (request : Request) → entry.actor ≡ Apply → IsAbout request (has Apply) entry.asked → is_wait entry.answer ≡ false → (now_has Apply).waits ≡ None
   quiet request who about off =
       ap (λ (s : Standing). s.waits) (subst (λ (a : Actor). now_has a ≡ answered request entry.answer (has a)) who (own_stands plan journal entry known served request (about_own request who about)))
-      ∙ unwaited request entry.answer (has Apply) off
+      ∙ answered_idle request entry.answer (has Apply) off
 
   next_of : (work : Work) → now.tool.tool_phase ≡ Migrating work → is_reverting now.tool.reason ≡ false → (request : Request) → tool_call plan now.server journal now.tool now.tool.tool_phase Apply ≡ Some request → request ≡ appliers.next journal work.applier
   next_of work eq going request call =
@@ -288,12 +278,7 @@ module _ (plan : PlanData) (journal : List Entry) (entry : Entry) (run : IsRun p
     by false differ = still entry.actor refl differ (Migrating work) eq
 
   commands : (word : OperatorWord) → entry.asked ≡ Command word → entry.actor ≡ Op
-  commands word asks = by entry.asked asks run.followed.given where
-    by : (asked : Asked) → asked ≡ Command word → IsGiven plan journal entry asked → entry.actor ≡ Op
-    by (Command other) same gives = commands_operator plan journal entry.actor other gives
-    by (Call request) same gives = absurd cc
-    by Poll same gives = absurd cc
-    by Cut same gives = absurd cc
+  commands word asks = commands_operator plan journal entry.actor word (subst (IsGiven plan journal entry) asks run.followed.given)
 
   resize_at : (size : ℕ) → entry.asked ≡ Command (ChunkSize size) → (tool_phase : ToolPhase) → now.tool.tool_phase ≡ tool_phase → ResizeKeeps New tool size tool_phase
   resize_at size asks (SettingUp setup tries) eq = tt

@@ -21,7 +21,7 @@ use Rattle.server_model.specs.declared.request.Request.TheVariants as requests
 use Rattle.server_model.specs.States.{State, has_work}
 use Rattle.plan_data.specs.PlanData.{PlanData}
 use Rattle.tool_program.proofs.JournalWords.Answers.{answer_here}
-use Rattle.tool_program.specs.JournalWords.Journals.{state_at, IsFaithful}
+use Rattle.tool_program.specs.JournalWords.Journals.{state_at}
 use Rattle.tool_program.specs.JournalWords.KeptPlans.{words_of}
 use Rattle.tool_program.specs.JournalWords.Sessions.{live_session}
 use Rattle.tool_program.specs.declared.chunk_copier.copier.Copier.{Copier}
@@ -52,8 +52,10 @@ use Rattle.proof_journals.proofs.Machine.Calling.{reverting_or}
 use Rattle.proof_journals.proofs.Machine.Journals.{IsRun, IsTogether, Asking, calls_so, polls_so, asking, all_runs, copy_about, copier_had, apply_about, lock_about, together_more, together_begins}
 use Rattle.proof_journals.proofs.Machine.Seated.{IsKnown, IsServed, others_stand, own_stands, own_fits, own_given, own_lost, own_missed, own_session}
 use Rattle.proof_journals.proofs.Machine.Tabling.{back_quiet}
+use Rattle.proof_journals.proofs.Machine.Polling.{answered_idle}
 use Rattle.proof_migration.proofs.ToolPhase.Owners.{commands_operator}
 use Rattle.proof_migration.proofs.ToolPhase.ToolPhaseTurns.{Kept, UnfitKeeps, CopyKeeps, SetupKeeps, AnswerKeeps, ResizeKeeps, turn_kept, gives_asked}
+use Rattle.proof_migration.proofs.Attempt.Standing.{none_some}
 use Rattle.proof_order.specs.ChunkLocks.{CopiedChunk, chunk_after, chunk_at, IsLockedCall, IsLockedTurn, CopiesUnderLocks}
 use Rattle.proof_order.specs.Laws.{JournalsCopyUnderLocks}
 use Rattle.proof_order.proofs.Chunks.{CopierAt, StepAt, low_of, AsksChunk, calls_it, polls_it, copier_more, took_chunk, unfit_chunk, ends_low, copier_locked}
@@ -70,18 +72,6 @@ pub record ChunksStand (plan : PlanData) (journal : List Entry) : Type 0 where
 chunk_more : (journal : List Entry) (entry : Entry) → chunk_at (journal ++ entry ∷ []) ≡ chunk_after entry.actor entry.asked entry.answer (chunk_at journal)
 unfolding chunk_at
 chunk_more journal entry = fold-append (λ chunk entry. chunk_after entry.actor entry.asked entry.answer chunk) _ journal (entry ∷ [])
-
-none_some : {A : Type 0} (request : Request) (waits : Option Request) → waits ≡ None → waits ≡ Some request → A
-none_some request waits none some = absurd (no (sym none ∙ some)) where
-  no : None ≡ Some request → ⊥
-  no same = cc
-
--- an answer that is no wait leaves none
-unwaited : (request : Request) (answer : Answer) (old : Standing) → is_wait answer ≡ false → (answered request answer old).waits ≡ None
-unwaited request (answers.Waits by) old off = absurd (true≢false off)
-unwaited request answers.Lost old off = refl
-unwaited request (answers.TimedOut waited) old off = refl
-unwaited request answer old off = refl
 
 -- ONE TURN
 
@@ -201,7 +191,7 @@ module _ (plan : PlanData) (journal : List Entry) (entry : Entry) (run : IsRun p
   quiet : (request : Request) → entry.actor ≡ Copy → IsAbout request (has Copy) entry.asked → is_wait entry.answer ≡ false → (now_has Copy).waits ≡ None
   quiet request who about off =
       ap (λ (s : Standing). s.waits) (subst (λ (a : Actor). now_has a ≡ answered request entry.answer (has a)) who (own_stands plan journal entry known served request (about_own request who about)))
-      ∙ unwaited request entry.answer (has Copy) off
+      ∙ answered_idle request entry.answer (has Copy) off
 
   next_of : (work : Work) → now.tool.tool_phase ≡ Migrating work → is_reverting now.tool.reason ≡ false → (request : Request) → tool_call plan now.server journal now.tool now.tool.tool_phase Copy ≡ Some request → copiers.next journal work.copier ≡ Some request
   next_of work eq going request call =
@@ -359,12 +349,7 @@ module _ (plan : PlanData) (journal : List Entry) (entry : Entry) (run : IsRun p
     by false differ = still entry.actor refl differ (Migrating work) eq
 
   commands : (word : OperatorWord) → entry.asked ≡ Command word → entry.actor ≡ Op
-  commands word asks = by entry.asked asks run.followed.given where
-    by : (asked : Asked) → asked ≡ Command word → IsGiven plan journal entry asked → entry.actor ≡ Op
-    by (Command other) same gives = commands_operator plan journal entry.actor other gives
-    by (Call request) same gives = absurd cc
-    by Poll same gives = absurd cc
-    by Cut same gives = absurd cc
+  commands word asks = commands_operator plan journal entry.actor word (subst (IsGiven plan journal entry) asks run.followed.given)
 
   resize_at : (size : ℕ) → entry.asked ≡ Command (ChunkSize size) → (tool_phase : ToolPhase) → now.tool.tool_phase ≡ tool_phase → ResizeKeeps New tool size tool_phase
   resize_at size asks (SettingUp setup tries) eq = tt

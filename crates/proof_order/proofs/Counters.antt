@@ -377,8 +377,8 @@ module _ (plan : PlanData) (journal : List Entry) (entry : Entry) (run : IsRun p
         fits = own_fits plan journal entry known served (requests.SetCounter (ghost_name plan.table) number) (own_about (requests.SetCounter (ghost_name plan.table) number) about)
 
         drains : (drain : Drain) (count : ℕ) → last_reply Insp more ≡ Some (answers.Ok count) → Becomes entry.answer (Attempting (cutovers.drain_stage drain))
-        drains (Turns turns) count told = carried number call count told
-        drains Passed count told = carried number call count told
+        drains (Turns turns) count reported = carried number call count reported
+        drains Passed count reported = carried number call count reported
 
         by : (answer : Answer) → entry.answer ≡ answer → IsUnrefused answer → answers_to (requests.SetCounter (ghost_name plan.table) number) answer ≡ true
             → Becomes answer (cond (is_bad answer) (Ending Looking) (Attempting (inspector_stage work.cutover.has_counter (SettingCounter number drain) answer)))

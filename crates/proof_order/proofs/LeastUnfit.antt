@@ -38,18 +38,18 @@ use Rattle.tool_program.specs.declared.event_applier.applier.ApplyStep.TheVarian
 use Rattle.tool_program.specs.EventApplier.Appliers as appliers
 use Rattle.tool_program.specs.Failures.{concerned}
 use Rattle.tool_program.specs.Programs.{given, IsGiven, tool_call}
-use Rattle.tool_program.specs.Tools.{Work, ToolPhase, SettingUp, Migrating, Reason, CopyUnfit, ApplyUnfit, Tool, Moment, first_reason, stopped, is_renamed, reverts, is_reverting, copy_after, apply_after, actor_took, turn_counts, asked_took, took, moment}
+use Rattle.tool_program.specs.Tools.{Work, ToolPhase, SettingUp, Migrating, Reason, CopyUnfit, ApplyUnfit, Tool, Moment, is_renamed, is_reverting, copy_after, apply_after, actor_took, turn_counts, asked_took, took, moment}
 use Rattle.proof_journals.specs.Machine.Machines.{ToolPhaseStands, WorkStands, SetupStands, copier_asks, applier_asks}
 use Rattle.proof_journals.specs.Machine.Standings.{Standing, free, standing_of, IsAbout}
 use Rattle.proof_journals.specs.Run.Kept.{IsKept}
 use Rattle.proof_journals.proofs.Machine.Journals.{IsRun, IsTogether, Asking, calls_so, polls_so, asking, all_together, copy_about, apply_about}
-use Rattle.proof_journals.proofs.Machine.Lifting.{first_some}
 use Rattle.proof_journals.proofs.Machine.Seated.{IsKnown, IsServed, own_given, own_missed}
 use Rattle.proof_journals.proofs.Sentry.Inductions.{moment_more}
 use Rattle.proof_migration.proofs.Program.Turns.Follows.{kept_front, kept_run}
 use Rattle.proof_migration.proofs.ToolPhase.Hearing.{HoldsUndone, own_answer}
 use Rattle.proof_migration.proofs.ToolPhase.Owners.{commands_operator}
 use Rattle.proof_migration.proofs.ToolPhase.ToolPhaseTurns.{gives_asked}
+use Rattle.proof_migration.proofs.Program.Turns.Effects.{reverts_on}
 use Rattle.proof_order.specs.Laws.{UnfitRowsAreLate}
 use Rattle.proof_order.proofs.Grounds.{Follows, counts_holds}
 use Rattle.proof_order.proofs.Least.{stays, late_at, unrenamed_at}
@@ -156,23 +156,17 @@ applies_unfit applier (applying.Beginning batch) requests.Begin place number kin
 applies_unfit applier (applying.Committing batch) requests.Commit place number kind takes = absurd (false≢true takes)
 applies_unfit applier step request place number kind takes = absurd (false≢true kind)
 
-reverts_some : (reason : Reason) (tool : Tool) → is_renamed tool.tool_phase ≡ false → is_reverting (reverts reason tool).reason ≡ true
-reverts_some reason tool off = by (is_renamed tool.tool_phase) off where
-  by : (b : Bool) → b ≡ false → is_reverting (cond b tool (record tool { reason = first_reason tool.reason reason; tool_phase = stopped tool.tool_phase })).reason ≡ true
-  by true off = absurd (true≢false off)
-  by false off = first_some tool.reason reason
-
 copier_reverts : (plan : PlanData) (answer : Answer) (work : Work) (tool : Tool) (place number : ℕ) → is_reverting tool.reason ≡ false → is_renamed tool.tool_phase ≡ false → copiers.progress work.copier answer ≡ Unfit place number → is_reverting (actor_took plan Copy answer (Migrating work) tool).reason ≡ true
 copier_reverts plan answer work tool place number going off unfit = by (is_reverting tool.reason) going where
   by : (b : Bool) → b ≡ false → is_reverting (cond b tool (copy_after plan work (copiers.progress work.copier answer) (copiers.took tool.turns work.copier answer) tool)).reason ≡ true
   by true going = absurd (true≢false going)
-  by false going = subst (λ (p : Progress). is_reverting (copy_after plan work p (copiers.took tool.turns work.copier answer) tool).reason ≡ true) (sym unfit) (reverts_some (CopyUnfit tool.turns place number) tool off)
+  by false going = subst (λ (p : Progress). is_reverting (copy_after plan work p (copiers.took tool.turns work.copier answer) tool).reason ≡ true) (sym unfit) (reverts_on (CopyUnfit tool.turns place number) tool off)
 
 applier_reverts : (plan : PlanData) (answer : Answer) (work : Work) (tool : Tool) (place number : ℕ) → is_reverting tool.reason ≡ false → is_renamed tool.tool_phase ≡ false → appliers.progress work.applier answer ≡ Unfit place number → is_reverting (actor_took plan Apply answer (Migrating work) tool).reason ≡ true
 applier_reverts plan answer work tool place number going off unfit = by (is_reverting tool.reason) going where
   by : (b : Bool) → b ≡ false → is_reverting (cond b tool (apply_after plan work (appliers.progress work.applier answer) (appliers.took tool.turns work.applier answer) tool)).reason ≡ true
   by true going = absurd (true≢false going)
-  by false going = subst (λ (p : Progress). is_reverting (apply_after plan work p (appliers.took tool.turns work.applier answer) tool).reason ≡ true) (sym unfit) (reverts_some (ApplyUnfit tool.turns place number) tool off)
+  by false going = subst (λ (p : Progress). is_reverting (apply_after plan work p (appliers.took tool.turns work.applier answer) tool).reason ≡ true) (sym unfit) (reverts_on (ApplyUnfit tool.turns place number) tool off)
 
 -- a drain behind it takes no ground back
 drain_keeps : (plan : PlanData) (tool : Tool) → is_reverting tool.reason ≡ true → is_reverting (turn_counts plan Apply tool).reason ≡ true

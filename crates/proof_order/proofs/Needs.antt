@@ -1,9 +1,8 @@
 -- What the applier waits with needs names of tables.
-use Rattle.std.proofs.Common.{◌≡◌, ℕ, Bool, true, false, List, [], ◌∷◌, ◌++◌, Option, Some, None, refl, sym, ap, ◌∙◌, subst}
+use Rattle.std.proofs.Common.{◌≡◌, Bool, true, false, List, [], ◌∷◌, ◌++◌, Some, refl, sym, ap, ◌∙◌, subst}
 use Rattle.base_script.specs.declared.actor.Actor.{Actor}
 use Rattle.base_script.specs.declared.actor.Actor.TheVariants.{Op, Apply}
 use Rattle.server_model.specs.Entries.{same_actor}
-use Rattle.server_model.specs.declared.answer.Answer.{Answer}
 use Rattle.server_model.specs.declared.answer.Answer.TheVariants as answers
 use Rattle.server_model.specs.declared.entry.Asked.{Asked}
 use Rattle.server_model.specs.declared.entry.Asked.TheVariants.{Call, Poll, Command, Cut}
@@ -16,27 +15,12 @@ use Rattle.proof_journals.proofs.Actors.{same_actor_is}
 use Rattle.proof_journals.proofs.Machine.Journals.{IsRun, IsTogether, Asking, calls_so, polls_so, asking}
 use Rattle.proof_journals.proofs.Machine.Seated.{IsKnown, IsServed, others_stand, own_stands, own_fits, own_lost}
 use Rattle.proof_migration.proofs.ToolPhase.Owners.{commands_operator}
+use Rattle.proof_migration.proofs.Attempt.Standing.{none_some}
+use Rattle.proof_migration.proofs.Program.Hints.Courses.{IsWait, waits_wait}
 
 -- what the applier waits with
 abbrev pub NeedsNames : PlanData → List Entry → Type 0
 NeedsNames plan journal = (request : Request) → (standing_of plan journal Apply).waits ≡ Some request → needs_names request ≡ true
-
--- a wait leaves the request that it was about
-record IsWait (about request : Request) (answer : Answer) : Type 0 where
-  by : ℕ
-  is : answer ≡ answers.Waits by
-  same : about ≡ request
-
-waits_wait : (about request : Request) (answer : Answer) (old : Standing) → (answered about answer old).waits ≡ Some request → IsWait about request answer
-waits_wait about request (answers.Waits by) old some = record { by = by; is = refl; same = let one : about ≡ request = cc in one }
-waits_wait about request answers.Lost old some = absurd cc
-waits_wait about request (answers.TimedOut waited) old some = absurd cc
-waits_wait about request answer old some = absurd cc
-
-none_some : {A : Type 0} (request : Request) (waits : Option Request) → waits ≡ None → waits ≡ Some request → A
-none_some request waits none some = absurd (no (sym none ∙ some)) where
-  no : None ≡ Some request → ⊥
-  no same = cc
 
 module _ (plan : PlanData) (journal : List Entry) (entry : Entry) (together : IsTogether plan journal) (run : IsRun plan journal entry) (was : NeedsNames plan journal) where
   abbrev has : Actor → Standing

@@ -57,11 +57,12 @@ use Rattle.proof_migration.specs.InspectorWaits.{InspectorsWaitToSet}
 use Rattle.proof_migration.proofs.Attempt.Stages.{RenamerAt, StandsAt}
 use Rattle.proof_migration.proofs.Attempt.Standing.{ToolPhaseAt, IsStanding, all_standing}
 use Rattle.proof_migration.proofs.Program.Turns.Follows.{kept_front, kept_run}
+use Rattle.proof_migration.proofs.Program.InspectorTurns.Inspectors.{free_so}
 use Rattle.proof_order.specs.CutOverOrder.{holds_so, waits_so, last_call, last_answer, last_reply, shown_so, is_carried, is_locked, is_at_rest, attempts_begun, rename_shown, is_renamed, tables_listed, is_renaming, hints_applied, IsOrderedCall, IsOrderedTurn, KeepsOrder}
 use Rattle.proof_order.specs.Laws.{KeptJournalsKeepOrder}
 use Rattle.proof_order.proofs.Words.{Words, words}
 use Rattle.proof_order.proofs.Phases.{PassedAt, ShownAt, DropsAt, is_held, and_both, first_order}
-use Rattle.proof_order.proofs.Roles.{LockerTold, DoneAt}
+use Rattle.proof_order.proofs.Roles.{LockerAnswered, DoneAt}
 use Rattle.proof_order.proofs.Counters.{CountsAt, ToolPhaseCounts, IsCounting, counting_more, counting_begins}
 use Rattle.proof_order.proofs.Turns.{ToolPhaseOrdered, SetupOrdered, IsOrdered, ordered_more, ordered_begins}
 
@@ -167,8 +168,8 @@ module _ (plan : PlanData) (journal : List Entry) (entry : Entry) (run : IsRun p
   abbrev now : Moment
   now = moment plan journal
 
-  abbrev told : Words
-  told = words plan journal
+  abbrev so_far : Words
+  so_far = words plan journal
 
   abbrev has : Actor → Standing
   has = standing_of plan journal
@@ -182,14 +183,14 @@ module _ (plan : PlanData) (journal : List Entry) (entry : Entry) (run : IsRun p
   work_has : (work : Work) → now.tool.tool_phase ≡ Migrating work → WorkStands journal (is_reverting now.tool.reason) has work
   work_has work eq = subst (ToolPhaseStands journal has (is_reverting now.tool.reason)) eq together.stands
 
-  old_at : (tool_phase : ToolPhase) → now.tool.tool_phase ≡ tool_phase → ToolPhaseOrdered plan told (live_session journal Ren) tool_phase
-  old_at tool_phase eq = subst (ToolPhaseOrdered plan told (live_session journal Ren)) eq is.tool_phase
+  old_at : (tool_phase : ToolPhase) → now.tool.tool_phase ≡ tool_phase → ToolPhaseOrdered plan so_far (live_session journal Ren) tool_phase
+  old_at tool_phase eq = subst (ToolPhaseOrdered plan so_far (live_session journal Ren)) eq is.tool_phase
 
   own_table : (work : Work) → now.tool.tool_phase ≡ Migrating work → work.cutover.table ≡ plan.table
   own_table work eq = (subst (ToolPhaseIsNamed plan) eq (named plan journal)).cutover
 
   locked : (work : Work) → now.tool.tool_phase ≡ Migrating work → work.cutover.hold ≡ Locks → is_locked journal ≡ true
-  locked work eq holds = subst (LockerTold told.call told.answer) holds (old_at (Migrating work) eq).locker
+  locked work eq holds = subst (LockerAnswered so_far.call so_far.answer) holds (old_at (Migrating work) eq).locker
 
   -- what the phase says of the counter
   abbrev Counts : Phase → Type 0
@@ -261,7 +262,7 @@ module _ (plan : PlanData) (journal : List Entry) (entry : Entry) (run : IsRun p
       (record {
         drops = and_both (bytes_eq (old_name work.cutover.table) (old_name plan.table) && (rename_shown journal).shown) (is_locked journal)
             (and_both (bytes_eq (old_name work.cutover.table) (old_name plan.table)) (rename_shown journal).shown (ap (λ (t : List ℕ). bytes_eq (old_name t) (old_name plan.table)) (own_table work eq) ∙ same_bytes (old_name plan.table))
-            (subst (λ (p : Phase). ShownAt p told.shown.shown) at (old_at (Migrating work) eq).phase_is.shows))
+            (subst (λ (p : Phase). ShownAt p so_far.shown.shown) at (old_at (Migrating work) eq).phase_is.shows))
             (locked work eq holds);
         renames = refl;
         reads = refl;
@@ -292,14 +293,14 @@ module _ (plan : PlanData) (journal : List Entry) (entry : Entry) (run : IsRun p
   renamer_call request (Migrating work) eq call = by work.cutover.phase refl call where
     by : (phase : Phase) → work.cutover.phase ≡ phase → attempts.renamer_call work.cutover phase ≡ Some request → IsOrderedCall plan journal Ren request
     by (Attempting Drained) at call =
-        let old : ToolPhaseOrdered plan told (live_session journal Ren) (Migrating work) = old_at (Migrating work) eq in
-        let passes : list_any (λ one. one == work.cutover.attempts) told.hints.passed ≡ true = subst (λ (p : Phase). PassedAt p work.cutover.attempts told.hints.passed) at old.phase_is.passes in
+        let old : ToolPhaseOrdered plan so_far (live_session journal Ren) (Migrating work) = old_at (Migrating work) eq in
+        let passes : list_any (λ one. one == work.cutover.attempts) so_far.hints.passed ≡ true = subst (λ (p : Phase). PassedAt p work.cutover.attempts so_far.hints.passed) at old.phase_is.passes in
         some_request (IsOrderedCall plan journal Ren) (exchange work.cutover.table) request call
         (record {
           drops = refl;
           renames =
               and_both (list_any (λ attempt. attempt == attempts_begun journal) (hints_applied plan journal).passed && is_locked journal) (not (has_counter plan) || is_carried plan journal)
-              (and_both (list_any (λ attempt. attempt == attempts_begun journal) (hints_applied plan journal).passed) (is_locked journal) (subst (λ (n : ℕ). list_any (λ one. one == n) told.hints.passed ≡ true) (sym old.begun) passes)
+              (and_both (list_any (λ attempt. attempt == attempts_begun journal) (hints_applied plan journal).passed) (is_locked journal) (subst (λ (n : ℕ). list_any (λ one. one == n) so_far.hints.passed ≡ true) (sym old.begun) passes)
               (locked work eq (subst (λ (p : Phase). PhaseHolds p work.cutover.hold) at (work_has work eq).phase))) (subst Counts at (counts_at (Migrating work) eq));
           reads = refl;
           clears = refl;
@@ -314,17 +315,10 @@ module _ (plan : PlanData) (journal : List Entry) (entry : Entry) (run : IsRun p
 
   -- THE INSPECTOR
 
-  free_both : (hold : Hold) (waits : Bool) → is_free hold waits ≡ true → (hold ≡ Nothing) × (waits ≡ false)
-  free_both Nothing true free = absurd (false≢true free)
-  free_both Nothing false free = (refl, refl)
-  free_both WaitsToGuard waits free = absurd (false≢true free)
-  free_both WaitsToLock waits free = absurd (false≢true free)
-  free_both Locks waits free = absurd (false≢true free)
-
   rests_so : (work : Work) → now.tool.tool_phase ≡ Migrating work → work.cutover.hold ≡ Nothing → work.cutover.renamer_waits ≡ false → is_at_rest journal ≡ true
   rests_so work eq nothing off =
-      let old : ToolPhaseOrdered plan told (live_session journal Ren) (Migrating work) = old_at (Migrating work) eq in
-      let locker : LockerTold told.call told.answer Nothing = subst (LockerTold told.call told.answer) nothing old.locker in
+      let old : ToolPhaseOrdered plan so_far (live_session journal Ren) (Migrating work) = old_at (Migrating work) eq in
+      let locker : LockerAnswered so_far.call so_far.answer Nothing = subst (LockerAnswered so_far.call so_far.answer) nothing old.locker in
       rest_is plan journal locker.0 locker.1 (old.renamer ∙ off)
 
   done_so : (work : Work) → now.tool.tool_phase ≡ Migrating work → (is_renamed journal ≡ true) ⊎ ((work.cutover.hold ≡ Nothing) × (work.cutover.renamer_waits ≡ false)) → (is_renamed journal || is_at_rest journal) ≡ true
@@ -374,17 +368,17 @@ module _ (plan : PlanData) (journal : List Entry) (entry : Entry) (run : IsRun p
   inspector_calls work eq idle (Ending Looking) at request call = by (is_free work.cutover.hold work.cutover.renamer_waits) refl call where
     by : (b : Bool) → is_free work.cutover.hold work.cutover.renamer_waits ≡ b → cond b (clears work.cutover.table Looking) None ≡ Some request → IsOrderedCall plan journal Insp request
     by true free call =
-        let both = free_both work.cutover.hold work.cutover.renamer_waits free in
+        let both = free_so work.cutover.hold work.cutover.renamer_waits free in
         some_request (IsOrderedCall plan journal Insp) requests.ShowTables request call
         (record { drops = refl; renames = refl; reads = refl; clears = or_second (is_renamed journal) (is_at_rest journal) (rests_so work eq both.0 both.1); hints = tt; counts = refl })
     by false held call = absurd cc
   inspector_calls work eq idle (Ending (Drops left)) at request call = by (is_free work.cutover.hold work.cutover.renamer_waits) refl call where
     sentry : has_sentry plan.table (tables_listed journal) ≡ true
-    sentry = subst (λ (p : Phase). DropsAt plan p told.listed) at (old_at (Migrating work) eq).phase_is.drops
+    sentry = subst (λ (p : Phase). DropsAt plan p so_far.listed) at (old_at (Migrating work) eq).phase_is.drops
 
     by : (b : Bool) → is_free work.cutover.hold work.cutover.renamer_waits ≡ b → cond b (clears work.cutover.table (Drops left)) None ≡ Some request → IsOrderedCall plan journal Insp request
     by true free call =
-        let both = free_both work.cutover.hold work.cutover.renamer_waits free in
+        let both = free_so work.cutover.hold work.cutover.renamer_waits free in
         some_request (IsOrderedCall plan journal Insp) (requests.Drop (first_name work.cutover.table left)) request call
         (record {
           drops = fourth_or (not (bytes_eq (first_name work.cutover.table left) (old_name plan.table))) (attempts_begun journal == 0) plan.options.ok_to_drop_table (has_sentry plan.table (tables_listed journal)) sentry;
@@ -397,19 +391,19 @@ module _ (plan : PlanData) (journal : List Entry) (entry : Entry) (run : IsRun p
     by false held call = absurd cc
   inspector_calls work eq idle (Finishing Looking) at request call =
       some_request (IsOrderedCall plan journal Insp) requests.ShowTables request call
-      (record { drops = refl; renames = refl; reads = refl; clears = done_so work eq (subst (λ (p : Phase). DoneAt p work.cutover.hold work.cutover.renamer_waits told.renamed) at (old_at (Migrating work) eq).done); hints = tt; counts = refl })
+      (record { drops = refl; renames = refl; reads = refl; clears = done_so work eq (subst (λ (p : Phase). DoneAt p work.cutover.hold work.cutover.renamer_waits so_far.renamed) at (old_at (Migrating work) eq).done); hints = tt; counts = refl })
   inspector_calls work eq idle (Finishing (Drops left)) at request call =
       some_request (IsOrderedCall plan journal Insp) (requests.Drop (first_name work.cutover.table left)) request call
       (record {
         drops = by (first_order work.cutover.table left left_so.0);
         renames = refl;
         reads = refl;
-        clears = done_so work eq (subst (λ (p : Phase). DoneAt p work.cutover.hold work.cutover.renamer_waits told.renamed) at (old_at (Migrating work) eq).done);
+        clears = done_so work eq (subst (λ (p : Phase). DoneAt p work.cutover.hold work.cutover.renamer_waits so_far.renamed) at (old_at (Migrating work) eq).done);
         hints = tt;
         counts = refl;
       }) where
-        left_so : DropsAt plan (Finishing (Drops left)) told.listed
-        left_so = subst (λ (p : Phase). DropsAt plan p told.listed) at (old_at (Migrating work) eq).phase_is.drops
+        left_so : DropsAt plan (Finishing (Drops left)) so_far.listed
+        left_so = subst (λ (p : Phase). DropsAt plan p so_far.listed) at (old_at (Migrating work) eq).phase_is.drops
 
         by : (bytes_eq (first_name work.cutover.table left) (old_name work.cutover.table) ≡ false) ⊎ (left.old ≡ true)
             → (not (bytes_eq (first_name work.cutover.table left) (old_name plan.table)) || (attempts_begun journal == 0) || plan.options.ok_to_drop_table || has_sentry plan.table (tables_listed journal)) ≡ true
@@ -501,12 +495,12 @@ module _ (waits : InspectorsWaitToSet) (plan : PlanData) (runs : IsRunnable plan
       let later : IsKept plan ((before ++ first ∷ []) ++ entries) = subst (IsKept plan) (sym (Rattle.std.proofs.Common.append_assoc before (first ∷ []) entries)) kept in
       (kept_front plan (before ++ first ∷ []) entries later, fronts (before ++ first ∷ []) entries later)
 
-  -- what is told after a kept journal
-  record IsTold (journal : List Entry) : Type 0 where
+  -- what is so_far after a kept journal
+  record IsCountedOrdered (journal : List Entry) : Type 0 where
     counting : IsCounting plan journal
     ordered : IsOrdered plan journal
 
-  more : (front : List Entry) (entry : Entry) → IsKept plan (front ++ entry ∷ []) → IsTold front → IsTold (front ++ entry ∷ [])
+  more : (front : List Entry) (entry : Entry) → IsKept plan (front ++ entry ∷ []) → IsCountedOrdered front → IsCountedOrdered (front ++ entry ∷ [])
   more front entry kept is =
       let front_kept : IsKept plan front = kept_front plan front (entry ∷ []) kept in
       record {
@@ -514,14 +508,14 @@ module _ (waits : InspectorsWaitToSet) (plan : PlanData) (runs : IsRunnable plan
         ordered = ordered_more plan front entry (kept_run plan front entry kept) (standing_at front front_kept) (λ request some. waits plan front request runs serial front_kept some) is.ordered;
       }
 
-  all_told : (journal : List Entry) → IsKept plan journal → IsTold journal
-  all_told journal kept = Along-keeps (λ front entry. IsKept plan (front ++ entry ∷ [])) IsTold more [] journal (fronts [] journal kept) (record { counting = counting_begins plan; ordered = ordered_begins plan })
+  all_known : (journal : List Entry) → IsKept plan journal → IsCountedOrdered journal
+  all_known journal kept = Along-keeps (λ front entry. IsKept plan (front ++ entry ∷ [])) IsCountedOrdered more [] journal (fronts [] journal kept) (record { counting = counting_begins plan; ordered = ordered_begins plan })
 
   turn_at : (front : List Entry) (entry : Entry) → IsKept plan (front ++ entry ∷ []) → IsOrderedTurn plan front entry.actor (request_in entry.asked)
   turn_at front entry kept =
       let front_kept : IsKept plan front = kept_front plan front (entry ∷ []) kept in
-      let told = all_told front front_kept in
-      ordered_turn plan front entry (kept_run plan front entry kept) (standing_at front front_kept) told.counting told.ordered
+      let known = all_known front front_kept in
+      ordered_turn plan front entry (kept_run plan front entry kept) (standing_at front front_kept) known.counting known.ordered
 
   along : (before entries : List Entry) → Along (λ front entry. IsKept plan (front ++ entry ∷ [])) before entries → Along (λ front entry. IsOrderedTurn plan front entry.actor (request_in entry.asked)) before entries
   along before [] kept = tt

@@ -1,12 +1,9 @@
 -- What each phase of the cut-over says of what the journal tells.
 use Rattle.std.proofs.Common.{◌≡◌, ◌⊎◌, ℕ, ◌+◌, ◌<◌, ◌==◌, Bool, true, false, cond, not, ◌&&◌, ◌||◌, List, ◌++◌, refl, sym, ap, ◌∙◌, inl, inr, arith}
-use Rattle.std.specs.Prelude.{codes}
 use Rattle.std.specs.List.{list_any}
 use Rattle.std.specs.Str.{bytes_eq}
 use Rattle.std.proofs.lemmas.Bool.{true≢false, false≢true}
-use Rattle.std.proofs.lemmas.List.{append_cancel_left}
 use Rattle.base_values.specs.ToolNames.{ghost_name, log_name, old_name}
-use Rattle.server_model.proofs.LockedRows.Tests.{are_same, same_bytes}
 use Rattle.server_model.specs.declared.answer.Answer.{Answer}
 use Rattle.server_model.specs.declared.answer.Answer.TheVariants as answers
 use Rattle.server_model.specs.declared.listing.TableName.{TableName}
@@ -22,7 +19,7 @@ use Rattle.tool_program.specs.declared.cutover_core.cutover.Drain.TheVariants.{T
 use Rattle.tool_program.specs.CutoverCore.Attempts.{is_clear, without_first, first_name, has_name, has_sentry}
 use Rattle.tool_program.specs.CutoverCore.CutOvers.{is_bad, is_done, stands, failed, ended, drained, locker_phase, locker_stage, waits_phase, renamer_phase, finishing, left_at_end, sentry_alone, seen}
 use Rattle.proof_journals.proofs.Machine.CuttingOver.{drain_cases}
-use Rattle.proof_journals.proofs.Machine.Marks.{ghost_not_old}
+use Rattle.proof_journals.proofs.Machine.Marks.{ghost_not_old, log_not_old}
 
 -- WHAT A PHASE SAYS
 
@@ -191,7 +188,7 @@ held_still (Finishing clearing) asked is = refl
 held_still Finished asked is = refl
 held_still Resting asked is = is
 
--- behind an answer to the renamer, where what is told of the RENAME's call is what was, or the attempt is drained
+-- behind an answer to the renamer, where what is reported of the RENAME's call is what was, or the attempt is drained
 module _ (plan : PlanData) (shown : Bool) (passed : List ℕ) (renaming : Bool) (listed : List TableName) (attempts : ℕ) (asked : Bool) where
   abbrev Before : Phase → Type 0
   Before phase = PhaseOrder plan shown passed renaming listed attempts asked phase
@@ -257,20 +254,6 @@ old_left left = by left.log left.new_table where
   by true new is = is
   by false true is = is
   by false false is = absurd (false≢true is)
-
--- the name that is dropped last is the old table's
-pub log_not_old : (table : List ℕ) → bytes_eq (log_name table) (old_name table) ≡ false
-unfolding log_name old_name
-log_not_old table = by (bytes_eq (log_name table) (old_name table)) refl where
-  differ : bytes_eq (codes "_ghc") (codes "_del") ≡ false
-  differ = refl
-
-  apart : codes "_ghc" ≡ codes "_del" → ⊥
-  apart same = true≢false (sym (same_bytes (codes "_ghc")) ∙ ap (bytes_eq (codes "_ghc")) same ∙ differ)
-
-  by : (b : Bool) → bytes_eq (log_name table) (old_name table) ≡ b → b ≡ false
-  by true same = absurd (apart (append_cancel_left (codes "_" ++ table) (codes "_ghc") (codes "_del") (are_same (log_name table) (old_name table) same)))
-  by false same = refl
 
 -- a table that is dropped at the end is the old one only where that is left
 pub first_order : (table : List ℕ) (left : Leftovers) → is_clear left ≡ false → (bytes_eq (first_name table left) (old_name table) ≡ false) ⊎ (left.old ≡ true)

@@ -30,9 +30,10 @@ use Rattle.tool_program.specs.CutoverCore.CutOvers.{is_bad, is_wait, is_resting,
 use Rattle.proof_journals.specs.Machine.Machines.{PhaseHolds, both_names, held, renaming}
 use Rattle.proof_journals.specs.Machine.Standings.{IsAbout, is_called, is_polled, answers_to}
 use Rattle.proof_journals.proofs.Machine.Asking.{some_request}
-use Rattle.proof_journals.proofs.Machine.CuttingOver.{LockerAsks, drain_cases}
+use Rattle.proof_journals.proofs.Machine.CuttingOver.{LockerAsks, drain_cases, lost_nothing}
 use Rattle.proof_journals.proofs.Machine.Fitting.{IsPrompt}
 use Rattle.proof_migration.specs.InspectorWaits.{SetsCounter}
+use Rattle.proof_migration.proofs.Program.InspectorTurns.Inspectors.{free_so}
 use Rattle.proof_order.specs.CutOverOrder.{holds_so, waits_so, begun_after, call_after, has_session, Shown, shown_after, renamed_after, listed_after, renaming_after}
 use Rattle.proof_order.proofs.Words.{Words, words_after}
 use Rattle.proof_order.proofs.Phases.{PhaseOrder, is_held, and_left, fails, locked_order, begun_order, rests_unheld, called_order, renamed_order, seen_order, listed_order, dropped_order}
@@ -49,27 +50,27 @@ IsLocking (Some (requests.LockTables names)) = Unit {0}
 IsLocking call = ⊥
 
 -- what the locker has is what it called and was answered last
-abbrev pub LockerTold : Option Request → Option Answer → Hold → Type 0
-LockerTold call answer Nothing = (holds_so call answer ≡ false) × (waits_so answer ≡ false)
-LockerTold call answer WaitsToGuard = IsCreate call
-LockerTold call answer WaitsToLock = IsLocking call
-LockerTold call answer Locks = holds_so call answer ≡ true
+abbrev pub LockerAnswered : Option Request → Option Answer → Hold → Type 0
+LockerAnswered call answer Nothing = (holds_so call answer ≡ false) × (waits_so answer ≡ false)
+LockerAnswered call answer WaitsToGuard = IsCreate call
+LockerAnswered call answer WaitsToLock = IsLocking call
+LockerAnswered call answer Locks = holds_so call answer ≡ true
 
--- after the RENAME the renamer was told, or nobody holds or waits
+-- after the RENAME the renamer was so_far, or nobody holds or waits
 abbrev pub DoneAt : Phase → Hold → Bool → Bool → Type 0
 DoneAt (Finishing clearing) hold waits renamed = (renamed ≡ true) ⊎ ((hold ≡ Nothing) × (waits ≡ false))
 DoneAt Finished hold waits renamed = (renamed ≡ true) ⊎ ((hold ≡ Nothing) × (waits ≡ false))
 DoneAt phase hold waits renamed = Unit {0}
 
-pub record OrderedAt (plan : PlanData) (told : Words) (live : Option ℕ) (attempts : ℕ) (hold : Hold) (waits asked drops_old : Bool) (phase : Phase) (applier : Applier) : Type 0 where
-  pub begun : told.begun ≡ attempts
-  pub locker : LockerTold told.call told.answer hold
-  pub renamer : waits_so told.renamer ≡ waits
-  pub session : waits ≡ true → live ≡ Some told.shown.session
-  pub phase_is : PhaseOrder plan told.shown.shown told.hints.passed told.renaming told.listed attempts asked phase
-  pub applied : AppliedAt told.hints applier
+pub record OrderedAt (plan : PlanData) (so_far : Words) (live : Option ℕ) (attempts : ℕ) (hold : Hold) (waits asked drops_old : Bool) (phase : Phase) (applier : Applier) : Type 0 where
+  pub begun : so_far.begun ≡ attempts
+  pub locker : LockerAnswered so_far.call so_far.answer hold
+  pub renamer : waits_so so_far.renamer ≡ waits
+  pub session : waits ≡ true → live ≡ Some so_far.shown.session
+  pub phase_is : PhaseOrder plan so_far.shown.shown so_far.hints.passed so_far.renaming so_far.listed attempts asked phase
+  pub applied : AppliedAt so_far.hints applier
   pub may_drop : drops_old ≡ plan.options.ok_to_drop_table
-  pub done : DoneAt phase hold waits told.renamed
+  pub done : DoneAt phase hold waits so_far.renamed
 
 -- THE PHASES THAT ARE DONE
 
@@ -105,79 +106,62 @@ drained_done cutover hint Finished hold waits renamed done = done
 
 -- THE LOCKER
 
-guard_told : (table : List ℕ) (answer : Answer) → LockerTold (Some (requests.Create (sentry_schema table))) (Some answer) (hold_of_guard answer)
-guard_told table (answers.Waits by) = tt
-guard_told table answer = (refl, refl)
+guard_answered : (table : List ℕ) (answer : Answer) → LockerAnswered (Some (requests.Create (sentry_schema table))) (Some answer) (hold_of_guard answer)
+guard_answered table (answers.Waits by) = tt
+guard_answered table answer = (refl, refl)
 
-guarded_told : (call : Option Request) (answer : Answer) → IsCreate call → LockerTold call (Some answer) (hold_of_guard answer)
-guarded_told (Some (requests.Create schema)) (answers.Waits by) is = tt
-guarded_told (Some (requests.Create schema)) answer is = (refl, refl)
-guarded_told call answer is = absurd is
+guarded_answered : (call : Option Request) (answer : Answer) → IsCreate call → LockerAnswered call (Some answer) (hold_of_guard answer)
+guarded_answered (Some (requests.Create schema)) (answers.Waits by) is = tt
+guarded_answered (Some (requests.Create schema)) answer is = (refl, refl)
+guarded_answered call answer is = absurd is
 
-lock_told : (call : Option Request) (answer : Answer) → IsLocking call → LockerTold call (Some answer) (hold_of_lock answer)
-lock_told (Some (requests.LockTables names)) (answers.Waits by) is = tt
-lock_told (Some (requests.LockTables names)) (answers.Ok count) is = refl
-lock_told (Some (requests.LockTables names)) answer is = (refl, refl)
-lock_told call answer is = absurd is
+lock_answered : (call : Option Request) (answer : Answer) → IsLocking call → LockerAnswered call (Some answer) (hold_of_lock answer)
+lock_answered (Some (requests.LockTables names)) (answers.Waits by) is = tt
+lock_answered (Some (requests.LockTables names)) (answers.Ok count) is = refl
+lock_answered (Some (requests.LockTables names)) answer is = (refl, refl)
+lock_answered call answer is = absurd is
 
-drop_told : (name : List ℕ) (answer : Answer) → IsPrompt answer → LockerTold (Some (requests.Drop name)) (Some answer) (hold_under (Attempting Dropping) answer)
-drop_told name answers.Lost prompt = (refl, refl)
-drop_told name (answers.TimedOut waited) prompt = absurd prompt
-drop_told name answer prompt = refl
+drop_answered : (name : List ℕ) (answer : Answer) → IsPrompt answer → LockerAnswered (Some (requests.Drop name)) (Some answer) (hold_under (Attempting Dropping) answer)
+drop_answered name answers.Lost prompt = (refl, refl)
+drop_answered name (answers.TimedOut waited) prompt = absurd prompt
+drop_answered name answer prompt = refl
 
-unlock_told : (answer : Answer) → answers_to requests.Unlock answer ≡ true → LockerTold (Some requests.Unlock) (Some answer) Nothing
-unlock_told (answers.Waits by) fits = absurd (false≢true fits)
-unlock_told answer fits = (refl, refl)
+unlock_answered : (answer : Answer) → answers_to requests.Unlock answer ≡ true → LockerAnswered (Some requests.Unlock) (Some answer) Nothing
+unlock_answered (answers.Waits by) fits = absurd (false≢true fits)
+unlock_answered answer fits = (refl, refl)
 
 pub lost_holds : (call : Option Request) → holds_so call (Some answers.Lost) ≡ false
 lost_holds (Some (requests.LockTables names)) = refl
 lost_holds (Some (requests.Drop name)) = refl
 lost_holds call = refl
 
--- a lock's answer where nothing is held yet, and where it is
-pub lost_nothing : (hold : Hold) (phase : Phase) → hold_after hold phase answers.Lost ≡ Nothing
-lost_nothing Nothing (Attempting Locking) = refl
-lost_nothing Nothing (Attempting stage) = refl
-lost_nothing Nothing Resting = refl
-lost_nothing Nothing (Ending clearing) = refl
-lost_nothing Nothing (Finishing clearing) = refl
-lost_nothing Nothing Finished = refl
-lost_nothing WaitsToGuard phase = refl
-lost_nothing WaitsToLock phase = refl
-lost_nothing Locks (Attempting Dropping) = refl
-lost_nothing Locks (Attempting stage) = refl
-lost_nothing Locks Resting = refl
-lost_nothing Locks (Ending clearing) = refl
-lost_nothing Locks (Finishing clearing) = refl
-lost_nothing Locks Finished = refl
-
-module _ (plan : PlanData) (told : Words) (live : Option ℕ) (attempts : ℕ) (waits asks drops_old : Bool) (applier : Applier) (session : ℕ) (answer : Answer) where
+module _ (plan : PlanData) (so_far : Words) (live : Option ℕ) (attempts : ℕ) (waits asks drops_old : Bool) (applier : Applier) (session : ℕ) (answer : Answer) where
   abbrev Old : Hold → Phase → Type 0
-  Old hold phase = OrderedAt plan told live attempts hold waits asks drops_old phase applier
+  Old hold phase = OrderedAt plan so_far live attempts hold waits asks drops_old phase applier
 
   abbrev New : Asked → Hold → Phase → Type 0
   New asked hold phase =
-      OrderedAt plan (words_after plan Lock session asked answer told) live (attempts_after phase attempts) (hold_after hold phase answer) waits (cond (is_resting phase) false asks) drops_old (locker_phase phase answer) applier
+      OrderedAt plan (words_after plan Lock session asked answer so_far) live (attempts_after phase attempts) (hold_after hold phase answer) waits (cond (is_resting phase) false asks) drops_old (locker_phase phase answer) applier
 
   -- what the turn leaves outside the first step
   record Leaves (asked : Asked) (hold : Hold) (phase : Phase) : Type 0 where
-    none : begun_after Lock asked told.begun ≡ told.begun
-    same : shown_after Lock session asked answer told.shown ≡ told.shown
-    holds : LockerTold (call_after Lock Lock asked told.call) (Some answer) (hold_after hold phase answer)
-    done : DoneAt (locker_phase phase answer) (hold_after hold phase answer) waits told.renamed
+    none : begun_after Lock asked so_far.begun ≡ so_far.begun
+    same : shown_after Lock session asked answer so_far.shown ≡ so_far.shown
+    holds : LockerAnswered (call_after Lock Lock asked so_far.call) (Some answer) (hold_after hold phase answer)
+    done : DoneAt (locker_phase phase answer) (hold_after hold phase answer) waits so_far.renamed
 
   goes : (asked : Asked) (hold : Hold) (phase : Phase) → (phase ≡ Resting → ⊥) → Leaves asked hold phase → Old hold phase → New asked hold phase
   goes asked hold phase begun left old = by phase begun left.holds left.done old.phase_is where
-    by : (phase : Phase) → (phase ≡ Resting → ⊥) → LockerTold (call_after Lock Lock asked told.call) (Some answer) (hold_after hold phase answer) → DoneAt (locker_phase phase answer) (hold_after hold phase answer) waits told.renamed
-        → PhaseOrder plan told.shown.shown told.hints.passed told.renaming told.listed attempts asks phase → New asked hold phase
+    by : (phase : Phase) → (phase ≡ Resting → ⊥) → LockerAnswered (call_after Lock Lock asked so_far.call) (Some answer) (hold_after hold phase answer) → DoneAt (locker_phase phase answer) (hold_after hold phase answer) waits so_far.renamed
+        → PhaseOrder plan so_far.shown.shown so_far.hints.passed so_far.renaming so_far.listed attempts asks phase → New asked hold phase
     by Resting begun holds done is = absurd (begun refl)
     by (Attempting stage) begun holds done is = record {
       begun = left.none ∙ old.begun;
       locker = holds;
       renamer = old.renamer;
       session = λ on. old.session on ∙ ap (λ (s : Shown). Some s.session) (sym left.same);
-      phase_is = subst (λ (s : Shown). PhaseOrder plan s.shown told.hints.passed told.renaming told.listed attempts asks (locker_phase (Attempting stage) answer)) (sym left.same)
-          (locked_order plan told.shown.shown told.hints.passed told.renaming told.listed attempts asks (Attempting stage) answer begun is);
+      phase_is = subst (λ (s : Shown). PhaseOrder plan s.shown so_far.hints.passed so_far.renaming so_far.listed attempts asks (locker_phase (Attempting stage) answer)) (sym left.same)
+          (locked_order plan so_far.shown.shown so_far.hints.passed so_far.renaming so_far.listed attempts asks (Attempting stage) answer begun is);
       applied = old.applied;
       may_drop = old.may_drop;
       done = done;
@@ -187,7 +171,7 @@ module _ (plan : PlanData) (told : Words) (live : Option ℕ) (attempts : ℕ) (
       locker = holds;
       renamer = old.renamer;
       session = λ on. old.session on ∙ ap (λ (s : Shown). Some s.session) (sym left.same);
-      phase_is = subst (λ (s : Shown). PhaseOrder plan s.shown told.hints.passed told.renaming told.listed attempts asks (Ending clearing)) (sym left.same) is;
+      phase_is = subst (λ (s : Shown). PhaseOrder plan s.shown so_far.hints.passed so_far.renaming so_far.listed attempts asks (Ending clearing)) (sym left.same) is;
       applied = old.applied;
       may_drop = old.may_drop;
       done = done;
@@ -197,7 +181,7 @@ module _ (plan : PlanData) (told : Words) (live : Option ℕ) (attempts : ℕ) (
       locker = holds;
       renamer = old.renamer;
       session = λ on. old.session on ∙ ap (λ (s : Shown). Some s.session) (sym left.same);
-      phase_is = subst (λ (s : Shown). PhaseOrder plan s.shown told.hints.passed told.renaming told.listed attempts asks (Finishing clearing)) (sym left.same) is;
+      phase_is = subst (λ (s : Shown). PhaseOrder plan s.shown so_far.hints.passed so_far.renaming so_far.listed attempts asks (Finishing clearing)) (sym left.same) is;
       applied = old.applied;
       may_drop = old.may_drop;
       done = done;
@@ -207,7 +191,7 @@ module _ (plan : PlanData) (told : Words) (live : Option ℕ) (attempts : ℕ) (
       locker = holds;
       renamer = old.renamer;
       session = λ on. old.session on ∙ ap (λ (s : Shown). Some s.session) (sym left.same);
-      phase_is = subst (λ (s : Shown). PhaseOrder plan s.shown told.hints.passed told.renaming told.listed attempts asks Finished) (sym left.same) is;
+      phase_is = subst (λ (s : Shown). PhaseOrder plan s.shown so_far.hints.passed so_far.renaming so_far.listed attempts asks Finished) (sym left.same) is;
       applied = old.applied;
       may_drop = old.may_drop;
       done = done;
@@ -217,19 +201,19 @@ module _ (plan : PlanData) (told : Words) (live : Option ℕ) (attempts : ℕ) (
   begins : (table : List ℕ) → waits ≡ false → Old Nothing Resting → New (Call (requests.Create (sentry_schema table))) Nothing Resting
   begins table off old = record {
     begun = ap (λ (n : ℕ). n + 1) old.begun;
-    locker = guard_told table answer;
+    locker = guard_answered table answer;
     renamer = old.renamer;
     session = λ on. absurd (true≢false (sym on ∙ off));
-    phase_is = begun_order plan told.hints.passed told.renaming told.listed attempts false answer (rests_unheld told.renaming asks old.phase_is.holds);
+    phase_is = begun_order plan so_far.hints.passed so_far.renaming so_far.listed attempts false answer (rests_unheld so_far.renaming asks old.phase_is.holds);
     applied = old.applied;
     may_drop = old.may_drop;
-    done = begun_done answer (hold_of_guard answer) waits told.renamed;
+    done = begun_done answer (hold_of_guard answer) waits so_far.renamed;
   }
 
   -- where a wait is polled
-  polled_done : (hold : Hold) (phase : Phase) → (hold ≡ Nothing → ⊥) → (phase ≡ Resting → ⊥) → DoneAt phase hold waits told.renamed → DoneAt (locker_phase phase answer) (hold_after hold phase answer) waits told.renamed
+  polled_done : (hold : Hold) (phase : Phase) → (hold ≡ Nothing → ⊥) → (phase ≡ Resting → ⊥) → DoneAt phase hold waits so_far.renamed → DoneAt (locker_phase phase answer) (hold_after hold phase answer) waits so_far.renamed
   polled_done hold Resting some begun done = absurd (begun refl)
-  polled_done hold (Attempting stage) some begun done = attempt_done stage answer (hold_after hold (Attempting stage) answer) waits told.renamed
+  polled_done hold (Attempting stage) some begun done = attempt_done stage answer (hold_after hold (Attempting stage) answer) waits so_far.renamed
   polled_done hold (Ending clearing) some begun done = tt
   polled_done hold (Finishing clearing) some begun (inl renamed) = inl renamed
   polled_done hold (Finishing clearing) some begun (inr none) = absurd (some none.0)
@@ -258,40 +242,40 @@ module _ (plan : PlanData) (told : Words) (live : Option ℕ) (attempts : ℕ) (
   locker_order table Nothing (Attempting Locking) request asked (is_called asks none) kind at fits prompt off old =
       with_asked Nothing (Attempting Locking) asked (Call (requests.LockTables (both_names table))) (asks ∙ ap Call kind)
       (goes (Call (requests.LockTables (both_names table))) Nothing (Attempting Locking) (λ same. cc)
-      (record { none = refl; same = refl; holds = lock_told (Some (requests.LockTables (both_names table))) answer tt; done = attempt_done Locking answer (hold_of_lock answer) waits told.renamed }) old)
+      (record { none = refl; same = refl; holds = lock_answered (Some (requests.LockTables (both_names table))) answer tt; done = attempt_done Locking answer (hold_of_lock answer) waits so_far.renamed }) old)
   locker_order table Nothing phase request asked (is_polled asks some) kind at fits prompt off old = absurd cc
   locker_order table Nothing phase request asked (is_called asks none) kind at fits prompt off old = absurd kind
   locker_order table WaitsToGuard phase request asked (is_called asks none) kind at fits prompt off old = absurd cc
   locker_order table WaitsToGuard phase request asked (is_polled asks some) kind at fits prompt off old =
       with_asked WaitsToGuard phase asked Poll asks
       (goes Poll WaitsToGuard phase (not_resting WaitsToGuard phase at guard_some)
-      (record { none = refl; same = refl; holds = guarded_told told.call answer old.locker; done = polled_done WaitsToGuard phase guard_some (not_resting WaitsToGuard phase at guard_some) old.done }) old)
+      (record { none = refl; same = refl; holds = guarded_answered so_far.call answer old.locker; done = polled_done WaitsToGuard phase guard_some (not_resting WaitsToGuard phase at guard_some) old.done }) old)
   locker_order table WaitsToLock phase request asked (is_called asks none) kind at fits prompt off old = absurd cc
   locker_order table WaitsToLock phase request asked (is_polled asks some) kind at fits prompt off old =
       with_asked WaitsToLock phase asked Poll asks
       (goes Poll WaitsToLock phase (not_resting WaitsToLock phase at lock_some)
-      (record { none = refl; same = refl; holds = lock_told told.call answer old.locker; done = polled_done WaitsToLock phase lock_some (not_resting WaitsToLock phase at lock_some) old.done }) old)
+      (record { none = refl; same = refl; holds = lock_answered so_far.call answer old.locker; done = polled_done WaitsToLock phase lock_some (not_resting WaitsToLock phase at lock_some) old.done }) old)
   locker_order table Locks phase request asked (is_polled asks some) kind at fits prompt off old = absurd cc
   locker_order table Locks (Attempting Dropping) request asked (is_called asks none) kind at fits prompt off old =
       with_asked Locks (Attempting Dropping) asked (Call (requests.Drop (old_name table))) (asks ∙ ap Call kind)
       (goes (Call (requests.Drop (old_name table))) Locks (Attempting Dropping) (λ same. cc)
-      (record { none = refl; same = refl; holds = drop_told (old_name table) answer (prompt kind); done = attempt_done Dropping answer (hold_under (Attempting Dropping) answer) waits told.renamed }) old)
+      (record { none = refl; same = refl; holds = drop_answered (old_name table) answer (prompt kind); done = attempt_done Dropping answer (hold_under (Attempting Dropping) answer) waits so_far.renamed }) old)
   locker_order table Locks (Attempting Unlocking) request asked (is_called asks none) kind at fits prompt off old =
       with_asked Locks (Attempting Unlocking) asked (Call requests.Unlock) (asks ∙ ap Call kind)
       (goes (Call requests.Unlock) Locks (Attempting Unlocking) (λ same. cc)
-      (record { none = refl; same = refl; holds = unlock_told answer (ap (λ (r : Request). answers_to r answer) (sym kind) ∙ fits); done = attempt_done Unlocking answer Nothing waits told.renamed }) old)
+      (record { none = refl; same = refl; holds = unlock_answered answer (ap (λ (r : Request). answers_to r answer) (sym kind) ∙ fits); done = attempt_done Unlocking answer Nothing waits so_far.renamed }) old)
   locker_order table Locks (Ending clearing) request asked (is_called asks none) kind at fits prompt off old =
       with_asked Locks (Ending clearing) asked (Call requests.Unlock) (asks ∙ ap Call kind)
-      (goes (Call requests.Unlock) Locks (Ending clearing) (λ same. cc) (record { none = refl; same = refl; holds = unlock_told answer (ap (λ (r : Request). answers_to r answer) (sym kind) ∙ fits); done = tt }) old)
+      (goes (Call requests.Unlock) Locks (Ending clearing) (λ same. cc) (record { none = refl; same = refl; holds = unlock_answered answer (ap (λ (r : Request). answers_to r answer) (sym kind) ∙ fits); done = tt }) old)
   locker_order table Locks phase request asked (is_called asks none) kind at fits prompt off old = absurd kind
 
 -- its session is lost between calls, where it had work
-pub locker_lost_order : (plan : PlanData) (told : Words) (live : Option ℕ) (attempts : ℕ) (hold : Hold) (waits asks drops_old : Bool) (phase : Phase) (applier : Applier) (session : ℕ) → (phase ≡ Resting → ⊥) → OrderedAt plan told live attempts hold waits asks drops_old phase applier
-    → OrderedAt plan (words_after plan Lock session Cut answers.Lost told) live (attempts_after phase attempts) (hold_after hold phase answers.Lost) waits (cond (is_resting phase) false asks) drops_old (locker_phase phase answers.Lost) applier
-locker_lost_order plan told live attempts hold waits asks drops_old phase applier session begun old =
-    goes plan told live attempts waits asks drops_old applier session answers.Lost Cut hold phase begun
-    (record { none = refl; same = refl; holds = subst (LockerTold told.call (Some answers.Lost)) (sym (lost_nothing hold phase)) (lost_holds told.call, refl); done = by phase begun old.done }) old where
-      by : (phase : Phase) → (phase ≡ Resting → ⊥) → DoneAt phase hold waits told.renamed → DoneAt (locker_phase phase answers.Lost) (hold_after hold phase answers.Lost) waits told.renamed
+pub locker_lost_order : (plan : PlanData) (so_far : Words) (live : Option ℕ) (attempts : ℕ) (hold : Hold) (waits asks drops_old : Bool) (phase : Phase) (applier : Applier) (session : ℕ) → (phase ≡ Resting → ⊥) → OrderedAt plan so_far live attempts hold waits asks drops_old phase applier
+    → OrderedAt plan (words_after plan Lock session Cut answers.Lost so_far) live (attempts_after phase attempts) (hold_after hold phase answers.Lost) waits (cond (is_resting phase) false asks) drops_old (locker_phase phase answers.Lost) applier
+locker_lost_order plan so_far live attempts hold waits asks drops_old phase applier session begun old =
+    goes plan so_far live attempts waits asks drops_old applier session answers.Lost Cut hold phase begun
+    (record { none = refl; same = refl; holds = subst (LockerAnswered so_far.call (Some answers.Lost)) (sym (lost_nothing hold phase)) (lost_holds so_far.call, refl); done = by phase begun old.done }) old where
+      by : (phase : Phase) → (phase ≡ Resting → ⊥) → DoneAt phase hold waits so_far.renamed → DoneAt (locker_phase phase answers.Lost) (hold_after hold phase answers.Lost) waits so_far.renamed
       by Resting begun done = absurd (begun refl)
       by (Attempting stage) begun done = tt
       by (Ending clearing) begun done = tt
@@ -339,66 +323,66 @@ renamer_done phase answers.Lost hold renamed done = failed_done phase hold false
 renamer_done phase (answers.TimedOut waited) hold renamed done = failed_done phase hold false renamed done
 renamer_done phase answer hold renamed done = done
 
--- it was told, where it waits
-told_done : (phase : Phase) (hold : Hold) (renamed now : Bool) → DoneAt phase hold true renamed → DoneAt phase hold now renamed
-told_done (Finishing clearing) hold renamed now (inl told) = inl told
-told_done (Finishing clearing) hold renamed now (inr none) = absurd (true≢false none.1)
-told_done Finished hold renamed now (inl told) = inl told
-told_done Finished hold renamed now (inr none) = absurd (true≢false none.1)
-told_done Resting hold renamed now done = tt
-told_done (Attempting stage) hold renamed now done = tt
-told_done (Ending clearing) hold renamed now done = tt
+-- it was reported, where it waits
+reported_done : (phase : Phase) (hold : Hold) (renamed now : Bool) → DoneAt phase hold true renamed → DoneAt phase hold now renamed
+reported_done (Finishing clearing) hold renamed now (inl reported) = inl reported
+reported_done (Finishing clearing) hold renamed now (inr none) = absurd (true≢false none.1)
+reported_done Finished hold renamed now (inl reported) = inl reported
+reported_done Finished hold renamed now (inr none) = absurd (true≢false none.1)
+reported_done Resting hold renamed now done = tt
+reported_done (Attempting stage) hold renamed now done = tt
+reported_done (Ending clearing) hold renamed now done = tt
 
 -- its session is lost
-lost_told : (phase : Phase) (hold : Hold) (waits renamed : Bool) → DoneAt phase hold waits renamed → DoneAt phase hold false renamed
-lost_told (Finishing clearing) hold waits renamed (inl told) = inl told
-lost_told (Finishing clearing) hold waits renamed (inr none) = inr (none.0, refl)
-lost_told Finished hold waits renamed (inl told) = inl told
-lost_told Finished hold waits renamed (inr none) = inr (none.0, refl)
-lost_told Resting hold waits renamed done = tt
-lost_told (Attempting stage) hold waits renamed done = tt
-lost_told (Ending clearing) hold waits renamed done = tt
+lost_done : (phase : Phase) (hold : Hold) (waits renamed : Bool) → DoneAt phase hold waits renamed → DoneAt phase hold false renamed
+lost_done (Finishing clearing) hold waits renamed (inl reported) = inl reported
+lost_done (Finishing clearing) hold waits renamed (inr none) = inr (none.0, refl)
+lost_done Finished hold waits renamed (inl reported) = inl reported
+lost_done Finished hold waits renamed (inr none) = inr (none.0, refl)
+lost_done Resting hold waits renamed done = tt
+lost_done (Attempting stage) hold waits renamed done = tt
+lost_done (Ending clearing) hold waits renamed done = tt
 
-module _ (plan : PlanData) (told : Words) (live now_live : Option ℕ) (attempts : ℕ) (hold : Hold) (asks drops_old : Bool) (applier : Applier) (session : ℕ) (answer : Answer) where
+module _ (plan : PlanData) (so_far : Words) (live now_live : Option ℕ) (attempts : ℕ) (hold : Hold) (asks drops_old : Bool) (applier : Applier) (session : ℕ) (answer : Answer) where
   abbrev RenamerNew : Asked → Phase → Type 0
-  RenamerNew asked phase = OrderedAt plan (words_after plan Ren session asked answer told) now_live attempts hold (is_wait answer) true drops_old (renamer_phase phase answer) applier
+  RenamerNew asked phase = OrderedAt plan (words_after plan Ren session asked answer so_far) now_live attempts hold (is_wait answer) true drops_old (renamer_phase phase answer) applier
 
-  pub renamer_calls : (waits : Bool) (table : List ℕ) → (is_wait answer ≡ true → now_live ≡ Some session) → OrderedAt plan told live attempts hold waits asks drops_old (Attempting Drained) applier → RenamerNew (Call (exchange table)) (Attempting Drained)
+  pub renamer_calls : (waits : Bool) (table : List ℕ) → (is_wait answer ≡ true → now_live ≡ Some session) → OrderedAt plan so_far live attempts hold waits asks drops_old (Attempting Drained) applier → RenamerNew (Call (exchange table)) (Attempting Drained)
   renamer_calls waits table lives old = record {
     begun = old.begun;
     locker = old.locker;
     renamer = answer_waits answer;
     session = lives;
-    phase_is = called_order plan told.shown.shown told.hints.passed told.renaming told.listed attempts asks answer old.phase_is;
+    phase_is = called_order plan so_far.shown.shown so_far.hints.passed so_far.renaming so_far.listed attempts asks answer old.phase_is;
     applied = old.applied;
     may_drop = old.may_drop;
-    done = called_done answer hold told.renamed;
+    done = called_done answer hold so_far.renamed;
   }
 
-  pub renamer_polls : (phase : Phase) → (is_wait answer ≡ true → now_live ≡ live) → OrderedAt plan told live attempts hold true asks drops_old phase applier → RenamerNew Poll phase
+  pub renamer_polls : (phase : Phase) → (is_wait answer ≡ true → now_live ≡ live) → OrderedAt plan so_far live attempts hold true asks drops_old phase applier → RenamerNew Poll phase
   renamer_polls phase stays old = record {
     begun = old.begun;
     locker = old.locker;
     renamer = answer_waits answer;
     session = λ on. stays on ∙ old.session refl;
-    phase_is = renamed_order plan told.shown.shown told.hints.passed told.renaming told.listed attempts asks phase answer old.phase_is;
+    phase_is = renamed_order plan so_far.shown.shown so_far.hints.passed so_far.renaming so_far.listed attempts asks phase answer old.phase_is;
     applied = old.applied;
     may_drop = old.may_drop;
-    done = renamer_done phase answer hold told.renamed (told_done phase hold told.renamed (is_wait answer) old.done);
+    done = renamer_done phase answer hold so_far.renamed (reported_done phase hold so_far.renamed (is_wait answer) old.done);
   }
 
 -- its session is lost between calls, where it had work
-pub renamer_lost_order : (plan : PlanData) (told : Words) (live now_live : Option ℕ) (attempts : ℕ) (hold : Hold) (waits asks drops_old : Bool) (phase : Phase) (applier : Applier) (session : ℕ) → OrderedAt plan told live attempts hold waits asks drops_old phase applier
-    → OrderedAt plan (words_after plan Ren session Cut answers.Lost told) now_live attempts hold false true drops_old (renamer_phase phase answers.Lost) applier
-renamer_lost_order plan told live now_live attempts hold waits asks drops_old phase applier session old = record {
+pub renamer_lost_order : (plan : PlanData) (so_far : Words) (live now_live : Option ℕ) (attempts : ℕ) (hold : Hold) (waits asks drops_old : Bool) (phase : Phase) (applier : Applier) (session : ℕ) → OrderedAt plan so_far live attempts hold waits asks drops_old phase applier
+    → OrderedAt plan (words_after plan Ren session Cut answers.Lost so_far) now_live attempts hold false true drops_old (renamer_phase phase answers.Lost) applier
+renamer_lost_order plan so_far live now_live attempts hold waits asks drops_old phase applier session old = record {
   begun = old.begun;
   locker = old.locker;
   renamer = refl;
   session = λ on. absurd (false≢true on);
-  phase_is = renamed_order plan told.shown.shown told.hints.passed told.renaming told.listed attempts asks phase answers.Lost old.phase_is;
+  phase_is = renamed_order plan so_far.shown.shown so_far.hints.passed so_far.renaming so_far.listed attempts asks phase answers.Lost old.phase_is;
   applied = old.applied;
   may_drop = old.may_drop;
-  done = renamer_done phase answers.Lost hold told.renamed (lost_told phase hold waits told.renamed old.done);
+  done = renamer_done phase answers.Lost hold so_far.renamed (lost_done phase hold waits so_far.renamed old.done);
 }
 
 -- THE INSPECTOR
@@ -419,13 +403,6 @@ renaming_off plan asked answer renaming off = by (renaming_after plan Insp asked
   by true on = absurd (true≢false (sym (renaming_fewer plan asked answer renaming on) ∙ off))
   by false on = refl
 
-free_both : (hold : Hold) (waits : Bool) → is_free hold waits ≡ true → (hold ≡ Nothing) × (waits ≡ false)
-free_both Nothing true is = absurd (false≢true is)
-free_both Nothing false is = (refl, refl)
-free_both WaitsToGuard waits is = absurd (false≢true is)
-free_both WaitsToLock waits is = absurd (false≢true is)
-free_both Locks waits is = absurd (false≢true is)
-
 finishing_done : (left : Leftovers) (hold : Hold) (waits renamed : Bool) → (renamed ≡ true) ⊎ ((hold ≡ Nothing) × (waits ≡ false)) → DoneAt (finishing left) hold waits renamed
 finishing_done left hold waits renamed done = by (is_clear left) where
   by : (b : Bool) → DoneAt (cond b Finished (Finishing (Drops left))) hold waits renamed
@@ -439,28 +416,28 @@ seen_done cutover tables hold waits renamed done = by (has_name (ghost_name cuto
   by true true = tt
   by true false = tt
 
-module _ (plan : PlanData) (cutover : CutOver) (own : cutover.table ≡ plan.table) (told : Words) (live : Option ℕ) (applier : Applier) (session : ℕ) (answer : Answer) where
+module _ (plan : PlanData) (cutover : CutOver) (own : cutover.table ≡ plan.table) (so_far : Words) (live : Option ℕ) (applier : Applier) (session : ℕ) (answer : Answer) where
   abbrev InspectorOld : Phase → Type 0
-  InspectorOld phase = OrderedAt plan told live cutover.attempts cutover.hold cutover.renamer_waits cutover.is_asked cutover.drops_old phase applier
+  InspectorOld phase = OrderedAt plan so_far live cutover.attempts cutover.hold cutover.renamer_waits cutover.is_asked cutover.drops_old phase applier
 
   abbrev InspectorNew : Asked → Phase → Type 0
   InspectorNew asked phase =
-      OrderedAt plan (words_after plan Insp session asked answer told) live cutover.attempts cutover.hold cutover.renamer_waits cutover.is_asked cutover.drops_old (inspector_phase cutover phase answer) applier
+      OrderedAt plan (words_after plan Insp session asked answer so_far) live cutover.attempts cutover.hold cutover.renamer_waits cutover.is_asked cutover.drops_old (inspector_phase cutover phase answer) applier
 
-  -- the phase, where it was told this
+  -- the phase, where it was so_far this
   abbrev Is : Asked → Answer → Phase → Type 0
   Is asked one phase =
-      PhaseOrder plan (shown_after Insp session asked one told.shown).shown told.hints.passed (renaming_after plan Insp asked one told.renaming) (listed_after Insp one told.listed) cutover.attempts cutover.is_asked phase
+      PhaseOrder plan (shown_after Insp session asked one so_far.shown).shown so_far.hints.passed (renaming_after plan Insp asked one so_far.renaming) (listed_after Insp one so_far.listed) cutover.attempts cutover.is_asked phase
 
   abbrev IsDone : Phase → Type 0
-  IsDone phase = DoneAt phase cutover.hold cutover.renamer_waits told.renamed
+  IsDone phase = DoneAt phase cutover.hold cutover.renamer_waits so_far.renamed
 
   makes : (asked : Asked) (phase : Phase) → Is asked answer (inspector_phase cutover phase answer) → IsDone (inspector_phase cutover phase answer) → InspectorOld phase → InspectorNew asked phase
   makes asked phase is done old = record {
     begun = old.begun;
     locker = old.locker;
     renamer = old.renamer;
-    session = λ on. old.session on ∙ ap Some (sym (shown_session session asked answer told.shown));
+    session = λ on. old.session on ∙ ap Some (sym (shown_session session asked answer so_far.shown));
     phase_is = is;
     applied = old.applied;
     may_drop = old.may_drop;
@@ -468,8 +445,8 @@ module _ (plan : PlanData) (cutover : CutOver) (own : cutover.table ≡ plan.tab
   }
 
   -- it holds batches off no more than before
-  fewer : (asked : Asked) (one : Answer) (phase : Phase) → InspectorOld phase → renaming_after plan Insp asked one told.renaming ≡ true → is_held phase cutover.is_asked ≡ true
-  fewer asked one phase old on = old.phase_is.holds (renaming_fewer plan asked one told.renaming on)
+  fewer : (asked : Asked) (one : Answer) (phase : Phase) → InspectorOld phase → renaming_after plan Insp asked one so_far.renaming ≡ true → is_held phase cutover.is_asked ≡ true
+  fewer asked one phase old on = old.phase_is.holds (renaming_fewer plan asked one so_far.renaming on)
 
   -- IN AN ATTEMPT
 
@@ -508,12 +485,12 @@ module _ (plan : PlanData) (cutover : CutOver) (own : cutover.table ≡ plan.tab
     by (Turns turns) old one = record { counted = old.phase_is.counted; passes = tt; shows = tt; holds = fewer asked one (Attempting (SettingCounter number (Turns turns))) old; drops = tt }
     by Passed old one = record { counted = old.phase_is.counted; passes = old.phase_is.passes; shows = tt; holds = fewer asked one (Attempting (SettingCounter number Passed)) old; drops = tt }
 
-  showing : (asked : Asked) → ((waiters : List ShownWaiter) → answer ≡ answers.Waiting waiters → has_session told.shown.session waiters ≡ true) → InspectorOld (Attempting Showing) → InspectorNew asked (Attempting Showing)
+  showing : (asked : Asked) → ((waiters : List ShownWaiter) → answer ≡ answers.Waiting waiters → has_session so_far.shown.session waiters ≡ true) → InspectorOld (Attempting Showing) → InspectorNew asked (Attempting Showing)
   showing asked shows old = attempt_goes asked Showing (by answer refl) old where
     by : (one : Answer) → answer ≡ one → Is asked one (Attempting (inspector_stage cutover.has_counter Showing one))
     by (answers.Waiting waiters) same = at (shows_wait waiters) where
       at : (b : Bool) → Is asked (answers.Waiting waiters) (Attempting (cond b Dropping Showing))
-      at true = record { counted = old.phase_is.counted; passes = tt; shows = or_right told.shown.shown (has_session told.shown.session waiters) (shows waiters same); holds = fewer asked (answers.Waiting waiters) (Attempting Showing) old; drops = tt }
+      at true = record { counted = old.phase_is.counted; passes = tt; shows = or_right so_far.shown.shown (has_session so_far.shown.session waiters) (shows waiters same); holds = fewer asked (answers.Waiting waiters) (Attempting Showing) old; drops = tt }
       at false = record { counted = old.phase_is.counted; passes = tt; shows = tt; holds = fewer asked (answers.Waiting waiters) (Attempting Showing) old; drops = tt }
     by one same = record { counted = old.phase_is.counted; passes = tt; shows = tt; holds = fewer asked one (Attempting Showing) old; drops = tt }
 
@@ -530,13 +507,13 @@ module _ (plan : PlanData) (cutover : CutOver) (own : cutover.table ≡ plan.tab
     by : (one : Answer) → Is listing one (ending_after cutover Looking one)
     by answers.Lost = still answers.Lost
     by (answers.TimedOut waited) = still (answers.TimedOut waited)
-    by (answers.Tables tables) = seen_order plan cutover own old.may_drop told.hints.passed cutover.attempts cutover.is_asked told.shown.shown told.renaming told.listed tables old.phase_is
+    by (answers.Tables tables) = seen_order plan cutover own old.may_drop so_far.hints.passed cutover.attempts cutover.is_asked so_far.shown.shown so_far.renaming so_far.listed tables old.phase_is
     by one = still one
 
     done : (one : Answer) → IsDone (ending_after cutover Looking one)
     done answers.Lost = tt
     done (answers.TimedOut waited) = tt
-    done (answers.Tables tables) = seen_done cutover tables cutover.hold cutover.renamer_waits told.renamed (inr free)
+    done (answers.Tables tables) = seen_done cutover tables cutover.hold cutover.renamer_waits so_far.renamed (inr free)
     done one = tt
 
   ending_drops : (left : Leftovers) (name : List ℕ) → answers_to (requests.Drop name) answer ≡ true → InspectorOld (Ending (Drops left)) → InspectorNew (Call (requests.Drop name)) (Ending (Drops left))
@@ -568,13 +545,13 @@ module _ (plan : PlanData) (cutover : CutOver) (own : cutover.table ≡ plan.tab
     by answers.Lost = still answers.Lost
     by (answers.TimedOut waited) = still (answers.TimedOut waited)
     by (answers.Tables tables) =
-        listed_order plan cutover own old.may_drop told.hints.passed cutover.attempts cutover.is_asked told.shown.shown (renaming_after plan Insp listing (answers.Tables tables) told.renaming) tables tables
+        listed_order plan cutover own old.may_drop so_far.hints.passed cutover.attempts cutover.is_asked so_far.shown.shown (renaming_after plan Insp listing (answers.Tables tables) so_far.renaming) tables tables
     by one = still one
 
     done : (one : Answer) → IsDone (finishing_after cutover Looking one)
     done answers.Lost = old.done
     done (answers.TimedOut waited) = old.done
-    done (answers.Tables tables) = finishing_done (left_at_end cutover tables) cutover.hold cutover.renamer_waits told.renamed old.done
+    done (answers.Tables tables) = finishing_done (left_at_end cutover tables) cutover.hold cutover.renamer_waits so_far.renamed old.done
     done one = old.done
 
   finishing_drops : (left : Leftovers) (name : List ℕ) → InspectorOld (Finishing (Drops left)) → InspectorNew (Call (requests.Drop name)) (Finishing (Drops left))
@@ -585,17 +562,17 @@ module _ (plan : PlanData) (cutover : CutOver) (own : cutover.table ≡ plan.tab
     by : (one : Answer) → Is (Call (requests.Drop name)) one (finishing_after cutover (Drops left) one)
     by answers.Lost = looks answers.Lost
     by (answers.TimedOut waited) = looks (answers.TimedOut waited)
-    by (answers.Ok count) = dropped_order plan cutover own old.may_drop told.hints.passed cutover.attempts cutover.is_asked told.shown.shown false told.listed left old.phase_is.drops.1
+    by (answers.Ok count) = dropped_order plan cutover own old.may_drop so_far.hints.passed cutover.attempts cutover.is_asked so_far.shown.shown false so_far.listed left old.phase_is.drops.1
     by one = record { counted = tt; passes = tt; shows = tt; holds = λ on. refl; drops = old.phase_is.drops }
 
     done : (one : Answer) → IsDone (finishing_after cutover (Drops left) one)
     done answers.Lost = old.done
     done (answers.TimedOut waited) = old.done
-    done (answers.Ok count) = finishing_done (without_first left) cutover.hold cutover.renamer_waits told.renamed old.done
+    done (answers.Ok count) = finishing_done (without_first left) cutover.hold cutover.renamer_waits so_far.renamed old.done
     done one = old.done
 
   -- *An answer to the inspector*
-  pub inspector_order : (phase : Phase) (request : Request) → inspector_call cutover phase ≡ Some request → answers_to request answer ≡ true → (phase ≡ Attempting Showing → request ≡ requests.ShowWaiting → (waiters : List ShownWaiter) → answer ≡ answers.Waiting waiters → has_session told.shown.session waiters ≡ true)
+  pub inspector_order : (phase : Phase) (request : Request) → inspector_call cutover phase ≡ Some request → answers_to request answer ≡ true → (phase ≡ Attempting Showing → request ≡ requests.ShowWaiting → (waiters : List ShownWaiter) → answer ≡ answers.Waiting waiters → has_session so_far.shown.session waiters ≡ true)
       → InspectorOld phase → InspectorNew (Call request) phase
   inspector_order (Attempting Hinting) request call fits shows old = hinting (Call request) old
   inspector_order (Attempting (ReadingCounter drain)) request call fits shows old = reading (Call request) drain old
@@ -604,7 +581,7 @@ module _ (plan : PlanData) (cutover : CutOver) (own : cutover.table ≡ plan.tab
   inspector_order (Attempting stage) request call fits shows old = absurd cc
   inspector_order (Ending Looking) request call fits shows old = at (is_free cutover.hold cutover.renamer_waits) refl call where
     at : (b : Bool) → is_free cutover.hold cutover.renamer_waits ≡ b → cond b (clears cutover.table Looking) None ≡ Some request → InspectorNew (Call request) (Ending Looking)
-    at true free call = some_request (λ r. InspectorNew (Call r) (Ending Looking)) requests.ShowTables request call (ending_lists (free_both cutover.hold cutover.renamer_waits free) old)
+    at true free call = some_request (λ r. InspectorNew (Call r) (Ending Looking)) requests.ShowTables request call (ending_lists (free_so cutover.hold cutover.renamer_waits free) old)
     at false held call = absurd cc
   inspector_order (Ending (Drops left)) request call fits shows old = at (is_free cutover.hold cutover.renamer_waits) call where
     drops : requests.Drop (first_name cutover.table left) ≡ request → InspectorNew (Call request) (Ending (Drops left))
@@ -641,16 +618,16 @@ module _ (plan : PlanData) (cutover : CutOver) (own : cutover.table ≡ plan.tab
   polled_order phase request sets fits old = absurd sets
 
 -- its session is lost between calls
-pub inspector_lost_order : (plan : PlanData) (cutover : CutOver) (told : Words) (live : Option ℕ) (applier : Applier) (session : ℕ) → OrderedAt plan told live cutover.attempts cutover.hold cutover.renamer_waits cutover.is_asked cutover.drops_old cutover.phase applier
-    → OrderedAt plan (words_after plan Insp session Cut answers.Lost told) live cutover.attempts cutover.hold cutover.renamer_waits cutover.is_asked cutover.drops_old (inspector_phase cutover cutover.phase answers.Lost) applier
-inspector_lost_order plan cutover told live applier session old = by cutover.phase old.phase_is old.done where
+pub inspector_lost_order : (plan : PlanData) (cutover : CutOver) (so_far : Words) (live : Option ℕ) (applier : Applier) (session : ℕ) → OrderedAt plan so_far live cutover.attempts cutover.hold cutover.renamer_waits cutover.is_asked cutover.drops_old cutover.phase applier
+    → OrderedAt plan (words_after plan Insp session Cut answers.Lost so_far) live cutover.attempts cutover.hold cutover.renamer_waits cutover.is_asked cutover.drops_old (inspector_phase cutover cutover.phase answers.Lost) applier
+inspector_lost_order plan cutover so_far live applier session old = by cutover.phase old.phase_is old.done where
   New : Phase → Type 0
-  New phase = OrderedAt plan (words_after plan Insp session Cut answers.Lost told) live cutover.attempts cutover.hold cutover.renamer_waits cutover.is_asked cutover.drops_old (inspector_phase cutover phase answers.Lost) applier
+  New phase = OrderedAt plan (words_after plan Insp session Cut answers.Lost so_far) live cutover.attempts cutover.hold cutover.renamer_waits cutover.is_asked cutover.drops_old (inspector_phase cutover phase answers.Lost) applier
 
   Is : Phase → Type 0
-  Is phase = PhaseOrder plan told.shown.shown told.hints.passed told.renaming told.listed cutover.attempts cutover.is_asked phase
+  Is phase = PhaseOrder plan so_far.shown.shown so_far.hints.passed so_far.renaming so_far.listed cutover.attempts cutover.is_asked phase
 
-  left : (phase next : Phase) → inspector_phase cutover phase answers.Lost ≡ next → Is next → DoneAt next cutover.hold cutover.renamer_waits told.renamed → New phase
+  left : (phase next : Phase) → inspector_phase cutover phase answers.Lost ≡ next → Is next → DoneAt next cutover.hold cutover.renamer_waits so_far.renamed → New phase
   left phase next same is done = record {
     begun = old.begun;
     locker = old.locker;
@@ -659,12 +636,12 @@ inspector_lost_order plan cutover told live applier session old = by cutover.pha
     phase_is = subst Is (sym same) is;
     applied = old.applied;
     may_drop = old.may_drop;
-    done = subst (λ (p : Phase). DoneAt p cutover.hold cutover.renamer_waits told.renamed) (sym same) done;
+    done = subst (λ (p : Phase). DoneAt p cutover.hold cutover.renamer_waits so_far.renamed) (sym same) done;
   }
 
-  by : (phase : Phase) → Is phase → DoneAt phase cutover.hold cutover.renamer_waits told.renamed → New phase
+  by : (phase : Phase) → Is phase → DoneAt phase cutover.hold cutover.renamer_waits so_far.renamed → New phase
   by Resting is done = left Resting Resting refl is done
-  by (Attempting stage) is done = left (Attempting stage) (Ending Looking) refl (fails plan told.shown.shown told.hints.passed told.renaming told.listed cutover.attempts cutover.is_asked stage is) tt
+  by (Attempting stage) is done = left (Attempting stage) (Ending Looking) refl (fails plan so_far.shown.shown so_far.hints.passed so_far.renaming so_far.listed cutover.attempts cutover.is_asked stage is) tt
   by (Ending clearing) is done = left (Ending clearing) (Ending Looking) refl (record { counted = tt; passes = tt; shows = tt; holds = is.holds; drops = tt }) tt
   by (Finishing clearing) is done = left (Finishing clearing) (Finishing Looking) refl (record { counted = tt; passes = tt; shows = tt; holds = is.holds; drops = tt }) done
   by Finished is done = left Finished Finished refl is done

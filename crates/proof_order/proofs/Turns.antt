@@ -37,7 +37,7 @@ use Rattle.tool_program.specs.declared.cutover_core.cutover.Phase.TheVariants.{R
 use Rattle.tool_program.specs.declared.cutover_core.cutover.Role.TheVariants.{Inspector, Locker, Renamer}
 use Rattle.tool_program.specs.declared.cutover_core.cutover.Stage.TheVariants.{Drained, Showing}
 use Rattle.tool_program.specs.CutoverCore.Attempts as attempts
-use Rattle.tool_program.specs.CutoverCore.Attempts.{exchange, inspector_call}
+use Rattle.tool_program.specs.CutoverCore.Attempts.{exchange}
 use Rattle.tool_program.specs.CutoverCore.CutOvers as cutovers
 use Rattle.tool_program.specs.CutoverCore.CutOvers.{applier_turn, is_wait, reverted}
 use Rattle.tool_program.specs.Programs.{given, IsGiven, tool_call, apply_call, rolls_back, in_transaction}
@@ -58,31 +58,32 @@ use Rattle.proof_journals.proofs.Machine.Seated.{IsKnown, IsServed, own_fits, ow
 use Rattle.proof_journals.proofs.Machine.Tabling.{back_quiet, free_idle}
 use Rattle.proof_migration.proofs.Attempt.Stages.{RenamerAt, StandsAt}
 use Rattle.proof_migration.specs.InspectorWaits.{IsSettingCounter}
-use Rattle.proof_migration.proofs.Attempt.Standing.{IsStanding, ToolPhaseAt, no_asking}
+use Rattle.proof_migration.proofs.Attempt.Standing.{IsStanding, ToolPhaseAt, no_asking, none_some}
 use Rattle.proof_migration.proofs.ToolPhase.Owners.{commands_operator}
 use Rattle.proof_migration.proofs.ToolPhase.ToolPhaseTurns.{Kept, UnfitKeeps, CopyKeeps, ApplyKeeps, SetupKeeps, AnswerKeeps, ResizeKeeps, turn_kept, gives_asked}
+use Rattle.proof_migration.proofs.Program.Holds.Live.{nothing_held, nothing_waits}
 use Rattle.proof_order.specs.CutOverOrder.{waits_so, has_session, hints_after, Hints}
 use Rattle.proof_order.proofs.Words.{Words, words, words_after, words_more, words_begin}
 use Rattle.proof_order.proofs.Phases.{PhaseOrder, passes_more, ended_order, drained_order}
 use Rattle.proof_order.proofs.Hints.{AppliedAt, AsksSo, calls_it, polls_it, took_applied, unfit_same, passed_more}
 use Rattle.proof_order.proofs.Needs.{NeedsNames, needs_more}
 use Rattle.proof_order.proofs.Waits.{ShownBy, show_called, shows_session}
-use Rattle.proof_order.proofs.Roles.{OrderedAt, LockerTold, lost_holds, ended_done, drained_done, locker_order, locker_lost_order, renamer_calls, renamer_polls, renamer_lost_order, renaming_off, inspector_order, noted_order, polled_order, inspector_lost_order}
+use Rattle.proof_order.proofs.Roles.{OrderedAt, LockerAnswered, lost_holds, ended_done, drained_done, locker_order, locker_lost_order, renamer_calls, renamer_polls, renamer_lost_order, renaming_off, inspector_order, noted_order, polled_order, inspector_lost_order}
 
 -- WHAT IS SO
 
 -- while the setup goes on no attempt was begun
-pub record SetupOrdered (told : Words) : Type 0 where
-  pub begun : told.begun ≡ 0
-  pub locker : LockerTold told.call told.answer Nothing
-  pub renamer : waits_so told.renamer ≡ false
-  pub renaming : told.renaming ≡ false
-  pub last : told.hints.last ≡ 0
+pub record SetupOrdered (so_far : Words) : Type 0 where
+  pub begun : so_far.begun ≡ 0
+  pub locker : LockerAnswered so_far.call so_far.answer Nothing
+  pub renamer : waits_so so_far.renamer ≡ false
+  pub renaming : so_far.renaming ≡ false
+  pub last : so_far.hints.last ≡ 0
 
 abbrev pub ToolPhaseOrdered : PlanData → Words → Option ℕ → ToolPhase → Type 0
-ToolPhaseOrdered plan told live (SettingUp setup tries) = SetupOrdered told
-ToolPhaseOrdered plan told live (Migrating work) =
-    OrderedAt plan told live work.cutover.attempts work.cutover.hold work.cutover.renamer_waits work.cutover.is_asked work.cutover.drops_old work.cutover.phase work.applier
+ToolPhaseOrdered plan so_far live (SettingUp setup tries) = SetupOrdered so_far
+ToolPhaseOrdered plan so_far live (Migrating work) =
+    OrderedAt plan so_far live work.cutover.attempts work.cutover.hold work.cutover.renamer_waits work.cutover.is_asked work.cutover.drops_old work.cutover.phase work.applier
 
 pub record IsOrdered (plan : PlanData) (journal : List Entry) : Type 0 where
   pub needs : NeedsNames plan journal
@@ -90,32 +91,9 @@ pub record IsOrdered (plan : PlanData) (journal : List Entry) : Type 0 where
 
 -- SMALL FACTS
 
-held_nothing : (table : List ℕ) (hold : Hold) → held table hold ≡ free → hold ≡ Nothing
-held_nothing table Nothing is = refl
-held_nothing table WaitsToGuard is = absurd (no (ap (λ (s : Standing). s.waits) is)) where
-  no : {request : Request} → Some request ≡ None → ⊥
-  no same = cc
-held_nothing table WaitsToLock is = absurd (no (ap (λ (s : Standing). s.waits) is)) where
-  no : {request : Request} → Some request ≡ None → ⊥
-  no same = cc
-held_nothing table Locks is = absurd (no (ap (λ (s : Standing). s.locked) is)) where
-  no : both_names table ≡ [] → ⊥
-  no same = cc
-
 renaming_waits : (table : List ℕ) (waits : Bool) (request : Request) → (renaming table waits).waits ≡ Some request → waits ≡ true
 renaming_waits table true request is = refl
 renaming_waits table false request is = absurd cc
-
-renaming_none : (table : List ℕ) (waits : Bool) → renaming table waits ≡ free → waits ≡ false
-renaming_none table false is = refl
-renaming_none table true is = absurd (no (ap (λ (s : Standing). s.waits) is)) where
-  no : Some (exchange table) ≡ None → ⊥
-  no same = cc
-
-none_some : {A : Type 0} (request : Request) (waits : Option Request) → waits ≡ None → waits ≡ Some request → A
-none_some request waits none some = absurd (no (sym none ∙ some)) where
-  no : None ≡ Some request → ⊥
-  no same = cc
 
 -- a wait leaves the session live
 wait_left : (asked : Asked) (answer : Answer) (session : ℕ) → is_command asked ≡ false → is_wait answer ≡ true → session_left asked answer session ≡ Some session
@@ -151,8 +129,8 @@ module _ (plan : PlanData) (journal : List Entry) (entry : Entry) (run : IsRun p
   abbrev now_has : Actor → Standing
   now_has = standing_of plan more
 
-  abbrev told : Words
-  told = words plan journal
+  abbrev so_far : Words
+  so_far = words plan journal
 
   abbrev live : Option ℕ
   live = live_session journal Ren
@@ -178,8 +156,8 @@ module _ (plan : PlanData) (journal : List Entry) (entry : Entry) (run : IsRun p
   setup_has : (setup : Setup) (tries : List ℕ) → now.tool.tool_phase ≡ SettingUp setup tries → SetupStands has
   setup_has setup tries eq = subst (ToolPhaseStands journal has (is_reverting now.tool.reason)) eq together.stands
 
-  old_at : (tool_phase : ToolPhase) → now.tool.tool_phase ≡ tool_phase → ToolPhaseOrdered plan told live tool_phase
-  old_at tool_phase eq = subst (ToolPhaseOrdered plan told live) eq is.tool_phase
+  old_at : (tool_phase : ToolPhase) → now.tool.tool_phase ≡ tool_phase → ToolPhaseOrdered plan so_far live tool_phase
+  old_at tool_phase eq = subst (ToolPhaseOrdered plan so_far live) eq is.tool_phase
 
   work_at : (work : Work) → now.tool.tool_phase ≡ Migrating work → StandsAt plan (state_at plan journal).tables (has Insp).waits work.cutover.phase work.cutover.hold work.cutover.renamer_waits work.cutover.is_asked
   work_at work eq = subst (ToolPhaseAt plan (state_at plan journal).tables (has Insp).waits) eq standing.tool_phase
@@ -192,10 +170,10 @@ module _ (plan : PlanData) (journal : List Entry) (entry : Entry) (run : IsRun p
 
   -- WHAT IS TOLD BEHIND IT
 
-  told_by : (actor : Actor) (asked : Asked) (answer : Answer) → entry.actor ≡ actor → entry.asked ≡ asked → entry.answer ≡ answer → words plan more ≡ words_after plan actor entry.session asked answer told
-  told_by actor asked answer who asks replies =
-      words_more plan journal entry ∙ ap (λ (a : Actor). words_after plan a entry.session entry.asked entry.answer told) who ∙ ap (λ (a : Asked). words_after plan actor entry.session a entry.answer told) asks
-      ∙ ap (λ (a : Answer). words_after plan actor entry.session asked a told) replies
+  words_by : (actor : Actor) (asked : Asked) (answer : Answer) → entry.actor ≡ actor → entry.asked ≡ asked → entry.answer ≡ answer → words plan more ≡ words_after plan actor entry.session asked answer so_far
+  words_by actor asked answer who asks replies =
+      words_more plan journal entry ∙ ap (λ (a : Actor). words_after plan a entry.session entry.asked entry.answer so_far) who ∙ ap (λ (a : Asked). words_after plan actor entry.session a entry.answer so_far) asks
+      ∙ ap (λ (a : Answer). words_after plan actor entry.session asked a so_far) replies
 
   live_other : (actor : Actor) → entry.actor ≡ actor → same_actor actor Ren ≡ false → now_live ≡ live
   live_other actor who differ = live_more journal entry Ren ∙ ap (λ (b : Bool). cond b (session_left entry.asked entry.answer entry.session) live) (ap (λ (a : Actor). same_actor a Ren) who ∙ differ)
@@ -207,12 +185,12 @@ module _ (plan : PlanData) (journal : List Entry) (entry : Entry) (run : IsRun p
 
   -- a turn of another actor's than the renamer's leaves this
   leaves : (actor : Actor) (asked : Asked) (answer : Answer) → entry.actor ≡ actor → entry.asked ≡ asked → entry.answer ≡ answer → same_actor actor Ren ≡ false → (tool_phase : ToolPhase)
-      → ToolPhaseOrdered plan (words_after plan actor entry.session asked answer told) live tool_phase → ToolPhaseOrdered plan (words plan more) now_live tool_phase
+      → ToolPhaseOrdered plan (words_after plan actor entry.session asked answer so_far) live tool_phase → ToolPhaseOrdered plan (words plan more) now_live tool_phase
   leaves actor asked answer who asks replies differ tool_phase at =
-      subst (λ (w : Words). ToolPhaseOrdered plan w now_live tool_phase) (sym (told_by actor asked answer who asks replies)) (subst (λ (l : Option ℕ). ToolPhaseOrdered plan (words_after plan actor entry.session asked answer told) l tool_phase) (sym (live_other actor who differ)) at)
+      subst (λ (w : Words). ToolPhaseOrdered plan w now_live tool_phase) (sym (words_by actor asked answer who asks replies)) (subst (λ (l : Option ℕ). ToolPhaseOrdered plan (words_after plan actor entry.session asked answer so_far) l tool_phase) (sym (live_other actor who differ)) at)
 
-  renamer_leaves : (asked : Asked) (answer : Answer) → entry.actor ≡ Ren → entry.asked ≡ asked → entry.answer ≡ answer → (tool_phase : ToolPhase) → ToolPhaseOrdered plan (words_after plan Ren entry.session asked answer told) now_live tool_phase → ToolPhaseOrdered plan (words plan more) now_live tool_phase
-  renamer_leaves asked answer who asks replies tool_phase at = subst (λ (w : Words). ToolPhaseOrdered plan w now_live tool_phase) (sym (told_by Ren asked answer who asks replies)) at
+  renamer_leaves : (asked : Asked) (answer : Answer) → entry.actor ≡ Ren → entry.asked ≡ asked → entry.answer ≡ answer → (tool_phase : ToolPhase) → ToolPhaseOrdered plan (words_after plan Ren entry.session asked answer so_far) now_live tool_phase → ToolPhaseOrdered plan (words plan more) now_live tool_phase
+  renamer_leaves asked answer who asks replies tool_phase at = subst (λ (w : Words). ToolPhaseOrdered plan w now_live tool_phase) (sym (words_by Ren asked answer who asks replies)) at
 
   -- WHAT NO ANSWER CHANGES
 
@@ -288,9 +266,9 @@ module _ (plan : PlanData) (journal : List Entry) (entry : Entry) (run : IsRun p
 
   setup_still : (asked : Asked) (answer : Answer) (setup : Setup) (tries : List ℕ) → now.tool.tool_phase ≡ SettingUp setup tries → entry.actor ≡ Insp → entry.asked ≡ asked → entry.answer ≡ answer → SetupOrdered (words plan more)
   setup_still asked answer setup tries eq who asks replies =
-      let old : SetupOrdered told = old_at (SettingUp setup tries) eq in
+      let old : SetupOrdered so_far = old_at (SettingUp setup tries) eq in
       leaves Insp asked answer who asks replies refl (SettingUp setup tries)
-      (record { begun = old.begun; locker = old.locker; renamer = old.renamer; renaming = renaming_off plan asked answer told.renaming old.renaming; last = old.last })
+      (record { begun = old.begun; locker = old.locker; renamer = old.renamer; renaming = renaming_off plan asked answer so_far.renaming old.renaming; last = old.last })
 
   setup_turn : (answer : Answer) (setup : Setup) (tries : List ℕ) → now.tool.tool_phase ≡ SettingUp setup tries → entry.actor ≡ Insp → entry.answer ≡ answer → SetupKeeps plan New answer tool setup tries
   setup_turn answer setup tries eq who replies =
@@ -299,16 +277,16 @@ module _ (plan : PlanData) (journal : List Entry) (entry : Entry) (run : IsRun p
 
   -- THE APPLIER
 
-  apply_still : (asked : Asked) (answer : Answer) (work : Work) → now.tool.tool_phase ≡ Migrating work → entry.actor ≡ Apply → entry.asked ≡ asked → entry.answer ≡ answer → hints_after plan Apply asked answer told.hints ≡ told.hints → New false (Migrating work)
+  apply_still : (asked : Asked) (answer : Answer) (work : Work) → now.tool.tool_phase ≡ Migrating work → entry.actor ≡ Apply → entry.asked ≡ asked → entry.answer ≡ answer → hints_after plan Apply asked answer so_far.hints ≡ so_far.hints → New false (Migrating work)
   apply_still asked answer work eq who asks replies same =
-      let old : ToolPhaseOrdered plan told live (Migrating work) = old_at (Migrating work) eq in
+      let old : ToolPhaseOrdered plan so_far live (Migrating work) = old_at (Migrating work) eq in
       leaves Apply asked answer who asks replies refl (Migrating work)
       (record {
         begun = old.begun;
         locker = old.locker;
         renamer = old.renamer;
         session = old.session;
-        phase_is = subst (λ (h : Hints). PhaseOrder plan told.shown.shown h.passed told.renaming told.listed work.cutover.attempts work.cutover.is_asked work.cutover.phase) (sym same) old.phase_is;
+        phase_is = subst (λ (h : Hints). PhaseOrder plan so_far.shown.shown h.passed so_far.renaming so_far.listed work.cutover.attempts work.cutover.is_asked work.cutover.phase) (sym same) old.phase_is;
         applied = subst (λ (h : Hints). AppliedAt h work.applier) (sym same) old.applied;
         may_drop = old.may_drop;
         done = old.done;
@@ -317,7 +295,7 @@ module _ (plan : PlanData) (journal : List Entry) (entry : Entry) (run : IsRun p
   apply_takes : (request : Request) (asked : Asked) (work : Work) → now.tool.tool_phase ≡ Migrating work → entry.actor ≡ Apply → entry.asked ≡ asked → AsksSo request asked → applier_asks work.applier.step request ≡ true → (tries : List ℕ)
       → New false (Migrating (record work { applier = appliers.took tool.turns work.applier entry.answer; batch_tries = tries }))
   apply_takes request asked work eq who asks so kind tries =
-      let old : ToolPhaseOrdered plan told live (Migrating work) = old_at (Migrating work) eq in
+      let old : ToolPhaseOrdered plan so_far live (Migrating work) = old_at (Migrating work) eq in
       leaves Apply asked entry.answer who asks refl refl (Migrating (record work { applier = appliers.took tool.turns work.applier entry.answer; batch_tries = tries }))
       (record {
         begun = old.begun;
@@ -326,13 +304,13 @@ module _ (plan : PlanData) (journal : List Entry) (entry : Entry) (run : IsRun p
         session = old.session;
         phase_is = record {
           counted = old.phase_is.counted;
-          passes = passes_more work.cutover.phase work.cutover.attempts told.hints.passed (hints_after plan Apply asked entry.answer told.hints).passed
-              (passed_more plan work.applier (applier_table work eq) told.hints (λ one. one == work.cutover.attempts) asked entry.answer) old.phase_is.passes;
+          passes = passes_more work.cutover.phase work.cutover.attempts so_far.hints.passed (hints_after plan Apply asked entry.answer so_far.hints).passed
+              (passed_more plan work.applier (applier_table work eq) so_far.hints (λ one. one == work.cutover.attempts) asked entry.answer) old.phase_is.passes;
           shows = old.phase_is.shows;
           holds = old.phase_is.holds;
           drops = old.phase_is.drops;
         };
-        applied = took_applied plan work.applier (applier_table work eq) told.hints tool.turns request asked entry.answer so kind old.applied;
+        applied = took_applied plan work.applier (applier_table work eq) so_far.hints tool.turns request asked entry.answer so kind old.applied;
         may_drop = old.may_drop;
         done = old.done;
       })
@@ -352,7 +330,7 @@ module _ (plan : PlanData) (journal : List Entry) (entry : Entry) (run : IsRun p
   apply_turn : (work : Work) → now.tool.tool_phase ≡ Migrating work → entry.actor ≡ Apply → Asking plan journal Apply entry.asked → ApplyKeeps New entry.answer tool work
   apply_turn work eq who asks = record {
     reverting = λ reverting. apply_reverts work eq who reverting asks;
-    unfit = λ going place number unfit. unfit_at work (apply_still entry.asked entry.answer work eq who refl refl (unfit_same plan work.applier (applier_table work eq) told.hints entry.asked entry.answer place number unfit));
+    unfit = λ going place number unfit. unfit_at work (apply_still entry.asked entry.answer work eq who refl refl (unfit_same plan work.applier (applier_table work eq) so_far.hints entry.asked entry.answer place number unfit));
     took = λ going fits tries. takes asks going tries;
   } where
     takes : Asking plan journal Apply entry.asked → is_reverting tool.reason ≡ false → (tries : List ℕ) → New false (Migrating (record work { applier = appliers.took tool.turns work.applier entry.answer; batch_tries = tries }))
@@ -412,7 +390,7 @@ module _ (plan : PlanData) (journal : List Entry) (entry : Entry) (run : IsRun p
       let at : WorkStands journal (is_reverting now.tool.reason) has work = work_has work eq in
       lock_about plan journal entry together run work eq at asks (New (is_reverting tool.reason) (Migrating (record work { cutover = cutovers.took Locker work.cutover entry.answer; attempt_tries = tries })))
       (λ request about kind. leaves Lock entry.asked entry.answer who refl refl refl (Migrating (record work { cutover = cutovers.took Locker work.cutover entry.answer; attempt_tries = tries }))
-      (locker_order plan told live work.cutover.attempts work.cutover.renamer_waits work.cutover.is_asked work.cutover.drops_old work.applier entry.session entry.answer work.cutover.table work.cutover.hold work.cutover.phase request entry.asked
+      (locker_order plan so_far live work.cutover.attempts work.cutover.renamer_waits work.cutover.is_asked work.cutover.drops_old work.applier entry.session entry.answer work.cutover.table work.cutover.hold work.cutover.phase request entry.asked
       (subst (λ (s : Standing). IsAbout request s entry.asked) at.locker about) kind at.phase (fits Lock request who about) (λ drops. prompt work request who at about kind drops)
       (λ rests. subst (λ (p : Phase). RenamerAt p work.cutover.renamer_waits) rests (work_at work eq).renamer) (old_at (Migrating work) eq)))
 
@@ -426,7 +404,7 @@ module _ (plan : PlanData) (journal : List Entry) (entry : Entry) (run : IsRun p
   unfolding cutovers.took
   locker_lost work eq who cut replies worked tries =
       leaves Lock Cut answers.Lost who cut replies refl (Migrating (record work { cutover = cutovers.took Locker work.cutover answers.Lost; attempt_tries = tries }))
-      (locker_lost_order plan told live work.cutover.attempts work.cutover.hold work.cutover.renamer_waits work.cutover.is_asked work.cutover.drops_old work.cutover.phase work.applier entry.session begun (old_at (Migrating work) eq)) where
+      (locker_lost_order plan so_far live work.cutover.attempts work.cutover.hold work.cutover.renamer_waits work.cutover.is_asked work.cutover.drops_old work.cutover.phase work.applier entry.session begun (old_at (Migrating work) eq)) where
         begun : work.cutover.phase ≡ Resting → ⊥
         begun rests =
             worked_free cut worked
@@ -439,36 +417,36 @@ module _ (plan : PlanData) (journal : List Entry) (entry : Entry) (run : IsRun p
   renamer_turn work eq who (calls_so request asks none call) tries =
       let next = renamer_next work.cutover work.cutover.phase request (ap (λ (c : ToolPhase). tool_call plan now.server journal now.tool c Ren) (sym eq) ∙ call) in
       renamer_leaves (Call (exchange work.cutover.table)) entry.answer who (asks ∙ ap Call next.1) refl (Migrating (record work { cutover = cutovers.took Renamer work.cutover entry.answer; attempt_tries = tries }))
-      (subst (λ (p : Phase). OrderedAt plan (words_after plan Ren entry.session (Call (exchange work.cutover.table)) entry.answer told) now_live work.cutover.attempts work.cutover.hold (is_wait entry.answer) true work.cutover.drops_old (cutovers.renamer_phase p entry.answer) work.applier) (sym next.0)
-      (renamer_calls plan told live now_live work.cutover.attempts work.cutover.hold work.cutover.is_asked work.cutover.drops_old work.applier entry.session entry.answer work.cutover.renamer_waits work.cutover.table (live_own who (ap is_command asks))
-      (subst (λ (p : Phase). OrderedAt plan told live work.cutover.attempts work.cutover.hold work.cutover.renamer_waits work.cutover.is_asked work.cutover.drops_old p work.applier) next.0 (old_at (Migrating work) eq))))
+      (subst (λ (p : Phase). OrderedAt plan (words_after plan Ren entry.session (Call (exchange work.cutover.table)) entry.answer so_far) now_live work.cutover.attempts work.cutover.hold (is_wait entry.answer) true work.cutover.drops_old (cutovers.renamer_phase p entry.answer) work.applier) (sym next.0)
+      (renamer_calls plan so_far live now_live work.cutover.attempts work.cutover.hold work.cutover.is_asked work.cutover.drops_old work.applier entry.session entry.answer work.cutover.renamer_waits work.cutover.table (live_own who (ap is_command asks))
+      (subst (λ (p : Phase). OrderedAt plan so_far live work.cutover.attempts work.cutover.hold work.cutover.renamer_waits work.cutover.is_asked work.cutover.drops_old p work.applier) next.0 (old_at (Migrating work) eq))))
   renamer_turn work eq who (polls_so request asks some) tries =
       let waits : work.cutover.renamer_waits ≡ true = renaming_waits work.cutover.table work.cutover.renamer_waits request (ap (λ (s : Standing). s.waits) (sym (work_has work eq).renamer) ∙ some) in
       renamer_leaves Poll entry.answer who asks refl (Migrating (record work { cutover = cutovers.took Renamer work.cutover entry.answer; attempt_tries = tries }))
-      (renamer_polls plan told live now_live work.cutover.attempts work.cutover.hold work.cutover.is_asked work.cutover.drops_old work.applier entry.session entry.answer work.cutover.phase (λ on. live_own who (ap is_command asks) on ∙ sym (goes_on waits))
-      (subst (λ (w : Bool). OrderedAt plan told live work.cutover.attempts work.cutover.hold w work.cutover.is_asked work.cutover.drops_old work.cutover.phase work.applier) waits (old_at (Migrating work) eq))) where
+      (renamer_polls plan so_far live now_live work.cutover.attempts work.cutover.hold work.cutover.is_asked work.cutover.drops_old work.applier entry.session entry.answer work.cutover.phase (λ on. live_own who (ap is_command asks) on ∙ sym (goes_on waits))
+      (subst (λ (w : Bool). OrderedAt plan so_far live work.cutover.attempts work.cutover.hold w work.cutover.is_asked work.cutover.drops_old work.cutover.phase work.applier) waits (old_at (Migrating work) eq))) where
         goes_on : work.cutover.renamer_waits ≡ true → live ≡ Some entry.session
         goes_on waits = by (placed journal entry served.seated) where
-          lives : live ≡ Some told.shown.session
+          lives : live ≡ Some so_far.shown.session
           lives = (old_at (Migrating work) eq).session waits
 
           by : Placed journal entry → live ≡ Some entry.session
           by (Commands command zero) = absurd (true≢false (sym command ∙ ap is_command asks))
           by (GoesOn called here) = ap (live_session journal) (sym who) ∙ here
           by (Begins called uncut gone above) = absurd (no (sym (ap (live_session journal) (sym who) ∙ gone) ∙ lives)) where
-            no : None ≡ Some told.shown.session → ⊥
+            no : None ≡ Some so_far.shown.session → ⊥
             no same = cc
 
   renamer_lost : (work : Work) → now.tool.tool_phase ≡ Migrating work → entry.actor ≡ Ren → entry.asked ≡ Cut → entry.answer ≡ answers.Lost → (tries : List ℕ) → New (is_reverting tool.reason) (Migrating (record work { cutover = cutovers.took Renamer work.cutover answers.Lost; attempt_tries = tries }))
   unfolding cutovers.took
   renamer_lost work eq who cut replies tries =
       renamer_leaves Cut answers.Lost who cut replies (Migrating (record work { cutover = cutovers.took Renamer work.cutover answers.Lost; attempt_tries = tries }))
-      (renamer_lost_order plan told live now_live work.cutover.attempts work.cutover.hold work.cutover.renamer_waits work.cutover.is_asked work.cutover.drops_old work.cutover.phase work.applier entry.session (old_at (Migrating work) eq))
+      (renamer_lost_order plan so_far live now_live work.cutover.attempts work.cutover.hold work.cutover.renamer_waits work.cutover.is_asked work.cutover.drops_old work.cutover.phase work.applier entry.session (old_at (Migrating work) eq))
 
   -- THE INSPECTOR
 
   -- the list of waits has the RENAME
-  shows : (work : Work) → now.tool.tool_phase ≡ Migrating work → work.cutover.phase ≡ Attempting Showing → entry.actor ≡ Insp → entry.asked ≡ Call requests.ShowWaiting → (waiters : List ShownWaiter) → entry.answer ≡ answers.Waiting waiters → has_session told.shown.session waiters ≡ true
+  shows : (work : Work) → now.tool.tool_phase ≡ Migrating work → work.cutover.phase ≡ Attempting Showing → entry.actor ≡ Insp → entry.asked ≡ Call requests.ShowWaiting → (waiters : List ShownWaiter) → entry.answer ≡ answers.Waiting waiters → has_session so_far.shown.session waiters ≡ true
   shows work eq showing who asks waiters replies = at_side entry.side refl where
     open_now : State
     open_now = opens entry (state_at plan journal)
@@ -476,23 +454,23 @@ module _ (plan : PlanData) (journal : List Entry) (entry : Entry) (run : IsRun p
     waits : work.cutover.renamer_waits ≡ true
     waits = subst (λ (p : Phase). RenamerAt p work.cutover.renamer_waits) showing (work_at work eq).renamer
 
-    lives : live ≡ Some told.shown.session
+    lives : live ≡ Some so_far.shown.session
     lives = (old_at (Migrating work) eq).session waits
 
     renames : (has Ren).waits ≡ Some (exchange work.cutover.table)
     renames = ap (λ (s : Standing). s.waits) ((work_has work eq).renamer ∙ ap (renaming work.cutover.table) waits)
 
-    waits_there : request_of (waiting_of told.shown.session open_now.waiting) ≡ Some (exchange work.cutover.table)
+    waits_there : request_of (waiting_of so_far.shown.session open_now.waiting) ≡ Some (exchange work.cutover.table)
     waits_there =
-        ap (λ (w : List Waiting). request_of (waiting_of told.shown.session w)) (opened_waits (is_command entry.asked) (Rattle.std.proofs.Common.not (is_client entry.actor)) entry.session (state_at plan journal))
+        ap (λ (w : List Waiting). request_of (waiting_of so_far.shown.session w)) (opened_waits (is_command entry.asked) (Rattle.std.proofs.Common.not (is_client entry.actor)) entry.session (state_at plan journal))
         ∙ ap (λ (l : Option ℕ). (standing_in (state_at plan journal) l).waits) (sym lives) ∙ renames
 
     shown : entry.side ≡ None → waiters ≡ waits_shown open_now
     shown no_side =
         subst (λ (a : Answer). ShownBy open_now a) (ap (λ (a : Asked). (serves open_now entry.session a).answer) (sym asks) ∙ own_given plan journal entry known served no_side ∙ replies) (show_called open_now entry.session)
 
-    at_side : (side : Option Side) → entry.side ≡ side → has_session told.shown.session waiters ≡ true
-    at_side None no_side = ap (has_session told.shown.session) (shown no_side) ∙ shows_session open_now told.shown.session (exchange work.cutover.table) refl waits_there
+    at_side : (side : Option Side) → entry.side ≡ side → has_session so_far.shown.session waiters ≡ true
+    at_side None no_side = ap (has_session so_far.shown.session) (shown no_side) ∙ shows_session open_now so_far.shown.session (exchange work.cutover.table) refl waits_there
     at_side (Some side) some = absurd (no (sym (own_missed plan journal entry known served side some) ∙ replies)) where
       no : answers.Lost ≡ answers.Waiting waiters → ⊥
       no same = cc
@@ -501,20 +479,20 @@ module _ (plan : PlanData) (journal : List Entry) (entry : Entry) (run : IsRun p
   unfolding cutovers.took attempts.next
   inspector_turn work eq who (polls_so request asks some) tries =
       leaves Insp Poll entry.answer who asks refl refl (Migrating (record work { cutover = cutovers.took Inspector work.cutover entry.answer; attempt_tries = tries }))
-      (polled_order plan work.cutover (own_table work eq) told live work.applier entry.session entry.answer work.cutover.phase request (subst (λ (c : ToolPhase). IsSettingCounter plan c request) eq (waits_so request some)) (fits Insp request who (is_polled asks some)) (old_at (Migrating work) eq))
+      (polled_order plan work.cutover (own_table work eq) so_far live work.applier entry.session entry.answer work.cutover.phase request (subst (λ (c : ToolPhase). IsSettingCounter plan c request) eq (waits_so request some)) (fits Insp request who (is_polled asks some)) (old_at (Migrating work) eq))
   inspector_turn work eq who (calls_so request asks none call) tries =
       leaves Insp (Call request) entry.answer who asks refl refl (Migrating (record work { cutover = cutovers.took Inspector work.cutover entry.answer; attempt_tries = tries }))
       (inspects_or plan journal now.tool work request
-      (OrderedAt plan (words_after plan Insp entry.session (Call request) entry.answer told) live work.cutover.attempts work.cutover.hold work.cutover.renamer_waits work.cutover.is_asked work.cutover.drops_old (cutovers.inspector_phase work.cutover work.cutover.phase entry.answer) work.applier)
+      (OrderedAt plan (words_after plan Insp entry.session (Call request) entry.answer so_far) live work.cutover.attempts work.cutover.hold work.cutover.renamer_waits work.cutover.is_asked work.cutover.drops_old (cutovers.inspector_phase work.cutover work.cutover.phase entry.answer) work.applier)
       (ap (λ (c : ToolPhase). tool_call plan now.server journal now.tool c Insp) (sym eq) ∙ call)
-      (λ note resting. noted_order plan work.cutover (own_table work eq) told live work.applier entry.session entry.answer work.cutover.phase request resting (old_at (Migrating work) eq))
-      (λ next. inspector_order plan work.cutover (own_table work eq) told live work.applier entry.session entry.answer work.cutover.phase request next (fits Insp request who (is_called asks none))
+      (λ note resting. noted_order plan work.cutover (own_table work eq) so_far live work.applier entry.session entry.answer work.cutover.phase request resting (old_at (Migrating work) eq))
+      (λ next. inspector_order plan work.cutover (own_table work eq) so_far live work.applier entry.session entry.answer work.cutover.phase request next (fits Insp request who (is_called asks none))
       (λ showing is_show waiters replies. shows work eq showing who (asks ∙ ap Call is_show) waiters replies) (old_at (Migrating work) eq)))
 
   inspector_lost : (work : Work) → now.tool.tool_phase ≡ Migrating work → entry.actor ≡ Insp → entry.asked ≡ Cut → entry.answer ≡ answers.Lost → (tries : List ℕ) → New (is_reverting tool.reason) (Migrating (record work { cutover = cutovers.took Inspector work.cutover answers.Lost; attempt_tries = tries }))
   unfolding cutovers.took
   inspector_lost work eq who cut replies tries =
-      leaves Insp Cut answers.Lost who cut replies refl (Migrating (record work { cutover = cutovers.took Inspector work.cutover answers.Lost; attempt_tries = tries })) (inspector_lost_order plan work.cutover told live work.applier entry.session (old_at (Migrating work) eq))
+      leaves Insp Cut answers.Lost who cut replies refl (Migrating (record work { cutover = cutovers.took Inspector work.cutover answers.Lost; attempt_tries = tries })) (inspector_lost_order plan work.cutover so_far live work.applier entry.session (old_at (Migrating work) eq))
 
   -- A LOSS BETWEEN CALLS
 
@@ -530,10 +508,10 @@ module _ (plan : PlanData) (journal : List Entry) (entry : Entry) (run : IsRun p
   setup_lost Copy who cut setup tries eq = copier_still Cut answers.Lost who cut (lost_answer cut) (SettingUp setup tries) eq
   setup_lost Apply who cut setup tries eq = leaves Apply Cut answers.Lost who cut (lost_answer cut) refl (SettingUp setup tries) (old_at (SettingUp setup tries) eq)
   setup_lost Lock who cut setup tries eq =
-      let old : SetupOrdered told = old_at (SettingUp setup tries) eq in
-      leaves Lock Cut answers.Lost who cut (lost_answer cut) refl (SettingUp setup tries) (record { begun = old.begun; locker = (lost_holds told.call, refl); renamer = old.renamer; renaming = old.renaming; last = old.last })
+      let old : SetupOrdered so_far = old_at (SettingUp setup tries) eq in
+      leaves Lock Cut answers.Lost who cut (lost_answer cut) refl (SettingUp setup tries) (record { begun = old.begun; locker = (lost_holds so_far.call, refl); renamer = old.renamer; renaming = old.renaming; last = old.last })
   setup_lost Ren who cut setup tries eq =
-      let old : SetupOrdered told = old_at (SettingUp setup tries) eq in
+      let old : SetupOrdered so_far = old_at (SettingUp setup tries) eq in
       renamer_leaves Cut answers.Lost who cut (lost_answer cut) (SettingUp setup tries) (record { begun = old.begun; locker = old.locker; renamer = refl; renaming = old.renaming; last = old.last })
   setup_lost Op who cut setup tries eq = operator_still Cut answers.Lost who cut (lost_answer cut) (SettingUp setup tries) eq
   setup_lost (Client c) who cut setup tries eq = client_still c Cut answers.Lost who cut (lost_answer cut) (SettingUp setup tries) eq
@@ -549,13 +527,13 @@ module _ (plan : PlanData) (journal : List Entry) (entry : Entry) (run : IsRun p
   idle_at cut none Copy who (Migrating work) eq = copier_still Cut answers.Lost who cut (lost_answer cut) (Migrating work) eq
   idle_at cut none Apply who (Migrating work) eq = apply_still Cut answers.Lost work eq who cut (lost_answer cut) refl
   idle_at cut none Lock who (Migrating work) eq =
-      let old : ToolPhaseOrdered plan told live (Migrating work) = old_at (Migrating work) eq in
-      let nothing : work.cutover.hold ≡ Nothing = held_nothing work.cutover.table work.cutover.hold (sym (work_has work eq).locker ∙ ap has (sym who) ∙ idle_had cut none) in
+      let old : ToolPhaseOrdered plan so_far live (Migrating work) = old_at (Migrating work) eq in
+      let nothing : work.cutover.hold ≡ Nothing = nothing_held work.cutover.table work.cutover.hold (sym (work_has work eq).locker ∙ ap has (sym who) ∙ idle_had cut none) in
       leaves Lock Cut answers.Lost who cut (lost_answer cut) refl (Migrating work)
-      (record { begun = old.begun; locker = subst (LockerTold told.call (Some answers.Lost)) (sym nothing) (lost_holds told.call, refl); renamer = old.renamer; session = old.session; phase_is = old.phase_is; applied = old.applied; may_drop = old.may_drop; done = old.done })
+      (record { begun = old.begun; locker = subst (LockerAnswered so_far.call (Some answers.Lost)) (sym nothing) (lost_holds so_far.call, refl); renamer = old.renamer; session = old.session; phase_is = old.phase_is; applied = old.applied; may_drop = old.may_drop; done = old.done })
   idle_at cut none Ren who (Migrating work) eq =
-      let old : ToolPhaseOrdered plan told live (Migrating work) = old_at (Migrating work) eq in
-      let off : work.cutover.renamer_waits ≡ false = renaming_none work.cutover.table work.cutover.renamer_waits (sym (work_has work eq).renamer ∙ ap has (sym who) ∙ idle_had cut none) in
+      let old : ToolPhaseOrdered plan so_far live (Migrating work) = old_at (Migrating work) eq in
+      let off : work.cutover.renamer_waits ≡ false = nothing_waits work.cutover.table work.cutover.renamer_waits (sym (work_has work eq).renamer ∙ ap has (sym who) ∙ idle_had cut none) in
       renamer_leaves Cut answers.Lost who cut (lost_answer cut) (Migrating work)
       (record { begun = old.begun; locker = old.locker; renamer = sym off; session = λ on. absurd (true≢false (sym on ∙ off)); phase_is = old.phase_is; applied = old.applied; may_drop = old.may_drop; done = old.done })
   idle_at cut none Op who (Migrating work) eq = operator_still Cut answers.Lost who cut (lost_answer cut) (Migrating work) eq
@@ -606,12 +584,7 @@ module _ (plan : PlanData) (journal : List Entry) (entry : Entry) (run : IsRun p
   -- A COMMAND
 
   commands : (word : OperatorWord) → entry.asked ≡ Command word → entry.actor ≡ Op
-  commands word asks = by entry.asked asks run.followed.given where
-    by : (asked : Asked) → asked ≡ Command word → IsGiven plan journal entry asked → entry.actor ≡ Op
-    by (Command other) same gives = commands_operator plan journal entry.actor other gives
-    by (Call request) same gives = absurd cc
-    by Poll same gives = absurd cc
-    by Cut same gives = absurd cc
+  commands word asks = commands_operator plan journal entry.actor word (subst (IsGiven plan journal entry) asks run.followed.given)
 
   command_still : (word : OperatorWord) → entry.asked ≡ Command word → (tool_phase : ToolPhase) → now.tool.tool_phase ≡ tool_phase → New false tool_phase
   command_still word asks tool_phase eq = operator_still entry.asked entry.answer (commands word asks) refl refl tool_phase eq

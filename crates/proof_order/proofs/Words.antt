@@ -10,6 +10,7 @@ use Rattle.server_model.specs.declared.listing.TableName.{TableName}
 use Rattle.server_model.specs.declared.request.Request.{Request}
 use Rattle.plan_data.specs.PlanData.{PlanData}
 use Rattle.proof_order.specs.CutOverOrder.{call_after, last_call, answer_after, last_answer, begun_after, attempts_begun, Shown, shown_after, rename_shown, renamed_after, is_renamed, listed_after, tables_listed, renaming_after, is_renaming, Hints, hints_after, hints_applied}
+use Rattle.proof_order.proofs.Counters.{call_more}
 
 -- all that the journal tells
 pub record Words : Type 0 where
@@ -38,21 +39,17 @@ words plan journal = record {
 
 -- behind a turn of this actor's
 abbrev pub words_after : PlanData → Actor → ℕ → Asked → Answer → Words → Words
-words_after plan actor session asked answer told = record {
-  call = call_after Lock actor asked told.call;
-  answer = answer_after Lock actor answer told.answer;
-  renamer = answer_after Ren actor answer told.renamer;
-  begun = begun_after actor asked told.begun;
-  shown = shown_after actor session asked answer told.shown;
-  renamed = renamed_after actor answer told.renamed;
-  listed = listed_after actor answer told.listed;
-  renaming = renaming_after plan actor asked answer told.renaming;
-  hints = hints_after plan actor asked answer told.hints;
+words_after plan actor session asked answer so_far = record {
+  call = call_after Lock actor asked so_far.call;
+  answer = answer_after Lock actor answer so_far.answer;
+  renamer = answer_after Ren actor answer so_far.renamer;
+  begun = begun_after actor asked so_far.begun;
+  shown = shown_after actor session asked answer so_far.shown;
+  renamed = renamed_after actor answer so_far.renamed;
+  listed = listed_after actor answer so_far.listed;
+  renaming = renaming_after plan actor asked answer so_far.renaming;
+  hints = hints_after plan actor asked answer so_far.hints;
 }
-
-call_more : (actor : Actor) (journal : List Entry) (entry : Entry) → last_call actor (journal ++ entry ∷ []) ≡ call_after actor entry.actor entry.asked (last_call actor journal)
-unfolding last_call
-call_more actor journal entry = fold-append (λ last entry. call_after actor entry.actor entry.asked last) None journal (entry ∷ [])
 
 answer_more : (actor : Actor) (journal : List Entry) (entry : Entry) → last_answer actor (journal ++ entry ∷ []) ≡ answer_after actor entry.actor entry.answer (last_answer actor journal)
 unfolding last_answer
@@ -96,7 +93,7 @@ words_more plan journal entry = λ i. record {
   hints = hints_more plan journal entry i;
 }
 
--- *Nothing is told at the start*
+-- *Nothing is reported at the start*
 pub words_begin : (plan : PlanData) → words plan [] ≡ record { call = None; answer = None; renamer = None; begun = 0; shown = record { session = 0; shown = false }; renamed = false; listed = []; renaming = false; hints = record { passed = []; last = 0; read = 0 } }
 unfolding last_call last_answer attempts_begun rename_shown is_renamed tables_listed is_renaming hints_applied
 words_begin plan = refl

@@ -16,7 +16,6 @@ use Rattle.base_script.specs.declared.statement.Statement.{Statement}
 use Rattle.base_script.specs.declared.statement.Statement.TheVariants as statements
 use Rattle.table_store.specs.Databases.{Database, TableRows, find_table}
 use Rattle.server_model.specs.declared.answer.Answer.{Answer}
-use Rattle.server_model.specs.declared.answer.Answer.TheVariants as answers
 use Rattle.server_model.specs.declared.counter.Counter.{Counter}
 use Rattle.server_model.specs.declared.entry.Asked.{Asked}
 use Rattle.server_model.specs.declared.entry.Asked.TheVariants.{Call, Poll, Command, Cut}
@@ -48,7 +47,8 @@ use Rattle.proof_journals.proofs.Progress.{lines_stay}
 use Rattle.proof_journals.proofs.Sentry.Inductions.{moment_more}
 use Rattle.proof_journals.proofs.ServerFacts.Calls.{connected_serves}
 use Rattle.proof_migration.proofs.Program.Turns.Follows.{kept_front, kept_run}
-use Rattle.proof_migration.proofs.HeldNames.Holders.{all_held_well, each_kept}
+use Rattle.proof_migration.proofs.HeldNames.Holders.{all_held_well}
+use Rattle.proof_migration.proofs.KeptJournals.{each_kept}
 use Rattle.proof_plain.specs.Plain.{BytesAsked, BytesRequest, BytesStatement, IsWrite, NoRows, PlainAnswer, PlainState, SmallCounters, SmallIf}
 use Rattle.proof_plain.specs.Plans.{BytesWord, IsShort, PlainPlan, PlainTool}
 use Rattle.proof_plain.proofs.Counts.{IsFew, connected_few, left_few, opened_few, view_few, view_formed}
@@ -201,9 +201,10 @@ offer_writes false (Some table) counters statement some = by (draws table.schema
   by true is some = place_writes table.schema statement is
   by false is some = absurd cc
 
-inside_writes : (outside : Bool) (offer : Option ℕ) → is_some (offered_inside outside offer) ≡ true → is_some offer ≡ true
-inside_writes true offer some = absurd cc
-inside_writes false offer some = some
+-- a number that is offered inside is one that is offered
+pub inside_offers : (outside : Bool) (offer : Option ℕ) → is_some (offered_inside outside offer) ≡ true → is_some offer ≡ true
+inside_offers true offer some = absurd cc
+inside_offers false offer some = some
 
 record Draws (state : State) (number : ℕ) (asks : Option Request) (answer : Answer) : Type 0 where
   statement : Statement
@@ -225,7 +226,7 @@ draws_so state number asks answer some =
         is = refl;
         writes =
             offer_writes (is_of_tool (session_of number state.sessions)) (find_table (table_of statement) state.tables) state.counters statement
-            (inside_writes (is_outside (session_of number state.sessions) (requests.Do statement)) (offered_in (is_of_tool (session_of number state.sessions)) state.tables state.counters statement) some);
+            (inside_offers (is_outside (session_of number state.sessions) (requests.Do statement)) (offered_in (is_of_tool (session_of number state.sessions)) state.tables state.counters statement) some);
         answered = answered;
       }
       by asks some answered = absurd cc

@@ -39,7 +39,7 @@ use Rattle.tool_program.specs.declared.cutover_core.cutover.Drain.{Drain}
 use Rattle.tool_program.specs.CutoverCore.Attempts as attempts
 use Rattle.tool_program.specs.CutoverCore.Attempts.{clears, has_name, has_sentry, is_clear, is_free, without_first}
 use Rattle.tool_program.specs.CutoverCore.CutOvers as cutovers
-use Rattle.tool_program.specs.CutoverCore.CutOvers.{is_bad, is_done, is_wait, applier_turn, reverted, attempts_after, hold_after, locker_phase, renamer_phase, failed, inspector_phase, finishing, left_at_end, sentry_alone, seen, shows_wait, finishing_after}
+use Rattle.tool_program.specs.CutoverCore.CutOvers.{is_done, is_wait, applier_turn, reverted, attempts_after, hold_after, locker_phase, renamer_phase, failed, inspector_phase, finishing, left_at_end, sentry_alone, seen, finishing_after}
 use Rattle.tool_program.specs.Programs.{tool_call, given, IsGiven}
 use Rattle.tool_program.specs.Setups.{Setup, Listing, Clearing, MakingLog, MakingGhost, Marking, Reaching, Ready, setup_after}
 use Rattle.tool_program.proofs.OnlineCalls.Machines.{ToolPhaseIsNamed, named}
@@ -57,12 +57,13 @@ use Rattle.proof_journals.proofs.Machine.Seated.{IsKnown, IsServed, others_stand
 use Rattle.proof_journals.proofs.Machine.Tabling.{free_idle}
 use Rattle.proof_migration.proofs.Attempt.RenamerAnswers.{AsksAt}
 use Rattle.proof_migration.proofs.Attempt.Stages.{StandsAt}
-use Rattle.proof_migration.proofs.Attempt.Standing.{ToolPhaseAt, about_own, asks_at, no_asking}
+use Rattle.proof_migration.proofs.Attempt.Standing.{ToolPhaseAt, about_own, asks_at, no_asking, none_some}
 use Rattle.proof_migration.proofs.Program.Turns.Follows.{kept_front, kept_run}
 use Rattle.proof_migration.proofs.ToolPhase.Owners.{commands_operator}
 use Rattle.proof_migration.proofs.ToolPhase.ToolPhaseTurns.{Kept, UnfitKeeps, CopyKeeps, ApplyKeeps, SetupKeeps, AnswerKeeps, ResizeKeeps, turn_kept, gives_asked}
 use Rattle.proof_bounds.specs.Guards.{HasSentryAtOnce}
 use Rattle.proof_migration.specs.InspectorWaits.{SetsCounter}
+use Rattle.proof_migration.proofs.KeptJournals.{each_kept}
 use Rattle.proof_bounds.specs.Laws.{MayWait}
 use Rattle.proof_bounds.specs.Parts.{Part, OfClearing, OfChunks, OfBatches, OfAttempts, rolls_back, work_part, is_again, ending_part, phase_part, part_by, part_of, same_part, turns_of_part}
 use Rattle.proof_bounds.specs.Terms.{term_of}
@@ -71,7 +72,6 @@ use Rattle.proof_bounds.proofs.Counting.{count_yes, count_no, count_none}
 use Rattle.proof_bounds.proofs.Going.{IsGoing, ToolPhaseFits, is_setting, all_going, insp_free, insp_rests, insp_waits, insp_idle, setup_rests, setup_idle, waits_back, waits_drain, beside_waits, differ_waits, waits_locked, waits_renamed, waits_unrenamed, waited_is, polled_ends, called_idle, inspected_waits, gone_waits}
 use Rattle.proof_bounds.proofs.Inspecting.{WaitsWith, WaitsFor, none_waits, none_for}
 use Rattle.proof_bounds.proofs.Guards.{sentries_made}
-use Rattle.proof_migration.proofs.HeldNames.Holders.{each_kept}
 use Rattle.proof_bounds.proofs.Leftovers.{WorkFits}
 use Rattle.proof_bounds.proofs.Waits.{IsCounted, counted_more, counted_begins, waited_by, idle_waited, waits_on, waits_end, waits_cut, waits_short, others_wait}
 use Rattle.proof_bounds.specs.AttemptTurns.Attempts.{IsAt, IsOk, ShowsWait, TurnGoes, AttemptTurnsAreFew}
@@ -194,11 +194,6 @@ off_inspects w inspects phase off = ap (λ (b : Bool). inspect_left w b phase) o
 rest_inspects : (w : ℕ) (inspects : Bool) → inspect_left w inspects Resting ≡ 0
 rest_inspects w true = refl
 rest_inspects w false = refl
-
-none_some : {A : Type 0} (request : Request) (waits : Option Request) → waits ≡ None → waits ≡ Some request → A
-none_some request waits none some = absurd (no (sym none ∙ some)) where
-  no : None ≡ Some request → ⊥
-  no same = cc
 
 -- WHO WAITS
 
@@ -912,12 +907,7 @@ module _ (plan : PlanData) (may : MayWait plan) (runs : IsRunnable plan) (journa
   -- COMMANDS
 
   command_so : (word : OperatorWord) → entry.asked ≡ Command word → (tool_phase : ToolPhase) → now.tool.tool_phase ≡ tool_phase → New false tool_phase
-  command_so word asks = beside_on Op (by entry.asked asks run.followed.given) tt where
-    by : (asked : Asked) → asked ≡ Command word → IsGiven plan journal entry asked → entry.actor ≡ Op
-    by (Command other) is_so gives = commands_operator plan journal entry.actor other gives
-    by (Call request) is_so gives = absurd cc
-    by Poll is_so gives = absurd cc
-    by Cut is_so gives = absurd cc
+  command_so word asks = beside_on Op (commands_operator plan journal entry.actor word (subst (IsGiven plan journal entry) asks run.followed.given)) tt
 
   resize_so : (size : ℕ) → entry.asked ≡ Command (ChunkSize size) → (tool_phase : ToolPhase) → now.tool.tool_phase ≡ tool_phase → ResizeKeeps New tool size tool_phase
   resize_so size asks (SettingUp setup tries) eq = command_so _ asks (SettingUp setup tries) eq

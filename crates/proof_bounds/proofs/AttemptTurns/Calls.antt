@@ -1,5 +1,5 @@
 -- Each call of an attempt goes on.
-use Rattle.std.proofs.Common.{◌≡◌, ℕ, false, List, [], ◌∷◌, ◌++◌, Option, Some, None, refl, sym, ap, ◌∙◌, subst}
+use Rattle.std.proofs.Common.{◌≡◌, ℕ, false, List, [], ◌∷◌, ◌++◌, Some, None, refl, sym, ap, ◌∙◌, subst}
 use Rattle.std.proofs.lemmas.Bool.{true≢false}
 use Rattle.base_script.specs.declared.actor.Actor.{Actor}
 use Rattle.base_script.specs.declared.actor.Actor.TheVariants.{Insp, Lock, Ren}
@@ -32,7 +32,7 @@ use Rattle.proof_journals.proofs.Machine.Asking.{some_request}
 use Rattle.proof_journals.proofs.Machine.Inspecting.{Inspects, inspects, notes_so, cuts_so}
 use Rattle.proof_journals.proofs.Machine.Journals.{IsRun, IsTogether, Asking, calls_so, polls_so, asking, ren_about}
 use Rattle.proof_migration.proofs.Attempt.Stages.{RenamerAt, StandsAt}
-use Rattle.proof_migration.proofs.Attempt.Standing.{ToolPhaseAt, about_own, renamer_unlocked}
+use Rattle.proof_migration.proofs.Attempt.Standing.{ToolPhaseAt, about_own, renamer_unlocked, none_some}
 use Rattle.proof_migration.proofs.Program.Turns.Follows.{kept_front, kept_run}
 use Rattle.proof_migration.proofs.ToolPhase.ToolPhaseTurns.{gives_asked}
 use Rattle.proof_migration.specs.InspectorWaits.{SetsCounter}
@@ -100,11 +100,6 @@ module _ (plan : PlanData) (runs : IsRunnable plan) (serial : IsSerialPlan plan)
     -- the locker has locked both names
     locked : work.cutover.hold ≡ Locks → (has Lock).locked ≡ both_names plan.table
     locked locks = ap (λ (s : Standing). s.locked) (stands.locker ∙ ap (held work.cutover.table) locks) ∙ ap both_names own_table
-
-    none_some : {A : Type 0} (request : Request) (waits : Option Request) → waits ≡ None → waits ≡ Some request → A
-    none_some request waits none some = absurd (no (sym none ∙ some)) where
-      no : None ≡ Some request → ⊥
-      no same = cc
 
     -- what the inspector waits with, in this phase
     insp_waits_in : (one : Phase) → phase ≡ one → (request : Request) → (has Insp).waits ≡ Some request → SetsCounter plan one request

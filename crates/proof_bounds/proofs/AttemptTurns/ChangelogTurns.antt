@@ -29,7 +29,7 @@ use Rattle.proof_journals.specs.Turns.{ClientAsks, about, reported_at}
 use Rattle.proof_journals.specs.Run.Kept.{IsKept}
 use Rattle.proof_journals.specs.Machine.Runnable.{IsRunnable}
 use Rattle.proof_journals.proofs.Ghost.Keeping.{found_besides}
-use Rattle.proof_journals.proofs.Machine.Marks.{ghost_not_log}
+use Rattle.proof_journals.proofs.Machine.Marks.{ghost_not_log, old_not_log}
 use Rattle.proof_journals.proofs.Moves.{drop_moves, gone_none, rename_moves}
 use Rattle.proof_migration.specs.ToolPhase.Unaltered.{IsUnaltered}
 use Rattle.proof_migration.proofs.Migration.Leaves.{IsMoved, WritesAway, turn_leaves}
@@ -38,7 +38,6 @@ use Rattle.proof_migration.proofs.Program.Hints.Logging.{LogsAway, NoneWrote, aw
 use Rattle.proof_migration.proofs.Program.Turns.Asked.{asked_as}
 use Rattle.proof_migration.proofs.ToolPhase.Unaltered.Asking.{AskedAs, ToolCall}
 use Rattle.proof_migration.proofs.ToolPhase.Unaltered.Away.{log_is_tool, tool_not_mine}
-use Rattle.proof_migration.proofs.HeldNames.Holders.{old_not_log}
 
 -- a new table is found, or one of the old ones
 front_or : (name : List ℕ) (tables : Database) (new table : TableRows) → find_table name (tables ++ new ∷ []) ≡ Some table → (find_table name tables ≡ Some table) ⊎ (new ≡ table)

@@ -40,7 +40,7 @@ use Rattle.tool_program.specs.declared.cutover_core.cutover.Phase.{Phase}
 use Rattle.tool_program.specs.declared.cutover_core.cutover.Phase.TheVariants.{Resting, Attempting, Ending, Finishing, Finished}
 use Rattle.tool_program.specs.declared.cutover_core.cutover.Stage.TheVariants.{Hinting, ReadingCounter, SettingCounter, Showing}
 use Rattle.tool_program.specs.CutoverCore.Attempts as attempts
-use Rattle.tool_program.specs.CutoverCore.Attempts.{clears, first_name, is_clear, is_free, without_first, writes_hint}
+use Rattle.tool_program.specs.CutoverCore.Attempts.{clears, is_clear, is_free, without_first, writes_hint}
 use Rattle.tool_program.specs.CutoverCore.CutOvers.{applier_turn, is_resting}
 use Rattle.tool_program.specs.Programs.{reach_in, tool_call, given}
 use Rattle.tool_program.specs.Setups.{Setup, Listing, Clearing, MakingLog, MakingGhost, Marking, Reaching, Ready, clearing, listed, setup_call, setup_after, setup_step}
@@ -60,7 +60,7 @@ use Rattle.proof_migration.specs.Program.Hints.{IsBegun, is_unhinted}
 use Rattle.proof_migration.specs.ToolPhase.Unaltered.{IsUnaltered}
 use Rattle.proof_migration.proofs.Attempt.Leaving.{has_is}
 use Rattle.proof_migration.proofs.Migration.Leaves.{WritesAway}
-use Rattle.proof_migration.proofs.Program.Hints.Asked.{insp_from, known}
+use Rattle.proof_migration.proofs.Program.Hints.Asked.{insp_from, known, setup_away}
 use Rattle.proof_migration.proofs.Program.Hints.Known.{hints_go, hints_known}
 use Rattle.proof_migration.proofs.Program.Hints.Logging.{NoneWrote, watched}
 use Rattle.proof_migration.proofs.Program.Hints.Writes.{away_hint}
@@ -70,10 +70,10 @@ use Rattle.proof_migration.proofs.Program.Turns.Asked.{waits_with}
 use Rattle.proof_migration.proofs.Program.Turns.Follows.{kept_front, kept_run}
 use Rattle.proof_migration.proofs.ToolPhase.ToolPhaseTurns.{Kept, SetupKeeps, AnswerKeeps, ResizeKeeps, turn_kept, gives_asked}
 use Rattle.proof_migration.proofs.ToolPhase.Unaltered.Away.{unaltered_front}
+use Rattle.proof_migration.proofs.KeptJournals.{each_kept}
 use Rattle.proof_bounds.proofs.Attempts.{attempts_few}
 use Rattle.proof_bounds.proofs.Going.{IsGoing, ToolPhaseFits, all_going, waits_to_set}
 use Rattle.proof_bounds.proofs.Inspecting.{setting_is}
-use Rattle.proof_migration.proofs.HeldNames.Holders.{each_kept}
 use Rattle.proof_bounds.proofs.Leftovers.{SetupFits}
 use Rattle.proof_bounds.specs.AttemptTurns.Attempts.{IsOk, MayTry, most_notes, most_tries}
 use Rattle.proof_bounds.proofs.AttemptTurns.ChangelogTurns.{others_away, rows_left, logs_left}
@@ -114,16 +114,6 @@ step_past table MakingGhost answer past = inl refl
 step_past table Marking answer past = inl refl
 step_past table (Reaching position) answer past = inl refl
 step_past table (Ready position range) answer past = inl refl
-
--- the setup writes no row of it
-setup_away : (plan : PlanData) (t : List ℕ) (setup : Setup) (request : Request) → setup_call plan setup ≡ Some request → WritesAway (watched t) request
-setup_away plan t Listing request is = some_request (WritesAway (watched t)) _ request is tt
-setup_away plan t (Clearing left) request is = some_request (WritesAway (watched t)) _ request is tt
-setup_away plan t MakingLog request is = some_request (WritesAway (watched t)) _ request is tt
-setup_away plan t MakingGhost request is = some_request (WritesAway (watched t)) _ request is tt
-setup_away plan t Marking request is = some_request (WritesAway (watched t)) _ request is tt
-setup_away plan t (Reaching position) request is = some_request (WritesAway (watched t)) _ request is tt
-setup_away plan t (Ready position range) request is = absurd cc
 
 -- a row of the changelog comes next: a note's, or the hint row
 
@@ -193,11 +183,6 @@ module _ (plan : PlanData) (runs : IsRunnable plan) (serial : IsSerialPlan plan)
 
   served : IsServed plan journal entry
   served = record { answered = run.answered; seated = record { session = run.followed.session } }
-
-  none_some : {A : Type 0} (request : Request) (waits : Option Request) → waits ≡ None → waits ≡ Some request → A
-  none_some request waits none some = absurd (no (sym none ∙ some)) where
-    no : None ≡ Some request → ⊥
-    no same = cc
 
   -- WHETHER IT WAS MADE BEFORE
 

@@ -25,6 +25,7 @@ use Rattle.tool_changelog.specs.Hints.{hint_row}
 use Rattle.tool_changelog.specs.ToolTables.{first_is_primary, log_schema}
 use Rattle.proof_bounds.specs.Rows.{all_keys}
 use Rattle.proof_bounds.specs.AttemptTurns.Attempts.{most_tries}
+use Rattle.table_store.proofs.Orders.{is_Equal}
 
 -- IT FITS
 
@@ -94,16 +95,11 @@ itself_not n few is = true≢false (sym is ∙ or_from (nat_lt n n) (nat_lt 1000
   far : nat_lt 1000000 n ≡ false
   far = grind (arith, nat_tests, few)
 
-equal_is : (o : Ordering) → is_eq o ≡ true → o ≡ Equal
-equal_is Equal same = refl
-equal_is Less same = absurd (false≢true same)
-equal_is Greater same = absurd (false≢true same)
-
 differs : (n : ℕ) (key : List Value) → n ≤ most_tries → is_below n key ≡ true → is_eq (compare_keys (Num (pos n) ∷ []) key) ≡ false
 differs n key few below = by (is_eq (compare_keys (Num (pos n) ∷ []) key)) refl where
   by : (b : Bool) → is_eq (compare_keys (Num (pos n) ∷ []) key) ≡ b → b ≡ false
   by false off = refl
-  by true same = absurd (itself_not n few (ap (is_below n) (tied_keys (Num (pos n) ∷ []) key (equal_is (compare_keys (Num (pos n) ∷ []) key) same)) ∙ below))
+  by true same = absurd (itself_not n few (ap (is_below n) (tied_keys (Num (pos n) ∷ []) key (is_Equal (compare_keys (Num (pos n) ∷ []) key) same)) ∙ below))
 
 -- *It clashes with none*
 pub hint_new : (n : ℕ) (rows : List (List Value)) → n ≤ most_tries → AllBelow n rows → list_any (clash first_is_primary (hint_row n)) rows ≡ false

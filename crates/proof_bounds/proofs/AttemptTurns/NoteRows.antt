@@ -5,8 +5,6 @@ use Rattle.std.specs.Fmt.{signed_decimal}
 use Rattle.std.specs.List.{AllByRecursion}
 use Rattle.std.specs.Option.{option_map}
 use Rattle.std.specs.Ordering.{is_eq}
-use Rattle.std.specs.declared.cmp.Ordering.{Ordering}
-use Rattle.std.specs.declared.cmp.Ordering.TheVariants.{Less, Equal, Greater}
 use Rattle.std.specs.Str.{bytes_eq}
 use Rattle.std.proofs.lemmas.Bool.{true≢false, false≢true, and_parts, or_right}
 use Rattle.std.proofs.lemmas.Bool.Decides.{nat_tests}
@@ -26,6 +24,7 @@ use Rattle.base_values.proofs.Orders.{tied_keys}
 use Rattle.base_script.specs.declared.statement.Statement.{Statement}
 use Rattle.base_script.specs.declared.statement.Statement.TheVariants as statements
 use Rattle.table_store.specs.Databases.{Database, TableRows, find_table, with_change}
+use Rattle.table_store.proofs.Orders.{is_Equal}
 use Rattle.server_model.specs.Checks.{beside, new_row, or_refused, row_from, work_of}
 use Rattle.server_model.specs.declared.answer.Answer.{Answer}
 use Rattle.server_model.specs.declared.answer.Answer.TheVariants as answers
@@ -197,11 +196,6 @@ pub log_uniques : (t : List ℕ) → (log_schema t).uniques ≡ first_is_primary
 unfolding log_schema
 log_uniques t = refl
 
-equal_is : (o : Ordering) → is_eq o ≡ true → o ≡ Equal
-equal_is Equal same = refl
-equal_is Less same = absurd (false≢true same)
-equal_is Greater same = absurd (false≢true same)
-
 or_false : (b : Bool) → (b || false) ≡ true → b ≡ true
 or_false true is = refl
 or_false false is = absurd (false≢true is)
@@ -210,7 +204,7 @@ or_false false is = absurd (false≢true is)
 clash_key : (one other : List Value) → clash first_is_primary one other ≡ true → (key_of (0 ∷ []) one ≡ key_of (0 ∷ []) other) × (no_null (key_of (0 ∷ []) one) ≡ true)
 clash_key one other is =
     let parts = and_parts (is_eq (compare_keys (key_of (0 ∷ []) one) (key_of (0 ∷ []) other))) (no_null (key_of (0 ∷ []) one)) (or_false _ is) in
-    (tied_keys (key_of (0 ∷ []) one) (key_of (0 ∷ []) other) (equal_is (compare_keys (key_of (0 ∷ []) one) (key_of (0 ∷ []) other)) parts.0), parts.1)
+    (tied_keys (key_of (0 ∷ []) one) (key_of (0 ∷ []) other) (is_Equal (compare_keys (key_of (0 ∷ []) one) (key_of (0 ∷ []) other)) parts.0), parts.1)
 
 -- and so two that clash with a third do
 clash_both : (row one other : List Value) → clash first_is_primary row one ≡ true → clash first_is_primary row other ≡ true → clash first_is_primary one other ≡ true

@@ -42,9 +42,9 @@ use Rattle.proof_journals.proofs.Machine.Seated.{own_missed}
 use Rattle.proof_migration.specs.Attempt.Renamed.{IsRenamedAt, ToolPhaseRenamed}
 use Rattle.proof_migration.specs.ToolPhase.Unaltered.{IsUnaltered}
 use Rattle.proof_migration.proofs.Attempt.Renamed.Seen.{all_seen}
-use Rattle.proof_migration.proofs.HeldNames.Holders.{along_of}
 use Rattle.proof_migration.proofs.Program.Turns.Follows.{kept_front, kept_run}
 use Rattle.proof_migration.proofs.ToolPhase.ToolPhaseTurns.{gives_asked}
+use Rattle.proof_migration.proofs.KeptJournals.{along_of}
 use Rattle.proof_bounds.specs.AttemptTurns.Attempts.{most_notes}
 use Rattle.proof_bounds.specs.Notes.{Comes, IsWritten, NoteGoes, NotesGoOn, RowGoes}
 use Rattle.proof_bounds.proofs.Going.{IsGoing, all_going}

@@ -19,7 +19,7 @@ use Rattle.tool_program.specs.declared.cutover_core.cutover.Drain.{Drain}
 use Rattle.tool_program.specs.declared.cutover_core.cutover.Drain.TheVariants.{Turns, Passed}
 use Rattle.tool_program.specs.CutoverCore.CutOvers.{is_done, is_wait, ended, failed, drain_of, drained, drains_to, drain_stage, with_drain, inspector_phase, locker_phase, renamer_phase, hold_after}
 use Rattle.proof_journals.specs.Machine.Machines.{PhaseHolds}
-use Rattle.proof_journals.proofs.Machine.CuttingOver.{LockerAsks, drain_cases}
+use Rattle.proof_journals.proofs.Machine.CuttingOver.{LockerAsks, drain_cases, lost_nothing}
 use Rattle.proof_migration.proofs.Attempt.RenamerAnswers.{AsksAt}
 use Rattle.proof_migration.proofs.Attempt.Stages.{RenamerAt}
 use Rattle.proof_bounds.specs.Guards.{WaitsForNoSentry}
@@ -266,14 +266,6 @@ module _ (w : ℕ) (counter live : Bool) (renames : Bool) (table : List ℕ) (re
     by WaitsToLock guarded most ends = omega (arith, most, ends)
     by Locks guarded most ends = omega (arith, most, ends)
 
-  lost_nothing : (hold : Hold) (stage : Stage) → hold_after hold (Attempting stage) answers.Lost ≡ Nothing
-  lost_nothing Nothing Locking = refl
-  lost_nothing Nothing stage = refl
-  lost_nothing WaitsToGuard stage = refl
-  lost_nothing WaitsToLock stage = refl
-  lost_nothing Locks Dropping = refl
-  lost_nothing Locks stage = refl
-
   lost_end : (hold : Hold) (cleared : Cleared) → WaitsForNoSentry hold → waited ≤ hold_waits w hold → attempt_left w counter live (hold_after hold (Ending cleared) answers.Lost) renames (Ending cleared) + waited ≤ attempt_left w counter live hold renames (Ending cleared)
   lost_end Nothing cleared guarded most = omega (arith, most)
   lost_end WaitsToGuard cleared guarded most = absurd guarded
@@ -295,7 +287,7 @@ module _ (w : ℕ) (counter live : Bool) (renames : Bool) (table : List ℕ) (re
       omega (arith, a, b, c, none) where
         nothing_left : (hold : Hold) → hold ≡ Nothing → hold_left w (hold_after hold Resting answers.Lost) ≤ 0
         nothing_left hold nothing = rw nothing (omega arith)
-  locker_lost hold (Attempting stage) holds guarded done most = let a = lost_stage hold stage (lost_nothing hold stage) guarded most in omega (arith, a)
+  locker_lost hold (Attempting stage) holds guarded done most = let a = lost_stage hold stage (lost_nothing hold (Attempting stage)) guarded most in omega (arith, a)
   locker_lost hold (Ending cleared) holds guarded done most = let a = lost_end hold cleared guarded most in omega (arith, a)
   locker_lost hold (Finishing cleared) holds guarded done most = let a = none_done hold (done refl) most in omega (arith, a)
   locker_lost hold Finished holds guarded done most = let a = none_done hold (done refl) most in omega (arith, a)

@@ -75,10 +75,11 @@ use Rattle.proof_migration.proofs.ToolPhase.ToolPhaseTurns.{Kept, UnfitKeeps, Co
 use Rattle.proof_migration.specs.InspectorWaits.{SetsCounter}
 use Rattle.proof_bounds.specs.Guards.{HasSentryAtOnce, WaitsForNoSentry}
 use Rattle.proof_migration.proofs.HeldNames.FreeNames.{IsAway, away_forbidden, away_free, free_name, drops_ok}
+use Rattle.proof_migration.proofs.KeptJournals.{each_kept}
+use Rattle.proof_migration.proofs.ToolPhase.Marked.{old_is_tool}
 use Rattle.proof_bounds.proofs.Going.{IsGoing, all_going, insp_idle, insp_unlocked, insp_waits, polled_ends}
 use Rattle.proof_bounds.proofs.Guards.{sentries_made}
-use Rattle.proof_migration.proofs.HeldNames.Holders.{each_kept}
-use Rattle.proof_bounds.proofs.Leftovers.{has_stays, old_is_tool}
+use Rattle.proof_bounds.proofs.Leftovers.{has_stays}
 use Rattle.proof_bounds.specs.AttemptTurns.Attempts.{IsAt, IsNotRefused}
 
 -- THE PHASES IN WHICH IT EXISTS
@@ -490,11 +491,6 @@ module _ (plan : PlanData) (runs : IsRunnable plan) (journal : List Entry) (entr
       unfolding attempts.next
       insp_asked (cuts_so off next) = insp_next phase refl next
       insp_asked (notes_so note resting onward next) = subst (λ (p : Phase). Becomes (inspector_phase work.cutover p entry.answer)) (sym resting) (λ need. absurd (false≢true need))
-
-    none_some : {A : Type 0} (request : Request) (waits : Option Request) → waits ≡ None → waits ≡ Some request → A
-    none_some request waits none some = absurd (no (sym none ∙ some)) where
-      no : None ≡ Some request → ⊥
-      no same = cc
 
     insp_turn : entry.actor ≡ Insp → Asking plan journal Insp entry.asked → (tries : List ℕ) → New (is_reverting now.tool.reason) (Migrating (record work { cutover = cutovers.took Inspector work.cutover entry.answer; attempt_tries = tries }))
     unfolding cutovers.took

@@ -1,19 +1,16 @@
 -- The applying of a batch takes as many turns a try as its statements and their waits come to, and the next batch begins behind an
 -- event more.
-use Rattle.std.proofs.Common.{◌≡◌, ◌⊎◌, inl, inr, ◌≤◌, ◌<◌, ℕ, ◌+◌, ◌*◌, ◌==◌, Bool, true, false, cond, not, ◌&&◌, List, [], ◌∷◌, ◌++◌, length, Option, Some, None, refl, sym, ap, ◌∙◌, subst, arith, mul-le-mul_right}
-use Rattle.std.specs.Prelude.{nat_lt}
+use Rattle.std.proofs.Common.{◌≡◌, ◌⊎◌, inl, inr, ◌≤◌, ◌<◌, ℕ, ◌+◌, ◌*◌, ◌==◌, Bool, true, false, cond, ◌&&◌, List, [], ◌∷◌, ◌++◌, length, Option, Some, None, refl, sym, ap, ◌∙◌, subst, arith, mul-le-mul_right}
 use Rattle.std.specs.List.{list_any}
 use Rattle.std.proofs.lemmas.Bool.{true≢false, false≢true}
-use Rattle.std.proofs.lemmas.Bool.Decides.{nat_tests}
 use Rattle.std.proofs.lemmas.List.{length_push}
 use Rattle.std.proofs.lemmas.Option.{none-some}
 use Rattle.base_script.specs.declared.actor.Actor.{Actor}
 use Rattle.base_script.specs.declared.actor.Actor.TheVariants.{Op, Insp, Copy, Apply, Lock, Ren, Client}
-use Rattle.base_values.specs.ToolNames.{log_name}
 use Rattle.base_values.specs.declared.event.RowEvent.{RowEvent}
 use Rattle.server_model.specs.EarlierAnswers.{events_in}
 use Rattle.server_model.specs.Entries.{answer_at, same_actor, is_command, is_cut}
-use Rattle.server_model.specs.States.{State, has_work, unread}
+use Rattle.server_model.specs.States.{State, has_work}
 use Rattle.server_model.specs.declared.answer.Answer.{Answer}
 use Rattle.server_model.specs.declared.answer.Answer.TheVariants as answers
 use Rattle.server_model.specs.declared.entry.Asked.TheVariants.{Call, Cut}
@@ -34,14 +31,13 @@ use Rattle.tool_program.specs.declared.event_applier.applier.Batch.{Batch}
 use Rattle.tool_program.specs.declared.event_applier.applier.Part.{Part}
 use Rattle.tool_program.specs.declared.event_applier.applier.Part.TheVariants.{Whole, Removal, Return}
 use Rattle.tool_program.specs.ChunkCopier.Copiers as copiers
-use Rattle.tool_program.specs.EventApplier.Appliers.{Doing, after_part, after_refusal, after_statements, batch_of, moved, planned, progress, progress_at, read_batch, starts, took}
+use Rattle.tool_program.specs.EventApplier.Appliers.{Doing, after_part, batch_of, moved, planned, progress, progress_at, took}
 use Rattle.tool_program.specs.EventApplier.Appliers as appliers
 use Rattle.tool_program.specs.CutoverCore.CutOvers.{is_done}
-use Rattle.tool_program.specs.Programs.{in_transaction, is_held, may_read, unread_in, rolls_back, apply_call, tool_asks, tool_call, given}
+use Rattle.tool_program.specs.Programs.{in_transaction, rolls_back, apply_call, tool_asks, tool_call, given}
 use Rattle.tool_program.specs.Setups.{Setup, Listing, Clearing, MakingLog, MakingGhost, Marking, Reaching, Ready, setup_after}
-use Rattle.tool_program.specs.Tools.{ToolPhase, SettingUp, Migrating, Tool, Work, is_renamed, is_reverting, stopped, tool_phase_of, moment}
+use Rattle.tool_program.specs.Tools.{ToolPhase, SettingUp, Migrating, Tool, Work, is_reverting, stopped, tool_phase_of, moment}
 use Rattle.tool_program.proofs.JournalWords.Answers.{answer_here, answer_more}
-use Rattle.tool_program.proofs.OnlineCalls.Machines.{ToolPhaseIsNamed, named}
 use Rattle.proof_journals.specs.Machine.Machines.{ApplierStands, SetupStands, ToolPhaseStands, WorkStands}
 use Rattle.proof_journals.specs.Machine.Runnable.{IsRunnable}
 use Rattle.proof_journals.specs.Machine.Standings.{Standing, free, answers_to, IsAbout, is_called, standing_in, standing_of}
@@ -57,11 +53,11 @@ use Rattle.proof_migration.specs.ToolPhase.Unaltered.{IsUnaltered}
 use Rattle.proof_migration.proofs.Program.Turns.Follows.{kept_front, kept_run, unmarked_now}
 use Rattle.proof_migration.proofs.ToolPhase.ToolPhaseTurns.{Kept}
 use Rattle.proof_migration.proofs.ToolPhase.Unaltered.Away.{IsKnownAsked, all_asked, unaltered_front}
+use Rattle.proof_migration.proofs.KeptJournals.{each_kept}
 use Rattle.proof_bounds.specs.Laws.{MayWait}
 use Rattle.proof_bounds.specs.Parts.{OfBatches, rolls_back as is_rollback, part_of, same_part, turns_of_part}
 use Rattle.proof_bounds.specs.Tries.{ToolPhaseRoom}
 use Rattle.proof_bounds.proofs.Counting.{count_none}
-use Rattle.proof_migration.proofs.HeldNames.Holders.{each_kept}
 use Rattle.proof_bounds.proofs.Tries.{tries_few}
 use Rattle.proof_bounds.proofs.Waits.{waited_by, IsCounted, counted_more, counted_begins, idle_waited, others_wait, waits_cut, waits_end, waits_on, waits_short}
 use Rattle.proof_bounds.specs.TaskTurns.Answers.{BatchAnswer, IsClash, left_at}
@@ -72,6 +68,7 @@ use Rattle.proof_bounds.proofs.TaskTurns.Logs.{left_less}
 use Rattle.proof_bounds.proofs.TaskTurns.OwnTurns.{TaskTurn, batch_turn, busy_waited, command_other, idle_cut, no_turn, one_turn, own_asking}
 use Rattle.proof_bounds.proofs.TaskTurns.Paying.{IsClosed, IsPaid, closed_ends, closed_stays, closed_waits}
 use Rattle.proof_bounds.proofs.TaskTurns.TurnRule.{AnswerLeaves, ApplyLeaves, Applied, Copied, TurnLeaves, turn_left}
+use Rattle.proof_bounds.proofs.TaskTurns.ReadLogs.{called_reads}
 
 -- WHAT IS PLANNED
 
@@ -548,7 +545,6 @@ module _ (defined : DefinitionsAreDone) (plan : PlanData) (runs : IsRunnable pla
 
           -- it reads where something is unread
           reads : (was : Opened journal (log_of journal) turns waited tries work.applier) → on_now ≡ false → appliers.is_reading work.applier.step ≡ true → 1 ≤ left_at plan.table (log_of journal) work.applier.position
-          unfolding unread
           reads was going reading = by asks where
             rests : (step : ApplyStep) → appliers.is_reading step ≡ true → RestsAt waited step → waited ≡ 0
             rests Reading is_so at = at
@@ -556,36 +552,10 @@ module _ (defined : DefinitionsAreDone) (plan : PlanData) (runs : IsRunnable pla
             rests (Committing batch) is_so at = at
             rests (Applying batch done part) is_so at = absurd (false≢true is_so)
 
-            own : work.applier.table ≡ plan.table
-            own = (subst (ToolPhaseIsNamed plan) eq (named plan journal)).applier
-
-            positive : (n : ℕ) → nat_lt 0 n ≡ true → 1 ≤ n
-            positive n is_so = grind (arith, nat_tests, is_so)
-
-            both_left : (a b : Bool) → (a && b) ≡ true → a ≡ true
-            both_left true b is_so = refl
-            both_left false b is_so = absurd (false≢true is_so)
-
-            allowed : (a b c : Bool) (next : Request) (request : Request) → b ≡ true → cond a None (cond (b && not c) None (Some next)) ≡ Some request → c ≡ true
-            allowed true b c next request reads_so call = absurd cc
-            allowed false true true next request reads_so call = refl
-            allowed false true false next request reads_so call = absurd cc
-            allowed false false c next request reads_so call = absurd (false≢true reads_so)
-
-            left_so : unread_in (moment plan journal).server work ≡ left_at plan.table (log_of journal) work.applier.position
-            left_so = ap (λ (s : State). unread_in s work) together.server ∙ ap (λ (t : List ℕ). unread (state_at plan journal) work.applier.position (t ∷ log_name t ∷ [])) own
-
-            called_reads : (request : Request) → apply_call plan (moment plan journal).server journal (moment plan journal).tool work ≡ Some request → 1 ≤ left_at plan.table (log_of journal) work.applier.position
-            called_reads request call =
-                subst (λ (n : ℕ). 1 ≤ n) left_so
-                (positive (unread_in (moment plan journal).server work)
-                (both_left (nat_lt 0 (unread_in (moment plan journal).server work)) (not (is_held plan (moment plan journal).server (moment plan journal).tool work))
-                (allowed (is_done work.cutover.phase) (starts work.applier) (may_read plan (moment plan journal).server (moment plan journal).tool work) (appliers.next journal work.applier) request reading call)))
-
             by : Asking plan journal Apply entry.asked → 1 ≤ left_at plan.table (log_of journal) work.applier.position
             by (calls_so request asks_so idle call) =
                 reverting_or (1 ≤ left_at plan.table (log_of journal) work.applier.position) on_now (rolls_back (moment plan journal).server (live_session journal Apply)) (apply_call plan (moment plan journal).server journal (moment plan journal).tool work) request
-                (ap (λ (c : ToolPhase). tool_call plan (moment plan journal).server journal (moment plan journal).tool c Apply) (sym eq) ∙ call) (λ reverting back_so. absurd (true≢false (sym reverting ∙ going))) (λ goes asks_next. called_reads request asks_next)
+                (ap (λ (c : ToolPhase). tool_call plan (moment plan journal).server journal (moment plan journal).tool c Apply) (sym eq) ∙ call) (λ reverting back_so. absurd (true≢false (sym reverting ∙ going))) (λ goes asks_next. called_reads plan journal together work eq reading request asks_next)
             by (polls_so request asks_so waits_so) =
                 let busy = busy_waited (state_at plan journal) (live_session journal Apply) request waits_so in
                 let none = rests work.applier.step reading was.open_so.rests in

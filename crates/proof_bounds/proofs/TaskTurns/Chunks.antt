@@ -38,11 +38,11 @@ use Rattle.proof_journals.proofs.Machine.Seated.{IsServed, own_fits}
 use Rattle.proof_journals.proofs.Machine.Tabling.{IsTabled, all_tabled, back_quiet, copied_idle}
 use Rattle.proof_migration.proofs.Program.Turns.Follows.{kept_front, kept_run}
 use Rattle.proof_migration.proofs.ToolPhase.ToolPhaseTurns.{Kept}
+use Rattle.proof_migration.proofs.KeptJournals.{each_kept}
 use Rattle.proof_bounds.specs.Laws.{MayWait}
 use Rattle.proof_bounds.specs.Parts.{OfChunks, rolls_back as is_rollback, part_of, same_part, turns_of_part}
 use Rattle.proof_bounds.specs.Tries.{ToolPhaseRoom}
 use Rattle.proof_bounds.proofs.Counting.{count_none}
-use Rattle.proof_migration.proofs.HeldNames.Holders.{each_kept}
 use Rattle.proof_bounds.proofs.Tries.{tries_few}
 use Rattle.proof_bounds.proofs.Waits.{waited_by, IsCounted, counted_more, counted_begins, idle_waited, others_wait, waits_cut, waits_end, waits_on, waits_short}
 use Rattle.proof_bounds.specs.TaskTurns.Chunks.{ChunksGoOn, ChunkTurnsAreFew, NoChunksYet, tries_turns}

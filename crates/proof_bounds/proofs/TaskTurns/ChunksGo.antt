@@ -1,9 +1,9 @@
 -- The copy goes on: each call of the copier's is done, but what waits, and a row that doesn't fit.
-use Rattle.std.proofs.Common.{◌≡◌, ◌≤◌, ℕ, zero, suc, Bool, true, false, cond, ◌&&◌, List, [], ◌∷◌, ◌++◌, length, take, map, Option, Some, None, refl, sym, ap, ◌∙◌, subst, arith}
-use Rattle.std.specs.Prelude.{nat_lt}
+use Rattle.std.proofs.Common.{◌≡◌, ◌≤◌, ℕ, zero, suc, Bool, true, false, cond, ◌&&◌, List, [], ◌∷◌, ◌++◌, length, take, Option, Some, None, refl, sym, ap, ◌∙◌, subst, arith}
 use Rattle.std.specs.Option.{option_map}
 use Rattle.std.proofs.lemmas.Bool.{true≢false, false≢true}
 use Rattle.std.proofs.lemmas.Option.{none-some}
+use Rattle.std.proofs.lemmas.List.{length-map}
 use Rattle.base_script.specs.declared.actor.Actor.{Actor}
 use Rattle.base_script.specs.declared.actor.Actor.TheVariants.{Copy}
 use Rattle.base_values.specs.Laws.{StoresAgain}
@@ -17,7 +17,7 @@ use Rattle.base_values.specs.declared.row_conversion.map.MapColumn.{MapColumn}
 use Rattle.table_store.specs.Databases.{Database, TableRows, find_table, rows_in}
 use Rattle.server_model.specs.Chunks.{keys_in, span_keys}
 use Rattle.server_model.specs.Blockers.{need_within}
-use Rattle.server_model.specs.Effects.{begins, effect_unless, effect_within, is_outside}
+use Rattle.server_model.specs.Effects.{begins, effect_unless, is_outside}
 use Rattle.server_model.specs.Entries.{is_command, is_cut}
 use Rattle.server_model.specs.PlainServer.{does, done, did}
 use Rattle.server_model.specs.States.{State, is_in_transaction, session_of, view}
@@ -63,11 +63,6 @@ use Rattle.proof_bounds.proofs.TaskTurns.Past.{uncopied_unaltered}
 
 -- WHAT IS DONE
 
--- no row is given twice
-map_length : {A B : Type 0} (f : A → B) (xs : List A) → length (map f xs) ≡ length xs
-map_length f [] = refl
-map_length f (x ∷ xs) = ap suc (map_length f xs)
-
 taken_less : {A : Type 0} (n : ℕ) (xs : List A) → length (take n xs) ≤ length xs
 taken_less zero xs = omega arith
 taken_less (suc n) [] = omega arith
@@ -99,7 +94,7 @@ module _ (most : ℕ) where
         keys_less : length (take size (keys_in span one)) ≤ most
         keys_less =
             let taken = taken_less size (keys_in span one) in
-            let mapped : length (keys_in span one) ≡ length (rows_in one span) = map_length (key_of (key_places one.schema)) (rows_in one span) in
+            let mapped : length (keys_in span one) ≡ length (rows_in one span) = length-map (rows_in one span) (key_of (key_places one.schema)) in
             let kept : length (rows_in one span) ≤ length one.rows = filtered_less (λ (row : List Value). in_span span (key_of (key_places one.schema) row)) one.rows in
             omega (arith, taken, mapped, kept, few)
 

@@ -20,7 +20,7 @@ use Rattle.proof_migration.proofs.Once.Past.{IsPast, ToolPhasePast, goes_past}
 use Rattle.proof_migration.proofs.Once.Renames.{renamed_past, unaltered_more}
 use Rattle.proof_migration.proofs.Program.Turns.Follows.{kept_front, kept_run}
 use Rattle.proof_migration.proofs.ToolPhase.Unaltered.Away.{all_asked}
-use Rattle.proof_migration.proofs.HeldNames.Holders.{each_kept}
+use Rattle.proof_migration.proofs.KeptJournals.{each_kept}
 
 module _ (defined : DefinitionsAreDone) (plan : PlanData) (runs : IsRunnable plan) (serial : IsSerialPlan plan) where
   abbrev pub Either : List Entry → Type 0

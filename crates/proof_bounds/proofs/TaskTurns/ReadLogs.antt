@@ -6,7 +6,7 @@ use Rattle.std.specs.List.{flat_map}
 use Rattle.std.specs.Str.{bytes_eq}
 use Rattle.std.proofs.lemmas.Bool.{false≢true}
 use Rattle.std.proofs.lemmas.Bool.Decides.{nat_tests}
-use Rattle.std.proofs.lemmas.List.{append_cancel_left, take-append-drop}
+use Rattle.std.proofs.lemmas.List.{append_cancel_left, take-append-drop, length-map}
 use Rattle.std.proofs.lemmas.List.Sums.{length-filter, sum_by-append, sum_by-cons}
 use Rattle.base_values.specs.ToolNames.{log_name}
 use Rattle.base_values.specs.declared.event.Change.{Change}
@@ -19,7 +19,7 @@ use Rattle.server_model.specs.declared.entry.Entry.{Entry}
 use Rattle.server_model.specs.declared.request.Request.{Request}
 use Rattle.plan_data.specs.PlanData.{PlanData}
 use Rattle.tool_program.specs.CutoverCore.CutOvers.{is_done}
-use Rattle.tool_program.specs.EventApplier.Appliers.{Doing, Putting, Removing, Changing, changes_key, doings, events_of, given_values, planned, starts}
+use Rattle.tool_program.specs.EventApplier.Appliers.{Putting, Removing, Changing, changes_key, doings, events_of, given_values, planned, starts}
 use Rattle.tool_program.specs.EventApplier.Appliers as appliers
 use Rattle.tool_program.specs.JournalWords.Journals.{state_at}
 use Rattle.tool_program.specs.Programs.{apply_call, is_held, may_read, unread_in}
@@ -30,6 +30,7 @@ use Rattle.proof_journals.proofs.Ghost.Reading.{read_is}
 use Rattle.proof_journals.proofs.Machine.Journals.{IsTogether}
 use Rattle.proof_journals.proofs.Sentry.Draining.{IsRead, on_both}
 use Rattle.proof_bounds.specs.TaskTurns.Answers.{Passes, doing_turns, doings_turns, left_at}
+use Rattle.proof_migration.proofs.ToolPhase.Chunks.Sizes.{take_few}
 
 abbrev both : List ℕ → List (List ℕ)
 both table = table ∷ log_name table ∷ []
@@ -75,21 +76,12 @@ all_read tables place (event ∷ part) = by (is_of tables event) refl (all_read 
   by true is rest = let whole = sum_by-cons (λ (e : RowEvent). cond (is_of tables e) 1 0) event part ∙ ap (λ (b : Bool). cond b 1 0 + count_by (is_of tables) part) is in omega (arith, rest, whole)
   by false is rest = let whole = sum_by-cons (λ (e : RowEvent). cond (is_of tables e) 1 0) event part ∙ ap (λ (b : Bool). cond b 1 0 + count_by (is_of tables) part) is in omega (arith, rest, whole)
 
-taken_most : {A : Type 0} (n : ℕ) (xs : List A) → length (take n xs) ≤ n
-taken_most zero xs = omega arith
-taken_most (suc n) [] = omega arith
-taken_most (suc n) (x ∷ xs) = let rest = taken_most n xs in omega (arith, rest)
-
 taken_some : {A : Type 0} (n : ℕ) (xs : List A) → 1 ≤ n → 1 ≤ length xs → 1 ≤ length (take n xs)
 taken_some zero xs some more = absurd (no some) where
   no : 1 ≤ 0 → ⊥
   no less = omega (arith, less)
 taken_some (suc n) [] some more = omega (arith, more)
 taken_some (suc n) (x ∷ xs) some more = omega arith
-
-mapped : {A B : Type 0} (f : A → B) (xs : List A) → length (map f xs) ≡ length xs
-mapped f [] = refl
-mapped f (x ∷ xs) = ap suc (mapped f xs)
 
 -- it gives some event where one is unread, and so many at most
 pub record ReadsSome (limit : ℕ) (read : List RowEvent) : Type 0 where
@@ -103,7 +95,7 @@ reads_some table log position limit read following fits left is = record {
       let same = length_so in
       omega (arith, more, same);
   most =
-      let less = taken_most limit (read_from (both table) position (drop position log)) in
+      let less = take_few limit (read_from (both table) position (drop position log)) in
       let same = length_so in
       omega (arith, less, same);
 } where
@@ -117,7 +109,7 @@ reads_some table log position limit read following fits left is = record {
   list = let both = both_are in cc
 
   length_so : length read ≡ length (take limit (read_from (both table) position (drop position log)))
-  length_so = ap (λ (l : List RowEvent). length l) list ∙ mapped (λ (r : ReadEvent). r.event) (take limit (read_from (both table) position (drop position log)))
+  length_so = ap (λ (l : List RowEvent). length l) list ∙ length-map (take limit (read_from (both table) position (drop position log))) (λ (r : ReadEvent). r.event)
 
 -- A LATER POSITION
 

@@ -54,9 +54,9 @@ use Rattle.proof_migration.proofs.Program.Hints.Known.{hints_go}
 use Rattle.proof_migration.proofs.Program.Turns.Follows.{kept_front, kept_run}
 use Rattle.proof_migration.proofs.ToolPhase.ToolPhaseTurns.{Kept, UnfitKeeps}
 use Rattle.proof_migration.proofs.ToolPhase.Unaltered.Away.{IsKnownAsked, all_asked}
+use Rattle.proof_migration.proofs.KeptJournals.{each_kept}
 use Rattle.proof_bounds.proofs.Going.{all_going}
-use Rattle.proof_migration.proofs.HeldNames.Holders.{each_kept}
-use Rattle.proof_bounds.proofs.Reverting.{reverting_more}
+use Rattle.proof_migration.proofs.Program.Turns.Reverting.{reverting_more}
 use Rattle.proof_bounds.proofs.TaskTurns.OwnTurns.{command_other, own_asking}
 use Rattle.proof_bounds.proofs.TaskTurns.Past.{past_at}
 use Rattle.proof_bounds.proofs.TaskTurns.TurnRule.{AnswerLeaves, Applied, Copied, TurnLeaves, turn_left}

@@ -28,11 +28,11 @@ use Rattle.proof_journals.proofs.Machine.Tabling.{IsTabled, all_tabled, copied_i
 use Rattle.proof_migration.specs.ToolPhase.Unaltered.{IsUnaltered}
 use Rattle.proof_migration.proofs.Once.Past.{IsPast, ToolPhasePast}
 use Rattle.proof_migration.proofs.Program.Turns.Follows.{kept_front, kept_run}
+use Rattle.proof_migration.proofs.KeptJournals.{each_kept}
 use Rattle.proof_bounds.specs.Laws.{MayWait}
 use Rattle.proof_bounds.specs.Parts.{OfBatches, OfChunks, part_of, rolls_back as is_rollback, same_part, turns_of_part}
 use Rattle.proof_bounds.specs.Terms.{term_of}
 use Rattle.proof_bounds.proofs.Counting.{count_none}
-use Rattle.proof_migration.proofs.HeldNames.Holders.{each_kept}
 use Rattle.proof_bounds.specs.TaskTurns.Chunks.{ChunksGoOn, RowsStayFew}
 use Rattle.proof_bounds.specs.TaskTurns.Totals.{BatchesStayWithin, ChunksStayWithin, NumbersStayFew}
 use Rattle.proof_bounds.proofs.TaskTurns.Batches.{batch_few}

@@ -70,6 +70,7 @@ use Rattle.proof_migration.proofs.ToolPhase.Unaltered.Runs.{unaltered_runs}
 use Rattle.proof_migration.proofs.Unfit.Known.{IsKnownTurn, known_turn}
 use Rattle.proof_bounds.specs.Rows.{all_keys}
 use Rattle.proof_migration.proofs.HeldNames.Holders.{all_held_well}
+use Rattle.proof_migration.proofs.Program.Hints.Courses.{IsWait, waits_wait, no_waits}
 use Rattle.proof_bounds.specs.Volumes.Laws.{ChunksAreFew}
 use Rattle.proof_bounds.proofs.Volumes.ChunkAnswers.{RangeSays, end_said, range_said, span_said}
 use Rattle.proof_bounds.proofs.Volumes.Chunks.{AsksSo, CopierCounted, RangeCounted, SaysAt, StepCounted, again, answered_so, asks_later, copier_later, few_chunks, next_asks, resized_counted, took_range, waits_going, waits_took}
@@ -90,23 +91,6 @@ WaitsSo plan journal waits copier = (range : CopyRange) (request : Request) → 
 abbrev PhaseCounted : PlanData → TableRows → List Entry → Bool → ToolPhase → Type 0
 PhaseCounted plan opened journal reverting (SettingUp setup tries) = Unit {0}
 PhaseCounted plan opened journal reverting (Migrating work) = CopierCounted journal (keys_at plan opened journal) work.copier work.copier.range × (reverting ≡ false → WaitsSo plan journal (standing_of plan journal Copy).waits work.copier)
-
--- a wait is what the turn was about
-record IsWait (about request : Request) (answer : Answer) : Type 0 where
-  other : ℕ
-  is : answer ≡ answers.Waits other
-  same : about ≡ request
-
-waits_wait : (about request : Request) (answer : Answer) (old : Standing) → (answered about answer old).waits ≡ Some request → IsWait about request answer
-waits_wait about request (answers.Waits other) old some = record { other = other; is = refl; same = let one : about ≡ request = cc in one }
-waits_wait about request answers.Lost old some = absurd cc
-waits_wait about request (answers.TimedOut waited) old some = absurd cc
-waits_wait about request answer old some = absurd cc
-
-no_waits : (standing : Standing) (request : Request) → standing ≡ free → standing.waits ≡ Some request → ⊥
-no_waits standing request none some = no (sym (ap (λ (s : Standing). s.waits) none) ∙ some) where
-  no : None ≡ Some request → ⊥
-  no same = cc
 
 -- ONE TURN
 
@@ -336,7 +320,7 @@ module _ (plan : PlanData) (runs : IsRunnable plan) (serial : IsSerialPlan plan)
       took_waits : WaitsSo plan more (now_has Copy).waits next_copier
       took_waits range request ranged some =
           let wait : IsWait copy_asks.request request entry.answer = waits_now request some in
-          let still : next_copier ≡ work.copier = ap (took tool.turns work.copier) wait.is ∙ waits_took tool.turns work.copier wait.other in
+          let still : next_copier ≡ work.copier = ap (took tool.turns work.copier) wait.is ∙ waits_took tool.turns work.copier wait.by in
           subst (λ (c : Copier). AsksSo more plan.table (low_end more range c.following) range c.step request) (sym still) (asks_then range request (ap (λ (c : Copier). c.range) (sym still) ∙ ranged) wait)
 
       unfit_so : (place number : ℕ) → copiers.progress work.copier entry.answer ≡ Unfit place number → UnfitKeeps New work
@@ -344,7 +328,7 @@ module _ (plan : PlanData) (runs : IsRunnable plan) (serial : IsSerialPlan plan)
         old : New false (Migrating work)
         old = (
           later work.copier counted,
-          λ still range request ranged some. let wait : IsWait copy_asks.request request entry.answer = waits_now request some in absurd (waits_going work.copier wait.other place number (ap (copiers.progress work.copier) (sym wait.is) ∙ is)),
+          λ still range request ranged some. let wait : IsWait copy_asks.request request entry.answer = waits_now request some in absurd (waits_going work.copier wait.by place number (ap (copiers.progress work.copier) (sym wait.is) ∙ is)),
         )
 
     heard_copy : (entry.asked ≡ Cut → ⊥) → CopyKeeps New entry.answer tool work

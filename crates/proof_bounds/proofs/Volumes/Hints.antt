@@ -1,7 +1,7 @@
 -- Each attempt to exchange the tables logs one event of the changelog at most: its hint row, which the inspector inserts while the
 -- attempt has none; and each row of a note two. Nobody else's turn logs any, and the inspector waits with no INSERT, so none outlives
 -- its attempt.
-use Rattle.proof_migration.proofs.ToolServes.{about_called_so, tool_serves}
+use Rattle.proof_migration.proofs.ToolServes.{tool_serves}
 use Rattle.std.proofs.Common.{◌≡◌, ◌≤◌, ◌<◌, ◌⊎◌, inl, inr, ℕ, ◌+◌, ◌*◌, Bool, true, false, cond, List, [], ◌∷◌, ◌++◌, Option, Some, None, refl, sym, ap, ◌∙◌, subst, arith, append_assoc, append-nil}
 use Rattle.std.specs.Prelude.{count_by, ◌&&◌, ◌||◌}
 use Rattle.std.specs.Str.{bytes_eq}
@@ -60,6 +60,7 @@ use Rattle.proof_journals.proofs.Ghost.Keeping.{found_besides}
 use Rattle.proof_journals.proofs.Ghost.Leaving.{holds_of}
 use Rattle.proof_journals.proofs.Machine.Asking.{some_request}
 use Rattle.proof_journals.proofs.Machine.Inspecting.{IsNote, inspects_or}
+use Rattle.proof_journals.proofs.Journals.{no_command}
 use Rattle.proof_migration.specs.Program.Hints.{is_unhinted}
 use Rattle.proof_migration.specs.ToolPhase.Unaltered.{IsUnaltered}
 use Rattle.proof_migration.proofs.Migration.Leaves.{WritesAway}
@@ -343,7 +344,7 @@ module _ (plan : PlanData) (runs : IsRunnable plan) (serial : IsSerialPlan plan)
     own_tool : (request : Request) → About request → is_of_tool (session_of entry.session (opens entry now).sessions) ≡ true
     own_tool request asks =
         tool_serves plan journal entry (before plan runs serial journal entry kept off) (together plan runs serial journal entry kept off) (run plan runs serial journal entry kept off)
-        (about_called_so (opens entry now) entry.session entry.asked request asks) (ap is_client same)
+        (no_command (opens entry now) entry.session entry.asked request asks) (ap is_client same)
 
     -- a statement grows the log by what it writes
     grown_by : (statement : Statement) (most : ℕ) → count_of (log_name t) (operation_result (seen_of now entry.session) (operation_of statement)).events ≤ most → About (requests.Do statement) → count_of (log_name t) then.log ≤ count_of (log_name t) now.log + most

@@ -37,7 +37,7 @@ use Rattle.proof_migration.proofs.CutOver.Renames.{Found, renames_found}
 use Rattle.proof_migration.proofs.Migration.Copier.Knowing.{asks_at}
 use Rattle.proof_migration.proofs.ToolPhase.ToolPhaseTurns.{AnswerKeeps, ApplyKeeps, CopyKeeps, CutKeeps, DrainKeeps, Kept, ResizeKeeps, gives_asked, turn_kept}
 use Rattle.proof_migration.proofs.Unfit.Known.{IsKnownTurn, known_turn}
-use Rattle.proof_migration.proofs.HeldNames.Holders.{each_kept}
+use Rattle.proof_migration.proofs.KeptJournals.{each_kept}
 use Rattle.proof_bounds.specs.Volumes.Laws.{ChunksStayFew}
 use Rattle.proof_bounds.proofs.Volumes.ChunkCounts.{chunks_few}
 

@@ -48,10 +48,10 @@ pub record AreFew (n : ℕ) (all : List Change) : Type 0 where
   pub changes : length all ≤ n
   pub writes : count_by is_write all ≤ 1
 
-none_few : (n : ℕ) → AreFew n []
+pub none_few : (n : ℕ) → AreFew n []
 none_few n = record { changes = omega arith; writes = omega arith }
 
-filter_short : (p : Row → Bool) (rows : List Row) → length (filter p rows) ≤ length rows
+pub filter_short : (p : Row → Bool) (rows : List Row) → length (filter p rows) ≤ length rows
 filter_short p rows = let a = length-filter p rows in let b = count_by-le-length p rows in omega (arith, a, b)
 
 none_written : (rows : List Row) → count_by is_write (map changes.Delete rows) ≡ 0
@@ -114,7 +114,8 @@ refused_few n schema at (row ∷ met) rows = none_few n
 more_few : (n m : ℕ) (all : List Change) → n ≤ m → AreFew n all → AreFew m all
 more_few n m all more few = let a = few.changes in record { changes = omega (arith, a, more); writes = few.writes }
 
-tells_few : (schema : Schema) (rows : List Row) (work : Work) → AreFew (length rows + 1) (tells schema rows work).changes
+-- what a statement changes
+pub tells_few : (schema : Schema) (rows : List Row) (work : Work) → AreFew (length rows + 1) (tells schema rows work).changes
 unfolding tells
 tells_few schema rows (Refuse refusal) = none_few (length rows + 1)
 tells_few schema rows (Insert row) = one_few (length rows) row (refuses ER_DUP_ENTRY) (list_any (clash schema.uniques row) rows)

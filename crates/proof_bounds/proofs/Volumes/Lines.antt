@@ -76,7 +76,7 @@ open_short line lines = by (closes line.word) (after_short lines) where
   by true less = omega arith
   by false less = less
 
-left_short : (inside : Bool) (mark : Mark) (line : ScriptLine) (lines : List ScriptLine) → length (left_after inside mark line lines) ≤ length lines
+pub left_short : (inside : Bool) (mark : Mark) (line : ScriptLine) (lines : List ScriptLine) → length (left_after inside mark line lines) ≤ length lines
 left_short true marks.TimedOut line lines = open_short line lines
 left_short true marks.Answered line lines = omega arith
 left_short true (marks.Lost side) line lines = omega arith

@@ -162,17 +162,18 @@ locker_stands table hold phase request answer at asks fits prompt = by hold phas
   by Locks (Ending clearing) at asks = one_of Locks (Ending clearing) _ asks (frees table clearing answer at (subst (λ (r : Request). answers_to r answer ≡ true) asks fits))
   by Locks phase at asks = absurd asks
 
+-- a lost locker holds nothing
+pub lost_nothing : (hold : Hold) (phase : Phase) → hold_after hold phase answers.Lost ≡ Nothing
+lost_nothing WaitsToGuard phase = refl
+lost_nothing WaitsToLock phase = refl
+lost_nothing Nothing (Attempting Locking) = refl
+lost_nothing Nothing phase = refl
+lost_nothing Locks (Attempting Dropping) = refl
+lost_nothing Locks phase = refl
+
 -- *The locker's session is lost*
 pub locker_lost : (table : List ℕ) (hold : Hold) (phase : Phase) → PhaseHolds phase hold → LockerStands table (locker_phase phase answers.Lost) (hold_after hold phase answers.Lost) free
-locker_lost table hold phase at = record { stands = ap (held table) (sym (nothing hold phase)); phase = subst (PhaseHolds (locker_phase phase answers.Lost)) (sym (nothing hold phase)) (rests phase) } where
-  nothing : (hold : Hold) (phase : Phase) → hold_after hold phase answers.Lost ≡ Nothing
-  nothing WaitsToGuard phase = refl
-  nothing WaitsToLock phase = refl
-  nothing Nothing (Attempting Locking) = refl
-  nothing Nothing phase = refl
-  nothing Locks (Attempting Dropping) = refl
-  nothing Locks phase = refl
-
+locker_lost table hold phase at = record { stands = ap (held table) (sym (lost_nothing hold phase)); phase = subst (PhaseHolds (locker_phase phase answers.Lost)) (sym (lost_nothing hold phase)) (rests phase) } where
   rests : (phase : Phase) → PhaseHolds (locker_phase phase answers.Lost) Nothing
   rests Resting = tt
   rests (Attempting stage) = tt

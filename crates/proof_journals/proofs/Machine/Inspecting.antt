@@ -58,7 +58,7 @@ pub data Inspects (plan : PlanData) (journal : List Entry) (tool : Tool) (work :
   notes_so : IsNote plan.table request → work.cutover.phase ≡ Resting → is_reverting tool.reason ≡ false → notes.next plan (checkpoint_in journal work) (notes_of journal) ≡ Some request → Inspects plan journal tool work request
   cuts_so : is_resting work.cutover.phase ≡ false → cutovers.next Inspector work.cutover ≡ Some request → Inspects plan journal tool work request
 
-resting_is : (phase : Phase) → is_resting phase ≡ true → phase ≡ Resting
+pub resting_is : (phase : Phase) → is_resting phase ≡ true → phase ≡ Resting
 resting_is Resting is = refl
 resting_is phase is = absurd cc
 

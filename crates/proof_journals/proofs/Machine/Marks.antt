@@ -29,7 +29,7 @@ use Rattle.plan_data.specs.PlanData.{PlanData}
 use Rattle.base_values.specs.ToolNames.{ghost_name, log_name, old_name}
 use Rattle.tool_changelog.specs.ToolTables.{sentry_schema}
 use Rattle.tool_program.specs.JournalWords.Histories as histories
-use Rattle.tool_program.specs.JournalWords.Histories.{Alter, alters, adds, entry_adds, history, is_alter, renames_away, request_waiting, answer_in, waits_after, waits_in}
+use Rattle.tool_program.specs.JournalWords.Histories.{Alter, alters, adds, entry_adds, history, is_alter, renames_away, request_waiting, answer_in, waits_after}
 use Rattle.tool_program.specs.JournalWords.Journals.{state_at, may_lose, IsFaithful}
 use Rattle.tool_program.specs.JournalWords.Sessions.{live_session, session_left}
 use Rattle.tool_program.specs.declared.cutover_core.cutover.Clearing.{Clearing as Cleared}
@@ -86,6 +86,13 @@ ghost_not_old table = tails_apart (codes "_gho") (codes "_del") refl (codes "_" 
 pub ghost_not_log : (table : List ℕ) → bytes_eq (ghost_name table) (log_name table) ≡ false
 unfolding ghost_name log_name
 ghost_not_log table = tails_apart (codes "_gho") (codes "_ghc") refl (codes "_" ++ table)
+
+pub old_not_log : (table : List ℕ) → bytes_eq (old_name table) (log_name table) ≡ false
+unfolding old_name log_name
+old_not_log table = tails_apart (codes "_del") (codes "_ghc") refl (codes "_" ++ table)
+
+pub log_not_old : (table : List ℕ) → bytes_eq (log_name table) (old_name table) ≡ false
+log_not_old table = turned_bytes (old_name table) (log_name table) (old_not_log table)
 
 -- WHO KEEPS THE NEW TABLE
 

@@ -24,6 +24,7 @@ use Rattle.tool_program.specs.JournalWords.KeptPlans.{words_of}
 use Rattle.tool_program.specs.JournalWords.Sessions.{session_left, live_session}
 use Rattle.tool_program.specs.Programs.{commands, tool_asks, given, IsGiven, Follows}
 use Rattle.tool_program.specs.Tools.{moment}
+use Rattle.tool_program.specs.CutoverCore.CutOvers.{is_wait}
 use Rattle.proof_journals.specs.Turns.{request_of}
 use Rattle.proof_journals.proofs.Actors.{same_actor_is, same_actor_itself, live_more}
 use Rattle.proof_journals.specs.Machine.Standings.{Standing, free, standing_in, standing_of, answered, IsAbout, is_called, is_polled}
@@ -115,6 +116,13 @@ waits_same P about request (answers.Waits by) old is some = some_request P about
 waits_same P about request answers.Lost old is some = absurd cc
 waits_same P about request (answers.TimedOut waited) old is some = absurd cc
 waits_same P about request answer old is some = absurd cc
+
+-- an answer that is no wait leaves none
+pub answered_idle : (request : Request) (answer : Answer) (old : Standing) → is_wait answer ≡ false → (answered request answer old).waits ≡ None
+answered_idle request answers.Lost old unwaits = refl
+answered_idle request (answers.Waits by) old unwaits = absurd (true≢false unwaits)
+answered_idle request (answers.TimedOut waited) old unwaits = refl
+answered_idle request answer old unwaits = refl
 
 module _ (P : Actor → Request → Type 0) (plan : PlanData) (journal : List Entry) (entry : Entry) (is : AllTogether plan journal) (waits : AllWaits P plan journal) (run : IsRun plan journal entry) (called_so : (request : Request) → entry.asked ≡ Call request → given plan journal entry.actor ≡ Some (Call request) → P entry.actor request) where
   abbrev more : List Entry

@@ -26,7 +26,7 @@ use Rattle.tool_program.specs.JournalWords.Histories.{waits_after}
 use Rattle.tool_program.specs.JournalWords.Sessions.{session_left, live_session, sessions_named, IsSeated}
 use Rattle.proof_journals.specs.Turns.{request_of, inner, answer_at}
 use Rattle.proof_journals.specs.Holdings.{face_in, face_of}
-use Rattle.proof_journals.proofs.Actors.{same_actor_itself, live_more, Placed, Commands, GoesOn, Begins, placed, SessionsKnown, sessions_begin, sessions_more, live_cases, others_differ, named_less, named_differs}
+use Rattle.proof_journals.proofs.Actors.{same_actor_itself, live_more, Placed, Commands, GoesOn, Begins, placed, SessionsKnown, sessions_begin, sessions_more, live_cases, others_differ, named_less, named_differs, lost_left}
 use Rattle.proof_journals.proofs.Joined.{reported_answer}
 use Rattle.proof_journals.proofs.Journals.{opened_waits}
 use Rattle.proof_journals.proofs.Waiting.{waits_there, waits_called, waits_polled}
@@ -178,12 +178,7 @@ module _ (plan : PlanData) (journal : List Entry) (entry : Entry) (known : IsKno
   lost_stands : entry.answer ≡ answers.Lost → standing_of plan more entry.actor ≡ free
   lost_stands lost =
       ap (standing_in (state_at plan more)) (live_more journal entry entry.actor ∙ ap (λ (b : Bool). cond b (session_left entry.asked entry.answer entry.session) (live_session journal entry.actor)) (same_actor_itself entry.actor)
-      ∙ ap (λ (a : Answer). session_left entry.asked a entry.session) lost ∙ none_left entry.asked) where
-        none_left : (asked : Asked) → session_left asked answers.Lost entry.session ≡ None
-        none_left (Call request) = refl
-        none_left Poll = refl
-        none_left Cut = refl
-        none_left (Command word) = refl
+      ∙ ap (λ (a : Answer). session_left entry.asked a entry.session) lost ∙ lost_left entry.asked entry.session)
 
   -- what a session has behind a call or a poll whose answer is heard
   heard_stands : entry.side ≡ None → is_command entry.asked ≡ false → (request : Request) → session_left entry.asked entry.answer entry.session ≡ Some entry.session

@@ -1,10 +1,8 @@
 -- What the inspector's answers leave in the setup: no table of the old one's name stands once it was dropped, or wasn't
 -- listed.
-use Rattle.std.proofs.Common.{◌≡◌, ℕ, Bool, true, false, cond, not, ◌&&◌, List, ◌++◌, Option, Some, None, refl, sym, ap, ◌∙◌, subst}
-use Rattle.std.specs.Prelude.{is_some, codes}
-use Rattle.std.specs.Str.{bytes_eq}
+use Rattle.std.proofs.Common.{◌≡◌, ℕ, Bool, true, false, cond, not, ◌&&◌, List, Option, Some, None, refl, sym, ap, ◌∙◌, subst}
+use Rattle.std.specs.Prelude.{is_some}
 use Rattle.std.proofs.lemmas.Bool.{true≢false, false≢true}
-use Rattle.std.proofs.lemmas.List.{append_cancel_left}
 use Rattle.base_values.specs.declared.gho_schema.schema.Schema.{Schema}
 use Rattle.table_store.specs.Databases.{Database}
 use Rattle.server_model.specs.declared.answer.Answer.{Answer}
@@ -21,9 +19,9 @@ use Rattle.tool_program.specs.CutoverCore.Attempts.{is_clear, first_name, withou
 use Rattle.tool_program.specs.Setups.{Setup, Listing, Clearing, MakingLog, MakingGhost, Marking, Reaching, Ready, setup_call, setup_step, clearing, listed}
 use Rattle.proof_journals.specs.Machine.MigrationTables.{schema_of}
 use Rattle.proof_journals.proofs.Machine.Asking.{some_request}
-use Rattle.proof_journals.proofs.Machine.Marks.{ghost_not_old}
+use Rattle.proof_journals.proofs.Machine.Marks.{ghost_not_old, log_not_old}
 use Rattle.proof_journals.proofs.Machine.Schemas.{keeps_table}
-use Rattle.server_model.proofs.LockedRows.Tests.{turned_bytes, are_same, same_bytes}
+use Rattle.server_model.proofs.LockedRows.Tests.{turned_bytes}
 use Rattle.proof_migration.proofs.Attempt.Leaving.{DropLeaves, Left, heard, lost, missed}
 use Rattle.proof_migration.proofs.Attempt.LockerAnswers.{heard_leaves}
 use Rattle.proof_migration.proofs.Attempt.InspectorAnswers.{listed_is}
@@ -38,19 +36,6 @@ SetupFree plan tables MakingGhost = IsFree plan tables
 SetupFree plan tables Marking = IsFree plan tables
 SetupFree plan tables (Reaching position) = IsFree plan tables
 SetupFree plan tables (Ready position range) = IsFree plan tables
-
-pub log_not_old : (table : List ℕ) → bytes_eq (log_name table) (old_name table) ≡ false
-unfolding log_name old_name
-log_not_old table = by (bytes_eq (log_name table) (old_name table)) refl where
-  differ : bytes_eq (codes "_ghc") (codes "_del") ≡ false
-  differ = refl
-
-  apart : codes "_ghc" ≡ codes "_del" → ⊥
-  apart same = true≢false (sym (same_bytes (codes "_ghc")) ∙ ap (bytes_eq (codes "_ghc")) same ∙ differ)
-
-  by : (b : Bool) → bytes_eq (log_name table) (old_name table) ≡ b → b ≡ false
-  by true same = absurd (apart (append_cancel_left (codes "_" ++ table) (codes "_ghc") (codes "_del") (are_same (log_name table) (old_name table) same)))
-  by false same = refl
 
 -- what a call of the setup's does to that name
 pub data AboutOld (plan : PlanData) (request : Request) : Type 0 where

@@ -13,8 +13,7 @@ use Rattle.table_store.specs.Databases.{Database}
 use Rattle.server_model.specs.Along.{Along, Along-keeps}
 use Rattle.server_model.specs.declared.answer.Answer.{Answer}
 use Rattle.server_model.specs.declared.answer.Answer.TheVariants as answers
-use Rattle.server_model.specs.declared.entry.Asked.{Asked}
-use Rattle.server_model.specs.declared.entry.Asked.TheVariants.{Call, Poll, Command, Cut}
+use Rattle.server_model.specs.declared.entry.Asked.TheVariants.{Command, Cut}
 use Rattle.server_model.specs.declared.entry.Entry.{Entry}
 use Rattle.server_model.specs.declared.listing.TableName.{TableName}
 use Rattle.server_model.specs.declared.request.Request.{Request}
@@ -614,12 +613,7 @@ module _ (plan : PlanData) (journal : List Entry) (entry : Entry) (is : IsStandi
 
   -- a command is the operator's
   command_still : (word : OperatorWord) → entry.asked ≡ Command word → (tool_phase : ToolPhase) → now.tool.tool_phase ≡ tool_phase → ToolPhaseAt plan after (now_has Insp).waits tool_phase
-  command_still word asks tool_phase eq = still tool_phase eq (rest (ap may_lose asks)) (fewer_same (inspector_same Op (by entry.asked asks run.followed.given) refl)) where
-    by : (asked : Asked) → asked ≡ Command word → IsGiven plan journal entry asked → entry.actor ≡ Op
-    by (Command other) is_so gives = commands_operator plan journal entry.actor other gives
-    by (Call request) is_so gives = absurd cc
-    by Poll is_so gives = absurd cc
-    by Cut is_so gives = absurd cc
+  command_still word asks tool_phase eq = still tool_phase eq (rest (ap may_lose asks)) (fewer_same (inspector_same Op (commands_operator plan journal entry.actor word (subst (IsGiven plan journal entry) asks run.followed.given)) refl))
 
   resize_at : (size : ℕ) → entry.asked ≡ Command (ChunkSize size) → (tool_phase : ToolPhase) → now.tool.tool_phase ≡ tool_phase → ResizeKeeps New tool size tool_phase
   resize_at size asks (SettingUp setup tries) eq = command_still _ asks (SettingUp setup tries) eq

@@ -497,12 +497,7 @@ module _ (turns : EntriesAreTurns) (plan : PlanData) (runs : IsRunnable plan) (s
   lost_so cut = answered_so answers.Lost entry.actor (inl (cut_at cut)) (λ work eq same. insp_lost work (cut_at cut (Migrating work) eq)) (moment plan journal).tool.tool_phase refl
 
   command_so : (word : OperatorWord) → entry.asked ≡ Command word → (tool_phase : ToolPhase) → (moment plan journal).tool.tool_phase ≡ tool_phase → Goal tool_phase
-  command_so word asks tool_phase eq = others_at (ap (λ (a : Actor). same_actor a Insp) (by entry.asked asks (kept_run plan journal entry kept).followed.given)) tool_phase eq where
-    by : (asked : Asked) → asked ≡ Command word → IsGiven plan journal entry asked → entry.actor ≡ Op
-    by (Command other) is_so gives = commands_operator plan journal entry.actor other gives
-    by (Call request) is_so gives = absurd cc
-    by Poll is_so gives = absurd cc
-    by Cut is_so gives = absurd cc
+  command_so word asks tool_phase eq = others_at (ap (λ (a : Actor). same_actor a Insp) (commands_operator plan journal entry.actor word (subst (IsGiven plan journal entry) asks (kept_run plan journal entry kept).followed.given))) tool_phase eq
 
   resize_so : (size : ℕ) → entry.asked ≡ Command (ChunkSize size) → (tool_phase : ToolPhase) → (moment plan journal).tool.tool_phase ≡ tool_phase → ResizeKeeps New tool size tool_phase
   resize_so size asks (SettingUp setup tries) eq = tt

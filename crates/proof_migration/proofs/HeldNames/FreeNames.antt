@@ -1,5 +1,5 @@
 -- Which names are free for an actor, and what its calls are answered then.
-use Rattle.std.proofs.Common.{◌≡◌, ℕ, Bool, true, false, cond, not, List, [], ◌∷◌, Option, Some, None, refl, sym, ap, ◌∙◌, subst}
+use Rattle.std.proofs.Common.{◌≡◌, ℕ, Bool, true, false, not, List, [], ◌∷◌, Option, Some, None, refl, sym, ap, ◌∙◌, subst}
 use Rattle.std.specs.Prelude.{◌==◌, is_some}
 use Rattle.std.specs.List.{AllByRecursion}
 use Rattle.std.specs.Option.{option_map}
@@ -32,12 +32,12 @@ use Rattle.server_model.specs.Chunks.{keys_of, ends_of}
 use Rattle.server_model.specs.Effects.{created, defined, dropped, effect_unless, is_outside, of_table}
 use Rattle.server_model.specs.Entries.{same_actor, is_client, is_command}
 use Rattle.server_model.specs.PlainServer.{does, done, did, called_unless, calls, serves}
-use Rattle.server_model.specs.States.{State, names_held, waiters, session_of, waiting_of, names_in, is_in_transaction, kept_names, locked_names, shared_names, view}
+use Rattle.server_model.specs.States.{State, names_held, waiters, session_of, waiting_of, names_in, is_in_transaction, view}
 use Rattle.plan_data.specs.PlanData.{PlanData}
 use Rattle.tool_program.specs.JournalWords.Journals.{opens, state_at}
 use Rattle.tool_program.specs.JournalWords.Sessions.{live_session}
 use Rattle.server_model.proofs.LockedRows.Tests.{same_number, are_same}
-use Rattle.proof_journals.specs.Holdings.{face_in, face_of, names_of}
+use Rattle.proof_journals.specs.Holdings.{face_in, face_of}
 use Rattle.proof_journals.specs.Machine.MigrationTables.{schema_of}
 use Rattle.proof_journals.specs.Machine.Runnable.{IsRunnable}
 use Rattle.proof_journals.specs.Machine.Standings.{Standing, free, standing, standing_in, standing_of}
@@ -59,6 +59,7 @@ use Rattle.proof_migration.proofs.ToolPhase.Owners.{AllOwned, together_owned}
 use Rattle.proof_migration.proofs.HeldNames.Holders.{forbids, MayName, IsHeldWell}
 use Rattle.proof_migration.proofs.HeldNames.SessionNames.{WithinIn, AllNames}
 use Rattle.proof_migration.proofs.HeldNames.Unblocked.{Off, WaitsOff, WaitsApart, IsFreeName, unblocked}
+use Rattle.proof_migration.proofs.Program.LockerTurns.Entries.{no_names}
 
 -- WHAT IS DONE
 
@@ -91,14 +92,6 @@ ends_done state number name schema inside there = by (find_table name state.tabl
       → (range : Option KeyRange) × ((does (effect_unless (is_outside (session_of number state.sessions) (requests.Ends name)) (is_in_transaction (session_of number state.sessions)) (view number state) state (requests.Ends name)) state number).answer ≡ answers.Ends range)
   by None none there = absurd cc
   by (Some t) some there = let one = ends_is (keys_of (key_places t.schema) t.rows) in (one.0, first ∙ ap answer some ∙ one.1)
-
--- no name is held, where none is shared and none is locked
-no_names : (held : List HeldName) → names_of (shared_names held) ≡ [] → locked_names held ≡ [] → held ≡ []
-no_names [] shared locked = refl
-no_names (one ∷ held) shared locked = by one.exclusive shared locked where
-  by : (b : Bool) → names_of (cond (not b) (one ∷ shared_names held) (shared_names held)) ≡ [] → names_of (cond b (one ∷ kept_names held) (kept_names held)) ≡ [] → one ∷ held ≡ []
-  by true shared locked = absurd cc
-  by false shared locked = absurd cc
 
 module _ (plan : PlanData) (journal : List Entry) (is : IsHeldWell plan journal) where
   abbrev now : State

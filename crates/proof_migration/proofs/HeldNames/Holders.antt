@@ -1,11 +1,10 @@
 -- After every journal that is kept: the server serves, no session waits twice, and each actor's session holds and waits for names
 -- alone that it may.
-use Rattle.std.proofs.Common.{◌≡◌, ℕ, Bool, true, false, cond, not, ◌&&◌, ◌||◌, List, [], ◌∷◌, ◌++◌, Option, Some, None, refl, sym, ap, ◌∙◌, subst, append_assoc}
-use Rattle.std.specs.Prelude.{codes, is_some}
+use Rattle.std.proofs.Common.{◌≡◌, ℕ, Bool, true, false, cond, not, ◌&&◌, ◌||◌, List, [], ◌∷◌, ◌++◌, Option, Some, None, refl, sym, ap, ◌∙◌, subst}
+use Rattle.std.specs.Prelude.{is_some}
 use Rattle.std.specs.List.{list_any, slice_get}
 use Rattle.std.specs.Str.{bytes_eq}
 use Rattle.std.proofs.lemmas.Bool.{true≢false, or_from}
-use Rattle.std.proofs.lemmas.List.{append_cancel_left}
 use Rattle.std.proofs.lemmas.Option.{same_Some}
 use Rattle.base_script.specs.declared.actor.Actor.{Actor}
 use Rattle.base_script.specs.declared.actor.Actor.TheVariants.{Op, Insp, Copy, Apply, Lock, Ren, Client}
@@ -14,7 +13,6 @@ use Rattle.base_values.specs.declared.value.Value.{Value}
 use Rattle.base_values.specs.ToolNames.{ghost_name, log_name, old_name, is_tool_name}
 use Rattle.base_values.proofs.SchemaRules.Lists.{All-anything}
 use Rattle.server_model.specs.declared.counter.Counter.{Counter}
-use Rattle.server_model.specs.Along.{Along, Along-keeps}
 use Rattle.server_model.specs.declared.entry.Asked.{Asked}
 use Rattle.server_model.specs.declared.entry.Asked.TheVariants.{Call, Poll, Command, Cut}
 use Rattle.server_model.specs.declared.entry.Entry.{Entry}
@@ -55,7 +53,6 @@ use Rattle.tool_program.specs.Programs.{in_transaction, rolls_back, copy_call, a
 use Rattle.tool_program.specs.Tools.{ToolPhase, SettingUp, Migrating, is_reverting, moment}
 use Rattle.tool_program.proofs.OnlineCalls.Machines.{ToolPhaseIsNamed, named}
 use Rattle.tool_program.proofs.OnlineCalls.Naming.{not_log, not_old}
-use Rattle.server_model.proofs.LockedRows.Tests.{same_bytes, are_same}
 use Rattle.proof_journals.specs.Machine.Laws.{MayLoseAny}
 use Rattle.proof_journals.specs.Machine.Runnable.{IsRunnable}
 use Rattle.proof_journals.specs.Machine.Standings.{standing_of, MayTake}
@@ -70,7 +67,7 @@ use Rattle.proof_journals.proofs.Openings.{opening_well_formed}
 use Rattle.proof_journals.proofs.ServerFacts.Calls.{calls_serve, polls_serve, losses_serve, connected_serves, opened_serves}
 use Rattle.proof_journals.proofs.Machine.Asking.{some_request, unless_called, renamer_next}
 use Rattle.proof_journals.proofs.Machine.Journals.{IsRun, Asking, calls_so, polls_so, asking, apply_called}
-use Rattle.proof_journals.proofs.Machine.Marks.{ghost_not_log, ghost_not_old}
+use Rattle.proof_journals.proofs.Machine.Marks.{ghost_not_log, ghost_not_old, old_not_log}
 use Rattle.proof_journals.proofs.Machine.Polling.{AllTogether, AllWaits, waits_more, waits_begin, given_idle, no_word}
 use Rattle.proof_journals.proofs.Machine.Seated.{IsKnown, IsServed, state_more, session_there, own_waiting, opened_old}
 use Rattle.proof_journals.proofs.Machine.Whole.{given_called, given_polled, losses}
@@ -79,18 +76,9 @@ use Rattle.proof_migration.proofs.ToolPhase.Unaltered.Asking.{given_asked}
 use Rattle.proof_migration.proofs.ToolPhase.Unaltered.Away.{IsKnownAsked, asked_more, asked_begins, tool_not_mine}
 use Rattle.proof_migration.proofs.HeldNames.SessionNames.{AllNames, WithinIn, leaves_within, opened_within}
 use Rattle.proof_migration.proofs.HeldNames.Unblocked.{WaitsApart, leaves_apart}
+use Rattle.proof_migration.proofs.KeptJournals.{each_kept}
 
 -- EVERY FRONT OF A KEPT JOURNAL IS KEPT
-
-pub along_of : (plan : PlanData) (Q : List Entry → Entry → Type 0) → ((before : List Entry) (entry : Entry) → IsKept plan (before ++ entry ∷ []) → Q before entry) → (before entries : List Entry) → IsKept plan (before ++ entries) → Along Q before entries
-along_of plan Q each before [] kept = tt
-along_of plan Q each before (first ∷ entries) kept =
-    let later : IsKept plan ((before ++ first ∷ []) ++ entries) = subst (IsKept plan) (sym (append_assoc before (first ∷ []) entries)) kept in
-    (each before first (kept_front plan (before ++ first ∷ []) entries later), along_of plan Q each (before ++ first ∷ []) entries later)
-
-pub each_kept : (plan : PlanData) (P : List Entry → Type 0) → ((before : List Entry) (entry : Entry) → IsKept plan (before ++ entry ∷ []) → P before → P (before ++ entry ∷ [])) → (journal : List Entry) → IsKept plan journal → P [] → P journal
-each_kept plan P step journal kept start =
-    Along-keeps (λ before entry. IsKept plan (before ++ entry ∷ [])) P step [] journal (along_of plan (λ before entry. IsKept plan (before ++ entry ∷ [])) (λ before entry one. one) [] journal kept) start
 
 -- THE SERVER SERVES
 
@@ -182,16 +170,6 @@ MayName plan actor name = forbids plan actor name ≡ false
 
 abbrev pub NamesWell : PlanData → Actor → Request → Type 0
 NamesWell plan actor request = AllNames (MayName plan actor) (names_in request)
-
-tails_apart : (a b : List ℕ) → bytes_eq a b ≡ false → (front : List ℕ) → bytes_eq (front ++ a) (front ++ b) ≡ false
-tails_apart a b off front = by (bytes_eq (front ++ a) (front ++ b)) refl where
-  by : (r : Bool) → bytes_eq (front ++ a) (front ++ b) ≡ r → r ≡ false
-  by true same = let one : a ≡ b = append_cancel_left front a b (are_same (front ++ a) (front ++ b) same) in absurd (true≢false (sym (same_bytes a) ∙ ap (bytes_eq a) one ∙ off))
-  by false same = refl
-
-pub old_not_log : (table : List ℕ) → bytes_eq (old_name table) (log_name table) ≡ false
-unfolding old_name log_name
-old_not_log table = tails_apart (codes "_del") (codes "_ghc") refl (codes "_" ++ table)
 
 own_may : (plan : PlanData) (name : List ℕ) → name ≡ plan.table → (bytes_eq name (log_name plan.table) || bytes_eq name (old_name plan.table)) ≡ false
 own_may plan name same = subst (λ (n : List ℕ). (bytes_eq n (log_name plan.table) || bytes_eq n (old_name plan.table)) ≡ false) (sym same) (or_from (bytes_eq plan.table (log_name plan.table)) (bytes_eq plan.table (old_name plan.table)) (not_log plan.table) (not_old plan.table))

@@ -16,7 +16,7 @@ use Rattle.base_values.specs.GhoSchema.Tables.{no_null}
 use Rattle.base_values.specs.Spans.{point}
 use Rattle.base_values.proofs.SchemaRules.Lists.{All-append, All-filter, All-map}
 use Rattle.server_locks.specs.declared.row_locks.lock.Lock.{Lock}
-use Rattle.table_store.specs.Databases.{TableRows, Database, find_table, is_named, has_table, rename_tables}
+use Rattle.table_store.specs.Databases.{TableRows, Database, find_table, has_table, rename_tables}
 use Rattle.server_model.specs.declared.entry.Asked.{Asked}
 use Rattle.server_model.specs.declared.entry.Asked.TheVariants.{Call, Poll, Command, Cut}
 use Rattle.server_model.specs.declared.need.Need.{Need}
@@ -36,17 +36,9 @@ use Rattle.server_model.specs.PlainServer.{shared, exclusive, holding, at_rest, 
 use Rattle.server_model.specs.Rows.{rows_met}
 use Rattle.server_model.specs.StatementResults.{displaced}
 use Rattle.server_model.specs.States.{State, with_session, session_of, new_session, connected, waiting_of, names_in, is_in_transaction, is_of_tool, polls_of, view}
-use Rattle.server_model.proofs.LockedRows.Tests.{are_same}
+use Rattle.server_model.proofs.LockedRows.Counters.{found_named}
 use Rattle.tool_program.specs.JournalWords.Journals.{opens_if}
 use Rattle.proof_journals.specs.Turns.{request_of}
-
--- a table that is found has the name
-named_so : (name : List ℕ) (tables : Database) (table : TableRows) → find_table name tables ≡ Some table → table.schema.name ≡ name
-named_so name [] table is = absurd cc
-named_so name (first ∷ tables) table is = by (is_named name first) refl is (named_so name tables table) where
-  by : (b : Bool) → is_named name first ≡ b → cond b (Some first) (find_table name tables) ≡ Some table → (find_table name tables ≡ Some table → table.schema.name ≡ name) → table.schema.name ≡ name
-  by true named is later = let one : first ≡ table = cc in subst (λ (t : TableRows). t.schema.name ≡ name) one (are_same first.schema.name name named)
-  by false named is later = later is
 
 -- a statement names the same table with its number
 pub filled_names : (state : State) (number : ℕ) (request : Request) → names_in (filled state number request) ≡ names_in request
@@ -110,7 +102,7 @@ module _ (P : List ℕ → Type 0) where
   operation_on operation tables is = by (find_table operation.table tables) refl where
     by : (found : Option TableRows) → find_table operation.table tables ≡ found → AllLocks (needs_in operation found)
     by None none = tt
-    by (Some table) some = needs_on table.schema (subst P (sym (named_so operation.table tables table some)) is) table.rows (operation.work table.schema)
+    by (Some table) some = needs_on table.schema (subst P (sym (found_named operation.table tables table some)) is) table.rows (operation.work table.schema)
 
   span_on : (name : List ℕ) (tables : Database) (span : Span) → P name → AllLocks (span_needs span (find_table name tables))
   span_on name tables span is = by (find_table name tables) refl where
@@ -119,7 +111,7 @@ module _ (P : List ℕ → Type 0) where
     by (Some table) some = at (clustered_place table.schema) where
       at : (place : Option ℕ) → AllLocks (span_lock table.schema span place)
       at None = tt
-      at (Some place) = (subst P (sym (named_so name tables table some)) is, tt)
+      at (Some place) = (subst P (sym (found_named name tables table some)) is, tt)
 
   -- the row locks that a request needs are of tables that it names
   pub locks_on : (seen : Database) (request : Request) → AllNames (names_in request) → AllLocks (row_locks_of seen request)

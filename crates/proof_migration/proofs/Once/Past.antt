@@ -4,7 +4,7 @@ use Rattle.std.specs.List.{list_any}
 use Rattle.std.specs.Option.{option_map}
 use Rattle.std.specs.Str.{bytes_eq}
 use Rattle.std.proofs.lemmas.Bool.{true≢false}
-use Rattle.table_store.specs.Databases.{Database, TableRows, find_table, has_table, is_named, rename_tables, with_name, without_table}
+use Rattle.table_store.specs.Databases.{Database, TableRows, find_table, has_table, is_named, rename_tables, with_name, without_table, name_table}
 use Rattle.table_store.specs.declared.renames.NotRenamed.TheVariants as reasons
 use Rattle.table_store.specs.declared.renames.Pair.{Pair}
 use Rattle.base_script.specs.declared.actor.Actor.{Actor}
@@ -50,7 +50,7 @@ use Rattle.proof_journals.proofs.Machine.Inspecting.{inspects_or, inspector_call
 use Rattle.proof_journals.proofs.Actors.{same_actor_is}
 use Rattle.proof_journals.proofs.Joined.{reported_answer, reported_missed, reported_draw}
 use Rattle.proof_journals.proofs.Journals.{opened_waits, stored_opened}
-use Rattle.proof_journals.proofs.Moves.{renamed_other, renamed_old, found_has, renamed_ok}
+use Rattle.proof_journals.proofs.Moves.{renamed_other, renamed_old, found_has, renamed_ok, renamed_new}
 use Rattle.proof_journals.specs.ServerTurns.Others.{DefinitionsAreDone}
 use Rattle.proof_journals.specs.Machine.Machines.{ToolPhaseStands, WorkStands, inspector_asks, inspector_waits}
 use Rattle.proof_journals.specs.Machine.Runnable.{IsRunnable}
@@ -180,6 +180,23 @@ exchange_needs t tables after none is = by (has_table (old_name t) tables) (has_
   by false true true d off is = cc
   by false true false true off is = true≢false off
   by false true false false off is = cc
+
+-- its second pair finds the new table, which has the migrated one's name after it
+pub exchange_gives : (t : List ℕ) (tables after : Database) → rename_tables (exchanged t) tables ≡ Ok after → find_table t after ≡ option_map (name_table t) (find_table (ghost_name t) tables)
+unfolding rename_tables
+exchange_gives t tables after is = by (has_table (old_name t) tables) (has_table t tables) (has_table t moved) (has_table (ghost_name t) moved) refl is where
+  moved : Database
+  moved = with_name t (old_name t) tables
+
+  by : (a b c d : Bool) → has_table t moved ≡ c → cond a (Err reasons.Exists) (cond b (cond c (Err reasons.Exists) (cond d (Ok (with_name (ghost_name t) t moved)) (Err reasons.Missing))) (Err reasons.Missing)) ≡ Ok after → find_table t after ≡ option_map (name_table t) (find_table (ghost_name t) tables)
+  by true b c d none is = absurd cc
+  by false false c d none is = absurd cc
+  by false true true d none is = absurd cc
+  by false true false false none is = absurd cc
+  by false true false true none is =
+      let same : with_name (ghost_name t) t moved ≡ after = cc in
+      ap (find_table t) (sym same) ∙ renamed_new (ghost_name t) t moved none
+      ∙ ap (option_map (name_table t)) (renamed_other t (old_name t) (ghost_name t) tables (turned_bytes t (ghost_name t) (not_ghost t)) (ghost_not_old t))
 
 -- behind it the new table's name is free
 pub exchange_frees : (t : List ℕ) (tables after : Database) → rename_tables (exchanged t) tables ≡ Ok after → schema_of (ghost_name t) after ≡ None

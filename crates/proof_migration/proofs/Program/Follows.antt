@@ -14,9 +14,10 @@ use Rattle.proof_journals.specs.Ghost.Rows.Timelines.{IsPlanned, Migration}
 use Rattle.proof_journals.specs.Ghost.HeldKeys.{Clustered}
 use Rattle.proof_journals.proofs.Ghost.Keys.{clustered}
 use Rattle.proof_migration.specs.Migration.Planning.{migration_of}
-use Rattle.proof_migration.proofs.Migration.Planning.Planned.{alters_planned, was_ok}
+use Rattle.proof_migration.proofs.Migration.Planning.Planned.{alters_planned}
 use Rattle.proof_migration.proofs.Migration.Applier.Stated.{alters_find_rows}
 use Rattle.proof_journals.specs.Machine.Runnable.{IsRunnable}
+use Rattle.proof_journals.proofs.Results.{was_ok}
 use Rattle.proof_migration.specs.ToolPhase.Runnable.{AlterablePlansAreRunnable, IsAlterable}
 use Rattle.proof_migration.proofs.ToolPhase.Runnable.Plans.{named}
 use Rattle.proof_migration.specs.Program.Turns.Goes.{IsOf}

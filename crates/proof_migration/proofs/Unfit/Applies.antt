@@ -34,7 +34,7 @@ use Rattle.tool_program.specs.declared.event_applier.applier.ApplyStep.TheVarian
 use Rattle.tool_program.specs.declared.event_applier.applier.Batch.{Batch}
 use Rattle.tool_program.specs.declared.event_applier.applier.Part.{Part}
 use Rattle.tool_program.specs.declared.event_applier.applier.Part.TheVariants.{Whole, Removal, Return}
-use Rattle.tool_program.specs.EventApplier.Appliers.{Doing, call_at, doing_at, doing_in, in_part, nothing_planned, progress_at, row_done, statement_result}
+use Rattle.tool_program.specs.EventApplier.Appliers.{Doing, doing_at, doing_in, in_part, progress_at, row_done, statement_result}
 use Rattle.tool_program.specs.EventApplier.Appliers.Doing.{Putting, Removing, Changing}
 use Rattle.tool_program.specs.EventApplier.Appliers as appliers
 use Rattle.tool_program.specs.Failures.{applied_row, concerned}
@@ -71,7 +71,8 @@ abbrev IsRefusal : ApplyStep → Answer → ℕ → ℕ → Type 0
 IsRefusal (Applying batch done part) (answers.Refused one (Some other)) place number = (one ≡ number) × (other ≡ place)
 IsRefusal step answer place number = ⊥
 
-planned_fits : (none : Bool) (place number : ℕ) → cond none TaskDone Going ≡ Unfit place number → ⊥
+-- what is planned is no row that does not fit
+pub planned_fits : (none : Bool) (place number : ℕ) → cond none TaskDone Going ≡ Unfit place number → ⊥
 planned_fits true place number is = cc
 planned_fits false place number is = cc
 

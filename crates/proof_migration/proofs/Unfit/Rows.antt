@@ -65,10 +65,11 @@ module _ (journal : List Entry) (turn : ℕ) (front : List Entry) (entry : Entry
   place : turn - 1 ≡ length front
   place = let numbered : turn ≡ length front + 1 = has.numbered in omega (arith, numbered)
 
-  stands_there : slice_get journal (turn - 1) ≡ Some entry
+  -- the entry stands at its turn, behind the front
+  pub stands_there : slice_get journal (turn - 1) ≡ Some entry
   stands_there = ap (slice_get journal) place ∙ ap (λ (j : List Entry). slice_get j (length front)) has.whole ∙ got_front front entry has.rest
 
-  front_is : take (turn - 1) journal ≡ front
+  pub front_is : take (turn - 1) journal ≡ front
   front_is = ap (λ (n : ℕ). take n journal) place ∙ ap (take (length front)) has.whole ∙ take-append_seam front (entry ∷ has.rest)
 
 -- the key that was told is told in the longer journal

@@ -9,8 +9,6 @@ use Rattle.std.specs.Str.{bytes_eq}
 use Rattle.std.proofs.lemmas.Bool.{true≢false}
 use Rattle.base_values.proofs.SchemaRules.Lists.{All-append, All-weaker}
 use Rattle.base_script.specs.declared.actor.Actor.{Actor}
-use Rattle.server_model.specs.declared.answer.Answer.{Answer}
-use Rattle.server_model.specs.declared.answer.Answer.TheVariants as answers
 use Rattle.server_model.specs.declared.entry.Asked.{Asked}
 use Rattle.server_model.specs.declared.entry.Asked.TheVariants.{Call}
 use Rattle.server_model.specs.declared.entry.Entry.{Entry}
@@ -32,11 +30,12 @@ use Rattle.proof_journals.specs.Scenes.{SessionHold}
 use Rattle.proof_journals.specs.Turns.{request_of}
 use Rattle.proof_journals.proofs.Actors.{same_actor_is, Placed, Commands, GoesOn, Begins, placed}
 use Rattle.proof_journals.proofs.Journals.{JournalHolds, opened_waits}
-use Rattle.proof_journals.proofs.Waiting.{IsDone, done_answers}
+use Rattle.proof_journals.proofs.Waiting.{done_answers}
 use Rattle.proof_journals.specs.Run.Laws.{Living, NoneWaits}
 use Rattle.server_model.proofs.LockedRows.Tests.{same_number}
 use Rattle.proof_migration.specs.ToolPhase.Laws.{IsOwned}
 use Rattle.proof_migration.proofs.ToolPhase.Owners.{AllOwned}
+use Rattle.proof_migration.proofs.ToolPhase.Chunks.Onlines.{done_waits}
 use Rattle.proof_journals.specs.Machine.Standings.{Standing, standing_in, standing_of}
 use Rattle.proof_journals.proofs.Machine.Journals.{IsRun}
 use Rattle.proof_journals.proofs.Machine.Seated.{IsKnown, IsServed, own_given}
@@ -57,11 +56,6 @@ unlocked_harmless names standing idle none = record {
   busy = idle;
   off = all_each (λ (name : List ℕ). AllByRecursion (λ (locked : List ℕ). bytes_eq locked name ≡ false) standing.locked) (λ name. subst (AllByRecursion (λ (locked : List ℕ). bytes_eq locked name ≡ false)) (sym none) tt) names;
 }
-
--- what is done doesn't wait
-pub done_waits : (answer : Answer) → IsDone answer → is_wait answer ≡ false
-done_waits (answers.Waits other) is = absurd is
-done_waits answer is = refl
 
 done_unwaits : (state : State) (number : ℕ) (request : Request) → is_wait (done state number request).answer ≡ false
 done_unwaits state number request = done_waits (done state number request).answer (done_answers state number request)

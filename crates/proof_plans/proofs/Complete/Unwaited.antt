@@ -57,6 +57,7 @@ use Rattle.proof_journals.proofs.Machine.Fitting.{IsPrompt}
 use Rattle.proof_journals.proofs.Machine.Journals.{Asking, IsRun, apply_called, calls_so, copier_had, lock_about, polls_so}
 use Rattle.proof_journals.proofs.Machine.Seated.{IsServed, others_stand, own_given, own_heard, own_prompt, own_stands}
 use Rattle.proof_journals.proofs.Machine.Tabling.{copied_idle, lock_none}
+use Rattle.proof_journals.proofs.Machine.Polling.{answered_idle}
 use Rattle.proof_plans.specs.Complete.Laws.{gives_up}
 use Rattle.proof_plans.specs.Complete.Quiet.{is_timed_out}
 use Rattle.proof_plans.proofs.Complete.Alone.{Nobody}
@@ -93,12 +94,6 @@ unneeded request answer fits none = refl
 prompt_unwaits : (answer : Answer) → IsPrompt answer → is_wait answer ≡ false
 prompt_unwaits (answers.Waits by) prompt = absurd prompt
 prompt_unwaits answer prompt = refl
-
-answered_idle : (request : Request) (answer : Answer) (old : Standing) → is_wait answer ≡ false → (answered request answer old).waits ≡ None
-answered_idle request answers.Lost old unwaits = refl
-answered_idle request (answers.Waits by) old unwaits = absurd (true≢false unwaits)
-answered_idle request (answers.TimedOut waited) old unwaits = refl
-answered_idle request answer old unwaits = refl
 
 -- a call isn't answered by a time-out
 done_untimed : (answer : Answer) → IsDone answer → is_timed_out answer ≡ false

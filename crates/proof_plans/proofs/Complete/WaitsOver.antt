@@ -37,9 +37,9 @@ use Rattle.proof_journals.proofs.Machine.Journals.{Asking, IsRun}
 use Rattle.proof_migration.proofs.HeldNames.Changelog.{log_at_once}
 use Rattle.proof_migration.proofs.HeldNames.Holders.{all_held_well}
 use Rattle.proof_migration.proofs.Program.Turns.Follows.{kept_front, kept_run}
+use Rattle.proof_migration.proofs.ToolPhase.Chunks.Onlines.{done_waits}
 use Rattle.proof_plans.specs.Complete.Quiet.{IsQuiet, IsWithin, QuietRunsAreDone, RowsHaveConvertedRows, is_timed_out}
 use Rattle.proof_plans.proofs.Complete.Alone.{asks_so, never_cut, unlost}
-use Rattle.proof_plans.proofs.Complete.Prompt.{done_waits}
 use Rattle.proof_plans.proofs.Complete.Quiet.{IsBounded, IsQuietSo, quiet_begins, quiet_more}
 use Rattle.proof_plans.proofs.Complete.Smooth.{renamed_more, unreverted}
 use Rattle.proof_plans.proofs.Complete.Untouched.{IsUntouched, unaltered, untouched}

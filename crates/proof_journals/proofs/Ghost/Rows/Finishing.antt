@@ -20,10 +20,10 @@ use Rattle.proof_journals.specs.Ghost.Relation.Views.{GhostFollows, Progress, Vi
 use Rattle.proof_journals.proofs.Ghost.Rows.Altering.{Imaged, finds_itself, found_none, imaged-converted_rows, is_altered}
 use Rattle.proof_journals.proofs.Ghost.Rows.Growing.{same_timeline}
 use Rattle.proof_journals.proofs.Ghost.Rows.Replacing.{following}
-use Rattle.proof_journals.proofs.Ghost.Rows.TimelineLaws.{made_ok}
 use Rattle.proof_journals.specs.Ghost.Rows.Moments.{LogFits, Row, rows_after_all, rows_at, rows_then}
 use Rattle.proof_journals.specs.Ghost.Rows.Timelines.{Migration, timeline_of}
 use Rattle.proof_journals.specs.Ghost.Rows.Views.{GhostRows, is_done, is_left, views_of}
+use Rattle.proof_journals.proofs.Results.{was_ok}
 
 -- a log that log_fits through valid tables, with more that does from there
 pub log_fits-append : (name : List ℕ) (schema : Schema) (rows : List Row) (log more : List RowEvent) → LogFits name schema rows log → LogFits name schema (rows_at name (key_places schema) rows log (length log)) more → LogFits name schema rows (log ++ more)
@@ -99,7 +99,7 @@ ghost_is_altered m rows log half progress ghost table ordered keys applied are =
     let whole : ViewFollows (timeline_of m rows log) (is_done None) progress.end progress.end (λ key. find (is_at new key) ghost.committed) = subst (λ p. ViewFollows (timeline_of m rows log) (is_done None) p progress.end (λ key. find (is_at new key) ghost.committed)) applied are.committed in
     let made : HasConvertedRows m.columns old new now =
     all_imaged m.columns (IsRow m.schema.columns) old new keys now now table.rows_fit (all_found old now table.ascends)
-    (λ row found. let one = ends_row (timeline_of m rows log) (is_done None) progress.end (λ key. find (is_at new key) ghost.committed) (λ key. refl) whole (key_of old row) row found in (one.0, made_ok (converted_row m.columns row) one.0 one.1)) in
+    (λ row found. let one = ends_row (timeline_of m rows log) (is_done None) progress.end (λ key. find (is_at new key) ghost.committed) (λ key. refl) whole (key_of old row) row found in (one.0, was_ok (converted_row m.columns row) one.0 one.1)) in
     let same : ghost.committed ≡ made.made =
     is_altered m.columns old new now made.made ghost.committed table.ascends ordered made.each (ends (timeline_of m rows log) (is_done None) progress.end (λ key. find (is_at new key) ghost.committed) (λ key. refl) whole) in
     imaged-converted_rows m.columns old new now made.made made.each ∙ ap Some (sym same)

@@ -1,11 +1,9 @@
 -- A log that log_fits through valid tables is a past that the ghost relation can stand on.
-use Rattle.std.proofs.Common.{◌≡◌, ℕ, zero, suc, ◌+◌, ◌<◌, Bool, true, false, ◌&&◌, List, [], ◌∷◌, length, find, cond, Some, None, Result, Ok, Err, refl, sym, ap, ◌∙◌, subst, arith}
-use Rattle.std.specs.Result.{result_ok}
+use Rattle.std.proofs.Common.{◌≡◌, ℕ, zero, suc, ◌+◌, ◌<◌, Bool, true, false, ◌&&◌, List, [], ◌∷◌, length, find, cond, Some, None, refl, sym, ap, ◌∙◌, subst, arith}
 use Rattle.std.specs.Str.{bytes_eq}
 use Rattle.base_values.specs.declared.gho_schema.schema.Schema.{Schema}
 use Rattle.base_values.specs.GhoSchema.Rows.{key_of, key_places}
 use Rattle.base_values.specs.GhoSchema.Tables.{IsRow, IsTable}
-use Rattle.base_values.specs.declared.row_conversion.conversion_fault.UnfitAt.{UnfitAt}
 use Rattle.base_values.specs.RowConversion.ConvertedRows.{converted_row}
 use Rattle.base_values.specs.declared.event.RowEvent.{RowEvent}
 use Rattle.base_values.specs.declared.event.Change.{Change}
@@ -21,6 +19,7 @@ use Rattle.proof_journals.proofs.Ghost.Rows.Finding.{apart_found, clash_turned, 
 use Rattle.proof_journals.proofs.Ghost.Rows.StayingKeys.{Earlier, earlier, same_key}
 use Rattle.proof_journals.specs.Ghost.Rows.Moments.{Fits, LogFits, NoneClashes, Row, put_in, rows_after, rows_at, rows_then}
 use Rattle.proof_journals.specs.Ghost.Rows.Timelines.{EventAt, KeepsUniques, Migration, changes_key, kept, timeline_of, touched_by, touches_row}
+use Rattle.proof_journals.proofs.Results.{was_ok}
 
 pub none_clashing : (schema : Schema) (row : Row) (rows : List Row) → NoneClashes schema.uniques row rows → clashing (record { schema = schema; rows = rows }) row None ≡ None
 none_clashing schema row [] none = refl
@@ -86,10 +85,6 @@ still m rows log keeps log_fits i key row less quiet is =
 stood_fits : (m : Migration) (rows : List Row) (log : List RowEvent) → ((i : ℕ) → IsTable m.schema (rows_at m.name (key_places m.schema) rows log i)) → (i : ℕ) (key row : Row) → (timeline_of m rows log).row_at i key ≡ Some row → IsRow m.schema.columns row
 stood_fits m rows log tables i key row stands = found_in (is_at (key_places m.schema) key) (IsRow m.schema.columns) (rows_at m.name (key_places m.schema) rows log i) row (tables i).rows_fit stands
 
-pub made_ok : (made : Result Row UnfitAt) (row : Row) → result_ok made ≡ Some row → made ≡ Ok row
-made_ok (Ok row') row is = let same : row' ≡ row = cc in ap Ok same
-made_ok (Err at) row is = absurd cc
-
 -- *The past is one of valid tables.*
 pub is_timeline : (m : Migration) (rows : List Row) (log : List RowEvent) → HasClusteredKey m.schema → KeepsUniques m → IsTable m.schema rows → LogFits m.name m.schema rows log → IsTimeline (timeline_of m rows log) (length log)
 is_timeline m rows log has keeps is log_fits =
@@ -98,6 +93,6 @@ is_timeline m rows log has keeps is log_fits =
       apart = λ i key other a b within first second meets. apart_found m.schema.uniques (key_places m.schema) key other a b (rows_at m.name (key_places m.schema) rows log i) (tables i).apart first second (keeps.are_old a b meets);
       still = still m rows log keeps log_fits;
       clashes = λ i j key other a b made more within too at_i at_j is_a is_b clash.
-          keeps.clashes a b made more (stood_fits m rows log tables i key a at_i) (stood_fits m rows log tables j other b at_j) (made_ok (converted_row m.columns a) made is_a) (made_ok (converted_row m.columns b) more is_b) clash;
+          keeps.clashes a b made more (stood_fits m rows log tables i key a at_i) (stood_fits m rows log tables j other b at_j) (was_ok (converted_row m.columns a) made is_a) (was_ok (converted_row m.columns b) more is_b) clash;
       turned = λ a b meets. clash_turned (kept m) a b meets;
     }

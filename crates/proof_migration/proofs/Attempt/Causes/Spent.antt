@@ -7,15 +7,13 @@ use Rattle.server_model.specs.Along.{Along}
 use Rattle.server_model.specs.declared.entry.Entry.{Entry}
 use Rattle.server_model.specs.declared.outcome.Task.TheVariants as tasks
 use Rattle.plan_data.specs.PlanData.{PlanData}
-use Rattle.tool_program.specs.declared.cutover_core.cutover.Phase.{Phase}
-use Rattle.tool_program.specs.declared.cutover_core.cutover.Phase.TheVariants.{Resting, Attempting, Ending, Finishing, Finished}
-use Rattle.tool_program.specs.CutoverCore.CutOvers.{is_resting}
 use Rattle.tool_program.specs.Failures.{IsFailedTry, Stands}
 use Rattle.tool_program.specs.Programs.{Follows}
 use Rattle.tool_program.specs.Tools.{ToolPhase, SettingUp, Migrating, Moment, moment}
 use Rattle.proof_journals.specs.Machine.FormedPlans.{IsFitting}
 use Rattle.proof_journals.specs.Machine.MigrationTables.{TableExists}
 use Rattle.proof_journals.proofs.Machine.Journals.{IsRun, all_runs}
+use Rattle.proof_journals.proofs.Machine.Inspecting.{resting_is}
 use Rattle.proof_migration.specs.Attempt.Verdicts.{IsRefusedSentry, IsFailedAttempt, IsSpentOn, rests}
 use Rattle.proof_migration.proofs.Attempt.Verdicts.Standing.{all_attempts}
 use Rattle.proof_migration.proofs.Attempt.Standing.{standing_along}
@@ -34,13 +32,6 @@ along_take P before [] (suc place) along = tt
 along_take P before (first ∷ journal) zero along = tt
 along_take P before (first ∷ journal) (suc place) along = (along.0, along_take P (before ++ first ∷ []) journal place along.1)
 
-at_rest : (phase : Phase) → is_resting phase ≡ true → phase ≡ Resting
-at_rest Resting is = refl
-at_rest (Attempting stage) is = absurd (false≢true is)
-at_rest (Ending clearing) is = absurd (false≢true is)
-at_rest (Finishing clearing) is = absurd (false≢true is)
-at_rest Finished is = absurd (false≢true is)
-
 module _ (plan : PlanData) (journal : List Entry) (fit : IsFitting plan) (stands : TableExists plan) (runs : Along (IsRun plan) [] journal) where
   -- no sentry is refused
   none_refused : (turn : ℕ) → IsRefusedSentry plan journal turn → ⊥
@@ -49,7 +40,7 @@ module _ (plan : PlanData) (journal : List Entry) (fit : IsFitting plan) (stands
     by (SettingUp setup tries) eq resting = false≢true resting
     by (Migrating work) eq resting =
         sentry_unrefused plan (take (turn - 1) journal) is.entry (standing_along plan (take (turn - 1) journal) fit stands (along_take (IsRun plan) [] journal (turn - 1) runs)) (along_at (IsRun plan) [] journal (turn - 1) is.entry runs is.is.stands)
-        work eq (at_rest work.cutover.phase resting) is.actor is.number is.column is.refused
+        work eq (resting_is work.cutover.phase resting) is.actor is.number is.column is.refused
 
   failed_so : (turn : ℕ) → IsFailedAttempt plan journal turn → IsFailedTry plan journal tasks.CutOver turn
   failed_so turn (inl failed) = failed

@@ -1,4 +1,4 @@
--- How long sessions wait is the plan's, behind every journal.
+-- How long sessions wait is the plan's, after every journal.
 use Rattle.server_model.specs.Drawing.{filled}
 use Rattle.std.proofs.Common.{◌≡◌, ℕ, Bool, true, false, cond, ◌||◌, List, [], ◌∷◌, Option, Some, None, refl, ap, ◌∙◌}
 use Rattle.base_script.specs.declared.actor.Side.{Side}
@@ -69,6 +69,9 @@ limits_after state [] = refl
 limits_after state (entry ∷ journal) =
     limits_after (after_entry state entry) journal ∙ left_limits entry.side (opens entry state) entry.session entry.asked ∙ opened_limits (is_command entry.asked) _ entry.session state
 
--- *The tool waits as long as the plan says*
+-- *The tool and the clients wait as long as the plan says*
 pub tool_waits : (plan : PlanData) (journal : List Entry) → (state_at plan journal).limits.tool_wait ≡ plan.options.tool_wait
 tool_waits plan journal = ap (λ limits. limits.tool_wait) (limits_after (opening plan) journal)
+
+pub client_waits : (plan : PlanData) (journal : List Entry) → (state_at plan journal).limits.client_wait ≡ plan.options.client_wait
+client_waits plan journal = ap (λ limits. limits.client_wait) (limits_after (opening plan) journal)

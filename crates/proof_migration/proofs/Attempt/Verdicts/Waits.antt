@@ -35,7 +35,7 @@ use Rattle.tool_program.specs.Failures.{is_call, is_poll, waited_for}
 use Rattle.tool_program.specs.Programs.{commands, given, IsGiven}
 use Rattle.tool_program.specs.Tools.{moment}
 use Rattle.proof_journals.specs.Turns.{request_of}
-use Rattle.proof_journals.proofs.Actors.{same_actor_is, same_actor_itself, live_more, Placed, Commands, GoesOn, Begins, placed, others_differ}
+use Rattle.proof_journals.proofs.Actors.{same_actor_is, same_actor_itself, live_more, Placed, Commands, GoesOn, Begins, placed, others_differ, lost_left}
 use Rattle.proof_journals.proofs.Faces.{changed_here}
 use Rattle.proof_journals.proofs.Journals.{done_waits, opened_waits}
 use Rattle.proof_journals.proofs.Waiting.{IsDone, done_answers, filter_gone}
@@ -60,12 +60,6 @@ WaitsCount plan journal =
 pub record IsOverdue (plan : PlanData) (journal : List Entry) (session waited : ℕ) : Type 0 where
   pub over : waited ≡ plan.options.tool_wait
   pub polls : waited_for (plan.options.tool_wait - 1) (turns_in session journal) ≡ true
-
-lost_left : (asked : Asked) (session : ℕ) → session_left asked answers.Lost session ≡ None
-lost_left (Call request) session = refl
-lost_left Poll session = refl
-lost_left Cut session = refl
-lost_left (Command word) session = refl
 
 left_is : (asked : Asked) (answer : Answer) (session n : ℕ) → session_left asked answer session ≡ Some n → session ≡ n
 left_is (Command word) answer session n is = absurd cc

@@ -1,7 +1,6 @@
 -- What the ghost relation asks of a migration.
-use Rattle.std.proofs.Common.{◌≡◌, ℕ, ◌<◌, true, not, eqb, List, [], ◌∷◌, length, Option, Some, None, Result, Ok, Err, sym, ap, subst, ◌∙◌, arith}
+use Rattle.std.proofs.Common.{◌≡◌, ℕ, ◌<◌, true, not, eqb, List, [], ◌∷◌, length, Option, Some, None, sym, ap, subst, ◌∙◌, arith}
 use Rattle.std.specs.List.{list_all, slice_get, AllByRecursion}
-use Rattle.std.specs.Result.{result_ok}
 use Rattle.std.proofs.lemmas.Bool.{and_parts, not-false}
 use Rattle.base_values.specs.Laws.{StoresAgain}
 use Rattle.base_values.specs.declared.gho_schema.schema.Index.{Index}
@@ -14,7 +13,6 @@ use Rattle.base_values.specs.SchemaRules.Reasons.{first_reason}
 use Rattle.base_values.proofs.SchemaRules.Lists.{list_all-All}
 use Rattle.base_values.proofs.SchemaRules.Steps.{none_first}
 use Rattle.table_store.specs.ClusteredKeys.{HasClusteredKey}
-use Rattle.sql_change.specs.declared.code.AlterCode.{AlterCode}
 use Rattle.sql_change.specs.declared.code.AlterCode.TheVariants as codes
 use Rattle.sql_change.specs.declared.so_far.AlteredSoFar.{AlteredSoFar}
 use Rattle.sql_change.specs.AlteredSchema.{keeps_key, result_reasons, same_columns}
@@ -94,8 +92,3 @@ alters_planned again approve schema clauses new rows valid e table =
       fits = λ row made fits converted_row_is. converted_rows_are_rows again approve schema clauses new row made valid e converted_row_is;
       same_key = λ row made fits converted_row_is. clustered_keys_kept approve schema clauses new row made valid e fits converted_row_is;
     }
-
--- an ALTER that gives a table is taken
-pub was_ok : (read : Result Altered AlterCode) (new : Altered) → result_ok read ≡ Some new → read ≡ Ok new
-was_ok (Ok made) new is = cc
-was_ok (Err code) new is = absurd cc

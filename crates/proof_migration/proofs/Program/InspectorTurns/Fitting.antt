@@ -1,8 +1,7 @@
 -- What the inspector asks and waits with, in each phase of the cut-over; and that nobody else changes it.
-use Rattle.std.proofs.Common.{◌≡◌, ℕ, Bool, true, false, cond, not, codes, List, ◌++◌, Option, Some, None, refl, sym, ap, ◌∙◌, subst}
+use Rattle.std.proofs.Common.{◌≡◌, ℕ, Bool, true, false, cond, not, List, Option, Some, None, refl, sym, ap, ◌∙◌, subst}
 use Rattle.std.specs.Str.{bytes_eq}
 use Rattle.std.proofs.lemmas.Bool.{true≢false}
-use Rattle.std.proofs.lemmas.List.{append_cancel_left}
 use Rattle.server_model.specs.declared.answer.Answer.{Answer}
 use Rattle.server_model.specs.declared.answer.Answer.TheVariants as answers
 use Rattle.server_model.specs.declared.listing.TableName.{TableName}
@@ -20,30 +19,20 @@ use Rattle.tool_program.specs.declared.cutover_core.cutover.Leftovers.{Leftovers
 use Rattle.tool_program.specs.declared.cutover_core.cutover.Phase.{Phase}
 use Rattle.tool_program.specs.declared.cutover_core.cutover.Phase.TheVariants.{Attempting, Ending, Finished, Finishing, Resting}
 use Rattle.tool_program.specs.declared.cutover_core.cutover.Stage.TheVariants.{Drained, Dropping, Exchanging, Hinting, Locking, Showing, Unlocking, ReadingCounter, SettingCounter}
-use Rattle.server_model.proofs.LockedRows.Tests.{are_same, same_bytes, turned_bytes}
+use Rattle.server_model.proofs.LockedRows.Tests.{turned_bytes}
 use Rattle.proof_journals.specs.ServerTurns.Others.{takes_names}
 use Rattle.proof_journals.specs.Machine.Machines.{both_names}
 use Rattle.proof_journals.specs.Machine.Standings.{answers_to}
 use Rattle.proof_journals.proofs.Machine.Asking.{some_request}
 use Rattle.proof_journals.proofs.Machine.CuttingOver.{LockerAsks, drain_cases}
 use Rattle.proof_journals.proofs.Machine.Inspecting.{IsNote}
-use Rattle.proof_journals.proofs.Machine.Marks.{ghost_not_log}
+use Rattle.proof_journals.proofs.Machine.Marks.{ghost_not_log, old_not_log}
 use Rattle.proof_journals.proofs.Machine.Schemas.{keeps_table}
 use Rattle.tool_program.specs.declared.cutover_core.cutover.Hold.TheVariants.{Locks, WaitsToGuard, WaitsToLock}
 use Rattle.tool_program.specs.declared.cutover_core.cutover.Drain.TheVariants.{Turns, Passed}
 use Rattle.tool_program.specs.declared.cutover_core.cutover.Drain.{Drain}
 
 -- NAMES
-
-pub old_not_log : (table : List ℕ) → bytes_eq (old_name table) (log_name table) ≡ false
-unfolding old_name log_name
-old_not_log table = by (bytes_eq (front ++ codes "_del") (front ++ codes "_ghc")) refl where
-  front : List ℕ
-  front = codes "_" ++ table
-
-  by : (b : Bool) → bytes_eq (front ++ codes "_del") (front ++ codes "_ghc") ≡ b → b ≡ false
-  by true same = let one : codes "_del" ≡ codes "_ghc" = append_cancel_left front (codes "_del") (codes "_ghc") (are_same (front ++ codes "_del") (front ++ codes "_ghc") same) in absurd (true≢false (sym (same_bytes (codes "_del")) ∙ ap (bytes_eq (codes "_del")) one))
-  by false same = refl
 
 -- the request leaves the changelog
 abbrev pub KeepsLog : List ℕ → Request → Type 0

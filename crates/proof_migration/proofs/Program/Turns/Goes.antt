@@ -1,7 +1,7 @@
 -- How the migration stands behind a journal that is kept, and that each turn keeps it so.
 use Rattle.server_model.specs.Entries.{is_client}
 use Rattle.proof_journals.specs.Run.Kept.{IsKept}
-use Rattle.proof_migration.proofs.ToolServes.{about_called_so, tool_serves}
+use Rattle.proof_migration.proofs.ToolServes.{tool_serves}
 use Rattle.std.proofs.Common.{◌≡◌, ◌⊎◌, ◌<◌, ℕ, zero, suc, ◌+◌, Bool, true, false, cond, ◌&&◌, List, [], ◌∷◌, ◌++◌, length, Option, Some, None, refl, sym, ap, ◌∙◌, subst, inl, inr}
 use Rattle.std.specs.List.{AllByRecursion, slice_get}
 use Rattle.std.proofs.lemmas.Bool.{true≢false}
@@ -43,7 +43,7 @@ use Rattle.proof_journals.specs.Scenes.{Scene, no_hold}
 use Rattle.proof_journals.specs.Holdings.{face_of}
 use Rattle.proof_journals.specs.Turns.{IsSceneRun, about, reported_at}
 use Rattle.proof_journals.proofs.Actors.{Placed, left_own, live_more, placed, same_actor_itself}
-use Rattle.proof_journals.proofs.Journals.{journal_holds}
+use Rattle.proof_journals.proofs.Journals.{journal_holds, no_command}
 use Rattle.proof_journals.specs.Ghost.Rows.Moments.{Row}
 use Rattle.proof_journals.specs.Ghost.Rows.Timelines.{IsPlanned, Migration}
 use Rattle.proof_journals.specs.Ghost.HeldKeys.{Clustered}
@@ -261,7 +261,7 @@ module _ (plan : PlanData) (serial : IsSerialPlan plan) (fit : IsFitting plan) (
         map = goes.map;
         request = asks.request;
         asked = about_called plan serial fit journal entry known run off Copy asks.request same asks.is_about;
-        tool = tool_serves plan journal entry kept together run (about_called_so (opens entry now) entry.session entry.asked asks.request (about_called plan serial fit journal entry known run off Copy asks.request same asks.is_about)) (ap is_client same);
+        tool = tool_serves plan journal entry kept together run (no_command (opens entry now) entry.session entry.asked asks.request (about_called plan serial fit journal entry known run off Copy asks.request same asks.is_about)) (ap is_client same);
         given = (asks.waits).next;
         uncut = uncut;
         fits = fits;
@@ -280,7 +280,7 @@ module _ (plan : PlanData) (serial : IsSerialPlan plan) (fit : IsFitting plan) (
         map = goes.apply_map;
         request = asks.request;
         asked = about_called plan serial fit journal entry known run off Apply asks.request same asks.is_about;
-        tool = tool_serves plan journal entry kept together run (about_called_so (opens entry now) entry.session entry.asked asks.request (about_called plan serial fit journal entry known run off Apply asks.request same asks.is_about)) (ap is_client same);
+        tool = tool_serves plan journal entry kept together run (no_command (opens entry now) entry.session entry.asked asks.request (about_called plan serial fit journal entry known run off Apply asks.request same asks.is_about)) (ap is_client same);
         given = asks.next;
         uncut = uncut;
         fits = fits;

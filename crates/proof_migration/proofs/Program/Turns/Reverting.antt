@@ -57,15 +57,16 @@ asked_on plan state entry Cut tool on = by (has_work state entry.session) where
   by false = on
 asked_on plan state entry asked tool on = counts_on plan entry.actor (actor_took plan entry.actor entry.answer tool.tool_phase tool) (actor_on plan entry.actor entry.answer tool.tool_phase tool on)
 
-pub one_on : (plan : PlanData) (journal : List Entry) (entry : Entry) → is_reverting (moment plan journal).tool.reason ≡ true → is_reverting (moment plan (journal ++ entry ∷ [])).tool.reason ≡ true
+-- *A revert stays*
+pub reverting_more : (plan : PlanData) (journal : List Entry) (entry : Entry) → is_reverting (moment plan journal).tool.reason ≡ true → is_reverting (moment plan (journal ++ entry ∷ [])).tool.reason ≡ true
 unfolding took
-one_on plan journal entry on =
+reverting_more plan journal entry on =
     ap (λ (m : Moment). is_reverting m.tool.reason) (moment_more plan journal entry) ∙ asked_on plan (moment plan journal).server entry entry.asked (record (moment plan journal).tool { turns = (moment plan journal).tool.turns + 1 }) on
 
 all_on : (plan : PlanData) (journal rest : List Entry) → is_reverting (moment plan journal).tool.reason ≡ true → is_reverting (moment plan (journal ++ rest)).tool.reason ≡ true
 all_on plan journal [] on = ap (λ (j : List Entry). is_reverting (moment plan j).tool.reason) (append-nil journal) ∙ on
 all_on plan journal (entry ∷ rest) on =
-    ap (λ (j : List Entry). is_reverting (moment plan j).tool.reason) (sym (append_assoc journal (entry ∷ []) rest)) ∙ all_on plan (journal ++ entry ∷ []) rest (one_on plan journal entry on)
+    ap (λ (j : List Entry). is_reverting (moment plan j).tool.reason) (sym (append_assoc journal (entry ∷ []) rest)) ∙ all_on plan (journal ++ entry ∷ []) rest (reverting_more plan journal entry on)
 
 -- where nothing is reverted, nothing was before
 pub going_front : (plan : PlanData) (journal rest : List Entry) → is_reverting (moment plan (journal ++ rest)).tool.reason ≡ false → is_reverting (moment plan journal).tool.reason ≡ false

@@ -73,7 +73,8 @@ use Rattle.proof_migration.proofs.ToolPhase.Chunks.Uncopied.{is_uncopied, copy_b
 
 -- WHERE A CHUNK ENDS IS ANSWERED AT ONCE
 
-done_waits : (answer : Answer) → IsDone answer → is_wait answer ≡ false
+-- what is done does not wait
+pub done_waits : (answer : Answer) → IsDone answer → is_wait answer ≡ false
 done_waits (answers.Waits by) is = absurd is
 done_waits (answers.TimedOut waited) is = absurd is
 done_waits answers.Lost is = absurd is

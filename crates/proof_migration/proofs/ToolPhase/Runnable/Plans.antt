@@ -1,32 +1,24 @@
 -- Every alterable plan whose words fit is runnable.
-use Rattle.std.proofs.Common.{◌≡◌, ℕ, Bool, true, false, List, [], ◌∷◌, cond, Option, Some, Ok, unwrap_or, refl, sym, ap, subst, ◌∙◌}
+use Rattle.std.proofs.Common.{◌≡◌, [], Option, Some, Ok, unwrap_or, sym, ap, subst, ◌∙◌}
 use Rattle.std.specs.Option.{option_map}
 use Rattle.base_values.specs.Laws.{StoresAgain}
 use Rattle.base_values.specs.declared.gho_schema.schema.Schema.{Schema}
 use Rattle.sql_change.specs.AlteredSchema.{altered}
 use Rattle.proof_schemas.proofs.Alters.KeepingLaws.{altered-valid}
-use Rattle.table_store.specs.Databases.{TableRows, Database, is_named, find_table}
-use Rattle.base_values.proofs.SchemaRules.Steps.{some_is}
+use Rattle.table_store.specs.Databases.{TableRows}
 use Rattle.base_values.specs.SchemaRules.Valid.{IsValid}
-use Rattle.server_model.proofs.LockedRows.Tests.{are_same}
 use Rattle.plan_data.specs.PlanData.{PlanData, Altered, altered_by, no_schema, old_schema, new_altered, new_schema, new_map}
 use Rattle.server_model.specs.Conditions.{IsMapOf}
-use Rattle.proof_migration.proofs.Migration.Planning.Planned.{was_ok}
+use Rattle.server_model.proofs.LockedRows.Counters.{found_named}
 use Rattle.proof_journals.specs.Machine.MigrationTables.{TableExists}
 use Rattle.proof_journals.specs.Machine.TableKeys.{IsMapped}
+use Rattle.proof_journals.proofs.Results.{was_ok}
 use Rattle.proof_migration.specs.ToolPhase.Runnable.{IsAlterable, IsWorded, AlterablePlansAreRunnable}
 use Rattle.proof_migration.proofs.ToolPhase.Runnable.Origins.{altered_is_mapped}
 
 -- the migrated table has the plan's name for it
-pub named_so : (name : List ℕ) (tables : Database) (table : TableRows) → find_table name tables ≡ Some table → table.schema.name ≡ name
-named_so name [] table found = absurd cc
-named_so name (first ∷ tables) table found = by (is_named name first) refl found (named_so name tables table) where
-  by : (b : Bool) → is_named name first ≡ b → cond b (Some first) (find_table name tables) ≡ Some table → (find_table name tables ≡ Some table → table.schema.name ≡ name) → table.schema.name ≡ name
-  by true named is later = subst (λ (t : TableRows). t.schema.name ≡ name) (some_is first table is) (are_same first.schema.name name named)
-  by false named is later = later is
-
 pub named : (plan : PlanData) (is : IsAlterable plan) → is.table.schema.name ≡ plan.table
-named plan is = named_so plan.table plan.tables is.table is.found
+named plan is = found_named plan.table plan.tables is.table is.found
 
 module _ (plan : PlanData) (is : IsAlterable plan) where
   old_is : old_schema plan ≡ is.table.schema
