@@ -54,23 +54,22 @@ use Rattle.proof_migration.specs.CutOver.{IsRename}
 use Rattle.proof_migration.specs.Migration.Planning.{migration_of}
 use Rattle.proof_migration.specs.ToolPhase.Unaltered.{IsUnaltered}
 use Rattle.proof_migration.proofs.CutOver.Renames.{Found, renames_found}
-use Rattle.proof_migration.proofs.Once.Past.{GoesPast, IsPast, goes_past}
+use Rattle.proof_migration.proofs.Once.Past.{GoesPast, IsPast, goes_past, exchange_gives}
 use Rattle.proof_migration.proofs.Once.Renames.{renamed_past, unaltered_more}
 use Rattle.proof_migration.proofs.Program.Turns.Follows.{kept_front, kept_run, unmarked_now}
 use Rattle.proof_migration.proofs.ToolPhase.Unaltered.Asking.{AskedAs}
 use Rattle.proof_migration.proofs.ToolPhase.Unaltered.Away.{IsKnownAsked, all_asked, tool_not_mine}
-use Rattle.proof_plans.proofs.Tables.Old.{RenameLaws}
+use Rattle.proof_plans.proofs.Tables.Old.{RenameLaws, tables_renamed, finds}
 use Rattle.proof_plans.proofs.Tables.Turns.{TurnAbout, asks_so, rests_so, turn_about}
 use Rattle.law_draws.specs.OtherTables.{MayCount}
 use Rattle.law_draws.specs.SmallNumbers.{CountsIn}
 use Rattle.law_draws.proofs.AskedCounters.{given_fits}
 use Rattle.law_draws.proofs.Carried.{CarriedAt, IsNoLess, ToolPhaseCarried}
 use Rattle.law_draws.proofs.CarriedTurns.{HasBoth, IsCarried, carried_begins, carried_more}
-use Rattle.law_draws.proofs.Exchange.{CountingPlan, exchange_keeps, finds, renamed}
+use Rattle.law_draws.proofs.Exchange.{CountingPlan, exchange_keeps}
 use Rattle.law_draws.proofs.Migrated.{about_asks, kept_more, keeps_on, none_asks, schema_on, undone}
 use Rattle.law_draws.proofs.NewTable.{IsSmall, MayMake, SmallAsks, counts_named, small_more}
 use Rattle.law_draws.proofs.OtherTables.{Keeps, drawn_asks, drawn_client, drawn_place, drawn_schema, keeps_begins, keeps_drawn, other_tables_draw, table_well}
-use Rattle.law_draws.proofs.Renames.{exchange_gives}
 use Rattle.law_draws.proofs.Starting.{small_begins}
 
 -- WHAT THE RENAME FINDS
@@ -176,7 +175,7 @@ module _ (laws : RenameLaws) (plan : PlanData) (runs : IsRunnable plan) (serial 
       of_request request (is_polled same some) = is.waits entry.actor request some
 
       by : TurnAbout plan journal entry → SmallAsks gho (most (length journal)) (asked_in state entry)
-      by (asks_so request about told asked quiet) = subst (SmallAsks gho (most (length journal))) (sym (about_asks plan journal entry known run request about)) (of_request request about)
+      by (asks_so request about requested asked quiet) = subst (SmallAsks gho (most (length journal))) (sym (about_asks plan journal entry known run request about)) (of_request request about)
       by (rests_so rests) = subst (SmallAsks gho (most (length journal))) (sym (none_asks plan journal entry rests)) tt
 
     waits_on : AllWaits (Waits (length more)) plan more
@@ -340,7 +339,7 @@ module _ (laws : RenameLaws) (plan : PlanData) (runs : IsRunnable plan) (serial 
 
   plain_renamed : (journal : List Entry) (entry : Entry) → IsRename plan journal entry → IsPlain (journal ++ entry ∷ [])
   plain_renamed journal entry rename schema found =
-      by (find_table (ghost_name plan.table) (state_at plan journal).tables) refl (sym (ap (option_map (λ (one : TableRows). one.schema)) (exchange_gives plan.table (state_at plan journal).tables (state_at plan (journal ++ entry ∷ [])).tables (renamed laws plan runs serial journal entry rename))) ∙ found) where
+      by (find_table (ghost_name plan.table) (state_at plan journal).tables) refl (sym (ap (option_map (λ (one : TableRows). one.schema)) (exchange_gives plan.table (state_at plan journal).tables (state_at plan (journal ++ entry ∷ [])).tables (tables_renamed laws plan runs serial journal entry rename))) ∙ found) where
         before : IsKept plan journal
         before = kept_front plan journal (entry ∷ []) rename.kept
 
@@ -464,7 +463,7 @@ module _ (plan : PlanData) (laws : PlanLaws plan) where
     named Ren is mine = absurd (false≢true is)
 
     by : TurnAbout plan journal entry → is_tool_name plan.table (table_of statement) ≡ false
-    by (asks_so request about told asked quiet) =
+    by (asks_so request about requested asked quiet) =
         let both : Some request ≡ Some (requests.Do statement) = sym (about_asks plan journal entry known run request about) ∙ asks in
         let one : request ≡ requests.Do statement = cc in
         named entry.actor client (subst (AskedAs plan entry.actor) one asked)

@@ -19,10 +19,9 @@ use Rattle.base_values.specs.GhoSchema.Tables.{IsRow}
 use Rattle.base_values.specs.RowConversion.ConvertedRows.{converted_row, converted_rows}
 use Rattle.base_values.specs.ToolNames.{ghost_name}
 use Rattle.base_script.specs.declared.actor.Actor.{Actor}
-use Rattle.base_script.specs.declared.actor.Actor.TheVariants.{Ren}
 use Rattle.base_script.specs.declared.actor.Side.{Side}
 use Rattle.base_script.specs.declared.actor.Side.TheVariants.{Before, After}
-use Rattle.table_store.specs.Databases.{Database, TableRows, find_table, name_table, rename_tables}
+use Rattle.table_store.specs.Databases.{Database, TableRows, find_table, name_table}
 use Rattle.server_model.specs.declared.answer.Answer.{Answer}
 use Rattle.server_model.specs.declared.answer.Answer.TheVariants as answers
 use Rattle.server_model.specs.declared.entry.Asked.{Asked}
@@ -69,14 +68,12 @@ use Rattle.proof_journals.proofs.Sentry.Serving.{exchanged}
 use Rattle.proof_journals.proofs.ServerTurns.Others.{holds_from}
 use Rattle.proof_migration.specs.CutOver.{IsRename}
 use Rattle.proof_migration.specs.Migration.Planning.{migration_of}
-use Rattle.proof_migration.proofs.CutOver.Renames.{Found, renames_found}
-use Rattle.proof_migration.proofs.Once.Past.{ren_asks, reported_renamed}
-use Rattle.proof_migration.proofs.Once.Renames.{Renaming, exchanges, renaming}
+use Rattle.proof_migration.proofs.Once.Past.{exchange_gives}
 use Rattle.proof_migration.proofs.Program.Turns.Follows.{kept_front, kept_run}
 use Rattle.proof_migration.proofs.ToolPhase.Unaltered.Away.{IsKnownAsked, all_asked}
 use Rattle.proof_migration.proofs.ToolPhase.Unaltered.Runs.{unaltered_runs}
 use Rattle.proof_plans.proofs.Complete.Unblocked.{each_session}
-use Rattle.proof_plans.proofs.Tables.Old.{RenameLaws}
+use Rattle.proof_plans.proofs.Tables.Old.{RenameLaws, finds, is_about, tables_renamed, renamer, renaming_here}
 use Rattle.law_draws.specs.ColumnValues.{EventsBelow, RowsBelow}
 use Rattle.law_draws.specs.SmallNumbers.{CountsIn, IsAtMost}
 use Rattle.law_draws.proofs.Carried.{IsNoLess, NoMore}
@@ -84,7 +81,7 @@ use Rattle.law_draws.proofs.Migrated.{about_asks}
 use Rattle.law_draws.proofs.NewTable.{IsSmall}
 use Rattle.law_draws.proofs.Numbers.{one_more}
 use Rattle.law_draws.proofs.OtherTables.{Keeps, under_more}
-use Rattle.law_draws.proofs.Renames.{exchange_counts, exchange_gives, rename_rests}
+use Rattle.law_draws.proofs.Renames.{exchange_counts, rename_rests}
 
 -- WHAT IS ASKED OF A PLAN
 
@@ -191,26 +188,11 @@ module _ (laws : RenameLaws) (plan : PlanData) (runs : IsRunnable plan) (serial 
   served : IsServed plan journal entry
   served = record { answered = run.answered; seated = record { session = run.followed.session } }
 
-  pub finds : Found plan journal entry
-  finds = renames_found laws.alone laws.done laws.reported laws.turned plan journal entry runs serial rename
-
-  renaming_here : Renaming laws.done plan journal entry runs serial rename.kept rename.unaltered rename.alters
-  renaming_here = renaming laws.done plan journal entry runs serial rename.kept rename.unaltered rename.alters
-
-  renamer : entry.actor ≡ Ren
-  renamer = (exchanges laws.done plan journal entry runs serial rename.kept rename.unaltered rename.alters).0
-
-  is_about : IsAbout (exchange t) (standing_of plan journal entry.actor) entry.asked
-  is_about = ren_asks laws.done plan journal entry serial runs known run finds.work finds.tool_phase finds.asks renamer
-
-  pub renamed : rename_tables (exchanged t) now.tables ≡ Ok then.tables
-  renamed = reported_renamed laws.done plan journal entry serial runs known run finds.work finds.tool_phase is_about renaming_here.count renaming_here.is_reported
-
   asks : asked_in now entry ≡ Some (exchange t)
-  asks = about_asks plan journal entry known run (exchange t) is_about
+  asks = about_asks plan journal entry known run (exchange t) (is_about laws plan runs serial journal entry rename)
 
   called : is_command entry.asked ≡ false
-  called = by is_about where
+  called = by (is_about laws plan runs serial journal entry rename) where
     by : IsAbout (exchange t) (standing_of plan journal entry.actor) entry.asked → is_command entry.asked ≡ false
     by (is_called same none) = ap is_command same
     by (is_polled same some) = ap is_command same
@@ -219,19 +201,19 @@ module _ (laws : RenameLaws) (plan : PlanData) (runs : IsRunnable plan) (serial 
 
   counts : next_of t then.counters ≡ next_of (ghost_name t) now.counters
   unfolding counted
-  counts = ap (λ (s : State). next_of t s.counters) (state_more (opening plan) journal entry) ∙ by entry.side refl (tells is_about) where
+  counts = ap (λ (s : State). next_of t s.counters) (state_more (opening plan) journal entry) ∙ by entry.side refl (tells (is_about laws plan runs serial journal entry rename)) where
     answer : Answer
     answer = (serves open_now entry.session entry.asked).answer
 
-    tells : IsAbout (exchange t) (standing_of plan journal entry.actor) entry.asked → answer_in Poll entry.side entry.answer entry.missed ≡ Some (answers.Ok renaming_here.count)
-    tells (is_called same none) = sym (call_as entry.side) ∙ ap (λ (a : Asked). answer_in a entry.side entry.answer entry.missed) (sym same) ∙ renaming_here.is_reported where
+    tells : IsAbout (exchange t) (standing_of plan journal entry.actor) entry.asked → answer_in Poll entry.side entry.answer entry.missed ≡ Some (answers.Ok (renaming_here laws plan runs serial journal entry rename).count)
+    tells (is_called same none) = sym (call_as entry.side) ∙ ap (λ (a : Asked). answer_in a entry.side entry.answer entry.missed) (sym same) ∙ (renaming_here laws plan runs serial journal entry rename).is_reported where
       call_as : (side : Option Side) → answer_in (Call (exchange t)) side entry.answer entry.missed ≡ answer_in Poll side entry.answer entry.missed
       call_as None = refl
       call_as (Some Before) = refl
       call_as (Some After) = refl
-    tells (is_polled same some) = ap (λ (a : Asked). answer_in a entry.side entry.answer entry.missed) (sym same) ∙ renaming_here.is_reported
+    tells (is_polled same some) = ap (λ (a : Asked). answer_in a entry.side entry.answer entry.missed) (sym same) ∙ (renaming_here laws plan runs serial journal entry rename).is_reported
 
-    moved : answer ≡ answers.Ok renaming_here.count → next_of t (counted open_now entry.session (asked_in now entry) answer) ≡ next_of (ghost_name t) now.counters
+    moved : answer ≡ answers.Ok (renaming_here laws plan runs serial journal entry rename).count → next_of t (counted open_now entry.session (asked_in now entry) answer) ≡ next_of (ghost_name t) now.counters
     moved is =
         ap (λ (o : Option Request). next_of t (counted open_now entry.session o answer)) asks ∙ ap (λ (a : Answer). next_of t (counted open_now entry.session (Some (exchange t)) a)) is
         ∙ exchange_counts t open_now.counters ∙ ap (next_of (ghost_name t)) (opened_counters (is_command entry.asked) (not (is_client entry.actor)) entry.session now)
@@ -239,14 +221,14 @@ module _ (laws : RenameLaws) (plan : PlanData) (runs : IsRunnable plan) (serial 
     one : (a b : Answer) → Some a ≡ Some b → a ≡ b
     one a b same = cc
 
-    by : (side : Option Side) → entry.side ≡ side → answer_in Poll entry.side entry.answer entry.missed ≡ Some (answers.Ok renaming_here.count) → next_of t (counters_left entry.side open_now entry.session entry.asked) ≡ next_of (ghost_name t) now.counters
-    by None at told =
+    by : (side : Option Side) → entry.side ≡ side → answer_in Poll entry.side entry.answer entry.missed ≡ Some (answers.Ok (renaming_here laws plan runs serial journal entry rename).count) → next_of t (counters_left entry.side open_now entry.session entry.asked) ≡ next_of (ghost_name t) now.counters
+    by None at reported =
         ap (λ (s : Option Side). next_of t (counters_left s open_now entry.session entry.asked)) at
-        ∙ moved (own_given plan journal entry together.known served at ∙ one entry.answer (answers.Ok renaming_here.count) (ap (λ (s : Option Side). answer_in Poll s entry.answer entry.missed) (sym at) ∙ told))
-    by (Some Before) at told = absurd (let no : None ≡ Some (answers.Ok renaming_here.count) = ap (λ (s : Option Side). answer_in Poll s entry.answer entry.missed) (sym at) ∙ told in cc)
-    by (Some After) at told =
+        ∙ moved (own_given plan journal entry together.known served at ∙ one entry.answer (answers.Ok (renaming_here laws plan runs serial journal entry rename).count) (ap (λ (s : Option Side). answer_in Poll s entry.answer entry.missed) (sym at) ∙ reported))
+    by (Some Before) at reported = absurd (let no : None ≡ Some (answers.Ok (renaming_here laws plan runs serial journal entry rename).count) = ap (λ (s : Option Side). answer_in Poll s entry.answer entry.missed) (sym at) ∙ reported in cc)
+    by (Some After) at reported =
         ap (λ (s : Option Side). next_of t (counters_left s open_now entry.session entry.asked)) at
-        ∙ moved (one answer (answers.Ok renaming_here.count) (sym (reported_missed now entry run.answered ∙ ap (λ (s : Option Side). missed_at s (inner now entry)) at) ∙ ap (λ (s : Option Side). answer_in Poll s entry.answer entry.missed) (sym at) ∙ told))
+        ∙ moved (one answer (answers.Ok (renaming_here laws plan runs serial journal entry rename).count) (sym (reported_missed now entry run.answered ∙ ap (λ (s : Option Side). missed_at s (inner now entry)) at) ∙ ap (λ (s : Option Side). answer_in Poll s entry.answer entry.missed) (sym at) ∙ reported))
 
   -- WRITES
 
@@ -259,11 +241,11 @@ module _ (laws : RenameLaws) (plan : PlanData) (runs : IsRunnable plan) (serial 
   idle : (face_of open_now.sessions entry.session).busy ≡ false
   idle =
       let own : IsOpen plan journal entry together.known served = is_open plan journal entry together.known served called in
-      ap (λ (o : Option Session). (face_in o).busy) own.is ∙ ap (λ (s : Standing). s.busy) (sym own.stands) ∙ ap (λ (a : Actor). (standing_of plan journal a).busy) renamer ∙ ap (λ (s : Standing). s.busy) stands.renamer ∙ by finds.work.cutover.renamer_waits where
-        stands : WorkStands journal (is_reverting (moment plan journal).tool.reason) (standing_of plan journal) finds.work
-        stands = subst (ToolPhaseStands journal (standing_of plan journal) (is_reverting (moment plan journal).tool.reason)) finds.tool_phase together.stands
+      ap (λ (o : Option Session). (face_in o).busy) own.is ∙ ap (λ (s : Standing). s.busy) (sym own.stands) ∙ ap (λ (a : Actor). (standing_of plan journal a).busy) (renamer laws plan runs serial journal entry rename) ∙ ap (λ (s : Standing). s.busy) stands.renamer ∙ by (finds laws plan runs serial journal entry rename).work.cutover.renamer_waits where
+        stands : WorkStands journal (is_reverting (moment plan journal).tool.reason) (standing_of plan journal) (finds laws plan runs serial journal entry rename).work
+        stands = subst (ToolPhaseStands journal (standing_of plan journal) (is_reverting (moment plan journal).tool.reason)) (finds laws plan runs serial journal entry rename).tool_phase together.stands
 
-        by : (b : Bool) → (machines.renaming finds.work.cutover.table b).busy ≡ false
+        by : (b : Bool) → (machines.renaming (finds laws plan runs serial journal entry rename).work.cutover.table b).busy ≡ false
         by true = refl
         by false = refl
 
@@ -284,7 +266,7 @@ module _ (laws : RenameLaws) (plan : PlanData) (runs : IsRunnable plan) (serial 
           let has : Holding now.sessions m t = holding_of now.sessions m t named in
           true≢false (sym (
           holds_from (names_held now.sessions) m t has.one has.is (ap (λ (n : ℕ). n == m) has.own ∙ eq-eqb m m refl) (ap (λ (n : List ℕ). bytes_eq n t) (sym (are_same t has.one.name has.same)) ∙ same_bytes t)
-          ) ∙ finds.renamed.alone m differ)
+          ) ∙ (finds laws plan runs serial journal entry rename).renamed.alone m differ)
 
       other : m ≢ entry.session → EventsBelow t place next s.writes
       other differ =
@@ -314,7 +296,7 @@ module _ (laws : RenameLaws) (plan : PlanData) (runs : IsRunnable plan) (serial 
     found_new : find_table t then.tables ≡ Some (record { schema = table_schema; rows = altered.made })
     unfolding new_schema
     found_new =
-        exchange_gives t now.tables then.tables renamed
+        exchange_gives t now.tables then.tables (tables_renamed laws plan runs serial journal entry rename)
         ∙ ap (option_map (name_table t)) (ap (λ (n : List ℕ). find_table (ghost_name n) now.tables) (sym counting.named) ∙ altered.new)
 
     found_old : find_table t now.tables ≡ Some (record { schema = old_schema plan; rows = altered.rows })

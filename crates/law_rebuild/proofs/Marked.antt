@@ -1,9 +1,6 @@
 -- Right after the RENAME the table under the migrated one's name is the rebuilt one.
-use Rattle.std.proofs.Common.{◌≡◌, ℕ, Bool, true, false, cond, not, length, List, [], ◌∷◌, ◌++◌, Option, Some, None, Result, Ok, Err, refl, sym, ap, ◌∙◌, subst}
-use Rattle.std.specs.List.{AllByRecursion}
+use Rattle.std.proofs.Common.{◌≡◌, ℕ, not, length, List, [], ◌∷◌, ◌++◌, Option, Some, None, Ok, refl, sym, ap, ◌∙◌, subst}
 use Rattle.std.specs.Option.{option_map}
-use Rattle.std.specs.Result.{result_ok}
-use Rattle.base_script.specs.declared.actor.Actor.TheVariants.{Ren}
 use Rattle.base_script.specs.declared.actor.Side.{Side}
 use Rattle.base_script.specs.declared.actor.Side.TheVariants.{Before, After}
 use Rattle.base_values.specs.declared.event.Change.{Change}
@@ -12,11 +9,9 @@ use Rattle.base_values.specs.declared.gho_schema.schema.Schema.{Schema}
 use Rattle.base_values.specs.GhoSchema.Rows.{key_places}
 use Rattle.base_values.specs.RowConversion.ConvertedRows.{converted_rows}
 use Rattle.base_values.specs.SchemaRules.Valid.{IsValid}
-use Rattle.base_values.specs.ToolNames.{ghost_name, old_name}
+use Rattle.base_values.specs.ToolNames.{ghost_name}
 use Rattle.base_values.proofs.SchemaRules.Steps.{some_is}
-use Rattle.table_store.specs.ClusteredKeys.{HasClusteredKey}
-use Rattle.table_store.specs.Databases.{Database, TableRows, find_table, has_table, is_named, name_table, rename_tables, with_name}
-use Rattle.table_store.specs.declared.renames.NotRenamed.TheVariants as reasons
+use Rattle.table_store.specs.Databases.{TableRows, find_table, name_table}
 use Rattle.server_model.specs.declared.entry.Asked.TheVariants.{Call, Poll, Cut}
 use Rattle.server_model.specs.declared.entry.Entry.{Entry}
 use Rattle.server_model.specs.declared.session.Waiting.{Waiting}
@@ -25,13 +20,11 @@ use Rattle.server_model.specs.LockedRows.Coverage.{IsWellFormedTable}
 use Rattle.server_model.specs.PlainServer.{leaves, serves}
 use Rattle.server_model.specs.Rows.{change_all}
 use Rattle.server_model.specs.States.{State, waiting_of}
-use Rattle.server_model.proofs.LockedRows.Tests.{turned_bytes}
 use Rattle.plan_data.specs.PlanData.{Altered, PlanData, altered_by, altered_in, plan_altered}
 use Rattle.plan_data.specs.declared.plan.AlteredSchema.{AlteredSchema}
 use Rattle.sql_change.specs.AlteredSchema.{altered}
 use Rattle.tool_program.specs.CutoverCore.Attempts.{exchange}
 use Rattle.tool_program.specs.JournalWords.Journals.{opening, opens, state_at}
-use Rattle.tool_program.proofs.OnlineCalls.Naming.{not_ghost}
 use Rattle.proof_schemas.proofs.Alters.TableNames.{keep_names}
 use Rattle.proof_journals.specs.Ghost.Copies.{IsAltered}
 use Rattle.proof_journals.specs.Ghost.Rows.Moments.{rows_at}
@@ -42,23 +35,20 @@ use Rattle.proof_journals.specs.Run.Kept.{IsKept}
 use Rattle.proof_journals.specs.Turns.{about, request_of}
 use Rattle.proof_journals.proofs.Journals.{opened_waits, state_more}
 use Rattle.proof_journals.proofs.Machine.Journals.{IsRun, IsTogether}
-use Rattle.proof_journals.proofs.Machine.Marks.{ghost_not_old}
 use Rattle.proof_journals.proofs.Machine.Seated.{IsServed, own_waiting}
-use Rattle.proof_journals.proofs.Moves.{renamed_new, renamed_other}
-use Rattle.proof_journals.proofs.Sentry.Serving.{exchanged}
+use Rattle.proof_journals.proofs.Results.{was_ok}
 use Rattle.proof_migration.specs.CutOver.{IsRename}
 use Rattle.proof_migration.specs.Migration.Planning.{migration_of}
 use Rattle.proof_migration.specs.ToolPhase.Runnable.{IsAlterable}
-use Rattle.proof_migration.proofs.CutOver.Renames.{Found, renames_found}
-use Rattle.proof_migration.proofs.Once.Past.{ren_asks, reported_renamed}
-use Rattle.proof_migration.proofs.Once.Renames.{Renaming, exchanges, renaming}
+use Rattle.proof_migration.proofs.Once.Past.{exchange_gives}
 use Rattle.proof_migration.proofs.Program.LockerTurns.Quiet.{Quiet, quiet_served}
 use Rattle.proof_migration.proofs.Program.Turns.Follows.{kept_front, kept_run}
 use Rattle.proof_migration.proofs.ToolPhase.Runnable.Plans.{named}
 use Rattle.proof_migration.proofs.ToolPhase.Unaltered.Away.{IsKnownAsked, all_asked}
 use Rattle.proof_plans.specs.Laws.{AcceptedRenamesFindTheAltered}
 use Rattle.proof_plans.specs.ReadPlans.Laws.{ReadPlansAreAlterable, ReadPlansAreRunnable, ReadPlansAreSerial, WasRead}
-use Rattle.proof_plans.proofs.Tables.Old.{RenameLaws}
+use Rattle.proof_plans.proofs.Tables.Old.{RenameLaws, is_about, tables_renamed}
+use Rattle.proof_plans.proofs.ReadPlans.Tables.{found_is}
 use Rattle.law_rebuild.specs.Laws.{AcceptedMarksAreRebuilt, IsRebuiltOf}
 use Rattle.law_rebuild.specs.Marks.{changes_logged}
 use Rattle.law_rebuild.proofs.Growing.{lost_log, opened_log}
@@ -75,22 +65,6 @@ pub record MarkLaws : Type 0 where
   pub alterable : ReadPlansAreAlterable
 
 -- THE RENAME
-
--- the new table has the migrated one's name after it
-exchange_brings : (t : List ℕ) (tables after : Database) (new : TableRows) → rename_tables (exchanged t) tables ≡ Ok after → find_table (ghost_name t) tables ≡ Some new → find_table t after ≡ Some (name_table t new)
-unfolding rename_tables
-exchange_brings t tables after new is found = by (has_table (old_name t) tables) (has_table t tables) (has_table t moved) (has_table (ghost_name t) moved) refl is where
-  moved : Database
-  moved = with_name t (old_name t) tables
-
-  by : (a b c d : Bool) → has_table t moved ≡ c → cond a (Err reasons.Exists) (cond b (cond c (Err reasons.Exists) (cond d (Ok (with_name (ghost_name t) t moved)) (Err reasons.Missing))) (Err reasons.Missing)) ≡ Ok after → find_table t after ≡ Some (name_table t new)
-  by true b c d none is = absurd cc
-  by false false c d none is = absurd cc
-  by false true true d none is = absurd cc
-  by false true false false none is = absurd cc
-  by false true false true none is =
-      let same : with_name (ghost_name t) t moved ≡ after = cc in
-      ap (find_table t) (sym same) ∙ renamed_new (ghost_name t) t moved none ∙ ap (option_map (name_table t)) (renamed_other t (old_name t) (ghost_name t) tables (turned_bytes t (ghost_name t) (not_ghost t)) (ghost_not_old t) ∙ found)
 
 module _ (laws : RenameLaws) (plan : PlanData) (runs : IsRunnable plan) (serial : IsSerialPlan plan) (journal : List Entry) (entry : Entry) (rename : IsRename plan journal entry) where
   abbrev now : State
@@ -114,25 +88,10 @@ module _ (laws : RenameLaws) (plan : PlanData) (runs : IsRunnable plan) (serial 
   served : IsServed plan journal entry
   served = record { answered = run.answered; seated = record { session = run.followed.session } }
 
-  finds : Found plan journal entry
-  finds = renames_found laws.alone laws.done laws.reported laws.turned plan journal entry runs serial rename
-
-  renaming_here : Renaming laws.done plan journal entry runs serial rename.kept rename.unaltered rename.alters
-  renaming_here = renaming laws.done plan journal entry runs serial rename.kept rename.unaltered rename.alters
-
-  renamer : entry.actor ≡ Ren
-  renamer = (exchanges laws.done plan journal entry runs serial rename.kept rename.unaltered rename.alters).0
-
-  is_about : IsAbout (exchange plan.table) (standing_of plan journal entry.actor) entry.asked
-  is_about = ren_asks laws.done plan journal entry serial runs known run finds.work finds.tool_phase finds.asks renamer
-
-  renamed : rename_tables (exchanged plan.table) now.tables ≡ Ok then.tables
-  renamed = reported_renamed laws.done plan journal entry serial runs known run finds.work finds.tool_phase is_about renaming_here.count renaming_here.is_reported
-
   -- THE LOG
 
   about_open : about (opens entry now) entry.session entry.asked ≡ Some (exchange plan.table)
-  about_open = by is_about where
+  about_open = by (is_about laws plan runs serial journal entry rename) where
     by : IsAbout (exchange plan.table) (standing_of plan journal entry.actor) entry.asked → about (opens entry now) entry.session entry.asked ≡ Some (exchange plan.table)
     by (is_called asks none) = ap (about (opens entry now) entry.session) asks
     by (is_polled asks some) =
@@ -140,7 +99,7 @@ module _ (laws : RenameLaws) (plan : PlanData) (runs : IsRunnable plan) (serial 
         ∙ own_waiting plan journal entry together.known served (ap is_command asks) ∙ some
 
   uncut : entry.asked ≡ Cut → ⊥
-  uncut cut = by is_about where
+  uncut cut = by (is_about laws plan runs serial journal entry rename) where
     no_call : Call (exchange plan.table) ≡ Cut → ⊥
     no_call same = cc
 
@@ -163,20 +122,9 @@ module _ (laws : RenameLaws) (plan : PlanData) (runs : IsRunnable plan) (serial 
     by (Some After) = lost_log entry.session (serves (opens entry now) entry.session entry.asked).after ∙ quiet.log
 
   pub brings : (new : TableRows) → find_table (ghost_name plan.table) now.tables ≡ Some new → find_table plan.table then.tables ≡ Some (name_table plan.table new)
-  brings new found = exchange_brings plan.table now.tables then.tables new renamed found
+  brings new found = exchange_gives plan.table now.tables then.tables (tables_renamed laws plan runs serial journal entry rename) ∙ ap (option_map (name_table plan.table)) found
 
 -- AN ACCEPTED PLAN
-
-found_one : (P : TableRows → Type 0) (name : List ℕ) (tables : Database) (table : TableRows) → AllByRecursion P tables → find_table name tables ≡ Some table → P table
-found_one P name [] table all found = absurd cc
-found_one P name (first ∷ tables) table all found = by (is_named name first) found (found_one P name tables table all.1) where
-  by : (b : Bool) → cond b (Some first) (find_table name tables) ≡ Some table → (find_table name tables ≡ Some table → P table) → P table
-  by true is later = subst P (some_is first table is) all.0
-  by false is later = later is
-
-was_ok : {A E : Type 0} (r : Result A E) (x : A) → result_ok r ≡ Some x → r ≡ Ok x
-was_ok (Ok one) x is = ap Ok (some_is one x is)
-was_ok (Err reason) x is = absurd cc
 
 by_found : (plan : PlanData) (table : TableRows) (new : Altered) → find_table plan.table plan.tables ≡ Some table → plan_altered plan ≡ Some new → altered_by plan table.schema ≡ Some new
 unfolding plan_altered
@@ -212,7 +160,7 @@ module _ (laws : MarkLaws) (plan : PlanData) (table : TableRows) (new : AlteredS
   own_name = ap (λ (t : TableRows). t.schema.name) (sym same) ∙ named plan is
 
   well_formed : IsWellFormedTable table
-  well_formed = found_one IsWellFormedTable plan.table plan.tables table serial_it.tables found
+  well_formed = (found_is IsWellFormedTable plan.table plan.tables table serial_it.tables found).is
 
   valid : IsValid table.schema
   valid = subst (λ (t : TableRows). IsValid t.schema) same is.valid

@@ -8,4 +8,5 @@ pub mod Scripts
 pub mod Tables
 pub mod Schemas
 pub mod Stated
+pub mod Declared
 pub mod Options

@@ -16,6 +16,8 @@ use Rattle.plan_keys.specs.declared.options.TruthKeys.{TruthKeys}
 use Rattle.plan_keys.specs.Limits.{has_too_many}
 use Rattle.plan_keys.specs.Options.{within, version_two_within, options_within}
 use Rattle.plan_keys.specs.PlanKeys.{KeyData, TypedData, typed_of, in_range, few, keys_of}
+use Rattle.plan_keys.specs.declared.options.VersionTwoKeys.{VersionTwoKeys}
+use Rattle.plan_keys.specs.declared.options.VersionTwoNumbers.{VersionTwoNumbers}
 use Rattle.base_values.specs.SchemaRules.Results.{◌>>=◌}
 use Rattle.toml.specs.Data.{Members}
 use Rattle.plan_orders.specs.Numbers.{is_number, number_of, at_most, number_up_to}
@@ -62,19 +64,49 @@ number_some limit word n is = within_limit limit n (number_of word) (number_from
 
 -- OPTIONS
 
-within_is : (low high n : ℕ) (number : ℤ) → within low high number ≡ Ok n → low ≤ n
+abbrev pub IsWithin : ℕ → ℕ → ℕ → Type 0
+IsWithin low high n = (low ≤ n) × (n ≤ high)
+
+within_is : (low high n : ℕ) (number : ℤ) → within low high number ≡ Ok n → IsWithin low high n
 unfolding within
 within_is low high n (pos m) is =
     let parts = kept_out (int_lt (pos m) (pos low) || int_lt (pos high) (pos m)) m n OutOfRange is in
-    let first = or_parts (int_lt (pos m) (pos low)) (int_lt (pos high) (pos m)) parts.0 in
-    subst (λ (k : ℕ). low ≤ k) parts.1 (grind (arith, nat_tests, first))
+    let both = or_parts (int_lt (pos m) (pos low)) (int_lt (pos high) (pos m)) parts.0 in
+    subst (IsWithin low high) parts.1 (grind (arith, nat_tests, both), grind (arith, nat_tests, both))
 within_is low high n (negsuc m) is = absurd cc
 
 -- what ranges ask of the options
 pub record AreRanged (options : Options) : Type 0 where
-  pub chunk : 1 ≤ options.chunk_size
-  pub batch : 1 ≤ options.dml_batch_size
-  pub drain : 1 ≤ options.drain_limit
+  pub chunk : IsWithin 1 100000 options.chunk_size
+  pub batch : IsWithin 1 1000 options.dml_batch_size
+  pub tries : IsWithin 1 1000 options.default_retries
+  pub drain : IsWithin 1 100000 options.drain_limit
+  pub client : IsWithin 1 100000 options.client_wait
+  pub tool : IsWithin 1 100000 options.tool_wait
+  pub turns : IsWithin 1 1000000 options.turn_limit
+  pub notes : IsWithin 0 1000 options.notes
+  pub note_every : IsWithin 1 100000 options.note_every
+  pub pause : IsWithin 1 1000 options.replica_pause
+
+-- what they ask of the numbers that version 2 has besides
+record SecondRanged (numbers : VersionTwoNumbers) : Type 0 where
+  notes : IsWithin 0 1000 numbers.notes
+  note_every : IsWithin 1 100000 numbers.note_every
+  pause : IsWithin 1 1000 numbers.replica_pause
+
+second_ranged : (written : VersionTwoKeys) (numbers : VersionTwoNumbers) → version_two_within written ≡ Ok numbers → SecondRanged numbers
+unfolding version_two_within
+second_ranged written numbers is =
+    let notes = bind_ok (within 0 1000 written.notes) _ numbers is in
+    let between = bind_ok (within 1 100000 written.note_every) _ numbers notes.2 in
+    let step = bind_ok (within 0 1000 written.replica_step) _ numbers between.2 in
+    let pause = bind_ok (within 1 1000 written.replica_pause) _ numbers step.2 in
+    let lag = bind_ok (within 1 1000 written.max_lag) _ numbers pause.2 in
+    subst SecondRanged (ok_is {C = KeyRefusal} _ numbers lag.2) (record {
+      notes = within_is 0 1000 notes.0 written.notes notes.1;
+      note_every = within_is 1 100000 between.0 written.note_every between.1;
+      pause = within_is 1 1000 pause.0 written.replica_pause pause.1;
+    })
 
 ranged : (numbers : NumberKeys) (truths : TruthKeys) (options : Options) → options_within numbers truths ≡ Ok options → AreRanged options
 unfolding options_within
@@ -89,8 +121,19 @@ ranged numbers truths options is =
     let load = bind_ok (within 0 64 numbers.max_load) _ options tool.2 in
     let turns = bind_ok (within 1 1000000 numbers.turn_limit) _ options load.2 in
     let second = bind_ok (version_two_within numbers.version_two) _ options turns.2 in
-    subst AreRanged (ok_is {C = KeyRefusal} _ options second.2)
-    (record { chunk = within_is 1 100000 chunk.0 numbers.chunk_size chunk.1; batch = within_is 1 1000 batch.0 numbers.dml_batch_size batch.1; drain = within_is 1 100000 drain.0 numbers.drain_limit drain.1 })
+    let more = second_ranged numbers.version_two second.0 second.1 in
+    subst AreRanged (ok_is {C = KeyRefusal} _ options second.2) (record {
+      chunk = within_is 1 100000 chunk.0 numbers.chunk_size chunk.1;
+      batch = within_is 1 1000 batch.0 numbers.dml_batch_size batch.1;
+      tries = within_is 1 1000 retries.0 numbers.default_retries retries.1;
+      drain = within_is 1 100000 drain.0 numbers.drain_limit drain.1;
+      client = within_is 1 100000 client.0 numbers.client_wait client.1;
+      tool = within_is 1 100000 tool.0 numbers.tool_wait tool.1;
+      turns = within_is 1 1000000 turns.0 numbers.turn_limit turns.1;
+      notes = more.notes;
+      note_every = more.note_every;
+      pause = more.pause;
+    })
 
 typed_ranged : (typed : TypedData) (keys : KeyData) → in_range typed ≡ Ok keys → AreRanged keys.options
 unfolding in_range

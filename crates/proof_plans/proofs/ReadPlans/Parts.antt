@@ -1,5 +1,5 @@
 -- A plan that is read, part by part.
-use Rattle.std.proofs.Common.{◌≡◌, ℕ, true, List, length, Ok, ap, subst, ◌∙◌}
+use Rattle.std.proofs.Common.{◌≡◌, ℕ, true, List, length, Ok, ap, ◌∙◌}
 use Rattle.std.specs.Prelude.{nat_lt}
 use Rattle.toml.specs.Data.{Members}
 use Rattle.base_values.proofs.SchemaRules.Steps.{bind_ok, kept_out, let_through}

@@ -52,7 +52,8 @@ use Rattle.proof_plans.proofs.ReadPlans.Tables.{Laws, all_well_formed, found_is,
 
 -- SCRIPTS
 
-script_was : (client : ℕ) (read : Result (List ScriptLine) ScriptRefusal) (script : List ScriptLine) → of_script client read ≡ Ok script → read ≡ Ok script
+-- a script that was read
+pub script_was : (client : ℕ) (read : Result (List ScriptLine) ScriptRefusal) (script : List ScriptLine) → of_script client read ≡ Ok script → read ≡ Ok script
 script_was client (Ok x) script is = cc
 script_was client (Err refusal) script is = absurd cc
 
@@ -200,7 +201,7 @@ scripts_end bytes plan is =
 pub attempts_drain : ReadAttemptsDrain
 attempts_drain bytes plan is =
     let parts = parts_of bytes plan is in
-    subst (λ (p : PlanData). 1 ≤ p.options.drain_limit) parts.same (options_ranged parts.members parts.keys parts.said).drain
+    subst (λ (p : PlanData). 1 ≤ p.options.drain_limit) parts.same (options_ranged parts.members parts.keys parts.said).drain.0
 
 -- *Read plans are worded*
 pub plans_worded : Laws → ReadClausesWriteKinds → ReadPlansAreWorded
@@ -215,8 +216,8 @@ plans_worded laws kinds plan was =
     subst IsWorded parts.same (record {
       scripts = fits_each (tool_names migrated) parts.clients (clients_are migrated parts.keys.texts.clients parts.clients parts.scripts);
       names = names_fit migrated short utf8;
-      chunk = ranged.chunk;
+      chunk = ranged.chunk.0;
       commands = operator_fits parts.keys.texts.operator parts.orders.operator (ordered_is (length parts.clients) parts.keys.texts parts.orders parts.ordered);
-      batch = ranged.batch;
+      batch = ranged.batch.0;
       clauses = kinds parts.keys.version migrated parts.keys.texts.alter parts.opening.alter opened.alter;
     })

@@ -85,7 +85,8 @@ pub record AreLines (tools texts : List (List ℕ)) (is_open : Bool) (script : L
   pub end : (has_lines texts ≡ false → is_open ≡ false) → LinesEnd is_open script
   pub named : AllByRecursion (λ line. names_one_of tools line.word ≡ false) script
 
-was_read : {A : Type 0} (number : ℕ) (read : Result A ScriptCode) (x : A) → at_line number read ≡ Ok x → read ≡ Ok x
+-- a line that was read
+pub was_read : {A : Type 0} (number : ℕ) (read : Result A ScriptCode) (x : A) → at_line number read ≡ Ok x → read ≡ Ok x
 was_read number (Ok y) x is = cc
 was_read number (Err code) x is = absurd cc
 

@@ -15,6 +15,7 @@ use Rattle.proof_plans.specs.ReadPlans.Laws.{ReadPlansAreWorded}
 use Rattle.proof_plans.specs.ReadPlans.Schemas.{ReadPlansAreAccepted}
 use Rattle.proof_plans.proofs.ReadPlans.Schemas.Accepted.{plans_are}
 use Rattle.proof_plans.proofs.ReadPlans.Plans.{plans_worded}
+use Rattle.proof_plans.proofs.ReadPlans.Tables.{Laws}
 
 where_nullable : StoresNullWhereNullable
 where_nullable = λ value kind nullable e. (keeps value kind nullable Null e).null refl
@@ -32,5 +33,9 @@ plans_accepted = plans_are (record {
   put = put_keeps_tables;
 })
 
+-- what the crates below say of tables
+pub read_laws : Laws
+read_laws = record { valid = schemas_valid; declared = read-declared; again = stores_again; put = put_keeps_tables }
+
 pub read_worded : ReadPlansAreWorded
-read_worded = plans_worded (record { valid = schemas_valid; declared = read-declared; again = stores_again; put = put_keeps_tables }) read-clauses
+read_worded = plans_worded read_laws read-clauses

@@ -2,7 +2,6 @@
 use Rattle.std.proofs.Common.{◌≡◌, ℕ, Bool, true, false, cond, List, [], ◌∷◌, ◌++◌, Some, Ok, refl, sym, subst}
 use Rattle.std.specs.List.{AllByRecursion}
 use Rattle.base_values.specs.Laws.{StoresAgain}
-use Rattle.base_values.specs.declared.gho_schema.schema.Schema.{Schema}
 use Rattle.table_store.specs.Databases.{TableRows, Database, has_table, is_named, find_table}
 use Rattle.table_store.specs.Laws.{PutKeepsTables}
 use Rattle.base_values.proofs.SchemaRules.Lists.{All-append, All-weaker}
@@ -11,7 +10,7 @@ use Rattle.base_values.specs.SchemaRules.Limits.{is_table_name, is_name_length}
 use Rattle.base_values.specs.ToolNames.{is_tool_name}
 use Rattle.sql_create.specs.Laws.{ReadSchemasAreValid}
 use Rattle.sql_create.specs.CreateText.{schema_at}
-use Rattle.proof_schemas.specs.ReadAgain.{ReadSchemasAreDeclared}
+use Rattle.proof_schemas.specs.ReadAgain.{IsDeclared, ReadSchemasAreDeclared}
 use Rattle.plan_keys.specs.Limits.{TableData}
 use Rattle.plan_reader.specs.declared.plan_tables.fault.TableRefusal.{TableRefusal}
 use Rattle.plan_reader.specs.PlanTables.Rows.{next_number, put_texts}
@@ -31,13 +30,13 @@ pub record Laws : Type 0 where
   pub again : StoresAgain
   pub put : PutKeepsTables
 
--- the name has a lawful length
-abbrev IsNamedSo : List ℕ → TableRows → Type 0
-IsNamedSo migrated table = is_table_name (is_tool_name migrated table.schema.name) table.schema.name ≡ true
+-- a table that CREATE TABLE gives
+abbrev pub IsMade : List ℕ → TableRows → Type 0
+IsMade migrated table = IsDeclared migrated table.schema
 
-table_named : Laws → (version : ℕ) (migrated : List ℕ) (number : ℕ) (tables : Database) (texts : TableData) (table : TableRows) → table_at version migrated number tables texts ≡ Ok table → IsNamedSo migrated table
+table_made : Laws → (version : ℕ) (migrated : List ℕ) (number : ℕ) (tables : Database) (texts : TableData) (table : TableRows) → table_at version migrated number tables texts ≡ Ok table → IsMade migrated table
 unfolding table_at
-table_named laws version migrated number tables texts table is =
+table_made laws version migrated number tables texts table is =
     let schema = bind_ok (of_schema number (schema_at version migrated texts.create)) _ table is in
     let empty = bind_ok (newly_named number tables schema.0) _ table schema.2 in
     let was = schema_was number (schema_at version migrated texts.create) schema.0 schema.1 in
@@ -46,14 +45,14 @@ table_named laws version migrated number tables texts table is =
     let put : put_texts 1 bare texts.rows ≡ Ok table = subst (λ (t : TableRows). put_texts 1 t texts.rows ≡ Ok table) (sym parts.1) (rows_were number (put_texts 1 empty.0 texts.rows) table empty.2) in
     let all : sound.Laws = record { again = laws.again; put = laws.put } in
     let kept = texts_kept all 1 bare table texts.rows (valid_keyed schema.0 (laws.valid version migrated texts.create schema.0 was)) (record { rows_fit = tt; ascends = tt; apart = tt }) put in
-    subst (λ (s : Schema). is_table_name (is_tool_name migrated s.name) s.name ≡ true) (sym kept.schema_is) (laws.declared version migrated texts.create schema.0 was).shaped.name
+    subst (IsDeclared migrated) (sym kept.schema_is) (laws.declared version migrated texts.create schema.0 was)
 
-tables_named : Laws → (version : ℕ) (migrated : List ℕ) (number : ℕ) (tables : Database) (texts : List TableData) (made : Database) → AllByRecursion (IsNamedSo migrated) tables → tables_from version migrated number tables texts ≡ Ok made → AllByRecursion (IsNamedSo migrated) made
+pub tables_made : Laws → (version : ℕ) (migrated : List ℕ) (number : ℕ) (tables : Database) (texts : List TableData) (made : Database) → AllByRecursion (IsMade migrated) tables → tables_from version migrated number tables texts ≡ Ok made → AllByRecursion (IsMade migrated) made
 unfolding tables_from
-tables_named laws version migrated number tables [] made all is = subst (AllByRecursion (IsNamedSo migrated)) (ok_is {C = TableRefusal} tables made is) all
-tables_named laws version migrated number tables (first ∷ texts) made all is =
+tables_made laws version migrated number tables [] made all is = subst (AllByRecursion (IsMade migrated)) (ok_is {C = TableRefusal} tables made is) all
+tables_made laws version migrated number tables (first ∷ texts) made all is =
     let table = bind_ok (table_at version migrated number tables first) (λ table. tables_from version migrated (next_number number) (tables ++ (table ∷ [])) texts) made is in
-    tables_named laws version migrated (next_number number) (tables ++ (table.0 ∷ [])) texts made (All-append (IsNamedSo migrated) tables (table.0 ∷ []) all (table_named laws version migrated number tables first table.0 table.1, tt)) table.2
+    tables_made laws version migrated (next_number number) (tables ++ (table.0 ∷ [])) texts made (All-append (IsMade migrated) tables (table.0 ∷ []) all (table_made laws version migrated number tables first table.0 table.1, tt)) table.2
 
 -- a table that is found is one of the tables, and has the name
 pub record IsFound (P : TableRows → Type 0) (name : List ℕ) (table : TableRows) : Type 0 where
@@ -70,8 +69,8 @@ found_is P name (first ∷ tables) table all is = by (is_named name first) refl 
 -- *The migrated table's name has at most 59 characters*
 pub migrated_named : Laws → (version : ℕ) (migrated : List ℕ) (texts : List TableData) (tables : Database) (table : TableRows) → tables_of version migrated texts ≡ Ok tables → find_table migrated tables ≡ Some table → is_name_length 59 migrated ≡ true
 migrated_named laws version migrated texts tables table read found =
-    let is = found_is (IsNamedSo migrated) migrated tables table (tables_named laws version migrated 1 [] texts tables tt read) found in
-    migrated_fits migrated (subst (λ (n : List ℕ). is_table_name (is_tool_name migrated n) n ≡ true) is.named is.is)
+    let is = found_is (IsMade migrated) migrated tables table (tables_made laws version migrated 1 [] texts tables tt read) found in
+    migrated_fits migrated (subst (λ (n : List ℕ). is_table_name (is_tool_name migrated n) n ≡ true) is.named is.is.shaped.name)
 
 sound_well_formed : (table : TableRows) → IsSound table → IsWellFormedTable table
 sound_well_formed table is =

@@ -384,7 +384,7 @@ pub record RenameLaws : Type 0 where
   pub reported : WaitsAreReported
   pub turned : JournalsAreTurned
 
-module _ (laws : RenameLaws) (plan : PlanData) (runs : IsRunnable plan) (serial : IsSerialPlan plan) (was : TableRows) (journal : List Entry) (entry : Entry) (rename : IsRename plan journal entry) (stood : find_table plan.table (state_at plan journal).tables ≡ Some was) where
+module _ (laws : RenameLaws) (plan : PlanData) (runs : IsRunnable plan) (serial : IsSerialPlan plan) (journal : List Entry) (entry : Entry) (rename : IsRename plan journal entry) where
   before_it : IsKept plan journal
   before_it = kept_front plan journal (entry ∷ []) rename.kept
 
@@ -400,22 +400,24 @@ module _ (laws : RenameLaws) (plan : PlanData) (runs : IsRunnable plan) (serial 
   served_here : IsServed plan journal entry
   served_here = record { answered = run_here.answered; seated = record { session = run_here.followed.session } }
 
-  finds : Found plan journal entry
+  pub finds : Found plan journal entry
   finds = renames_found laws.alone laws.done laws.reported laws.turned plan journal entry runs serial rename
 
-  renaming_here : Renaming laws.done plan journal entry runs serial rename.kept rename.unaltered rename.alters
+  pub renaming_here : Renaming laws.done plan journal entry runs serial rename.kept rename.unaltered rename.alters
   renaming_here = renaming laws.done plan journal entry runs serial rename.kept rename.unaltered rename.alters
 
-  renamer : entry.actor ≡ Ren
+  pub renamer : entry.actor ≡ Ren
   renamer = (exchanges laws.done plan journal entry runs serial rename.kept rename.unaltered rename.alters).0
+
+  pub is_about : IsAbout (exchange plan.table) (standing_of plan journal entry.actor) entry.asked
+  is_about = ren_asks laws.done plan journal entry serial runs known_before run_here finds.work finds.tool_phase finds.asks renamer
+
+  -- *Its tables are those that the exchange makes*
+  pub tables_renamed : rename_tables (exchanged plan.table) (state_at plan journal).tables ≡ Ok (state_at plan (journal ++ entry ∷ [])).tables
+  tables_renamed = reported_renamed laws.done plan journal entry serial runs known_before run_here finds.work finds.tool_phase is_about renaming_here.count renaming_here.is_reported
 
   stands_before : WorkStands journal (is_reverting (moment plan journal).tool.reason) (standing_of plan journal) finds.work
   stands_before = subst (ToolPhaseStands journal (standing_of plan journal) (is_reverting (moment plan journal).tool.reason)) finds.tool_phase together_before.stands
-
-  becomes : find_table (old_name plan.table) (state_at plan (journal ++ entry ∷ [])).tables ≡ Some (name_table (old_name plan.table) was)
-  becomes =
-      exchange_moves plan.table (state_at plan journal).tables (state_at plan (journal ++ entry ∷ [])).tables was
-      (reported_renamed laws.done plan journal entry serial runs known_before run_here finds.work finds.tool_phase (ren_asks laws.done plan journal entry serial runs known_before run_here finds.work finds.tool_phase finds.asks renamer) renaming_here.count renaming_here.is_reported) stood
 
   -- the locker waits to make no table
   guarded : IsGuarded plan journal
@@ -439,16 +441,21 @@ module _ (laws : RenameLaws) (plan : PlanData) (runs : IsRunnable plan) (serial 
       subst (λ (s : Standing). NoMake s.waits) (sym (others_stand plan journal entry together_before.known served_here Lock (ap (λ (a : Actor). same_actor a Lock) renamer)))
       (subst (λ (s : Standing). NoMake s.waits) (sym stands_before.locker) (locker_rests finds.asks))
 
-  -- *It is so there*
-  passed_here : IsPassed plan was (journal ++ entry ∷ [])
-  passed_here = let past : IsPast plan (journal ++ entry ∷ []) = renamed_past laws.done plan journal entry runs serial rename.kept rename.unaltered rename.alters in
-      record {
-        past = past;
-        altered = history_more plan journal entry ∙ or_right (list_any is_alter (history plan journal)) (list_any is_alter (entry_adds plan journal entry)) rename.alters;
-        locker = locker_after;
-        inspector = inspector_of laws.done plan runs serial (journal ++ entry ∷ []) past;
-        table = subst (IsAsItWas plan.table was) (sym becomes) refl;
-      }
+  module _ (was : TableRows) (stood : find_table plan.table (state_at plan journal).tables ≡ Some was) where
+    becomes : find_table (old_name plan.table) (state_at plan (journal ++ entry ∷ [])).tables ≡ Some (name_table (old_name plan.table) was)
+    becomes =
+        exchange_moves plan.table (state_at plan journal).tables (state_at plan (journal ++ entry ∷ [])).tables was tables_renamed stood
+
+    -- *It is so there*
+    passed_here : IsPassed plan was (journal ++ entry ∷ [])
+    passed_here = let past : IsPast plan (journal ++ entry ∷ []) = renamed_past laws.done plan journal entry runs serial rename.kept rename.unaltered rename.alters in
+        record {
+          past = past;
+          altered = history_more plan journal entry ∙ or_right (list_any is_alter (history plan journal)) (list_any is_alter (entry_adds plan journal entry)) rename.alters;
+          locker = locker_after;
+          inspector = inspector_of laws.done plan runs serial (journal ++ entry ∷ []) past;
+          table = subst (IsAsItWas plan.table was) (sym becomes) refl;
+        }
 
 -- WHOLE JOURNALS
 
@@ -461,9 +468,9 @@ keeps_old laws once plan runs serial journal kept before entry more rest was is 
     let first : IsUnaltered plan before = along_next (λ some one. list_any is_alter (entry_adds plan some one) ≡ true → IsUnaltered plan some) [] before entry [] (once plan (before ++ entry ∷ []) runs serial renamed) alters in
     let rename : IsRename plan before entry = record { kept = renamed; unaltered = first; alters = alters } in
     record {
-      becomes = becomes laws plan runs serial was before entry rename stood;
+      becomes = becomes laws plan runs serial before entry rename was stood;
       stays = subst (λ (j : List Entry). IsAsItWas plan.table was (find_table (old_name plan.table) (state_at plan j).tables)) same
-          (passed_along laws.done plan runs serial was (before ++ entry ∷ []) more whole (passed_here laws plan runs serial was before entry rename stood)).table;
+          (passed_along laws.done plan runs serial was (before ++ entry ∷ []) more whole (passed_here laws plan runs serial before entry rename was stood)).table;
     }
 
 -- *Accepted runs keep the old table*

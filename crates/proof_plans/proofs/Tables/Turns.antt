@@ -26,7 +26,7 @@ use Rattle.server_model.specs.declared.request.Request.{Request}
 use Rattle.server_model.specs.declared.request.Request.TheVariants as requests
 use Rattle.server_model.specs.declared.session.Waiting.{Waiting}
 use Rattle.plan_data.specs.PlanData.{PlanData}
-use Rattle.base_values.specs.ToolNames.{ghost_name, is_tool_name, log_name, old_name}
+use Rattle.base_values.specs.ToolNames.{ghost_name, log_name, old_name}
 use Rattle.tool_program.specs.JournalWords.Histories as histories
 use Rattle.tool_program.specs.JournalWords.Histories.{asked_about, request_waiting, answer_in}
 use Rattle.tool_program.specs.JournalWords.Journals.{IsFaithful, may_lose, opens, opens_if, state_at}

@@ -8,7 +8,7 @@ use Rattle.base_values.specs.declared.gho_schema.schema.Schema.{Schema}
 use Rattle.base_values.specs.declared.row_conversion.clause.Clause.{Clause}
 use Rattle.table_store.specs.Laws.{PutKeepsTables}
 use Rattle.base_script.specs.declared.script.ScriptLine.{ScriptLine}
-use Rattle.base_values.proofs.SchemaRules.Steps.{bind_ok, ok_is, kept_out, let_through}
+use Rattle.base_values.proofs.SchemaRules.Steps.{bind_ok, kept_out, let_through}
 use Rattle.base_values.specs.SchemaRules.Valid.{IsValid}
 use Rattle.base_values.specs.SchemaRules.Results.{◌>>=◌}
 use Rattle.sql_create.specs.Laws.{ReadSchemasAreValid}
