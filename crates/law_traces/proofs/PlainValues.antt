@@ -278,13 +278,13 @@ module _ (plan : PlanData) (plain : PlainPlan plan) (runs : IsRunnable plan) (se
 -- *Values are plain*
 pub values_plain : ReadPlansAreAccepted → ReadPlansAreAlterable → ReadPlansAreRunnable → ReadPlansAreSerial → AcceptedCausesStand → StoresAgain → ValuesArePlain
 unfolding trace_of
-values_plain accepted alterable runnable serials causes again bytes plan journal is text kept within names typed =
+values_plain accepted alterable runnable serials causes again bytes plan journal is text kept within numbered names =
     let was : WasRead plan = record { bytes = bytes; is = is; text = text } in
     let limits = small_plan bytes plan is in
     let runs : IsRunnable plan = runnable plan was in
     let serial : IsSerialPlan plan = serials bytes plan is in
-    let plain : PlainPlan plan = plan_plain bytes plan journal is (accepted bytes plan is) runs limits (scripts_shown bytes plan is) names typed in
-    let short : IsShort journal = journal_short plan journal limits typed within in
+    let plain : PlainPlan plan = plan_plain bytes plan is (accepted bytes plan is) runs limits (scripts_shown bytes plan is) names in
+    let short : IsShort journal = journal_short plan journal limits kept numbered within in
     let now : PlainRun plan journal = all_plain plan journal plain runs serial kept short in
     record {
       answers = lines_print plan plain runs serial [] journal kept short;

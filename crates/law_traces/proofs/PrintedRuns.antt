@@ -176,8 +176,8 @@ trace_prints bytes plan journal clients tries kept causes plain short =
 
 -- *Printed traces are audited yes*
 pub printed_audited : ReadPlansAreAccepted → ReadOptionsAllow → AcceptedCausesStand → ValuesArePlain → PrintedTracesAreRead → TracesAreAudited → PrintedTracesAreAudited
-printed_audited accepted allow causes values reads audits = λ bytes plan journal is text kept within named typed utf8 short.
-    let plain = values bytes plan journal is text kept within named typed in
+printed_audited accepted allow causes values reads audits = λ bytes plan journal is text kept within numbered named utf8 short.
+    let plain = values bytes plan journal is text kept within numbered named in
     let same = same_text bytes plan journal in
     let was : WasRead plan = record { bytes = bytes; is = is; text = text } in (
       subst (λ (printed : List ℕ). read_trace printed ≡ Ok (plan, trace_at plan journal)) same

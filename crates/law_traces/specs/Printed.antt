@@ -12,9 +12,10 @@ use Rattle.plan_reader.specs.Plans.{read}
 use Rattle.table_store.specs.Databases.{Database}
 use Rattle.tool_program.specs.JournalWords.Journals.{state_at}
 use Rattle.tool_program.specs.JournalWords.Serials.{tables_left}
+use Rattle.tool_program.specs.JournalWords.Sessions.{NumbersSessions}
 use Rattle.tool_program.specs.Verdicts.{verdict_of}
 use Rattle.proof_journals.specs.Run.Kept.{IsKept}
-use Rattle.proof_plain.specs.Plans.{HasPlainNames, IsTyped}
+use Rattle.proof_plain.specs.Plans.{HasPlainNames}
 use Rattle.run_audit.specs.declared.trace.Audit.TheVariants.{Yes}
 use Rattle.run_audit.specs.declared.trace.Trace.{Trace}
 use Rattle.run_audit.specs.Audits.{audited}
@@ -52,17 +53,18 @@ pub record HasPlainValues (plan : PlanData) (journal : List Entry) : Type 0 wher
   pub tables : AllByRecursion CanPrintTable (tables_left plan (tables_at plan journal))
   pub names : AllByRecursion (λ table. IsOneLine table.schema.name) (tables_at plan journal)
 
--- *Values are plain* in every run of an accepted plan whose names hold no line feed.
+-- *Values are plain* in every run of an accepted plan whose names hold no line feed, where the run numbers its sessions one by one, as
+-- each of `replay`, `run` and `trace` does.
 abbrev pub ValuesArePlain : Type 0
 ValuesArePlain =
     (bytes : List ℕ) (plan : PlanData) (journal : List Entry)
-    → read bytes ≡ Ok plan → IsUtf8 plan.table → IsKept plan journal → length journal ≤ plan.options.turn_limit → HasPlainNames plan → IsTyped plan journal → HasPlainValues plan journal
+    → read bytes ≡ Ok plan → IsUtf8 plan.table → IsKept plan journal → length journal ≤ plan.options.turn_limit → NumbersSessions journal → HasPlainNames plan → HasPlainValues plan journal
 
--- *Printed traces are audited yes*: the text that `trace` prints of a run of a plan whose names hold no line feed, where it isn't
+-- *Printed traces are audited yes*: the text that `trace` prints of such a run of a plan whose names hold no line feed, where it isn't
 -- longer than traces may be, is read as the plan and the run's trace, which is audited yes.
 abbrev pub PrintedTracesAreAudited : Type 0
 PrintedTracesAreAudited =
     (bytes : List ℕ) (plan : PlanData) (journal : List Entry)
-    → read bytes ≡ Ok plan → IsUtf8 plan.table → IsKept plan journal → length journal ≤ plan.options.turn_limit → HasPlainNames plan → IsTyped plan journal
+    → read bytes ≡ Ok plan → IsUtf8 plan.table → IsKept plan journal → length journal ≤ plan.options.turn_limit → NumbersSessions journal → HasPlainNames plan
     → IsUtf8 (text_at bytes plan journal) → length (text_at bytes plan journal) ≤ TRACE_LIMIT
     → (read_trace (text_at bytes plan journal) ≡ Ok (plan, trace_at plan journal)) × (audited plan (trace_at plan journal) ≡ Yes)

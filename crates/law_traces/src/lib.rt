@@ -54,7 +54,7 @@ pub fn traces_are_audited()
     read_plans_are_worded();
 }
 
-/// The values of such a run are plain, where no name of the plan has a line feed.
+/// The values of such a run that numbers its sessions one by one are plain, where no name of the plan has a line feed.
 pub fn values_are_plain()
     ensures { ValuesArePlain }
 {

@@ -1,28 +1,21 @@
 -- How many rows tables have and how many events the log has: each turn adds one row to a table at most, and at most one event more
 -- than a table has rows.
-use Rattle.std.proofs.Common.{◌≡◌, ℕ, suc, ◌+◌, ◌-◌, ◌*◌, ◌^◌, ◌<◌, ◌≤◌, ◌==◌, Bool, true, false, not, cond, List, [], ◌∷◌, ◌++◌, map, filter, length, Option, Some, None, Result, Ok, Err, refl, sym, ap, ◌∙◌, subst, arith}
+use Rattle.std.proofs.Common.{◌≡◌, ℕ, ◌+◌, ◌-◌, ◌^◌, ◌<◌, ◌≤◌, ◌==◌, Bool, true, false, not, cond, List, [], ◌∷◌, ◌++◌, filter, length, Option, Some, None, Result, Ok, Err, refl, sym, ap, ◌∙◌, subst, arith}
 use Rattle.std.specs.Prelude.{count_by, option_map, unwrap_or}
-use Rattle.std.specs.List.{AllByRecursion, list_any}
+use Rattle.std.specs.List.{AllByRecursion}
 use Rattle.std.specs.Str.{bytes_eq}
 use Rattle.std.proofs.lemmas.List.{length-map, length-append}
-use Rattle.std.proofs.lemmas.List.Sums.{sum_by-cons, sum_by-append, length-filter, count_by-le-length}
+use Rattle.std.proofs.lemmas.List.Sums.{sum_by-cons, sum_by-append}
 use Rattle.base_values.specs.declared.event.Change.{Change}
-use Rattle.base_values.specs.declared.event.Change.TheVariants as changes
 use Rattle.base_values.specs.declared.event.RowEvent.{RowEvent}
 use Rattle.base_values.specs.declared.gho_schema.schema.Schema.{Schema}
-use Rattle.base_values.specs.declared.mysql_errors.TheConstants.{ER_DUP_ENTRY}
-use Rattle.base_values.specs.declared.row_conversion.conversion_fault.UnfitAt.{UnfitAt}
 use Rattle.base_values.specs.declared.value.Value.{Value}
-use Rattle.base_values.specs.GhoSchema.Rows.{key_places}
-use Rattle.base_values.specs.GhoSchema.Tables.{clash}
 use Rattle.base_script.specs.declared.actor.Side.{Side}
 use Rattle.base_script.specs.declared.actor.Side.TheVariants as sides
 use Rattle.table_store.specs.Databases.{TableRows, Database, find_table, has_table, is_named, name_table, rename_tables, with_name, without_table}
 use Rattle.table_store.specs.declared.renames.NotRenamed.{NotRenamed}
 use Rattle.table_store.specs.declared.renames.NotRenamed.TheVariants.{Exists, Missing}
 use Rattle.table_store.specs.declared.renames.Pair.{Pair}
-use Rattle.server_model.specs.declared.answer.Answer.{Answer}
-use Rattle.server_model.specs.declared.answer.Answer.TheVariants as answers
 use Rattle.server_model.specs.declared.entry.Asked.{Asked}
 use Rattle.server_model.specs.declared.entry.Asked.TheVariants.{Call, Poll, Command, Cut}
 use Rattle.server_model.specs.declared.need.Need.{Need}
@@ -31,16 +24,12 @@ use Rattle.server_model.specs.declared.request.Request.TheVariants as requests
 use Rattle.server_model.specs.declared.session.Session.{Session}
 use Rattle.server_model.specs.declared.session.Waiting.{Waiting}
 use Rattle.server_model.specs.declared.work.StatementResult.{StatementResult}
-use Rattle.server_model.specs.declared.work.Work.{Work}
-use Rattle.server_model.specs.declared.work.Work.TheVariants.{Refuse, Insert, Copy, Replace, Delete, Update, Select}
-use Rattle.server_model.specs.Answers.{refuses}
 use Rattle.server_model.specs.Blockers.{blocker, need, need_within}
 use Rattle.server_model.specs.Drawing.{filled}
 use Rattle.server_model.specs.Effects.{Effect, Rests, Grows, Writes, Forgets, Moves, Locks, Unlocks, all_exist, begins, created, defined, dropped, effect_unless, effect_within, is_outside, locks_if, renamed_or, result_effect}
 use Rattle.server_model.specs.Operations.{Operation, copy_operation, events_of, operation_of, operation_result, result_in, statement_result}
-use Rattle.server_model.specs.PlainServer.{at_rest, called_unless, calls, counting, did, does, holding, is_over, leaves, locking, loses, polled_of, polled_over, polled_unless, polls, serves, state_left, unlocking, without_waiting}
-use Rattle.server_model.specs.Rows.{change_rows, reaches, rows_met, same_row}
-use Rattle.server_model.specs.StatementResults.{change_first, clashes_besides, only, result_or_refusal, tells, updated, updates, with_sets}
+use Rattle.server_model.specs.PlainServer.{at_rest, called_unless, calls, counting, did, does, holding, is_over, locking, loses, polled_of, polled_over, polled_unless, polls, serves, state_left, unlocking, without_waiting}
+use Rattle.server_model.specs.StatementResults.{tells}
 use Rattle.server_model.specs.declared.session.Limits.{Limits}
 use Rattle.server_model.specs.States.{State, connected, is_in_transaction, new_session, opened, polls_of, session_of, view, waiting_of, with_session, writes_of}
 use Rattle.server_model.specs.LockedRows.Databases.{IsWellFormedDatabase, TaskSound, WhereFound}
@@ -55,97 +44,11 @@ use Rattle.proof_journals.proofs.Ghost.Fitting.{fit_more, fitting_end, says_fit,
 use Rattle.proof_journals.proofs.Moves.{gone_none, drop_moves, renamed_new, renamed_old, renamed_other}
 use Rattle.proof_journals.proofs.Tooling.{copies_sound}
 use Rattle.proof_bounds.specs.Rows.{is_write, writes_of as puts_of}
-use Rattle.proof_bounds.proofs.Volumes.LineEvents.{row_count, rows_grow}
+use Rattle.proof_bounds.proofs.Volumes.LineEvents.{row_count, rows_grow, AreFew, tells_few}
 use Rattle.proof_plain.specs.Plain.{FewRows, HasFewRows}
 
 abbrev Row : Type 0
 Row = List Value
-
--- ---- the changes of one table
-
--- at most this many changes, of which at most one puts a new row
-pub record AreFew (n : ℕ) (all : List Change) : Type 0 where
-  pub changes : length all ≤ n
-  pub writes : count_by is_write all ≤ 1
-
-none_few : (n : ℕ) → AreFew n []
-none_few n = record { changes = omega arith; writes = omega arith }
-
-filter_short : (p : Row → Bool) (rows : List Row) → length (filter p rows) ≤ length rows
-filter_short p rows = let a = length-filter p rows in let b = count_by-le-length p rows in omega (arith, a, b)
-
-none_written : (rows : List Row) → count_by is_write (map changes.Delete rows) ≡ 0
-none_written [] = refl
-none_written (row ∷ rows) = let a = sum_by-cons (λ (one : Change). cond (is_write one) 1 0) (changes.Delete row) (map changes.Delete rows) in let b = none_written rows in omega (arith, a, b)
-
-removals_few : (p : Row → Bool) (rows : List Row) → AreFew (length rows + 1) (map changes.Delete (filter p rows))
-removals_few p rows =
-    let a = length-map (filter p rows) changes.Delete in
-    let b = filter_short p rows in
-    let c = none_written (filter p rows) in
-    record { changes = omega (arith, a, b); writes = omega (arith, c) }
-
-replacing_few : (p : Row → Bool) (row : Row) (rows : List Row) → AreFew (length rows + 1) (map changes.Delete (filter p rows) ++ changes.Write row ∷ [])
-replacing_few p row rows =
-    let a = length-map (filter p rows) changes.Delete in
-    let b = filter_short p rows in
-    let c = length-append (map changes.Delete (filter p rows)) (changes.Write row ∷ []) in
-    let d = none_written (filter p rows) in
-    let e : count_by is_write (map changes.Delete (filter p rows) ++ changes.Write row ∷ []) ≡ count_by is_write (map changes.Delete (filter p rows)) + 1 = sum_by-append (λ (one : Change). cond (is_write one) 1 0) (map changes.Delete (filter p rows)) (changes.Write row ∷ []) in
-    record { changes = omega (arith, a, b, c); writes = omega (arith, d, e) }
-
-one_few : (n : ℕ) (row : Row) (refusal : Answer) (b : Bool) → AreFew (n + 1) (cond b (only refusal) (record { answer = answers.Ok 1; changes = changes.Write row ∷ [] })).changes
-one_few n row refusal true = none_few (n + 1)
-one_few n row refusal false = record { changes = omega arith; writes = omega arith }
-
-abbrev UpTo : ℕ → Result (List Change) Answer → Type 0
-UpTo n (Ok all) = (length all ≤ n) × (count_by is_write all ≡ 0)
-UpTo n (Err refusal) = Unit {0}
-
-up_later : (n : ℕ) (result : Result (List Change) Answer) → UpTo n result → UpTo (suc n) result
-up_later n (Ok all) few = let a = few.0 in (omega (arith, a), few.1)
-up_later n (Err refusal) few = tt
-
-up_first : (n : ℕ) (before after : Row) (result : Result (List Change) Answer) → UpTo n result → UpTo (suc n) (change_first (changes.Update before after) result)
-up_first n before after (Ok all) few = let a = few.0 in let b = few.1 in let c = sum_by-cons (λ (one : Change). cond (is_write one) 1 0) (changes.Update before after) all in (omega (arith, a), omega (arith, b, c))
-up_first n before after (Err refusal) few = tt
-
-updates_few : (schema : Schema) (sets : List (Option Value)) (met rows : List Row) → UpTo (length met) (updates schema sets met rows)
-unfolding updates
-updates_few schema sets [] rows = (omega arith, refl)
-updates_few schema sets (old ∷ met) rows =
-    by (same_row old (with_sets sets old)) (clashes_besides schema (with_sets sets old) old rows) (updates_few schema sets met rows) (updates_few schema sets met (change_rows (key_places schema) (changes.Update old (with_sets sets old)) rows)) where
-      by : (same clashes : Bool) → UpTo (length met) (updates schema sets met rows) → UpTo (length met) (updates schema sets met (change_rows (key_places schema) (changes.Update old (with_sets sets old)) rows))
-          → UpTo (suc (length met))
-          (cond same (updates schema sets met rows) (cond clashes (Err (refuses ER_DUP_ENTRY)) (change_first (changes.Update old (with_sets sets old)) (updates schema sets met (change_rows (key_places schema) (changes.Update old (with_sets sets old)) rows)))))
-      by true clashes still later = up_later (length met) (updates schema sets met rows) still
-      by false true still later = tt
-      by false false still later = up_first (length met) old (with_sets sets old) (updates schema sets met (change_rows (key_places schema) (changes.Update old (with_sets sets old)) rows)) later
-
-updated_few : (n : ℕ) (result : Result (List Change) Answer) → UpTo n result → AreFew n (result_or_refusal result).changes
-updated_few n (Ok all) few = let a = few.1 in record { changes = few.0; writes = omega (arith, a) }
-updated_few n (Err refusal) few = none_few n
-
-refused_few : (n : ℕ) (schema : Schema) (at : UnfitAt) (met rows : List Row) → AreFew n (updated schema (Err at) met rows).changes
-refused_few n schema at [] rows = none_few n
-refused_few n schema at (row ∷ met) rows = none_few n
-
-more_few : (n m : ℕ) (all : List Change) → n ≤ m → AreFew n all → AreFew m all
-more_few n m all more few = let a = few.changes in record { changes = omega (arith, a, more); writes = few.writes }
-
-tells_few : (schema : Schema) (rows : List Row) (work : Work) → AreFew (length rows + 1) (tells schema rows work).changes
-unfolding tells
-tells_few schema rows (Refuse refusal) = none_few (length rows + 1)
-tells_few schema rows (Insert row) = one_few (length rows) row (refuses ER_DUP_ENTRY) (list_any (clash schema.uniques row) rows)
-tells_few schema rows (Copy row) = one_few (length rows) row (answers.Ok 0) (list_any (clash schema.uniques row) rows)
-tells_few schema rows (Replace row) = replacing_few (clash schema.uniques row) row rows
-tells_few schema rows (Delete reach) = removals_few (reaches schema reach) rows
-tells_few schema rows (Update reach (Ok sets)) =
-    let short = filter_short (reaches schema reach) rows in
-    more_few (length (rows_met schema reach rows)) (length rows + 1) (result_or_refusal (updates schema sets (rows_met schema reach rows) rows)).changes (omega (arith, short))
-    (updated_few (length (rows_met schema reach rows)) (updates schema sets (rows_met schema reach rows) rows) (updates_few schema sets (rows_met schema reach rows) rows))
-tells_few schema rows (Update reach (Err at)) = refused_few (length rows + 1) schema at (rows_met schema reach rows) rows
-tells_few schema rows (Select reach selection) = none_few (length rows + 1)
 
 -- ---- events
 

@@ -1,5 +1,5 @@
--- A plan that was read is plain, as its types and its names have it; and what is so of each turn, of the tables that are left and of
--- the reason of a revert.
+-- A plan that was read is plain, where its names are; and what is so of each turn, of the tables that are left and of the reason of a
+-- revert.
 use Rattle.std.proofs.Common.{◌≡◌, ◌≤◌, ◌<◌, ℕ, ◌+◌, ◌^◌, true, List, [], ◌∷◌, ◌++◌, length, append_assoc, Option, Some, None, Ok, sym, subst, arith}
 use Rattle.std.specs.Prelude.{is_some}
 use Rattle.std.specs.List.{AllByRecursion}
@@ -12,6 +12,7 @@ use Rattle.base_values.specs.declared.gho_schema.schema.Column.{Column}
 use Rattle.base_values.specs.declared.value.Value.{Value}
 use Rattle.base_values.specs.GhoSchema.Tables.{IsRow}
 use Rattle.base_values.specs.SchemaRules.Valid.{IsColumn, StoresDefault}
+use Rattle.base_values.proofs.SchemaRules.Lists.{All-weaker}
 use Rattle.table_store.specs.Databases.{Database, TableRows, find_table}
 use Rattle.server_model.specs.declared.entry.Entry.{Entry}
 use Rattle.server_model.specs.LockedRows.Coverage.{IsWellFormedTable}
@@ -21,6 +22,7 @@ use Rattle.plan_keys.specs.declared.limits.TheConstants.{ROW_LIMIT}
 use Rattle.plan_reader.specs.Plans.{read}
 use Rattle.plan_reader.specs.PlanTables.Tables.{IsSound}
 use Rattle.tool_program.specs.JournalWords.Journals.{inner_answer, state_at}
+use Rattle.tool_program.specs.JournalWords.Sessions.{NumbersSessions}
 use Rattle.proof_journals.specs.Machine.Runnable.{IsRunnable}
 use Rattle.proof_journals.specs.Plans.{IsSerialPlan}
 use Rattle.proof_journals.specs.Run.Kept.{IsKept}
@@ -29,10 +31,12 @@ use Rattle.proof_migration.proofs.HeldNames.Holders.{all_held_well}
 use Rattle.proof_plans.specs.ReadPlans.Schemas.{IsAccepted}
 use Rattle.proof_plans.proofs.ReadPlans.Tables.{found_is}
 use Rattle.proof_plain.specs.Plain.{HasBytes, IfThere, IsPlain, OneLine, PlainAnswer, PlainColumns, PlainDatabase, PlainRow, PlainRows, PlainTable, ShownRow, SmallIf}
-use Rattle.proof_plain.specs.Plans.{BytesWord, HasByteDefaults, HasByteLiterals, HasPlainNames, IsShort, IsTyped, PlainPlan}
+use Rattle.proof_plain.specs.Plans.{BytesWord, HasByteDefaults, HasByteLiterals, HasByteTexts, HasPlainNames, IsShort, PlainPlan}
 use Rattle.proof_plain.proofs.Journals.{DrawnAnswer, PlainRun, all_plain, answer_plain, draw_answers, draw_small}
+use Rattle.proof_plain.proofs.ReadBytes.Plans.{plan_bytes}
 use Rattle.proof_plain.proofs.ReadLimits.{IsSmallPlan}
 use Rattle.proof_plain.proofs.ReadScripts.{ShowsWord}
+use Rattle.proof_plain.proofs.Sessions.{few_sessions}
 use Rattle.proof_plain.proofs.Starts.{new_start_small, starts_small}
 use Rattle.proof_plain.proofs.Statements.{columns_some, found_plain, rows_length, whole_rows}
 use Rattle.proof_plain.proofs.Values.{stored_plain}
@@ -89,22 +93,30 @@ scripts_plain [] have shows = tt
 scripts_plain (script ∷ scripts) have shows = (lines_plain script have.0 shows.0, scripts_plain scripts have.1 shows.1)
 
 -- *A plan that was read is plain*
-pub plan_plain : (bytes : List ℕ) (plan : PlanData) (journal : List Entry) → read bytes ≡ Ok plan → IsAccepted plan → IsRunnable plan → IsSmallPlan plan → AllByRecursion (λ script. AllByRecursion (λ line. ShowsWord line.word) script) plan.clients → HasPlainNames plan → IsTyped plan journal → PlainPlan plan
-plan_plain bytes plan journal is accepted runs limits shows names typed = record {
-  name = let found = found_is (λ table. OneLine table.schema.name × AllByRecursion (λ column. OneLine column.name) table.schema.columns) plan.table plan.tables accepted.table names.tables accepted.found in subst OneLine found.named found.is.0;
-  tables = tables_plain plan.tables accepted.sound names.tables typed.rows typed.defaults;
-  starts = starts_small bytes plan is accepted;
-  rows = few_plain plan.tables limits.rows;
-  scripts = scripts_plain plan.clients typed.literals shows;
-  map = typed.added;
-  columns = columns_plain (new_schema plan).columns runs.fitting.valid.columns names.columns typed.altered;
-  start = new_start_small bytes plan is accepted;
-  client = let a = limits.options.client in omega (arith, a);
-  tool = let a = limits.options.tool in omega (arith, a);
-}
+pub plan_plain : (bytes : List ℕ) (plan : PlanData) → read bytes ≡ Ok plan → IsAccepted plan → IsRunnable plan → IsSmallPlan plan → AllByRecursion (λ script. AllByRecursion (λ line. ShowsWord line.word) script) plan.clients → HasPlainNames plan → PlainPlan plan
+plan_plain bytes plan is accepted runs limits shows names =
+    let texts : HasByteTexts plan = plan_bytes bytes plan is in
+    record {
+      name = let found = found_is (λ table. OneLine table.schema.name × AllByRecursion (λ column. OneLine column.name) table.schema.columns) plan.table plan.tables accepted.table names.tables accepted.found in subst OneLine found.named found.is.0;
+      tables = tables_plain plan.tables accepted.sound names.tables texts.rows texts.defaults;
+      starts = starts_small bytes plan is accepted;
+      rows = few_plain plan.tables limits.rows;
+      scripts = scripts_plain plan.clients texts.literals shows;
+      map = texts.added;
+      columns = columns_plain (new_schema plan).columns runs.fitting.valid.columns names.columns texts.altered;
+      start = new_start_small bytes plan is accepted;
+      client = let a = limits.options.client.1 in omega (arith, a);
+      tool = let a = limits.options.tool.1 in omega (arith, a);
+    }
 
-pub journal_short : (plan : PlanData) (journal : List Entry) → IsSmallPlan plan → IsTyped plan journal → length journal ≤ plan.options.turn_limit → IsShort journal
-journal_short plan journal limits typed within = record { turns = let a = limits.options.turns in omega (arith, a, within); sessions = typed.sessions }
+-- *A journal that numbers its sessions is short*, where it has no more turns than the plan allows
+pub journal_short : (plan : PlanData) (journal : List Entry) → IsSmallPlan plan → IsKept plan journal → NumbersSessions journal → length journal ≤ plan.options.turn_limit → IsShort journal
+journal_short plan journal limits kept numbered within =
+    let most = limits.options.turns.1 in
+    record {
+      turns = omega (arith, most, within);
+      sessions = All-weaker (λ (entry : Entry). entry.session ≤ length journal) (λ entry. entry.session < 2 ^ 64) (λ entry least. omega (arith, least, most, within)) journal (few_sessions journal kept.sessions numbered).each;
+    }
 
 -- ---- each turn
 

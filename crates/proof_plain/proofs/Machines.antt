@@ -1,5 +1,5 @@
 -- The tool's numbers have 64 bits, and what it asks is plain, where what it was answered is.
-use Rattle.std.proofs.Common.{◌≡◌, ℕ, ◌+◌, ◌-◌, ◌^◌, ◌<◌, ◌≤◌, ◌==◌, Bool, true, false, not, cond, List, [], ◌∷◌, ◌++◌, map, length, Option, Some, None, refl, sym, ◌∙◌, subst, arith}
+use Rattle.std.proofs.Common.{◌≡◌, ℕ, ◌+◌, ◌-◌, ◌^◌, ◌<◌, ◌≤◌, ◌==◌, Bool, true, false, not, cond, List, [], ◌∷◌, ◌++◌, length, Option, Some, None, refl, sym, ◌∙◌, subst, arith}
 use Rattle.std.specs.Prelude.{nat_le}
 use Rattle.base_values.specs.declared.mysql_errors.TheConstants.{ER_DUP_ENTRY}
 use Rattle.base_script.specs.declared.actor.Actor.{Actor}
@@ -17,7 +17,7 @@ use Rattle.server_model.specs.declared.outcome.Progress.TheVariants as progress
 use Rattle.server_model.specs.declared.outcome.Task.{Task}
 use Rattle.server_model.specs.declared.outcome.Task.TheVariants as tasks
 use Rattle.server_model.specs.States.{State, has_work}
-use Rattle.plan_data.specs.PlanData.{PlanData, has_counter}
+use Rattle.plan_data.specs.PlanData.{PlanData}
 use Rattle.tool_program.specs.declared.chunk_copier.copier.Copier.{Copier}
 use Rattle.tool_program.specs.declared.chunk_copier.copier.CopyStep.{CopyStep}
 use Rattle.tool_program.specs.declared.chunk_copier.copier.CopyStep.TheVariants as copy_steps

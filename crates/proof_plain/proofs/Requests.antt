@@ -1,5 +1,5 @@
 -- What the tool and the clients of a plain plan ask is plain, where what the tool was answered is.
-use Rattle.std.proofs.Common.{◌≡◌, ℕ, zero, suc, ◌+◌, ◌-◌, ◌/◌, ◌%◌, ◌<◌, ◌==◌, Bool, true, false, not, ◌&&◌, cond, List, [], ◌∷◌, ◌++◌, map, length, Option, Some, None, Ok, refl, sym, subst, arith, codes}
+use Rattle.std.proofs.Common.{◌≡◌, ℕ, zero, suc, ◌+◌, ◌-◌, ◌/◌, ◌%◌, ◌<◌, ◌==◌, Bool, true, false, not, ◌&&◌, cond, List, [], ◌∷◌, ◌++◌, length, Option, Some, None, Ok, refl, sym, subst, arith, codes}
 use Rattle.std.specs.Prelude.{ℤ, nat_le, option_map, pos}
 use Rattle.std.specs.Fmt.{digit_glyph, signed_decimal}
 use Rattle.std.specs.List.{AllByRecursion, flat_map, slice_get}
@@ -31,7 +31,7 @@ use Rattle.server_model.specs.declared.request.Request.TheVariants as requests
 use Rattle.server_model.specs.EarlierAnswers.{end_in, events_in}
 use Rattle.server_model.specs.Entries.{answer_at, answer_of}
 use Rattle.server_model.specs.States.{State}
-use Rattle.plan_data.specs.PlanData.{PlanData, new_schema}
+use Rattle.plan_data.specs.PlanData.{PlanData}
 use Rattle.tool_changelog.specs.Hints.{hint_row}
 use Rattle.tool_changelog.specs.ToolTables.{log_schema, sentry_schema}
 use Rattle.tool_program.specs.declared.chunk_copier.copier.Copier.{Copier}
@@ -219,18 +219,18 @@ taken_answer [] place all = tt
 taken_answer (entry ∷ journal) zero all = all.0
 taken_answer (entry ∷ journal) (suc place) all = taken_answer journal place all.1
 
-told_answer : (journal : List Entry) (turn : ℕ) → PlainAnswers journal → AnswerIf (answer_at journal turn)
+plain_answer : (journal : List Entry) (turn : ℕ) → PlainAnswers journal → AnswerIf (answer_at journal turn)
 unfolding answer_at
-told_answer journal turn all = taken_answer journal (turn - 1) all
+plain_answer journal turn all = taken_answer journal (turn - 1) all
 
-told_end : (answer : Option Answer) → AnswerIf answer → BytesKey (end_in answer)
-told_end (Some (answers.Keys keys end)) plain = plain
-told_end (Some (answers.End end)) plain = plain
-told_end answer plain = tt
+plain_end : (answer : Option Answer) → AnswerIf answer → BytesKey (end_in answer)
+plain_end (Some (answers.Keys keys end)) plain = plain
+plain_end (Some (answers.End end)) plain = plain
+plain_end answer plain = tt
 
-told_events : (answer : Option Answer) → AnswerIf answer → PlainEvents (events_in answer)
-told_events (Some (answers.Events events following)) plain = plain.0
-told_events answer plain = tt
+plain_events : (answer : Option Answer) → AnswerIf answer → PlainEvents (events_in answer)
+plain_events (Some (answers.Events events following)) plain = plain.0
+plain_events answer plain = tt
 
 -- ---- the applier's statements
 
@@ -279,7 +279,7 @@ taken_doing part (doing ∷ all) (suc place) plain = taken_doing part all place 
 -- *What the applier does is plain*
 pub doing_plain : (journal : List Entry) (applier : Applier) (step : ApplyStep) → PlainAnswers journal → DoingIf (appliers.doing_at journal applier step)
 doing_plain journal applier (apply_steps.Applying batch done part) all =
-    taken_doing part (appliers.planned applier (events_in (answer_at journal batch.read))) done (planned_doings applier (events_in (answer_at journal batch.read)) (told_events (answer_at journal batch.read) (told_answer journal batch.read all)))
+    taken_doing part (appliers.planned applier (events_in (answer_at journal batch.read))) done (planned_doings applier (events_in (answer_at journal batch.read)) (plain_events (answer_at journal batch.read) (plain_answer journal batch.read all)))
 doing_plain journal applier apply_steps.Reading all = tt
 doing_plain journal applier (apply_steps.Beginning batch) all = tt
 doing_plain journal applier (apply_steps.Committing batch) all = tt
@@ -317,7 +317,7 @@ key_bytes copier (Some key) have = have
 
 range_bytes : (journal : List Entry) (copier : Copier) (range : CopyRange) (step : CopyStep) → BytesMap copier.map → BytesKey range.top → PlainAnswers journal → BytesAsked (copiers.call_at journal copier range step)
 range_bytes journal copier range copy_steps.Choosing have top all = top
-range_bytes journal copier range (copy_steps.Spanning reported size) have top all = told_end (answer_at journal reported) (told_answer journal reported all)
+range_bytes journal copier range (copy_steps.Spanning reported size) have top all = plain_end (answer_at journal reported) (plain_answer journal reported all)
 range_bytes journal copier range (copy_steps.Copying chunk copied) have top all = key_bytes copier (copiers.key_at journal (copy_steps.Copying chunk copied)) have
 range_bytes journal copier range (copy_steps.Committing chunk) have top all = tt
 
@@ -415,7 +415,7 @@ module _ (plan : PlanData) (plain : PlainPlan plan) where
     reach_so copier = by copier.is_copied where
       after : (following : Option ℕ) → BytesReach (reach_after journal following)
       after None = tt
-      after (Some reported) = told_end (answer_at journal reported) (told_answer journal reported all)
+      after (Some reported) = plain_end (answer_at journal reported) (plain_answer journal reported all)
 
       by : (b : Bool) → BytesReach (cond b All (reach_after journal copier.following))
       by true = tt

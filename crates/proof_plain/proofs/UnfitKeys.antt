@@ -1,9 +1,8 @@
 -- The key of a row that a verdict of revert names has a value.
-use Rattle.std.proofs.Common.{◌≡◌, ◌<◌, ◌==◌, ℕ, ◌+◌, ◌-◌, Bool, true, false, cond, List, [], ◌∷◌, ◌++◌, length, take, Option, Some, None, refl, sym, ap, ◌∙◌, subst, arith}
+use Rattle.std.proofs.Common.{◌≡◌, ◌<◌, ◌==◌, ℕ, ◌-◌, Bool, true, false, cond, List, [], ◌∷◌, ◌++◌, length, take, Option, Some, None, refl, sym, ap, ◌∙◌, subst, arith}
 use Rattle.std.specs.Prelude.{find, unwrap_or}
 use Rattle.std.specs.List.{AllByRecursion, list_any, slice_get}
 use Rattle.std.specs.Option.{option_map, option_to_list}
-use Rattle.std.proofs.Math.Seq.{take-append_seam}
 use Rattle.base_script.specs.declared.actor.Actor.{Actor}
 use Rattle.base_script.specs.declared.actor.Actor.TheVariants.{Copy, Apply}
 use Rattle.base_values.specs.Laws.{StoresAgain}
@@ -19,7 +18,7 @@ use Rattle.server_model.specs.declared.answer.Answer.{Answer}
 use Rattle.server_model.specs.declared.answer.Answer.TheVariants as answers
 use Rattle.server_model.specs.declared.entry.Entry.{Entry}
 use Rattle.server_model.specs.declared.outcome.Cause.TheVariants as causes
-use Rattle.server_model.specs.declared.outcome.Progress.TheVariants.{Going, TaskDone, Unfit}
+use Rattle.server_model.specs.declared.outcome.Progress.TheVariants.{Unfit}
 use Rattle.server_model.specs.declared.outcome.Verdict.TheVariants as verdicts
 use Rattle.server_model.specs.Entries.{answer_at}
 use Rattle.server_model.specs.EarlierAnswers.{events_in}
@@ -67,7 +66,9 @@ use Rattle.proof_migration.proofs.Program.Starts.{followers_go}
 use Rattle.proof_migration.proofs.Program.Turns.ActorStates.{SomeActorStates, some_actor_states}
 use Rattle.proof_migration.proofs.Program.Turns.Follows.{kept_front}
 use Rattle.proof_migration.proofs.ToolPhase.Unaltered.Away.{unaltered_front}
-use Rattle.proof_migration.proofs.Unfit.Grounds.{GroundStands, HasTurn, IsGrounded, IsUnfitTurn, all_grounded, stood_in}
+use Rattle.proof_migration.proofs.Unfit.Grounds.{GroundStands, IsGrounded, IsUnfitTurn, all_grounded, stood_in}
+use Rattle.proof_migration.proofs.Unfit.Applies.{planned_fits}
+use Rattle.proof_migration.proofs.Unfit.Rows.{front_is, stands_there}
 
 -- ---- keys of rows
 
@@ -107,10 +108,6 @@ abbrev IsApplying : ApplyStep → Type 0
 IsApplying (Applying batch done part) = Unit {0}
 IsApplying step = ⊥
 
-planned_fits : (none : Bool) (place number : ℕ) → cond none TaskDone Going ≡ Unfit place number → ⊥
-planned_fits true place number is = cc
-planned_fits false place number is = cc
-
 step_applies : (applier : Applier) (step : ApplyStep) (answer : Answer) (place number : ℕ) → appliers.progress_at applier step answer ≡ Unfit place number → IsApplying step
 step_applies applier (Applying batch done part) answer place number is = tt
 step_applies applier Reading (answers.Events events following) place number is = absurd (planned_fits (length (appliers.planned applier events) == 0) place number is)
@@ -130,20 +127,6 @@ done_rows columns Return (Removing row) fits = fits
 done_rows columns Return (Changing before after) fits = fits.1
 
 -- ---- the journal's turn
-
-got_front : (front : List Entry) (entry : Entry) (rest : List Entry) → slice_get (front ++ entry ∷ rest) (length front) ≡ Some entry
-got_front [] entry rest = refl
-got_front (first ∷ front) entry rest = got_front front entry rest
-
-module _ (journal : List Entry) (turn : ℕ) (front : List Entry) (entry : Entry) (has : HasTurn journal turn front entry) where
-  place : turn - 1 ≡ length front
-  place = let numbered : turn ≡ length front + 1 = has.numbered in omega (arith, numbered)
-
-  stands_there : slice_get journal (turn - 1) ≡ Some entry
-  stands_there = ap (slice_get journal) place ∙ ap (λ (j : List Entry). slice_get j (length front)) has.whole ∙ got_front front entry has.rest
-
-  front_is : take (turn - 1) journal ≡ front
-  front_is = ap (λ (n : ℕ). take n journal) place ∙ ap (take (length front)) has.whole ∙ take-append_seam front (entry ∷ has.rest)
 
 -- what is reverted has no ALTER in its history
 unaltered_so : (plan : PlanData) (journal : List Entry) (turn : ℕ) (key : List Value) (column : List ℕ) (number : ℕ) → verdict_of plan journal ≡ verdicts.Reverted (causes.Unfit turn key column number) → IsUnaltered plan journal

@@ -1,6 +1,6 @@
 -- *Plain values*: those that can be printed and read back: a number has at most 38 digits, and bytes are bytes. So of the rows of
 -- tables, of what is written and asked, and of what the server answers. (This project's rule.)
-use Rattle.std.specs.Prelude.{ℕ, ◌<◌, ◌≡◌, ◌==◌, ◌^◌, false, length, unsigned_abs, List, Option, Some, None, Ok}
+use Rattle.std.specs.Prelude.{ℕ, ◌<◌, ◌≡◌, ◌==◌, ◌^◌, false, length, unsigned_abs, List, Option, Some, None}
 use Rattle.std.specs.List.{AllByRecursion}
 use Rattle.base_values.specs.declared.event.Change.{Change}
 use Rattle.base_values.specs.declared.event.Change.TheVariants.{Write, Update, Delete}

@@ -54,15 +54,14 @@ HasByteLiterals word = Unit {0}
 abbrev pub HasByteDefaults : List Column → Type 0
 HasByteDefaults columns = AllByRecursion (λ column. IfThere HasBytes column.default) columns
 
--- *As its types have it*: what holds of every plan and every journal of the program, since a text there is made of bytes, and the
--- number of a session has 32 bits. (In these definitions a text is a list of numbers, and a number may be any.)
-pub record IsTyped (plan : PlanData) (journal : List Entry) : Type 0 where
+-- *Texts of bytes*: the values of its rows, the literals that its scripts store, the defaults of its columns, and what its ALTER adds are
+-- made of bytes. (In these definitions a text is a list of numbers, and a number may be any.)
+pub record HasByteTexts (plan : PlanData) : Type 0 where
   pub rows : AllByRecursion (λ table. AllByRecursion (λ row. AllByRecursion HasBytes row) table.rows) plan.tables
   pub defaults : AllByRecursion (λ table. HasByteDefaults table.schema.columns) plan.tables
   pub literals : AllByRecursion (λ script. AllByRecursion (λ line. HasByteLiterals line.word) script) plan.clients
   pub altered : HasByteDefaults (new_schema plan).columns
   pub added : BytesMap (new_map plan)
-  pub sessions : AllByRecursion (λ entry. entry.session < 2 ^ 64) journal
 
 -- *Short journal*: of at most 2^31 turns, in sessions whose numbers have 64 bits (those of the program have 32)
 pub record IsShort (journal : List Entry) : Type 0 where
