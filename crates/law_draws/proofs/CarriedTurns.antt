@@ -341,7 +341,7 @@ module _ (plan : PlanData) (serial : IsSerialPlan plan) (runs : IsRunnable plan)
       actor_so request about Ren who quiet = ren_leaves who (about_calls request about)
 
       by : TurnAbout plan journal entry → LeavesIt
-      by (asks_so request about told asks quiet) = actor_so request about entry.actor refl quiet
+      by (asks_so request about requested asks quiet) = actor_so request about entry.actor refl quiet
       by (rests_so rests) = inl (subst (LeavesName gho) (sym (none_asked rests)) tt)
 
     no_less : (o : Option ℕ) → NoLess o o
@@ -391,7 +391,7 @@ module _ (plan : PlanData) (serial : IsSerialPlan plan) (runs : IsRunnable plan)
       calls_of request (is_polled same some) = ap may_lose same
 
       by : TurnAbout plan journal entry → Apart l r entry.session
-      by (asks_so request about told asked_as quiet) =
+      by (asks_so request about requested asked_as quiet) =
           let both_are : Some request ≡ Some (requests.Do statement) = sym (about_so request about) ∙ asks in
           let one : request ≡ requests.Do statement = cc in
           at_actor entry.actor (subst (AskedAs plan entry.actor) one asked_as) (turn entry.asked (calls_of request about) asked)

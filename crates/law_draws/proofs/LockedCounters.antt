@@ -3,7 +3,6 @@ use Rattle.std.proofs.Common.{◌≡◌, ℕ, Bool, true, false, List, [], ◌�
 use Rattle.std.specs.Prelude.{find, max}
 use Rattle.std.specs.Option.{option_map}
 use Rattle.std.specs.Str.{bytes_eq}
-use Rattle.std.proofs.lemmas.Bool.{true≢false}
 use Rattle.base_values.specs.GhoSchema.AutoIncrement.{auto_place}
 use Rattle.base_script.specs.declared.actor.Side.{Side}
 use Rattle.base_script.specs.declared.actor.Side.TheVariants.{Before, After}
@@ -31,14 +30,10 @@ use Rattle.server_model.proofs.LockedRows.Counters.{found_named}
 use Rattle.server_model.proofs.LockedRows.Tests.{are_same, nor_left, turned_bytes}
 use Rattle.server_model.proofs.Raising.{raised_zero}
 use Rattle.proof_journals.proofs.Sentry.Holding.{refused_shared}
-use Rattle.proof_journals.proofs.Rising.{if_counted, next_more, next_renamed, next_without, none_started}
+use Rattle.proof_journals.proofs.Rising.{if_counted, next_more, next_renamed, next_without, none_started, both_named}
 use Rattle.law_draws.specs.LockedCounters.{LeavesCounter, LockedCountersStay}
 
 -- COUNTERS OF OTHER NAMES
-
-both_named : (name other : List ℕ) (one : Counter) → bytes_eq name other ≡ false → bytes_eq one.table other ≡ true → bytes_eq one.table name ≡ true → ⊥
-both_named name other one off here also =
-    true≢false (sym (ap (λ (n : List ℕ). bytes_eq n other) (sym (are_same one.table name also)) ∙ here) ∙ off)
 
 next_from : (name other : List ℕ) (n : ℕ) (counters : List Counter) → bytes_eq name other ≡ false → next_of name (counters_from other n counters) ≡ next_of name counters
 next_from name other n [] off = refl

@@ -44,7 +44,7 @@ use Rattle.proof_journals.specs.Plans.{IsSerialPlan}
 use Rattle.proof_journals.specs.Run.Kept.{IsKept}
 use Rattle.proof_journals.specs.Turns.{answer_at, inner, missed_at}
 use Rattle.proof_journals.proofs.Joined.{reported_answer, reported_missed}
-use Rattle.proof_journals.proofs.Journals.{opened_waits, state_more}
+use Rattle.proof_journals.proofs.Journals.{opened_waits, state_more, opened_tables}
 use Rattle.proof_journals.proofs.Machine.Journals.{IsRun, all_runs}
 use Rattle.proof_journals.proofs.Naming.{migrated_no_tool}
 use Rattle.proof_journals.proofs.Machine.Seated.{own_waiting}
@@ -55,8 +55,8 @@ use Rattle.proof_migration.proofs.ToolPhase.Unaltered.Away.{IsKnownAsked, about_
 use Rattle.proof_plans.proofs.Tables.Turns.{TurnAbout, asks_so, rests_so, turn_about}
 use Rattle.law_draws.specs.ColumnValues.{RowsBelow}
 use Rattle.law_draws.specs.SmallNumbers.{CountsIn}
-use Rattle.law_draws.proofs.Numbers.{opened_below, opened_tables}
-use Rattle.law_draws.proofs.OtherTables.{Keeps, keeps_more, none_spares, opened_waiting, schema_stays}
+use Rattle.law_draws.proofs.Numbers.{opened_below}
+use Rattle.law_draws.proofs.OtherTables.{Keeps, keeps_more, none_spares, schema_stays}
 use Rattle.law_draws.proofs.Renames.{NotOk, Undone, rename_counts, rename_rests}
 use Rattle.law_draws.proofs.Sparing.{AllWait, Spares, about_so, client_spares, left_waits}
 
@@ -120,7 +120,7 @@ module _ (plan : PlanData) where
   called_fine journal entry followed request asks = given_fine plan journal entry.actor request (subst (IsGiven plan journal entry) asks followed.given)
 
   waits_now : (journal : List Entry) (entry : Entry) → AllWait Fine (state_at plan journal).waiting → AllWait Fine (opens entry (state_at plan journal)).waiting
-  waits_now journal entry all = subst (AllWait Fine) (sym (opened_waiting (is_command entry.asked) (not (is_client entry.actor)) entry.session (state_at plan journal))) all
+  waits_now journal entry all = subst (AllWait Fine) (sym (opened_waits (is_command entry.asked) (not (is_client entry.actor)) entry.session (state_at plan journal))) all
 
   fine_more : (journal : List Entry) (entry : Entry) → IsRun plan journal entry → AllWait Fine (state_at plan journal).waiting → AllWait Fine (state_at plan (journal ++ entry ∷ [])).waiting
   fine_more journal entry run all =
@@ -155,7 +155,7 @@ none_asks plan journal entry rests = by entry.asked rests where
   by (Call request) is = absurd (true≢false is)
   by Poll is = absurd (true≢false is)
 
--- A RENAME THAT IS DONE IS TOLD
+-- A RENAME THAT IS DONE IS REPORTED
 
 -- what the turn is about is what the history says of it
 pub about_is : (plan : PlanData) (journal : List Entry) (entry : Entry) (request : Request) → IsKnownAsked plan journal → IsRun plan journal entry → asked_in (state_at plan journal) entry ≡ Some request → histories.about journal entry ≡ Some request
@@ -203,8 +203,8 @@ module _ (plan : PlanData) (serial : IsSerialPlan plan) (runs : IsRunnable plan)
       asked_as Ren asked = refl
 
       by : TurnAbout plan journal entry → is_client entry.actor ≡ false
-      by (asks_so request is_about told asked quiet) =
-          let both : Some request ≡ Some (requests.Rename pairs) = sym told ∙ about in
+      by (asks_so request is_about requested asked quiet) =
+          let both : Some request ≡ Some (requests.Rename pairs) = sym requested ∙ about in
           let one : request ≡ requests.Rename pairs = cc in
           asked_as entry.actor (subst (AskedAs plan entry.actor) one asked)
       by (rests_so rests) = absurd (true≢false (sym (calls entry.asked asks) ∙ rests))

@@ -31,8 +31,9 @@ use Rattle.proof_journals.specs.Rising.{LeavesName}
 use Rattle.proof_journals.proofs.Machine.Schemas.{new_found}
 use Rattle.proof_journals.proofs.Moves.{gone_none}
 use Rattle.proof_journals.proofs.Rising.{if_counted, opened_counters, turn_falls}
+use Rattle.proof_journals.proofs.Journals.{opened_tables}
 use Rattle.law_draws.specs.SmallNumbers.{CountsIn, IsAtMost, one_if}
-use Rattle.law_draws.proofs.Numbers.{left_schema, opened_tables}
+use Rattle.law_draws.proofs.Numbers.{left_schema}
 use Rattle.law_draws.proofs.Renames.{NotOk, Undone, rename_counts, rename_rests}
 use Rattle.law_draws.proofs.Served.{served_so}
 use Rattle.law_draws.proofs.SmallNumbers.{TableCounts, asked_small, more_most, raised_most}

@@ -30,6 +30,7 @@ use Rattle.proof_journals.specs.Rising.{LeavesName}
 use Rattle.proof_journals.proofs.Joined.{reported_draw}
 use Rattle.law_draws.proofs.Schemas.{called_stays, polled_stays}
 use Rattle.proof_journals.proofs.Rising.{opened_counters, turn_draws, turn_falls}
+use Rattle.proof_journals.proofs.Journals.{opened_tables}
 use Rattle.law_draws.specs.ColumnValues.{EventsBelow, RowsBelow, ValuesBelow}
 use Rattle.law_draws.specs.Numbers.{DrawsAbove, EachDrawsAbove, EachLeavesTable, NumbersAreAbove}
 use Rattle.law_draws.proofs.ColumnValues.{values_stay_below}
@@ -61,13 +62,6 @@ left_schema name (Some After) state number asked leaves = served_schema name sta
 pub one_more : (P : Session → Type 0) (sessions : List Session) (one : Session) → AllByRecursion P sessions → P one → AllByRecursion P (sessions ++ one ∷ [])
 one_more P [] one all is = (is, tt)
 one_more P (session ∷ sessions) one all is = (all.0, one_more P sessions one all.1 is)
-
-pub opened_tables : (nothing tool : Bool) (number : ℕ) (state : State) → (opens_if nothing tool number state).tables ≡ state.tables
-unfolding opens_if
-opened_tables nothing tool number state = by (nothing || is_live state number) where
-  by : (b : Bool) → (cond b state (connected number tool state)).tables ≡ state.tables
-  by true = refl
-  by false = refl
 
 pub opened_below : (name : List ℕ) (place next : ℕ) (nothing tool : Bool) (number : ℕ) (state : State) → ValuesBelow name place next state → ValuesBelow name place next (opens_if nothing tool number state)
 unfolding opens_if

@@ -1,5 +1,5 @@
 -- Numbers that are drawn from other tables than the migrated one.
-use Rattle.std.proofs.Common.{◌≡◌, ℕ, ◌+◌, ◌≤◌, ◌<◌, Bool, true, false, not, ◌||◌, List, [], ◌∷◌, ◌++◌, append_assoc, length, cond, Option, Some, None, refl, sym, ap, ◌∙◌, subst, arith}
+use Rattle.std.proofs.Common.{◌≡◌, ℕ, ◌+◌, ◌≤◌, ◌<◌, Bool, true, false, not, List, [], ◌∷◌, ◌++◌, append_assoc, length, cond, Option, Some, None, refl, sym, ap, ◌∙◌, subst, arith}
 use Rattle.std.specs.Prelude.{fold, max, unwrap_or}
 use Rattle.std.specs.List.{AllByRecursion, flat_map, slice_get}
 use Rattle.std.specs.Option.{option_map}
@@ -32,11 +32,11 @@ use Rattle.server_model.specs.Entries.{is_client, is_command}
 use Rattle.server_model.specs.LockedRows.Counters.{IsBehind, NoLess}
 use Rattle.server_model.specs.Operations.{table_of}
 use Rattle.server_model.specs.PlainServer.{asks_for, counters_left, leaves, serves}
-use Rattle.server_model.specs.States.{State, after_value, connected, counter_of, is_live, is_of_tool, next_of, session_of, start_at, started}
+use Rattle.server_model.specs.States.{State, after_value, counter_of, is_of_tool, next_of, session_of, start_at, started}
 use Rattle.server_model.proofs.LockedRows.Tests.{are_same}
 use Rattle.plan_data.specs.PlanData.{PlanData}
 use Rattle.tool_program.specs.JournalWords.Draws.{asked_in, draws_on, drawn_from, IsAbove, IsDrawn}
-use Rattle.tool_program.specs.JournalWords.Journals.{IsAnswered, after_entry, opening, opens, opens_if, state_after, state_at}
+use Rattle.tool_program.specs.JournalWords.Journals.{IsAnswered, after_entry, opening, opens, state_after, state_at}
 use Rattle.tool_program.specs.Programs.{Follows, IsFollowed, IsGiven}
 use Rattle.proof_journals.specs.Machine.MigrationTables.{schema_of}
 use Rattle.proof_journals.specs.Rising.{LeavesName}
@@ -44,7 +44,7 @@ use Rattle.proof_journals.specs.Run.Kept.{IsKept}
 use Rattle.proof_journals.specs.Turns.{drawn_side}
 use Rattle.proof_journals.proofs.Actors.{placed}
 use Rattle.proof_journals.proofs.Joined.{reported_draw}
-use Rattle.proof_journals.proofs.Journals.{state_more}
+use Rattle.proof_journals.proofs.Journals.{state_more, opened_tables, opened_waits}
 use Rattle.proof_journals.proofs.Machine.Journals.{IsRun, all_runs, all_together}
 use Rattle.proof_journals.proofs.Rising.{opened_counters, turn_draws, turn_falls}
 use Rattle.proof_journals.proofs.Run.Living.{all_living, own_kind}
@@ -53,7 +53,7 @@ use Rattle.law_draws.specs.LockedCounters.{LeavesCounter}
 use Rattle.law_draws.specs.OtherTables.{IsOther, MayCount, OtherTablesDraw, StartsWell}
 use Rattle.law_draws.specs.SmallNumbers.{CountsIn, IsAtMost, one_if}
 use Rattle.law_draws.proofs.ColumnValues.{values_stay_below}
-use Rattle.law_draws.proofs.Numbers.{above_all, left_schema, opened_below, opened_tables}
+use Rattle.law_draws.proofs.Numbers.{above_all, left_schema, opened_below}
 use Rattle.law_draws.proofs.SmallNumbers.{counters_stay_small, more_most, row_small}
 use Rattle.law_draws.proofs.Sparing.{AllWait, Spares, about_so, given_spares, left_waits}
 
@@ -277,19 +277,12 @@ record Spared (name : List ℕ) (plan : PlanData) (journal : List Entry) : Type 
   same : schema_of name (state_at plan journal).tables ≡ schema_of name plan.tables
 
 -- what the turn is about spares the table
-pub opened_waiting : (nothing tool : Bool) (number : ℕ) (state : State) → (opens_if nothing tool number state).waiting ≡ state.waiting
-unfolding opens_if
-opened_waiting nothing tool number state = by (nothing || is_live state number) where
-  by : (b : Bool) → (cond b state (connected number tool state)).waiting ≡ state.waiting
-  by true = refl
-  by false = refl
-
 pub none_spares : (name : List ℕ) → Spares name None
 none_spares name = record { counter = tt; copies = tt }
 
 module _ (name : List ℕ) (plan : PlanData) (off : IsOther plan name) where
   waits_now : (journal : List Entry) (entry : Entry) → Spared name plan journal → AllWait (Spares name) (opens entry (state_at plan journal)).waiting
-  waits_now journal entry is = subst (AllWait (Spares name)) (sym (opened_waiting (is_command entry.asked) (not (is_client entry.actor)) entry.session (state_at plan journal))) is.waits
+  waits_now journal entry is = subst (AllWait (Spares name)) (sym (opened_waits (is_command entry.asked) (not (is_client entry.actor)) entry.session (state_at plan journal))) is.waits
 
   called_spares : (journal : List Entry) (entry : Entry) → IsFollowed plan journal entry → (request : Request) → entry.asked ≡ Call request → Spares name (Some request)
   called_spares journal entry followed request asks =
@@ -394,11 +387,11 @@ module _ (plan : PlanData) (journal : List Entry) (entry : Entry) (number : ℕ)
   abbrev drawn_name : List ℕ
   drawn_name = table_of statement
 
-  told : drawn_side entry.side drawn_now entry.session entry.asked ≡ Some number
-  told = sym (reported_draw drawn_state entry answered) ∙ drew
+  reported : drawn_side entry.side drawn_now entry.session entry.asked ≡ Some number
+  reported = sym (reported_draw drawn_state entry answered) ∙ drew
 
   pub offers : Offers (is_of_tool (session_of entry.session drawn_now.sessions)) (find_table drawn_name drawn_now.tables)
-  offers = drawn_in_side drawn_state entry statement number entry.side asks told
+  offers = drawn_in_side drawn_state entry statement number entry.side asks reported
 
   -- the table has an AUTO_INCREMENT column
   pub drawn_place : (schema : Schema) → schema_of drawn_name drawn_state.tables ≡ Some schema → (place : ℕ) × (auto_place schema ≡ Some place)
@@ -412,7 +405,7 @@ module _ (plan : PlanData) (journal : List Entry) (entry : Entry) (number : ℕ)
 
   counter : next_of drawn_name drawn_state.counters ≡ Some number
   counter =
-      let one = turn_draws entry.side drawn_now entry.session entry.asked number told in
+      let one = turn_draws entry.side drawn_now entry.session entry.asked number reported in
       let both : Some (requests.Do statement) ≡ Some (requests.Do one.0) = sym asks ∙ one.1 in
       let same : statement ≡ one.0 = cc in
       sym (ap (next_of drawn_name) (opened_counters (is_command entry.asked) (not (is_client entry.actor)) entry.session drawn_state)) ∙ ap (λ (s : Statement). next_of (table_of s) drawn_now.counters) same ∙ one.2

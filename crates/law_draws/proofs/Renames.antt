@@ -8,9 +8,8 @@ use Rattle.std.proofs.lemmas.Bool.{true≢false}
 use Rattle.base_values.specs.ToolNames.{ghost_name, old_name}
 use Rattle.base_script.specs.declared.actor.Side.{Side}
 use Rattle.base_script.specs.declared.actor.Side.TheVariants.{Before, After}
-use Rattle.table_store.specs.Databases.{Database, find_table, has_table, name_table, rename_tables, with_name}
+use Rattle.table_store.specs.Databases.{Database, rename_tables}
 use Rattle.table_store.specs.declared.renames.NotRenamed.{NotRenamed}
-use Rattle.table_store.specs.declared.renames.NotRenamed.TheVariants as reasons
 use Rattle.table_store.specs.declared.renames.Pair.{Pair}
 use Rattle.server_model.specs.declared.answer.Answer.{Answer}
 use Rattle.server_model.specs.declared.answer.Answer.TheVariants as answers
@@ -29,7 +28,6 @@ use Rattle.server_model.specs.States.{State, counters_named, counters_renamed, i
 use Rattle.server_model.proofs.LockedRows.Tests.{are_same, same_bytes, turned_bytes}
 use Rattle.tool_program.proofs.OnlineCalls.Naming.{not_ghost, not_old}
 use Rattle.proof_journals.proofs.Machine.Marks.{ghost_not_old}
-use Rattle.proof_journals.proofs.Moves.{renamed_new, renamed_other}
 use Rattle.proof_journals.proofs.Sentry.Serving.{exchanged}
 use Rattle.law_draws.specs.ColumnValues.{EventsBelow}
 use Rattle.law_draws.proofs.ColumnValues.{all_left, all_with}
@@ -125,23 +123,6 @@ rename_counts side state number asked pairs asks undone = by side undone where
   by (Some After) undone = counts undone
 
 -- THE EXCHANGE
-
--- its second pair finds the new table, which has the migrated one's name behind it
-pub exchange_gives : (t : List ℕ) (tables after : Database) → rename_tables (exchanged t) tables ≡ Ok after → find_table t after ≡ option_map (name_table t) (find_table (ghost_name t) tables)
-unfolding rename_tables
-exchange_gives t tables after is = by (has_table (old_name t) tables) (has_table t tables) (has_table t moved) (has_table (ghost_name t) moved) refl is where
-  moved : Database
-  moved = with_name t (old_name t) tables
-
-  by : (a b c d : Bool) → has_table t moved ≡ c → cond a (Err reasons.Exists) (cond b (cond c (Err reasons.Exists) (cond d (Ok (with_name (ghost_name t) t moved)) (Err reasons.Missing))) (Err reasons.Missing)) ≡ Ok after → find_table t after ≡ option_map (name_table t) (find_table (ghost_name t) tables)
-  by true b c d none is = absurd cc
-  by false false c d none is = absurd cc
-  by false true true d none is = absurd cc
-  by false true false false none is = absurd cc
-  by false true false true none is =
-      let same : with_name (ghost_name t) t moved ≡ after = cc in
-      ap (find_table t) (sym same) ∙ renamed_new (ghost_name t) t moved none
-      ∙ ap (option_map (name_table t)) (renamed_other t (old_name t) (ghost_name t) tables (turned_bytes t (ghost_name t) (not_ghost t)) (ghost_not_old t))
 
 -- the table has the new one's counter
 pub exchange_counts : (t : List ℕ) (counters : List Counter) → next_of t (counters_renamed (exchanged t) counters) ≡ next_of (ghost_name t) counters

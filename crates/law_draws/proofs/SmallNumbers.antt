@@ -4,7 +4,7 @@ use Rattle.std.specs.Prelude.{pos, find, max, nat_le, int_le}
 use Rattle.std.specs.List.{slice_get, AllByRecursion}
 use Rattle.std.specs.Option.{option_map}
 use Rattle.std.specs.Str.{bytes_eq}
-use Rattle.std.proofs.lemmas.Bool.{true≢false, false≢true}
+use Rattle.std.proofs.lemmas.Bool.{true≢false, false≢true, and_parts}
 use Rattle.std.proofs.lemmas.Bool.Decides.{nat_tests}
 use Rattle.base_values.specs.declared.kind.Kind.{Kind}
 use Rattle.base_values.specs.declared.kind.Kind.TheVariants.{Int}
@@ -14,7 +14,7 @@ use Rattle.base_values.specs.declared.gho_schema.schema.Column.{Column}
 use Rattle.base_values.specs.declared.gho_schema.schema.Schema.{Schema}
 use Rattle.base_values.specs.GhoSchema.AutoIncrement.{auto_place, is_widest, IsCounter, MayCount}
 use Rattle.base_values.specs.GhoSchema.Tables.{IsRow}
-use Rattle.base_values.specs.SchemaRules.Valid.{is_kind, IsColumn, StoresDefault}
+use Rattle.base_values.specs.SchemaRules.Valid.{is_kind, IsColumn}
 use Rattle.base_values.specs.StoredValues.{fits, half, lowest, stores}
 use Rattle.base_values.proofs.StoredValues.{keeps}
 use Rattle.base_script.specs.declared.statement.Statement.{Statement}
@@ -39,6 +39,7 @@ use Rattle.server_model.proofs.LockedRows.Tests.{are_same}
 use Rattle.law_draws.specs.LockedCounters.{LeavesCounter}
 use Rattle.law_draws.specs.SmallNumbers.{CountersStaySmall, CountsIn, GivenValuesAreSmall, IsAtMost, one_if}
 use Rattle.law_draws.proofs.LockedCounters.{other_stays}
+use Rattle.proof_journals.proofs.ValidTables.{defaults_fit}
 
 -- WHAT A KIND STORES
 
@@ -64,15 +65,11 @@ most_unsigned bytes n kind narrow is = by (bytes == 1) (bytes == 2) (bytes == 3)
   by false false false false true kind narrow is = absurd (true≢false narrow)
   by false false false false false kind narrow is = absurd (false≢true kind)
 
-and_right : (a b : Bool) → (a && b) ≡ true → b ≡ true
-and_right true b is = is
-and_right false b is = absurd (false≢true is)
-
 -- what fits a column that counts
 fits_small : (kind : Kind) (value : Value) → MayCount kind → is_kind kind ≡ true → fits value kind ≡ true → after_value (Some value) ≤ 9223372036854775808
 unfolding fits
-fits_small (Int bytes false) (Num (pos n)) may kind is = most_signed bytes n (and_right (int_le (lowest bytes false) (pos n)) _ is)
-fits_small (Int bytes true) (Num (pos n)) may kind is = most_unsigned bytes n kind may (and_right (int_le (lowest bytes true) (pos n)) _ is)
+fits_small (Int bytes false) (Num (pos n)) may kind is = most_signed bytes n (and_parts (int_le (lowest bytes false) (pos n)) _ is).1
+fits_small (Int bytes true) (Num (pos n)) may kind is = most_unsigned bytes n kind may (and_parts (int_le (lowest bytes true) (pos n)) _ is).1
 fits_small kind value may good is = omega arith
 
 stored_small : (column : Column) (value : Value) → IsColumn column → IsCounter (Some column) → stores value column.kind column.nullable ≡ Ok value → after_value (Some value) ≤ 9223372036854775808
@@ -98,13 +95,9 @@ work_small place columns (works.Replace row) are counts sound = row_small place 
 work_small place columns (works.Update reach (Ok sets)) are counts sound = set_small place columns sets are counts sound
 work_small place columns work are counts sound = omega arith
 
-defaults : (columns : List Column) → AllByRecursion IsColumn columns → AllByRecursion (λ column. StoresDefault column column.default) columns
-defaults [] are = tt
-defaults (column ∷ columns) are = (are.0.default, defaults columns are.1)
-
 -- *Given values are small*
 pub given_values_are_small : GivenValuesAreSmall
-given_values_are_small schema place statement is = work_small place schema.columns (work_of schema statement) is.columns is.counts (work_sound schema statement (defaults schema.columns is.columns))
+given_values_are_small schema place statement is = work_small place schema.columns (work_of schema statement) is.columns is.counts (work_sound schema statement (defaults_fit schema.columns is.columns))
 
 -- WHAT A TURN RAISES
 

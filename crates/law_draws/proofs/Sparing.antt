@@ -3,7 +3,7 @@ use Rattle.std.proofs.Common.{◌≡◌, ℕ, Bool, true, false, not, ◌&&◌, 
 use Rattle.std.specs.Prelude.{find, ◌==◌}
 use Rattle.std.specs.List.{AllByRecursion, list_all, list_any}
 use Rattle.std.specs.Str.{bytes_eq}
-use Rattle.std.proofs.lemmas.Bool.{true≢false, false≢true}
+use Rattle.std.proofs.lemmas.Bool.{true≢false, false≢true, and_parts}
 use Rattle.base_values.specs.ToolNames.{is_tool_name}
 use Rattle.base_script.specs.declared.actor.Actor.{Actor}
 use Rattle.base_script.specs.declared.actor.Actor.TheVariants.{Op, Insp, Copy, Apply, Lock, Ren, Client}
@@ -57,21 +57,13 @@ off_all plan name (other ∷ names) off is = by (own plan other) refl is (off_al
   by true here rest goes = rw (off_one plan name other off here) (goes rest)
   by false here rest goes = absurd (false≢true rest)
 
-first_of : (a b : Bool) → (a && b) ≡ true → a ≡ true
-first_of true b is = refl
-first_of false b is = absurd (false≢true is)
-
-second_of : (a b : Bool) → (a && b) ≡ true → b ≡ true
-second_of true b is = is
-second_of false b is = absurd (false≢true is)
-
 tool_spares : (plan : PlanData) (name : List ℕ) (request : Request) → IsOther plan name → names_own plan request ≡ true → Spares name (Some request)
 tool_spares plan name (requests.Create schema) off is = record { counter = off_all plan name (schema.name ∷ []) off is; copies = tt }
 tool_spares plan name (requests.Drop dropped) off is = record { counter = off_all plan name (dropped ∷ []) off is; copies = tt }
 tool_spares plan name (requests.Rename pairs) off is = record { counter = off_all plan name (tables_named (requests.Rename pairs)) off is; copies = tt }
 tool_spares plan name (requests.CopyRow from into map key) off is =
-    record { counter = tt; copies = turned_bytes name into (off_one plan name into off (first_of (own plan into) true (second_of (own plan from) _ is))) }
-tool_spares plan name (requests.SetCounter table least) off is = record { counter = off_one plan name table off (first_of (own plan table) true is); copies = tt }
+    record { counter = tt; copies = turned_bytes name into (off_one plan name into off (and_parts (own plan into) true (and_parts (own plan from) _ is).1).0) }
+tool_spares plan name (requests.SetCounter table least) off is = record { counter = off_one plan name table off (and_parts (own plan table) true is).0; copies = tt }
 tool_spares plan name request off is = record { counter = tt; copies = tt }
 
 word_spares : (name : List ℕ) (word : ScriptWord) → Spares name (Some (word_asks word))

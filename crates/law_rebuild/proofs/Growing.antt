@@ -13,7 +13,7 @@ use Rattle.server_model.specs.Drawing.{filled}
 use Rattle.server_model.specs.Effects.{Effect, effect}
 use Rattle.server_model.specs.Effects.Effect.{Rests, Grows, Writes, Forgets, Moves, Locks, Unlocks}
 use Rattle.server_model.specs.Entries.{is_client, is_command}
-use Rattle.server_model.specs.PlainServer.{Served, called_unless, calls, did, does, done, is_over, leaves, loses, polled_of, polled_over, polled_unless, polls, serves, without_waiting}
+use Rattle.server_model.specs.PlainServer.{called_unless, calls, did, does, done, is_over, leaves, loses, polled_of, polled_over, polled_unless, polls, serves, without_waiting}
 use Rattle.server_model.specs.States.{State, session_of, waiting_of, writes_of}
 use Rattle.plan_data.specs.PlanData.{PlanData}
 use Rattle.tool_program.specs.JournalWords.Journals.{after_entry, opening, opens, state_after}

@@ -1,10 +1,9 @@
 -- Until the RENAME is done the migrated table is what the log makes of its opening rows.
-use Rattle.std.proofs.Common.{◌≡◌, ℕ, Bool, true, false, List, [], ◌∷◌, ◌++◌, Option, Some, None, refl, sym, ap, ◌∙◌, subst, append_assoc, append-nil}
+use Rattle.std.proofs.Common.{◌≡◌, ℕ, true, false, List, [], ◌∷◌, ◌++◌, Option, Some, refl, sym, ap, ◌∙◌, subst, append_assoc, append-nil}
 use Rattle.std.specs.List.{list_any}
-use Rattle.std.specs.Prelude.{codes, ◌||◌}
 use Rattle.std.specs.Str.{bytes_eq}
-use Rattle.std.proofs.lemmas.Bool.{true≢false, false_from_ne_true, or_right}
-use Rattle.base_values.specs.ToolNames.{ghost_name, is_tool_name, log_name, old_name}
+use Rattle.std.proofs.lemmas.Bool.{true≢false, false_from_ne_true}
+use Rattle.base_values.specs.ToolNames.{ghost_name, is_tool_name, old_name}
 use Rattle.table_store.specs.Databases.{TableRows, find_table}
 use Rattle.base_script.specs.declared.actor.Actor.{Actor}
 use Rattle.base_script.specs.declared.actor.Actor.TheVariants.{Op, Insp, Copy, Apply, Lock, Ren, Client}
@@ -17,7 +16,7 @@ use Rattle.server_model.specs.declared.request.Request.TheVariants as requests
 use Rattle.server_model.specs.Entries.{is_client, is_command}
 use Rattle.server_model.specs.Operations.{table_of}
 use Rattle.server_model.specs.States.{State}
-use Rattle.server_model.proofs.LockedRows.Tests.{are_same, same_bytes, turned_bytes}
+use Rattle.server_model.proofs.LockedRows.Tests.{are_same}
 use Rattle.plan_data.specs.PlanData.{PlanData}
 use Rattle.tool_program.specs.JournalWords.Journals.{opens, state_after, state_at}
 use Rattle.proof_journals.specs.Holdings.{stored}
@@ -28,7 +27,7 @@ use Rattle.proof_journals.specs.Turns.{ClientAsks, IsSceneRun, about, reported_a
 use Rattle.proof_journals.specs.Ghost.Rows.Timelines.{Migration}
 use Rattle.proof_journals.proofs.Ghost.Keeping.{TableExists, table_opens}
 use Rattle.proof_journals.proofs.Machine.Journals.{IsRun}
-use Rattle.proof_journals.proofs.Machine.Marks.{ghost_not_old, tails_apart}
+use Rattle.proof_journals.proofs.Machine.Marks.{ghost_not_old, log_not_old}
 use Rattle.proof_journals.proofs.Naming.{migrated_no_tool}
 use Rattle.proof_journals.proofs.PlanJournals.{plan_runs_are_scene_runs}
 use Rattle.proof_migration.specs.ToolPhase.Unaltered.{IsUnaltered}
@@ -38,17 +37,9 @@ use Rattle.proof_migration.proofs.Program.Leaving.{Left, NoneWrote, left}
 use Rattle.proof_migration.proofs.Program.Turns.Asked.{asked_as, never_reported}
 use Rattle.proof_migration.proofs.Program.Turns.Follows.{kept_front, kept_run}
 use Rattle.proof_migration.proofs.ToolPhase.Unaltered.Asking.{AskedAs, ToolCall, exchange_takes}
-use Rattle.proof_migration.proofs.ToolPhase.Unaltered.Away.{IsKnownAsked, all_asked, as_tool, tool_not_mine, unaltered_front}
+use Rattle.proof_migration.proofs.ToolPhase.Unaltered.Away.{IsKnownAsked, all_asked, tool_not_mine, unaltered_front}
 use Rattle.proof_migration.proofs.ToolPhase.Unaltered.Runs.{unaltered_runs}
-
--- NAMES
-
-log_not_old : (table : List ℕ) → bytes_eq (log_name table) (old_name table) ≡ false
-unfolding log_name old_name
-log_not_old table = tails_apart (codes "_ghc") (codes "_del") refl (codes "_" ++ table)
-
-old_is_tool : (table : List ℕ) → is_tool_name table (old_name table) ≡ true
-old_is_tool table = or_right (bytes_eq (old_name table) (ghost_name table) || bytes_eq (old_name table) (log_name table)) (bytes_eq (old_name table) (old_name table)) (same_bytes (old_name table))
+use Rattle.proof_migration.proofs.ToolPhase.Marked.{old_is_tool}
 
 -- the migrated table, beside the old one's name: of a table of that name nobody writes a row
 abbrev pub unwritten : List ℕ → TableRows → Migration

@@ -21,7 +21,7 @@ use Rattle.server_model.specs.declared.request.Request.TheVariants as requests
 use Rattle.server_model.specs.declared.session.Session.{Session}
 use Rattle.server_model.specs.declared.session.Waiting.{Waiting}
 use Rattle.server_model.specs.Checks.{draws}
-use Rattle.server_model.specs.Counting.{drawn_if, is_answered, offered_inside, offered_to}
+use Rattle.server_model.specs.Counting.{drawn_if, is_answered, offered_to}
 use Rattle.server_model.specs.Drawing.{offered_in, offered_of}
 use Rattle.server_model.specs.Effects.{is_outside}
 use Rattle.server_model.specs.Entries.{is_client, is_command}
@@ -53,6 +53,7 @@ use Rattle.proof_migration.proofs.ToolServes.{tool_serves}
 use Rattle.run_audit.specs.Audits.{draws_in, first_draws, word_draws}
 use Rattle.proof_audit.specs.Laws.{DrawsAsLeft, MayDraw}
 use Rattle.proof_audit.proofs.Rules.{kept_before, planned_next, run_next}
+use Rattle.proof_plain.proofs.Journals.{inside_offers}
 
 -- ---- what is offered
 
@@ -70,10 +71,6 @@ offer_draws false (Some table) counters statement some = (refl, by (draws table.
   by : (b : Bool) → is_some (cond b (next_of table.schema.name counters) None) ≡ true → b ≡ true
   by true some = refl
   by false some = absurd cc
-
-inside_offers : (outside : Bool) (offer : Option ℕ) → is_some (offered_inside outside offer) ≡ true → is_some offer ≡ true
-inside_offers true offer some = absurd cc
-inside_offers false offer some = some
 
 is_offered : (found : Option Session) (tables : Database) (counters : List Counter) (asks : Option Request) → is_some (offered_to found tables counters asks) ≡ true → IsOffered found tables asks
 unfolding offered_in

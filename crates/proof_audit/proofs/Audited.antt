@@ -6,6 +6,7 @@ use Rattle.std.proofs.lemmas.Bool.Decides.{nat_tests}
 use Rattle.std.proofs.lemmas.List.{map-append}
 use Rattle.std.proofs.lemmas.List.Folds.{list_any-append}
 use Rattle.std.proofs.lemmas.List.Sums.{sum_by-append, sum_by-cons}
+use Rattle.std.proofs.lemmas.Bool.{and_from}
 use Rattle.base_script.specs.declared.actor.Actor.{Actor}
 use Rattle.base_script.specs.declared.actor.Actor.TheVariants.{Op, Insp, Copy, Apply, Lock, Ren, Client}
 use Rattle.table_store.specs.Databases.{Database}
@@ -37,7 +38,6 @@ use Rattle.run_audit.specs.declared.line.LineAnswer.{LineAnswer}
 use Rattle.run_audit.specs.Lines.{drawn_shown, line_of, lines_of, printed_table, trace_of}
 use Rattle.run_audit.specs.Rules.{alter_turns, alters_in, breaks, broken_turns, client_reached, has_altered, is_within, keeps_losses, keeps_script, next_turn, turn_if}
 use Rattle.proof_audit.proofs.Sessions.{IsLostRightly}
-use Rattle.proof_audit.proofs.Struck.{both}
 use Rattle.proof_audit.proofs.Verdicts.{tries_in_lines, unfit_in_line}
 use Rattle.proof_audit.specs.Laws.{DrawsAsLeft, LinesTellAlters, KeptAreSerial, MayDraw, MarksAgree, AreSerialLines, SerialTracesAreAudited}
 use Rattle.proof_audit.proofs.Ended.{lines_end, panic_in_lines, turn_splits}
@@ -233,7 +233,7 @@ holds_here plan journal verdicts.Unfinished is altered kept within stands = refl
 holds_here plan journal verdicts.Done is altered kept within stands =
     altered ∙ done_so (has_ended plan journal) (list_any is_alter (history plan journal)) (reverted_by plan journal (moment plan journal).tool (moment plan journal).tool.reason) (reverted_undone plan journal (moment plan journal).tool (moment plan journal).tool.reason) is
 holds_here plan journal (verdicts.Reverted cause) is altered kept within stands =
-    both (not (has_altered (lines_of journal))) (cause_holds plan (lines_of journal) cause)
+    and_from (not (has_altered (lines_of journal))) (cause_holds plan (lines_of journal) cause)
     (ap not (altered ∙ reverted_so (has_ended plan journal) (list_any is_alter (history plan journal)) (reverted_by plan journal (moment plan journal).tool (moment plan journal).tool.reason) cause is))
     (cause_told plan journal cause kept within (stands cause is))
 

@@ -30,6 +30,7 @@ use Rattle.run_audit.specs.declared.line.LineAnswer.TheVariants as line_answers
 use Rattle.run_audit.specs.declared.line.TraceLine.{TraceLine}
 use Rattle.run_audit.specs.Lines.{asked_of, drawn_shown, heard_answer, missed_answer, line_answer, line_of, lines_of}
 use Rattle.run_audit.specs.Rules.{became_of_line, client_after_line, client_step, client_reached, left_by, left_outside}
+use Rattle.proof_journals.proofs.Linking.{client_more}
 
 -- the answer is one that a client hears
 abbrev pub IsClients : Answer → Type 0
@@ -295,10 +296,6 @@ pub reached_more : (plan : PlanData) (lines : List TraceLine) (line : TraceLine)
 unfolding client_reached
 reached_more plan lines line c = fold-append (client_step c) (new_client (unwrap_or (script_of c plan) [])) lines (line ∷ [])
 
-pub at_more : (plan : PlanData) (journal : List Entry) (entry : Entry) (c : ℕ) → client_at plan (journal ++ entry ∷ []) c ≡ after_turn c (client_at plan journal c) entry
-unfolding client_at
-at_more plan journal entry c = fold-append (after_turn c) (new_client (unwrap_or (script_of c plan) [])) journal (entry ∷ [])
-
 -- one client after one turn
 line_alike : (client : Reached) (entry : Entry) (c : ℕ) → (entry.actor ≡ Client c → client.is_lost ≡ false) → (entry.actor ≡ Client c → entry.asked ≢ Cut → entry.side ≡ None → IsClients entry.answer) → (entry.actor ≡ Client c → entry.asked ≢ Cut → entry.side ≡ None → NoBegin client.left entry.answer) → (entry.actor ≡ Client c → entry.side ≡ Some Before → entry.answer ≡ answers.Lost)
     → (entry.actor ≡ Client c → entry.asked ≡ Cut → entry.draw ≡ None) → client_step c client (line_of entry) ≡ after_turn c client entry
@@ -325,4 +322,4 @@ lines_tell_clients plan journal c turns = Along-keeps _ (λ before. client_reach
       ∙ reached_more plan (lines_of before) (line_of entry) c
       ∙ ap (λ (client : Reached). client_step c client (line_of entry)) same
       ∙ line_alike (client_at plan before c) entry c (λ is. (turn c is).lives) (λ is. (turn c is).heard) (λ is. (turn c is).timed) (λ is. (turn c is).lost) (λ is. (turn c is).uncut)
-      ∙ sym (at_more plan before entry c)
+      ∙ sym (client_more plan before entry c)

@@ -5,6 +5,7 @@ use Rattle.std.proofs.lemmas.Bool.Decides.{nat_tests}
 use Rattle.std.proofs.lemmas.List.{take-map}
 use Rattle.std.proofs.lemmas.Option.{slice_get_within, get_or_from_slice_get}
 use Rattle.std.proofs.Math.Seq.{split_at}
+use Rattle.std.proofs.lemmas.Bool.{and_parts, and_from}
 use Rattle.base_script.specs.declared.actor.Actor.{Actor}
 use Rattle.base_script.specs.declared.actor.Actor.TheVariants.{Op, Insp, Copy, Apply, Lock, Ren, Client}
 use Rattle.base_script.specs.declared.operator.OperatorWord.{OperatorWord}
@@ -26,7 +27,6 @@ use Rattle.run_audit.specs.Audits.{is_panic, is_panic_at, is_unfinished}
 use Rattle.run_audit.specs.Lines.{asked_of, line_of, lines_of, trace_of}
 use Rattle.run_audit.specs.Rules.{all_are_over, client_reached, commands_in, is_word, next_turn}
 use Rattle.proof_audit.proofs.Sessions.{lines_tell_commands}
-use Rattle.proof_audit.proofs.Struck.{both}
 use Rattle.proof_audit.proofs.Verdicts.{line_there}
 use Rattle.proof_audit.specs.Laws.{LinesEnd, LinesTellPanic}
 use Rattle.proof_audit.proofs.Kept.{tell_clients}
@@ -47,13 +47,9 @@ over_alike : (plan : PlanData) (journal : List Entry) (number : ℕ) (scripts : 
 unfolding all_over all_are_over
 over_alike plan journal number [] same over = refl
 over_alike plan journal number (script ∷ scripts) same over =
-    both (client_over (client_reached plan (lines_of journal) number)) (all_are_over plan (lines_of journal) (number + 1) scripts)
+    and_from (client_over (client_reached plan (lines_of journal) number)) (all_are_over plan (lines_of journal) (number + 1) scripts)
     (ap (λ (r : Reached). client_over r) (same number) ∙ cond_first (client_over (client_at plan journal number)) (all_over plan journal (number + 1) scripts) over)
     (over_alike plan journal (number + 1) scripts same (cond_second (client_over (client_at plan journal number)) (all_over plan journal (number + 1) scripts) over))
-
-and_second : (b c : Bool) → (b && c) ≡ true → c ≡ true
-and_second true c is = is
-and_second false c is = absurd cc
 
 no_turn : (u n a : Bool) (turns : List ℕ) → a ≡ true → cond (u && n && not a) turns [] ≡ []
 no_turn true true true turns is = refl
@@ -70,7 +66,7 @@ unfolding has_ended
 ended_here plan journal false is fit kept = refl
 ended_here plan journal true is fit kept =
     no_turn (not (is_unfinished (ended_so plan journal (moment plan journal).tool))) (not (nat_lt plan.options.turn_limit (length (lines_of journal)))) (all_are_over plan (lines_of journal) 1 plan.clients) (next_turn (lines_of journal) ∷ [])
-    (over_alike plan journal 1 plan.clients (λ c. tell_clients plan journal c fit kept) (and_second (is_over (moment plan journal)) (clients_over plan journal) is))
+    (over_alike plan journal 1 plan.clients (λ c. tell_clients plan journal c fit kept) (and_parts (is_over (moment plan journal)) (clients_over plan journal) is).1)
 
 -- *The lines end*
 pub lines_end : LinesEnd
@@ -119,6 +115,6 @@ panic_in_lines plan journal turn kept within is =
     let allowed : nat_lt plan.options.turn_limit turn ≡ false = grind (arith, nat_tests) in
     let known : commands_in (take (turn - 1) (lines_of journal)) ≡ commands_taken before = ap (λ (lines : List TraceLine). commands_in lines) (take-map line_of (turn - 1) journal) ∙ lines_tell_commands before in
     ap (is_panic_at plan (lines_of journal) turn) (line_there journal turn is.entry is.is.from_one is.is.stands)
-    ∙ both (is_word (asked_of is.entry.asked) && not (nat_lt plan.options.turn_limit turn)) (is_panic (slice_get (words_of plan) (commands_in (take (turn - 1) (lines_of journal)))))
-    (both (is_word (asked_of is.entry.asked)) (not (nat_lt plan.options.turn_limit turn)) (ap (λ (asked : Asked). is_word (asked_of asked)) is.asked) (ap not allowed))
+    ∙ and_from (is_word (asked_of is.entry.asked) && not (nat_lt plan.options.turn_limit turn)) (is_panic (slice_get (words_of plan) (commands_in (take (turn - 1) (lines_of journal)))))
+    (and_from (is_word (asked_of is.entry.asked)) (not (nat_lt plan.options.turn_limit turn)) (ap (λ (asked : Asked). is_word (asked_of asked)) is.asked) (ap not allowed))
     (ap (λ (n : ℕ). is_panic (slice_get (words_of plan) n)) known ∙ ap is_panic word)

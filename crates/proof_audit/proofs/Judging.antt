@@ -4,6 +4,7 @@ use Rattle.std.proofs.Common.{◌≡◌, ℕ, ◌==◌, ◌&&◌, Bool, true, fa
 use Rattle.std.specs.Ordering.{is_eq}
 use Rattle.std.proofs.lemmas.Bool.Decides.{nat_tests}
 use Rattle.std.proofs.lemmas.Cmp.{tied_itself}
+use Rattle.std.proofs.lemmas.Bool.{and_parts}
 use Rattle.base_values.specs.declared.value.Value.{Value}
 use Rattle.base_values.proofs.Orders.{keys_total, tied_keys}
 use Rattle.table_store.specs.Databases.{Database}
@@ -63,22 +64,14 @@ AreTimed plan tables (Ended past turns ∷ items) =
     (length turns ≡ length past.replies) × (length past.replies ≡ length (alone tables past.txn.lines).replies) × AreTimed plan (alone tables past.txn.lines).tables items
 AreTimed plan tables (Altered turn ∷ items) = (after : Database) → altered_database plan tables ≡ Some after → AreTimed plan after items
 
-and_first : (b c : Bool) → (b && c) ≡ true → b ≡ true
-and_first true c is = refl
-and_first false c is = absurd cc
-
-and_second : (b c : Bool) → (b && c) ≡ true → c ≡ true
-and_second true c is = is
-and_second false c is = absurd cc
-
 same_rows_are : (rows others : List (List Value)) → same_rows rows others ≡ true → rows ≡ others
 unfolding same_rows
 same_rows_are [] [] same = refl
 same_rows_are [] (other ∷ others) same = absurd cc
 same_rows_are (row ∷ rows) [] same = absurd cc
 same_rows_are (row ∷ rows) (other ∷ others) same =
-    let one : row ≡ other = tied_keys row other (is_Equal _ (and_first (same_row row other) (same_rows rows others) same)) in
-    let rest : rows ≡ others = same_rows_are rows others (and_second (same_row row other) (same_rows rows others) same) in
+    let one : row ≡ other = tied_keys row other (is_Equal _ (and_parts (same_row row other) (same_rows rows others) same).0) in
+    let rest : rows ≡ others = same_rows_are rows others (and_parts (same_row row other) (same_rows rows others) same).1 in
     ap (λ (first : List Value). first ∷ rows) one ∙ ap (λ (all : List (List Value)). other ∷ all) rest
 
 same_numbers : (a b : ℕ) → (a == b) ≡ true → a ≡ b

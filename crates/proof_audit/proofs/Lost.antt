@@ -1,5 +1,6 @@
 -- A client that was lost has no session any more.
 use Rattle.std.proofs.Common.{◌≡◌, ◌≢◌, ℕ, ◌+◌, ◌==◌, ◌&&◌, Bool, true, false, List, [], ◌∷◌, ◌++◌, is_some, length, cond, Option, Some, None, refl, sym, ap, ◌∙◌, subst, ◌⊎◌, inl, inr}
+use Rattle.std.proofs.lemmas.Bool.{and_parts}
 use Rattle.base_script.specs.declared.actor.Actor.{Actor}
 use Rattle.base_script.specs.declared.actor.Actor.TheVariants.{Client}
 use Rattle.base_script.specs.declared.actor.Side.{Side}
@@ -21,8 +22,10 @@ use Rattle.plan_data.specs.PlanData.{PlanData}
 use Rattle.tool_program.specs.JournalWords.Clients.{Reached, after_turn, became_in, became_of, client_after, client_asks, client_at, is_loss, marked, with_draw}
 use Rattle.tool_program.specs.JournalWords.KeptPlans.{IsPlanned, IsStruck, cut_among, cut_by, cut_due, or_first, TakesNext}
 use Rattle.tool_program.specs.JournalWords.Sessions.{live_session, session_left}
-use Rattle.proof_audit.proofs.Clients.{at_more, same_client}
+use Rattle.proof_audit.proofs.Clients.{same_client}
 use Rattle.proof_audit.proofs.Sessions.{IsLostRightly, live_more}
+use Rattle.proof_journals.proofs.Actors.{lost_left}
+use Rattle.proof_journals.proofs.Linking.{client_more}
 
 -- ---- what loses a client
 
@@ -52,27 +55,17 @@ drawn_lost : (draw : Option ℕ) (client : Reached) → (with_draw draw client).
 drawn_lost None client = refl
 drawn_lost (Some number) client = refl
 
-lost_left : (asked : Asked) (session : ℕ) → session_left asked answers.Lost session ≡ None
-lost_left (Command word) session = refl
-lost_left (Call request) session = refl
-lost_left Poll session = refl
-lost_left Cut session = refl
-
 -- ---- a loss between calls takes a session that is there
 
 taken_live : (b : Bool) (actor other : Actor) → cond b (Some actor) None ≡ Some other → (b ≡ true) × (actor ≡ other)
 taken_live true actor other is = (refl, cc)
 taken_live false actor other is = absurd cc
 
-and_last : (b c : Bool) → (b && c) ≡ true → c ≡ true
-and_last true c is = is
-and_last false c is = absurd cc
-
 one_live : (before : List Entry) (turn : ℕ) (loss : Loss) (actor : Actor) → cut_by before turn loss ≡ Some actor → is_some (live_session before actor) ≡ true
 one_live before turn (Nth other n side) actor is = absurd cc
 one_live before turn (Turn number other) actor is =
     let taken = taken_live ((number == turn) && is_some (live_session before other)) other actor is in
-    subst (λ (a : Actor). is_some (live_session before a) ≡ true) taken.1 (and_last (number == turn) (is_some (live_session before other)) taken.0)
+    subst (λ (a : Actor). is_some (live_session before a) ≡ true) taken.1 (and_parts (number == turn) (is_some (live_session before other)) taken.0).1
 
 among_here : (before : List Entry) (loss : Loss) (losses : List Loss) (actor : Actor) (found : Option Actor) → cut_by before (length before + 1) loss ≡ found → or_first found (cut_among before losses) ≡ Some actor
     → (cut_among before losses ≡ Some actor → is_some (live_session before actor) ≡ true) → is_some (live_session before actor) ≡ true
@@ -157,13 +150,13 @@ lost_step plan before entry turn none c lost = by (same_actor entry.actor (Clien
   by true same =
       live_more before entry (Client c)
       ∙ ap (λ (b : Bool). cond b (session_left entry.asked entry.answer entry.session) (live_session before (Client c))) same
-      ∙ own (same_client entry.actor c same) (client_at plan before c).is_lost refl (ap (λ (client : Reached). client.is_lost) (sym (at_more plan before entry c)) ∙ lost) same
+      ∙ own (same_client entry.actor c same) (client_at plan before c).is_lost refl (ap (λ (client : Reached). client.is_lost) (sym (client_more plan before entry c)) ∙ lost) same
   by false other =
       live_more before entry (Client c)
       ∙ ap (λ (b : Bool). cond b (session_left entry.asked entry.answer entry.session) (live_session before (Client c))) other
       ∙ none c
       (sym (ap (λ (b : Bool). (cond b after_own (client_at plan before c)).is_lost) other)
-      ∙ ap (λ (client : Reached). client.is_lost) (sym (at_more plan before entry c)) ∙ lost)
+      ∙ ap (λ (client : Reached). client.is_lost) (sym (client_more plan before entry c)) ∙ lost)
 
 -- *Lost clients have no session*
 pub lost_have_none : (plan : PlanData) (journal : List Entry) → Along (IsLosing plan) [] journal → LostHaveNone plan journal

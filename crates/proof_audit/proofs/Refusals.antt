@@ -17,7 +17,6 @@ use Rattle.server_model.specs.declared.answer.Answer.{Answer}
 use Rattle.server_model.specs.declared.answer.Answer.TheVariants as answers
 use Rattle.server_model.specs.declared.entry.Asked.{Asked}
 use Rattle.server_model.specs.declared.entry.Asked.TheVariants.{Call, Poll, Command, Cut}
-use Rattle.server_model.specs.declared.entry.Entry.{Entry}
 use Rattle.server_model.specs.declared.need.Need.{Need}
 use Rattle.server_model.specs.declared.work.StatementResult.{StatementResult}
 use Rattle.server_model.specs.declared.work.Work.{Work}
@@ -26,10 +25,11 @@ use Rattle.server_model.specs.Effects.{Effect, all_exist, begins, effect_unless,
 use Rattle.server_model.specs.Operations.{Operation, after_events, events_of, operation_result, result_in}
 use Rattle.server_model.specs.StatementResults.{TableResult, result_or_refusal, tells, updated, updates}
 use Rattle.server_model.specs.PlainServer.{called_unless, calls, does, done, did, given_at, leaves, loses, polled_of, polled_over, polled_unless, polls, serves, without_waiting}
-use Rattle.server_model.specs.States.{State, connected, is_in_transaction, session_of, waiting_of, writes_of}
+use Rattle.server_model.specs.States.{State, is_in_transaction, session_of, waiting_of, writes_of}
 use Rattle.server_model.specs.declared.session.Waiting.{Waiting}
-use Rattle.tool_program.specs.JournalWords.Journals.{after_entry, inner_answer, missed, opening, opens, opens_if, state_at, state_after}
+use Rattle.tool_program.specs.JournalWords.Journals.{inner_answer, missed, opening, opens, state_at}
 use Rattle.proof_journals.proofs.Machine.Journals.{IsRun}
+use Rattle.proof_journals.proofs.Journals.{opened_tables, state_more}
 use Rattle.proof_audit.specs.Laws.{RefusalsKeep}
 use Rattle.proof_audit.proofs.Rules.{run_next}
 
@@ -153,18 +153,6 @@ served_keeps state number (Command word) idle is = absurd is
 served_keeps state number Cut idle is = absurd is
 
 -- ---- a turn
-
-opened_tables : (nothing tool : Bool) (number : ℕ) (state : State) → (opens_if nothing tool number state).tables ≡ state.tables
-unfolding opens_if
-opened_tables nothing tool number state = by (nothing || _) where
-  by : (b : Bool) → (cond b state (connected number tool state)).tables ≡ state.tables
-  by true = refl
-  by false = refl
-
-state_more : (state : State) (before : List Entry) (entry : Entry) → state_after state (before ++ entry ∷ []) ≡ after_entry (state_after state before) entry
-unfolding state_after
-state_more state [] entry = refl
-state_more state (first ∷ before) entry = state_more (after_entry state first) before entry
 
 lost_tables : (number : ℕ) (state : State) → (loses number state).tables ≡ state.tables
 unfolding loses

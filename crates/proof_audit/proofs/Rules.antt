@@ -2,6 +2,7 @@
 use Rattle.std.proofs.Common.{◌≡◌, ◌≢◌, ℕ, ◌<◌, ◌&&◌, ◌||◌, nat_lt, Bool, true, false, not, cond, List, [], ◌∷◌, ◌++◌, length, Option, Some, None, refl, sym, ap, ◌∙◌, subst, arith}
 use Rattle.std.proofs.lemmas.Bool.Decides.{nat_tests}
 use Rattle.std.proofs.lemmas.Option.{slice_get_within}
+use Rattle.std.proofs.lemmas.Bool.{and_from}
 use Rattle.base_script.specs.declared.actor.Actor.{Actor}
 use Rattle.base_script.specs.declared.actor.Actor.TheVariants.{Op, Insp, Copy, Apply, Lock, Ren, Client}
 use Rattle.base_script.specs.declared.script.ScriptLine.{ScriptLine}
@@ -30,7 +31,7 @@ use Rattle.run_audit.specs.Lines.{asked_of, line_of, lines_of}
 use Rattle.run_audit.specs.Rules.{asks_next, client_reached, commands_in, is_astray, keeps_commands, keeps_losses, keeps_script, was_lost}
 use Rattle.proof_audit.proofs.Lost.{IsLosing, lost_have_none}
 use Rattle.proof_audit.proofs.Sessions.{lines_tell_commands}
-use Rattle.proof_audit.proofs.Struck.{both, losses_are_kept}
+use Rattle.proof_audit.proofs.Struck.{losses_are_kept}
 use Rattle.proof_audit.specs.Laws.{LinesKeepRules}
 use Rattle.proof_audit.proofs.Kept.{client_lives, kept_lost, kept_runs, lost_rightly, tell_clients}
 
@@ -179,4 +180,4 @@ keep_rules plan before entry later fit kept = record { script = script; losses =
   script = script_here plan before (asked_of entry.asked) entry.actor client
 
   losses : keeps_losses plan (lines_of before) (line_of entry) ≡ true
-  losses = both _ _ (losses_are_kept plan before entry (kept_lost plan before front) planned.struck) (commands_here plan before entry.asked entry.actor (lines_tell_commands before) planned.next)
+  losses = and_from _ _ (losses_are_kept plan before entry (kept_lost plan before front) planned.struck) (commands_here plan before entry.asked entry.actor (lines_tell_commands before) planned.next)

@@ -1,9 +1,8 @@
 -- The lines of a journal that keeps its plan keep losses and commands.
-use Rattle.std.proofs.Common.{◌≡◌, ◌≢◌, ℕ, ◌+◌, ◌==◌, ◌&&◌, Bool, true, false, not, List, [], ◌∷◌, length, is_some, cond, Option, Some, None, refl, ap, ◌∙◌, arith}
+use Rattle.std.proofs.Common.{◌≡◌, ◌≢◌, ℕ, ◌+◌, ◌==◌, ◌&&◌, Bool, true, false, not, List, [], ◌∷◌, length, is_some, cond, Option, Some, None, refl, ap, ◌∙◌}
 use Rattle.std.proofs.lemmas.List.{length-map}
-use Rattle.std.proofs.lemmas.Bool.Decides.{nat_tests}
+use Rattle.std.proofs.lemmas.Bool.{and_from}
 use Rattle.base_script.specs.declared.actor.Actor.{Actor}
-use Rattle.base_script.specs.declared.actor.Actor.TheVariants.{Op, Insp, Copy, Apply, Lock, Ren, Client}
 use Rattle.base_script.specs.declared.actor.Side.{Side}
 use Rattle.base_script.specs.declared.actor.Side.TheVariants.{Before, After}
 use Rattle.base_script.specs.declared.loss.Loss.{Loss}
@@ -20,6 +19,7 @@ use Rattle.tool_program.specs.JournalWords.Sessions.{live_session}
 use Rattle.run_audit.specs.Lines.{asked_of, line_of, lines_of}
 use Rattle.run_audit.specs.Rules.{due_cut, due_cut_among, has_session, is_cut, is_struck, next_turn, same_side, turns_in}
 use Rattle.proof_audit.proofs.Sessions.{IsLostRightly, lines_tell_sessions, lines_tell_turns}
+use Rattle.proof_journals.proofs.Actors.{same_actor_itself}
 
 turn_alike : (before : List Entry) → next_turn (lines_of before) ≡ length before + 1
 turn_alike before = ap (λ (n : ℕ). n + 1) (length-map before line_of)
@@ -42,15 +42,6 @@ same_side_itself None = refl
 same_side_itself (Some Before) = refl
 same_side_itself (Some After) = refl
 
-actor_itself : (actor : Actor) → same_actor actor actor ≡ true
-actor_itself Op = refl
-actor_itself Insp = refl
-actor_itself Copy = refl
-actor_itself Apply = refl
-actor_itself Lock = refl
-actor_itself Ren = refl
-actor_itself (Client number) = let same : (number == number) ≡ true = grind (arith, nat_tests) in same
-
 pub not_cut : (asked : Asked) → asked ≢ Cut → is_cut (asked_of asked) ≡ false
 not_cut (Call (requests.Rename pairs)) other = refl
 not_cut (Call request) other = refl
@@ -58,15 +49,12 @@ not_cut Poll other = refl
 not_cut (Command word) other = refl
 not_cut Cut other = absurd (other refl)
 
-pub both : (b c : Bool) → b ≡ true → c ≡ true → (b && c) ≡ true
-both b c is too = rw (is, too) refl
-
 -- a turn is struck exactly so, by its line
 struck_alike : (plan : PlanData) (before : List Entry) (entry : Entry) (due : Option Actor) → IsStruck plan before entry due → is_struck due (side_due plan before entry.actor) (line_of entry) ≡ true
 struck_alike plan before entry (Some actor) struck =
-    both (same_actor entry.actor actor) (is_cut (asked_of entry.asked)) (ap (λ (a : Actor). same_actor a actor) struck.0 ∙ actor_itself actor) (ap (λ (asked : Asked). is_cut (asked_of asked)) struck.1)
+    and_from (same_actor entry.actor actor) (is_cut (asked_of entry.asked)) (ap (λ (a : Actor). same_actor a actor) struck.0 ∙ same_actor_itself actor) (ap (λ (asked : Asked). is_cut (asked_of asked)) struck.1)
 struck_alike plan before entry None struck =
-    both (not (is_cut (asked_of entry.asked))) (same_side entry.side (side_due plan before entry.actor)) (ap not (not_cut entry.asked struck.0))
+    and_from (not (is_cut (asked_of entry.asked))) (same_side entry.side (side_due plan before entry.actor)) (ap not (not_cut entry.asked struck.0))
     (ap (λ (side : Option Side). same_side side (side_due plan before entry.actor)) struck.1 ∙ same_side_itself (side_due plan before entry.actor))
 
 -- *Losses are kept*: by a turn that the plan allows, after turns in which sessions are lost rightly

@@ -2,6 +2,7 @@
 use Rattle.std.proofs.Common.{◌≡◌, ℕ, ◌-◌, ◌<◌, ◌==◌, ◌&&◌, ◌||◌, Bool, true, false, take, List, [], ◌∷◌, Option, Some, None, refl, sym, ap, ◌∙◌, ◌⊎◌, inl, inr, arith}
 use Rattle.std.specs.List.{AllByRecursion, list_all, slice_get}
 use Rattle.std.proofs.lemmas.Bool.Decides.{nat_tests}
+use Rattle.std.proofs.lemmas.Bool.{and_from}
 use Rattle.base_values.specs.declared.value.Value.{Value}
 use Rattle.base_values.proofs.SchemaRules.Lists.{All-list_all, slice_get-map-some}
 use Rattle.base_script.specs.declared.actor.Actor.{Actor}
@@ -50,15 +51,12 @@ mover plan earlier before Lock key row is = absurd cc
 mover plan earlier before Ren key row is = absurd cc
 mover plan earlier before (Client number) key row is = absurd cc
 
-both : (b c : Bool) → b ≡ true → c ≡ true → (b && c) ≡ true
-both b c is too = rw (is, too) refl
-
 -- *An unfit row* is in its line
 pub unfit_in_line : (plan : PlanData) (journal : List Entry) (turn : ℕ) (key : List Value) (column : List ℕ) (number : ℕ) → ((entry : Entry) → slice_get journal (turn - 1) ≡ Some entry → IsLostRightly entry)
     → IsUnfit plan journal turn key column number → is_unfit_at number (line_at (lines_of journal) turn) ≡ true
 unfit_in_line plan journal turn key column number rightly is =
     ap (is_unfit_at number) (line_there journal turn is.entry is.is.from_one is.is.stands)
-    ∙ both (is_mover is.entry.actor) (is_refusal number (line_of is.entry).answer) (mover plan (take (turn - 1) journal) is.before is.entry.actor key is.row is.concerned) (refused_in_line (is_client is.entry.actor) is.entry number (Some is.place) (rightly is.entry is.is.stands) is.refused)
+    ∙ and_from (is_mover is.entry.actor) (is_refusal number (line_of is.entry).answer) (mover plan (take (turn - 1) journal) is.before is.entry.actor key is.row is.concerned) (refused_in_line (is_client is.entry.actor) is.entry number (Some is.place) (rightly is.entry is.is.stands) is.refused)
 
 -- ---- tries that failed
 

@@ -1,6 +1,6 @@
 -- A plan that is read has few rows, waits for short and takes few turns.
 use Rattle.std.proofs.Common.{◌≡◌, ◌≤◌, ℕ, suc, ◌+◌, Bool, true, false, cond, ◌||◌, List, [], ◌∷◌, ◌++◌, length, Option, Some, None, Ok, refl, sym, ap, ◌∙◌, subst, arith}
-use Rattle.std.specs.Prelude.{ℤ, pos, negsuc, int_lt, is_some, nat_lt}
+use Rattle.std.specs.Prelude.{is_some, nat_lt}
 use Rattle.std.specs.declared.cmp.Ordering.{Ordering}
 use Rattle.std.specs.declared.cmp.Ordering.TheVariants.{Less, Equal, Greater}
 use Rattle.std.specs.List.{AllByRecursion}
@@ -17,17 +17,12 @@ use Rattle.base_values.specs.SchemaRules.Results.{◌>>=◌}
 use Rattle.base_values.proofs.SchemaRules.Lists.{All-append}
 use Rattle.base_values.proofs.SchemaRules.Steps.{bind_ok, ok_is, kept_out}
 use Rattle.table_store.specs.Databases.{TableRows, Database, clashing, has_table}
-use Rattle.plan_data.specs.declared.options.Options.{Options}
 use Rattle.plan_data.specs.declared.plan.TheConstants.{CLIENT_LIMIT}
 use Rattle.plan_data.specs.PlanData.{PlanData}
-use Rattle.plan_keys.specs.declared.fault.KeyRefusal.{KeyRefusal}
-use Rattle.plan_keys.specs.declared.fault.KeyRefusal.TheVariants.{UnknownKey, MissingKey, OutOfRange, TooMany}
+use Rattle.plan_keys.specs.declared.fault.KeyRefusal.TheVariants.{UnknownKey, MissingKey, TooMany}
 use Rattle.plan_keys.specs.declared.limits.TheConstants.{TABLE_LIMIT, ROW_LIMIT, FAULT_LIMIT}
-use Rattle.plan_keys.specs.declared.options.NumberKeys.{NumberKeys}
-use Rattle.plan_keys.specs.declared.options.TruthKeys.{TruthKeys}
 use Rattle.plan_keys.specs.Limits.{TableData, TextData, has_too_many, row_count}
-use Rattle.plan_keys.specs.Options.{within, version_two_within, options_within}
-use Rattle.plan_keys.specs.PlanKeys.{KeyData, TypedData, typed_of, in_range, few, keys_of}
+use Rattle.plan_keys.specs.PlanKeys.{KeyData, typed_of, in_range, few, keys_of}
 use Rattle.plan_reader.specs.declared.plan_tables.fault.TableRefusal.{TableRefusal}
 use Rattle.plan_reader.specs.Plans.{read}
 use Rattle.plan_reader.specs.PlanTables.Rows.{next_number, or_bad, put_text, put_texts, with_put}
@@ -38,48 +33,9 @@ use Rattle.plan_reader.proofs.PlanTables.Sound.{rows_were}
 use Rattle.sql_create.specs.CreateText.{schema_at}
 use Rattle.proof_plans.proofs.ReadPlans.Parts.{parts_of}
 use Rattle.proof_plans.proofs.ReadPlans.Schemas.Accepted.{past}
+use Rattle.proof_plans.proofs.ReadPlans.Numbers.{AreRanged, options_ranged}
 
--- ---- options
-
-within_most : (low high n : ℕ) (number : ℤ) → within low high number ≡ Ok n → n ≤ high
-unfolding within
-within_most low high n (pos m) is =
-    let parts = kept_out (int_lt (pos m) (pos low) || int_lt (pos high) (pos m)) m n OutOfRange is in
-    let both = or_parts (int_lt (pos m) (pos low)) (int_lt (pos high) (pos m)) parts.0 in
-    subst (λ (k : ℕ). k ≤ high) parts.1 (grind (arith, nat_tests, both))
-within_most low high n (negsuc m) is = absurd cc
-
-pub record AreSmall (options : Options) : Type 0 where
-  pub client : options.client_wait ≤ 100000
-  pub tool : options.tool_wait ≤ 100000
-  pub turns : options.turn_limit ≤ 1000000
-
-small : (numbers : NumberKeys) (truths : TruthKeys) (options : Options) → options_within numbers truths ≡ Ok options → AreSmall options
-unfolding options_within
-small numbers truths options is =
-    let size = bind_ok (within 1 100000 numbers.chunk_size) _ options is in
-    let batch = bind_ok (within 1 1000 numbers.dml_batch_size) _ options size.2 in
-    let tries = bind_ok (within 1 1000 numbers.default_retries) _ options batch.2 in
-    let backlog = bind_ok (within 0 100000 numbers.max_backlog) _ options tries.2 in
-    let drain = bind_ok (within 1 100000 numbers.drain_limit) _ options backlog.2 in
-    let client = bind_ok (within 1 100000 numbers.client_wait) _ options drain.2 in
-    let tool = bind_ok (within 1 100000 numbers.tool_wait) _ options client.2 in
-    let load = bind_ok (within 0 64 numbers.max_load) _ options tool.2 in
-    let turns = bind_ok (within 1 1000000 numbers.turn_limit) _ options load.2 in
-    let second = bind_ok (version_two_within numbers.version_two) _ options turns.2 in
-    subst AreSmall (ok_is {C = KeyRefusal} _ options second.2) (record {
-      client = within_most 1 100000 client.0 numbers.client_wait client.1;
-      tool = within_most 1 100000 tool.0 numbers.tool_wait tool.1;
-      turns = within_most 1 1000000 turns.0 numbers.turn_limit turns.1;
-    })
-
-typed_small : (typed : TypedData) (keys : KeyData) → in_range typed ≡ Ok keys → AreSmall keys.options
-unfolding in_range
-typed_small typed keys is =
-    let version = bind_ok (within 1 2 typed.version) _ keys is in
-    let options = bind_ok (options_within typed.numbers typed.truths) (λ options. Ok (record { version = version.0; texts = typed.texts; options = options; later = typed.later })) keys version.2 in
-    let same = ok_is {C = KeyRefusal} (record { version = version.0; texts = typed.texts; options = options.0; later = typed.later }) keys options.2 in
-    subst (λ (k : KeyData). AreSmall k.options) same (small typed.numbers typed.truths options.0 options.1)
+-- ---- texts
 
 abbrev AreFewTexts : List TableData → Type 0
 AreFewTexts texts = AllByRecursion (λ one. length one.rows ≤ ROW_LIMIT) texts
@@ -96,19 +52,14 @@ few_rows texts off =
     let third = or_parts (nat_lt TABLE_LIMIT (length texts.tables)) (nat_lt ROW_LIMIT (row_count texts.tables)) second.0 in
     each_few ROW_LIMIT texts.tables (grind (arith, nat_tests, third))
 
-record AreLimited (keys : KeyData) : Type 0 where
-  options : AreSmall keys.options
-  rows : AreFewTexts keys.texts.tables
-
-limited : (members : Members) (keys : KeyData) → keys_of members ≡ Ok keys → AreLimited keys
+limited : (members : Members) (keys : KeyData) → keys_of members ≡ Ok keys → AreFewTexts keys.texts.tables
 unfolding keys_of
 limited members keys is =
     let known = past _ UnknownKey _ keys is in
     let there = past _ MissingKey _ keys known in
     let kept = bind_ok (typed_of members >>= in_range) few keys there in
-    let typed = bind_ok (typed_of members) in_range kept.0 kept.1 in
     let same = kept_out (has_too_many kept.0.texts) kept.0 keys TooMany kept.2 in
-    subst AreLimited same.1 (record { options = typed_small typed.0 kept.0 typed.2; rows = few_rows kept.0.texts same.0 })
+    subst (λ (k : KeyData). AreFewTexts k.texts.tables) same.1 (few_rows kept.0.texts same.0)
 
 -- ---- rows
 
@@ -173,15 +124,14 @@ tables_few n version migrated number tables (first ∷ texts) made all few is =
 
 -- *Read plans are small*
 pub record IsSmallPlan (plan : PlanData) : Type 0 where
-  pub options : AreSmall plan.options
+  pub options : AreRanged plan.options
   pub rows : AllByRecursion (λ table. length table.rows ≤ ROW_LIMIT) plan.tables
 
 pub small_plan : (bytes : List ℕ) (plan : PlanData) → read bytes ≡ Ok plan → IsSmallPlan plan
 small_plan bytes plan is =
     let parts = parts_of bytes plan is in
     let opened = opening_is parts.keys parts.opening parts.opened in
-    let limits = limited parts.members parts.keys parts.said in
     subst IsSmallPlan parts.same (record {
-      options = limits.options;
-      rows = tables_few ROW_LIMIT parts.keys.version parts.keys.texts.table 1 [] parts.keys.texts.tables parts.opening.tables limits.rows tt opened.tables;
+      options = options_ranged parts.members parts.keys parts.said;
+      rows = tables_few ROW_LIMIT parts.keys.version parts.keys.texts.table 1 [] parts.keys.texts.tables parts.opening.tables (limited parts.members parts.keys parts.said) tt opened.tables;
     })

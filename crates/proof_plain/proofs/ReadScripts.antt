@@ -17,7 +17,6 @@ use Rattle.plan_reader.specs.declared.fault.PlanRefusal.TheVariants.{Keys}
 use Rattle.plan_reader.specs.Clients.{client_script, clients_of, few_statements, has_many_statements, scripts_of, tool_names}
 use Rattle.plan_reader.specs.Plans.{read}
 use Rattle.plan_reader.specs.PlanTables.Rows.{next_number}
-use Rattle.plan_reader.specs.Refusals.{of_script}
 use Rattle.plan_reader.specs.Walks.{each_from}
 use Rattle.sql_grammar.specs.declared.code.SchemaCode.{SchemaCode}
 use Rattle.sql_grammar.specs.declared.code.SchemaCode.TheVariants as schemas
@@ -34,13 +33,15 @@ use Rattle.sql_statement.specs.declared.code.StatementCode.{StatementCode}
 use Rattle.sql_statement.specs.declared.code.StatementCode.TheVariants.{Syntax, Scope}
 use Rattle.sql_statement.specs.Conditions.{condition_at}
 use Rattle.sql_statement.specs.Lines.{asked_of, line_of, of_statement}
-use Rattle.sql_statement.specs.Pieces.{Read, fits, keyword_at, name_at, names_at, sign_at}
+use Rattle.sql_statement.specs.Pieces.{fits, keyword_at, name_at, names_at, sign_at}
 use Rattle.sql_statement.specs.Rows.{row_at, sets_at}
 use Rattle.sql_statement.specs.Scope.{is_out_of_scope}
 use Rattle.sql_statement.specs.Scripts.{at_line, fitting, fitting_line, lines_from, next_line, numbered, script_of}
 use Rattle.sql_statement.specs.Statements.{after_count, all_or, asked_at, count_at, count_or_columns, delete_at, ended, insert_at, listed_columns_at, replace_at, select_at, shown_at, start_at, statement_of, update_at}
 use Rattle.proof_plain.specs.Plain.{ShowsSome}
 use Rattle.proof_plans.proofs.ReadPlans.Parts.{parts_of}
+use Rattle.proof_plans.proofs.ReadPlans.Scripts.{was_read}
+use Rattle.proof_plans.proofs.ReadPlans.Plans.{script_was}
 
 -- what a word shows, where it is a SELECT
 abbrev pub ShowsWord : ScriptWord → Type 0
@@ -192,10 +193,6 @@ numbered_shown : (number : ℕ) (asked : Option ScriptWord) → ShowsLine asked 
 numbered_shown number None shows = tt
 numbered_shown number (Some word) shows = (shows, tt)
 
-was_read : {A : Type 0} (number : ℕ) (read : Result A ScriptCode) (x : A) → at_line number read ≡ Ok x → read ≡ Ok x
-was_read number (Ok y) x is = cc
-was_read number (Err code) x is = absurd cc
-
 lines_shown : (tools : List (List ℕ)) (is_open : Bool) (number : ℕ) (texts : List (List ℕ)) (script : List ScriptLine) → lines_from tools is_open number texts ≡ Ok script → ShowsAll script
 unfolding lines_from fitting_line
 lines_shown tools is_open number [] script is = subst ShowsAll (ok_is {C = ScriptRefusal} [] script is) tt
@@ -209,10 +206,6 @@ lines_shown tools is_open number (text ∷ texts) script is =
     let shows : ShowsLine line.0.0 = subst ShowsLine (ap (λ (l : Option ScriptWord × Bool). l.0) both) (line_shown (text_words text) asked.0 asked.1) in
     subst ShowsAll (ok_is {C = ScriptRefusal} (numbered number line.0.0 ++ others.0) script others.2)
     (All-append (λ (l : ScriptLine). ShowsWord l.word) (numbered number line.0.0) others.0 (numbered_shown number line.0.0 shows) (lines_shown tools line.0.1 (next_line number) texts others.0 others.1))
-
-script_was : (client : ℕ) (read : Result (List ScriptLine) ScriptRefusal) (script : List ScriptLine) → of_script client read ≡ Ok script → read ≡ Ok script
-script_was client (Ok x) script is = cc
-script_was client (Err refusal) script is = absurd cc
 
 each_shown : (tools : List (List ℕ)) (number : ℕ) (texts : List (List ℕ)) (clients : List (List ScriptLine)) → each_from (client_script tools) number texts ≡ Ok clients → AllByRecursion ShowsAll clients
 unfolding each_from

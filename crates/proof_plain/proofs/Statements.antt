@@ -1,10 +1,9 @@
 -- What a statement, or the copy of a row, says of plain tables is plain, and so is what it writes.
-use Rattle.std.proofs.Common.{◌≡◌, ℕ, zero, suc, ◌+◌, ◌^◌, ◌<◌, ◌≤◌, ◌==◌, Bool, true, false, cond, if◌then◌else◌, List, [], ◌∷◌, map, length, filter, Option, Some, None, Result, Ok, Err, refl, sym, ap, subst, arith}
+use Rattle.std.proofs.Common.{◌≡◌, ℕ, zero, suc, ◌+◌, ◌^◌, ◌<◌, ◌≤◌, ◌==◌, Bool, true, false, cond, if◌then◌else◌, List, [], ◌∷◌, map, length, Option, Some, None, Result, Ok, Err, refl, sym, ap, subst, arith}
 use Rattle.std.specs.Prelude.{pos, unwrap_or, position, find}
 use Rattle.std.specs.List.{AllByRecursion, flat_map, list_any, slice_get}
 use Rattle.std.specs.Option.{option_map, option_to_list}
 use Rattle.std.proofs.lemmas.List.{length-map, length-append}
-use Rattle.std.proofs.lemmas.List.Sums.{length-filter, count_by-le-length}
 use Rattle.base_values.specs.declared.event.Change.{Change}
 use Rattle.base_values.specs.declared.event.Change.TheVariants as changes
 use Rattle.base_values.specs.declared.event.RowEvent.{RowEvent}
@@ -55,6 +54,7 @@ use Rattle.server_model.specs.LockedRows.Coverage.{IsWellFormedTable}
 use Rattle.server_model.specs.LockedRows.Databases.{IsWellFormedDatabase, WhereFound}
 use Rattle.proof_plain.specs.Plain.{BytesMap, BytesOrigin, BytesStatement, FewRows, HasBytes, HasFewRows, IfThere, IsDone, IsPlain, IsWrite, NoRows, PlainAnswer, PlainChange, PlainColumns, PlainDatabase, PlainEvents, PlainRow, PlainRows, PlainTable, ShownRow, ShowsSome}
 use Rattle.proof_plain.proofs.Values.{rows_bytes, stored_plain}
+use Rattle.proof_bounds.proofs.Volumes.LineEvents.{filter_short}
 
 abbrev Row : Type 0
 Row = List Value
@@ -138,7 +138,7 @@ equal_fine schema names values =
     then_fine (λ (places : List ℕ). Unit {0}) (λ (reach : Reach). Unit {0}) (places_named schema names) _ (some_places schema names)
     (λ places _. then_fine (λ (key : ℕ). Unit {0}) (λ (reach : Reach). Unit {0}) (keyed (if are_distinct places then position (has_columns places) schema.uniques else None) (λ place. Ok place)) _
     (keyed_fine (λ (key : ℕ). Unit {0}) (if are_distinct places then position (has_columns places) schema.uniques else None) (λ place. Ok place) (λ place. tt {0}))
-    (λ key _. then_fine (λ (vs : List Value). Unit {0}) (λ (reach : Reach). Unit {0}) (wanted_each schema places values) _ (each_fine schema places values) (λ sought _. tt {0})))
+    (λ key _. then_fine (λ (vs : List Value). Unit {0}) (λ (reach : Reach). Unit {0}) (wanted_each schema places values) _ (each_fine schema places values) (λ wanted _. tt {0})))
 
 range_fine : (schema : Schema) (comparisons : List Comparison) → Fine (λ (reach : Reach). Unit {0}) (reach_range schema comparisons)
 unfolding reach_range
@@ -148,7 +148,7 @@ range_fine schema comparisons =
     then_fine (λ (places : List ℕ). Unit {0}) (λ (reach : Reach). Unit {0}) (places_named schema names) _ (some_places schema names)
     (λ places _. then_fine (λ (key : ℕ). Unit {0}) (λ (reach : Reach). Unit {0}) (keyed (if is_only (key_places schema) places then clustered_place schema else None) (λ place. Ok place)) _
     (keyed_fine (λ (key : ℕ). Unit {0}) (if is_only (key_places schema) places then clustered_place schema else None) (λ place. Ok place) (λ place. tt {0}))
-    (λ key _. then_fine (λ (vs : List Value). Unit {0}) (λ (reach : Reach). Unit {0}) (wanted_each schema places values) _ (each_fine schema places values) (λ sought _. tt {0})))
+    (λ key _. then_fine (λ (vs : List Value). Unit {0}) (λ (reach : Reach). Unit {0}) (wanted_each schema places values) _ (each_fine schema places values) (λ wanted _. tt {0})))
 
 reach_fine : (schema : Schema) (condition : Condition) → Fine (λ (reach : Reach). Unit {0}) (reach_of schema condition)
 unfolding reach_of
@@ -364,9 +364,6 @@ done_plain answer is = absurd is
 
 only_plain : (answer : Answer) → PlainAnswer answer → PlainResult (only answer)
 only_plain answer plain = record { answer = plain; changes = tt }
-
-filter_short : (p : Row → Bool) (rows : List Row) → length (filter p rows) ≤ length rows
-filter_short p rows = let a = length-filter p rows in let b = count_by-le-length p rows in omega (arith, a, b)
 
 one_plain : (row : Row) (refusal : Answer) (b : Bool) → PlainAnswer refusal → PlainRow row → PlainResult (cond b (only refusal) (record { answer = answers.Ok 1; changes = changes.Write row ∷ [] }))
 one_plain row refusal true small plain = record { answer = small; changes = tt }

@@ -6,12 +6,11 @@ use Rattle.std.specs.List.{AllByRecursion, flat_map, list_all, onto_first, slice
 use Rattle.std.specs.Str.{IsUtf8, is_utf8}
 use Rattle.std.proofs.lemmas.Bool.{and_parts, not-true}
 use Rattle.std.proofs.lemmas.Bool.Decides.{nat_tests}
-use Rattle.std.proofs.lemmas.Fmt.{digits_decimal}
 use Rattle.std.proofs.lemmas.List.{take_at, drop_at}
 use Rattle.std.proofs.lemmas.List.Elements.{All-from_recursion}
 use Rattle.std.proofs.lemmas.List.Splits.{slice_split_at, slice_split_none}
 use Rattle.std.proofs.lemmas.Str.{IsCharBoundary-after_ascii, IsCharBoundary-before_ascii, IsUtf8-drop, IsUtf8-take, is_utf8-from_IsUtf8}
-use Rattle.law_texts.proofs.Numerals.{numerals}
+use Rattle.law_texts.proofs.Numerals.{are_digits}
 
 -- no byte of the text is this one
 abbrev pub Avoids : ℕ → List ℕ → Type 0
@@ -38,9 +37,6 @@ avoids-digits mark [] low are = tt
 avoids-digits mark (digit ∷ digits) low are =
     let parts = and_parts (is_ascii_digit digit) (list_all is_ascii_digit digits) are in
     (no_digit mark digit low parts.0, avoids-digits mark digits low parts.1)
-
-pub are_digits : (n : ℕ) → n < 2 ^ 64 → list_all is_ascii_digit (decimal n) ≡ true
-are_digits n wide = digits_decimal numerals n wide
 
 pub avoids-decimal : (mark n : ℕ) → mark < 48 → n < 2 ^ 64 → Avoids mark (decimal n)
 avoids-decimal mark n low wide = avoids-digits mark (decimal n) low (are_digits n wide)

@@ -8,7 +8,7 @@ use Rattle.std.specs.Str.Parse.{digits_value}
 use Rattle.std.proofs.lemmas.Bool.{and_from, and_parts}
 use Rattle.std.proofs.lemmas.Bool.Decides.{nat_tests}
 use Rattle.std.proofs.lemmas.Fmt.{decimal_digit, decimal_nonempty, digits_value-decimal, first_decimal}
-use Rattle.law_texts.proofs.Numerals.{numerals}
+use Rattle.law_texts.proofs.Numerals.{numerals, are_digits}
 use Rattle.base_script.specs.declared.actor.Actor.{Actor}
 use Rattle.base_script.specs.declared.actor.Actor.TheVariants as actors
 use Rattle.base_script.specs.declared.actor.Side.{Side}
@@ -29,7 +29,7 @@ use Rattle.top_trace_reader.specs.Turns.{answer_in, asked_in, drawn_answer, fits
 use Rattle.law_texts.specs.TurnOrders.{IsOf}
 use Rattle.law_texts.specs.PrintedTraces.{CanDraw, CanHaveSide, CanPrintAnswer, CanPrintTurn}
 use Rattle.law_texts.proofs.TurnOrders.Words.{actor_read, among}
-use Rattle.law_texts.proofs.PrintedTraces.Lines.{Avoids, are_digits, avoids-append, avoids-decimal, avoids-known, parts, parts-alone, parts-first}
+use Rattle.law_texts.proofs.PrintedTraces.Lines.{Avoids, avoids-append, avoids-decimal, avoids-known, parts, parts-alone, parts-first}
 
 -- ---- numbers
 

@@ -36,7 +36,7 @@ use Rattle.top_trace_reader.specs.Turns.{turn_in}
 use Rattle.top_trace_reader.specs.Verdicts.{cause_in, ended_in, error_in, loose_verdict, panic_in, spent_in, unfit_in, verdict_in, verdict_printed_so}
 use Rattle.top_trace_reader.proofs.Endings.{two_taken}
 use Rattle.law_texts.specs.PrintedTraces.{CanPrintCause, CanPrintRow, CanPrintTask, CanPrintVerdict}
-use Rattle.law_texts.proofs.Workloads.Lexed.{short, text_word}
+use Rattle.law_texts.proofs.Workloads.Lexed.{short, text_word, last_number}
 use Rattle.law_texts.proofs.Workloads.Literals.{number_literal, text_literal}
 use Rattle.law_texts.proofs.PrintedTraces.Lines.{Avoids, avoids-append, avoids-decimal, avoids-known, parts, parts-first}
 use Rattle.law_texts.proofs.PrintedTraces.Rows.{closes-row, literal_first, literal_none, literals-append, literals_row, one_line_row, one_line_text, row_words, same_text}
@@ -53,9 +53,6 @@ writes-decimal n wide = writes-number (decimal n) (pos n) (number_value-decimal 
 -- a number and the blank after it
 number_then : (n : ℕ) (rest : List ℕ) (words : List Token) → n < 2 ^ 64 → Lexes rest words → Lexes (decimal n ++ 32 ∷ rest) (number_word (decimal n) ∷ words)
 number_then n rest words wide lex = writes-decimal n wide (32 ∷ rest) words (refl, refl, refl) (lex-gap 32 rest words refl lex)
-
-last_number : (n : ℕ) → n < 2 ^ 64 → Lexes (decimal n) (number_word (decimal n) ∷ [])
-last_number n wide = subst (λ (text : List ℕ). Lexes text (number_word (decimal n) ∷ [])) (append-nil (decimal n)) (writes-decimal n wide [] [] tt lex-end)
 
 abbrev number_words : List ℕ → List Token
 number_words numbers = map (λ number. number_word (decimal number)) numbers

@@ -20,8 +20,8 @@ use Rattle.proof_schemas.proofs.Printed.Lexing.{Lexes, lex-end, lex-gap, lex-wor
 use Rattle.proof_schemas.proofs.Printed.Numbers.{number_value-decimal}
 use Rattle.proof_schemas.proofs.Printed.Pieces.{end-digit, end-quote}
 use Rattle.proof_schemas.proofs.Printed.Tables.{lexes-words}
-use Rattle.law_texts.proofs.Workloads.Document.Digits.{are_digits}
 use Rattle.law_texts.proofs.Workloads.Document.Texts.{values_text, where_sql, delete_sql, set_sql, change_sql, move_sql, insert_sql}
+use Rattle.law_texts.proofs.Numerals.{are_digits}
 
 -- ---- numbers
 
@@ -31,7 +31,7 @@ short n wide = let more : 2 ^ 64 < 10 ^ 38 = lit< tt in omega arith
 number_then : (n : ℕ) (rest : List ℕ) (ts : List Token) → n < 2 ^ 64 → IsEnd rest → Lexes rest ts → Lexes (decimal n ++ rest) (number_word (decimal n) ∷ ts)
 number_then n rest ts wide end lex = lex-word class.Number (decimal n) rest ts (decimal_nonempty n wide) (λ place. front_at-number_value place (decimal n) rest (pos n) (number_value-decimal n (short n wide)) (end-digit rest end)) lex
 
-last_number : (n : ℕ) → n < 2 ^ 64 → Lexes (decimal n) (number_word (decimal n) ∷ [])
+pub last_number : (n : ℕ) → n < 2 ^ 64 → Lexes (decimal n) (number_word (decimal n) ∷ [])
 last_number n wide = subst (λ (text : List ℕ). Lexes text (number_word (decimal n) ∷ [])) (append-nil (decimal n)) (number_then n [] [] wide tt lex-end)
 
 -- ---- texts of a letter and a number
