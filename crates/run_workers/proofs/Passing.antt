@@ -9,7 +9,7 @@ use Rattle.run_workers.specs.declared.worker_run.worked.Opening.{Opening}
 use Rattle.run_workers.specs.WorkerRun.WorkedRuns.{listed}
 use Rattle.run_workers.specs.Passes.{IsByPasses}
 
--- so it is of the passes with which the desk was closed
+-- so it is of the passes with which the turn queue ended
 pub by_passes : (list : List (Taken Entry)) (passes : List (PassView Opening Entry)) (workers : ℕ) (journal : List Entry) (turns : List WorkerTurn) → length passes ≡ workers → All (λ pass. pass.worker < workers) passes → TurnQueueList list passes → listed turns journal ≡ list → IsByPasses passes journal turns workers
 by_passes list passes workers journal turns count numbers turn_queue is = record {
   count = count;

@@ -1,9 +1,9 @@
--- A run whose turns worker threads take at one desk: each turn is that of the actor that the rule gives its worker.
+-- A run whose turns worker threads take in one turn queue: each turn is that of the actor that the rule gives its worker.
 pub mod ActorStates
-pub mod Owning
-pub mod Seeking
-pub mod Waiting
-pub mod Picking
+pub mod FirstWanted
 pub mod Listing
+pub mod Owning
+pub mod Picking
 pub mod Rotating
+pub mod Waiting
 pub mod Working

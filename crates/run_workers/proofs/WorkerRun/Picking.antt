@@ -12,7 +12,7 @@ use Rattle.tool_program.specs.Orders.{actors, is_poll, may_go, owned_from, owned
 use Rattle.run_workers.specs.declared.worker_run.choice.Wanted.TheVariants.{Own, Idle, Waiting}
 use Rattle.run_workers.specs.WorkerRun.Workers.{is_wanted, GoesOnFrom}
 use Rattle.run_workers.proofs.WorkerRun.Owning.{find_owned}
-use Rattle.run_workers.proofs.WorkerRun.Seeking.{get_after}
+use Rattle.run_workers.proofs.WorkerRun.FirstWanted.{get_after}
 use Rattle.run_workers.proofs.WorkerRun.Waiting.{owned_place}
 
 -- THE FIRST THAT IS FOUND

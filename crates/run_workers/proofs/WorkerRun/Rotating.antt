@@ -13,7 +13,7 @@ use Rattle.server_model.specs.Entries.{is_cut}
 use Rattle.plan_data.specs.PlanData.{PlanData}
 use Rattle.server_model.proofs.LockedRows.Tests.{same_number, are_one}
 use Rattle.tool_program.specs.Orders.{actors, owned_from, owned, is_among, following, Paired, taken_after, last_taken}
-use Rattle.run_workers.specs.declared.worker_run.seats.Member.{Member}
+use Rattle.run_workers.specs.declared.worker_run.members.Member.{Member}
 use Rattle.run_workers.specs.WorkerRun.Workers.{GoesOnFrom, places_after}
 use Rattle.run_workers.proofs.WorkerRun.ActorStates.{actors_apart}
 use Rattle.run_workers.proofs.WorkerRun.Owning.{after_place}

@@ -74,7 +74,7 @@ module _ (plan : PlanData) (journal : List Entry) (actor : Actor) (going : IsGoi
 goes_ready : (plan : PlanData) (journal : List Entry) (actor : Actor) → may_go plan journal actor ≡ true → is_ready plan journal actor ≡ true
 goes_ready plan journal actor goes = (and_parts (is_ready plan journal actor) (not (is_held_back plan journal (replica_length plan journal) actor)) goes).0
 
--- WHO IS SOUGHT
+-- WHO IS WANTED
 
 -- who waits may go, so who may not doesn't wait
 stayed_poll : (plan : PlanData) (journal : List Entry) (actor : Actor) → may_go plan journal actor ≡ false → is_poll (given plan journal actor) ≡ false
@@ -87,8 +87,8 @@ stayed_poll plan journal actor none = by (given plan journal actor) refl
     by (Some (Command word)) gives = refl
     by (Some Cut) gives = refl
 
--- who may not go isn't sought
-pub stayed_wanted : (plan : PlanData) (journal : List Entry) (own : List Actor) (actor : Actor) (sought : Wanted) → may_go plan journal actor ≡ false → false ≡ is_wanted sought plan journal own actor
+-- who may not go isn't wanted
+pub stayed_wanted : (plan : PlanData) (journal : List Entry) (own : List Actor) (actor : Actor) (wanted : Wanted) → may_go plan journal actor ≡ false → false ≡ is_wanted wanted plan journal own actor
 stayed_wanted plan journal own actor Own none = sym (ap (λ b. is_among actor own && b) none ∙ and-false (is_among actor own))
 stayed_wanted plan journal own actor Idle none = sym (ap (λ b. not (is_among actor own) && (b && not (is_poll (given plan journal actor)))) none ∙ and-false (not (is_among actor own)))
 stayed_wanted plan journal own actor Waiting none = sym (ap (λ b. not (is_among actor own) && b) (stayed_poll plan journal actor none) ∙ and-false (not (is_among actor own)))
@@ -109,7 +109,7 @@ module _ (plan : PlanData) (journal : List Entry) (count worker place : ℕ) (ac
   pub own_wanted : may_go plan journal actor ≡ true → b ≡ is_wanted Own plan journal (owned plan count worker) actor
   own_wanted goes = sym (ap (λ r. own && r) goes ∙ and-true own ∙ own_is)
 
-  -- an own one isn't sought among others
+  -- an own one isn't wanted among others
   pub own_unidle : b ≡ true → false ≡ is_wanted Idle plan journal (owned plan count worker) actor
   own_unidle so = sym (ap (λ c. not c && (may_go plan journal actor && not (is_poll (given plan journal actor)))) (own_is ∙ so))
 
@@ -127,10 +127,10 @@ module _ (plan : PlanData) (journal : List Entry) (count worker place : ℕ) (ac
   waiting_wanted going kept goes none waiting waits_so =
       waits_so ∙ ready_waits plan journal actor going kept (goes_ready plan journal actor goes) ∙ sym (ap (λ c. not c && is_poll (given plan journal actor)) (own_is ∙ none))
 
--- who is sought may go
-pub wanted_goes : (plan : PlanData) (journal : List Entry) (own : List Actor) (actor : Actor) (sought : Wanted) → is_wanted sought plan journal own actor ≡ true → may_go plan journal actor ≡ true
-wanted_goes plan journal own actor sought is = by (may_go plan journal actor) refl
+-- who is wanted may go
+pub wanted_goes : (plan : PlanData) (journal : List Entry) (own : List Actor) (actor : Actor) (wanted : Wanted) → is_wanted wanted plan journal own actor ≡ true → may_go plan journal actor ≡ true
+wanted_goes plan journal own actor wanted is = by (may_go plan journal actor) refl
   where
     by : (b : Bool) → may_go plan journal actor ≡ b → b ≡ true
     by true goes = refl
-    by false none = absurd (false≢true (stayed_wanted plan journal own actor sought none ∙ is))
+    by false none = absurd (false≢true (stayed_wanted plan journal own actor wanted none ∙ is))

@@ -33,9 +33,9 @@ use Rattle.run_turns.specs.declared.run.Stepped.TheVariants.{Idle}
 use Rattle.run_turns.specs.declared.run.Stepped.TheVariants as stepping
 use Rattle.run_turns.specs.Runs.{RunView, is_over, TakesTurn}
 use Rattle.proof_feeds.proofs.Holding.{someone_may_go}
-use Rattle.run_feed.specs.FeedRuns.{FeedSteps}
-use Rattle.run_workers.specs.declared.worker_run.seats.Member.{Member}
-use Rattle.run_workers.specs.declared.worker_run.seats.Seat.{Seat}
+use Rattle.run_turns.specs.FeedRuns.{FeedSteps}
+use Rattle.run_workers.specs.declared.worker_run.members.Member.{Member}
+use Rattle.run_workers.specs.declared.worker_run.members.Candidate.{Candidate}
 use Rattle.run_workers.specs.WorkerRun.Workers.{IsGoing, GoesOnFrom, places_after}
 use Rattle.run_workers.specs.WorkerRun.WorkedRuns.{turn_of, turns_of, journal_of, paired_of, listed, IsByRule, IsWorkersRun, WasOver, WorkedView, TakesOne, IsWorked}
 use Rattle.run_workers.proofs.WorkerRun.Listing.{journal_more, turns_more, paired_more, paired_entries, listed_length, listed_more, was_over, over_now}
@@ -69,7 +69,7 @@ module _ (before : RunView) (workers worker : ℕ) (noted : List WorkerTurn) (us
   unfolding worker_actor
   worker_picks = ap (λ (journal : List Entry). picked before.plan journal (owned before.plan workers worker) (last_taken worker (owned before.plan workers worker) (paired_of list))) (paired_entries list ∙ is.journal)
 
-  module _ (after : RunView) (place : ℕ) (actor : Actor) (seat : slice_get (actors before.plan) place ≡ Some actor) (takes : TakesTurn before actor after) (going : is_over before.plan before.journal ≡ false)
+  module _ (after : RunView) (place : ℕ) (actor : Actor) (candidate : slice_get (actors before.plan) place ≡ Some actor) (takes : TakesTurn before actor after) (going : is_over before.plan before.journal ≡ false)
       (picks : Some actor ≡ picked before.plan before.journal (owned before.plan workers worker) (last_taken worker (owned before.plan workers worker) (paired_of list))) where
     abbrev view : PlanData → List (Taken Entry) → WorkedView
     view plan all = record { plan = plan; workers = workers; list = all; is_short = false }
@@ -163,7 +163,7 @@ module _ (before : RunView) (workers worker : ℕ) (noted : List WorkerTurn) (us
     rotates : (other : ℕ) → GoesOnFrom before.plan workers other (slice_index moved other) (last_taken other (owned before.plan workers other) (paired_of more))
     rotates other =
         subst (GoesOnFrom before.plan workers other (slice_index moved other)) (sym (ap (last_taken other (owned before.plan workers other)) (paired_more list next) ∙ last_more other (owned before.plan workers other) (paired_of list) (turn_of next, entry)))
-        (rotated before.plan workers worker place actor places seat there other (last_taken other (owned before.plan workers other) (paired_of list)) (turn_of next, entry) (is_cut entry.asked) refl refl uncut_actor (is.rotation other))
+        (rotated before.plan workers worker place actor places candidate there other (last_taken other (owned before.plan workers other) (paired_of list)) (turn_of next, entry) (is_cut entry.asked) refl refl uncut_actor (is.rotation other))
 
     -- all of it
 
@@ -285,10 +285,10 @@ module _ (run : RunView) (workers : ℕ) (noted : List WorkerTurn) (used spare :
     goes_from = subst (λ (n : ℕ). GoesOnFrom run.plan workers worker n last) (sym at) (is.rotation worker)
 
     -- someone is found
-    pub finds_someone : is_over run.plan run.journal ≡ false → (found : Option Seat) → found ≡ None → ((last : Option Actor) → GoesOnFrom run.plan workers worker from last → option_map (λ seat. seat.actor) found ≡ picked run.plan run.journal (owned run.plan workers worker) last) → ⊥
+    pub finds_someone : is_over run.plan run.journal ≡ false → (found : Option Candidate) → found ≡ None → ((last : Option Actor) → GoesOnFrom run.plan workers worker from last → option_map (λ candidate. candidate.actor) found ≡ picked run.plan run.journal (owned run.plan workers worker) last) → ⊥
     finds_someone going found none picks =
         someone_picked run.plan run.journal workers worker from last goes_from (someone_may_go run.plan run.journal (is.going.goes run.journal kept_so (none_by run going).0))
-        (sym (ap (option_map (λ (seat : Seat). seat.actor)) none) ∙ picks last goes_from)
+        (sym (ap (option_map (λ (candidate : Candidate). candidate.actor)) none) ∙ picks last goes_from)
 
 -- a step of an actor that may go takes a turn, unless there is no memory for it
 pub takes_or_short : (before : RunView) (actor : Actor) (stepped : Stepped) (after : RunView) → FeedSteps before actor stepped after → is_over before.plan before.journal ≡ false → may_go before.plan before.journal actor ≡ true → (stepped ≡ Idle) ⊎ (stepped ≡ stepping.Over) → ⊥

@@ -9,7 +9,7 @@ use Rattle.proof_journals.specs.Run.Kept.{IsKept}
 use Rattle.proof_journals.specs.Machine.Runnable.{IsRunnable}
 use Rattle.tool_program.specs.Verdicts.{has_ended}
 use Rattle.tool_program.specs.Orders.{actors, is_ready, is_ready_waiting, may_go, may_go_idle, owned_from, owned, is_among, after_last}
-use Rattle.run_workers.specs.declared.worker_run.seats.Member.{Member}
+use Rattle.run_workers.specs.declared.worker_run.members.Member.{Member}
 use Rattle.run_workers.specs.declared.worker_run.choice.Wanted.{Wanted}
 use Rattle.run_workers.specs.declared.worker_run.choice.Wanted.TheVariants.{Own, Idle, Waiting}
 
@@ -18,7 +18,7 @@ pub record IsGoing (plan : PlanData) : Type 0 where
   pub runs : IsRunnable plan
   pub goes : (journal : List Entry) → IsKept plan journal → has_ended plan journal ≡ false → list_any (is_ready plan journal) (actors plan) ≡ true
 
--- *Sought*: an actor of the worker's own that may go; one of others that may and doesn't wait; one of others that waits, which no
+-- *Wanted*: an actor of the worker's own that may go; one of others that may and doesn't wait; one of others that waits, which no
 -- replica holds back
 abbrev pub is_wanted : Wanted → PlanData → List Entry → List Actor → Actor → Bool
 is_wanted Own plan journal own actor = is_among actor own && may_go plan journal actor

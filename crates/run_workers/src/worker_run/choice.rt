@@ -4,11 +4,12 @@ ghost use Rattle.std.specs.Prelude.{◌≡◌, ◌<◌, ◌+◌, ◌^◌, true, 
 ghost use Rattle.base_script.specs.declared.actor.Actor.{Actor};
 ghost use Rattle.proof_journals.specs.Run.Kept.{IsKept};
 ghost use Rattle.tool_program.specs.Orders.{actors, may_go, owned, picked};
+ghost use Rattle.run_turns.specs.FeedRuns.{IsCaughtUp};
 ghost use Rattle.run_workers.specs.WorkerRun.Workers.{IsGoing, is_wanted, GoesOnFrom};
 
-use crate::worker_run::seats::{Member, Seat};
+use crate::worker_run::members::{Candidate, Member};
 use base_script::Actor;
-use run_feed::FeedRun;
+use run_turns::FeedRun;
 use server_api::Serve;
 
 /// Whom a worker looks for.
@@ -24,45 +25,52 @@ pub(crate) enum Wanted {
 
 /// Whether this actor is one that the worker looks for.
 #[tactic(auto, using(crate::proofs::WorkerRun::Waiting::stayed_wanted, crate::proofs::WorkerRun::Waiting::own_wanted, crate::proofs::WorkerRun::Waiting::own_unidle, crate::proofs::WorkerRun::Waiting::own_unwaiting, crate::proofs::WorkerRun::Waiting::idle_wanted, crate::proofs::WorkerRun::Waiting::waiting_wanted))]
-fn is_wanted<V: Serve>(feed: &FeedRun<'_, V>, member: Member, seat: Seat, sought: Wanted) -> bool
+fn is_wanted<V: Serve>(
+    feed: &FeedRun<'_, V>,
+    member: Member,
+    candidate: Candidate,
+    wanted: Wanted,
+) -> bool
     requires some { 0 < member.workers }
-    requires going { IsGoing feed.now.plan }
-    requires kept { IsKept feed.now.plan feed.now.journal }
-    requires seat { slice_get (actors feed.now.plan) seat.place ≡ Some seat.actor }
-    ensures { result ≡ is_wanted sought feed.now.plan feed.now.journal (owned feed.now.plan member.workers member.worker) seat.actor }
+    requires going { IsGoing feed.now.run.plan }
+    requires kept { IsKept feed.now.run.plan feed.now.run.journal }
+    requires caught { IsCaughtUp feed.now }
+    requires candidate { slice_get (actors feed.now.run.plan) candidate.place ≡ Some candidate.actor }
+    ensures { result ≡ is_wanted wanted feed.now.run.plan feed.now.run.journal (owned feed.now.run.plan member.workers member.worker) candidate.actor }
 {
-    if !feed.may_go(seat.actor) {
+    if !feed.may_go(candidate.actor) {
         return false;
     }
-    let is_own = member.owns(seat.place);
-    match sought {
+    let is_own = member.owns(candidate.place);
+    match wanted {
         Wanted::Own => is_own,
-        Wanted::Idle => !is_own && !feed.run().waiting(seat.actor),
-        Wanted::Waiting => !is_own && feed.run().waiting(seat.actor),
+        Wanted::Idle => !is_own && !feed.run().waiting(candidate.actor),
+        Wanted::Waiting => !is_own && feed.run().waiting(candidate.actor),
     }
 }
 
 /// The first actor, from a place on, that the worker looks for.
-#[tactic(auto, using(crate::proofs::WorkerRun::Seeking::found_here, crate::proofs::WorkerRun::Seeking::found_later, crate::proofs::WorkerRun::Seeking::found_none, crate::proofs::WorkerRun::Waiting::wanted_goes))]
-fn next_seat<V: Serve>(
+#[tactic(auto, using(crate::proofs::WorkerRun::FirstWanted::found_here, crate::proofs::WorkerRun::FirstWanted::found_later, crate::proofs::WorkerRun::FirstWanted::found_none, crate::proofs::WorkerRun::Waiting::wanted_goes))]
+fn next_candidate<V: Serve>(
     feed: &FeedRun<'_, V>,
     member: Member,
-    sought: Wanted,
+    wanted: Wanted,
     from: usize,
-) -> Option<Seat>
+) -> Option<Candidate>
     requires some { 0 < member.workers }
-    requires going { IsGoing feed.now.plan }
-    requires kept { IsKept feed.now.plan feed.now.journal }
-    ensures first { option_map (λ seat. seat.actor) result ≡ find (is_wanted sought feed.now.plan feed.now.journal (owned feed.now.plan member.workers member.worker)) (drop from (actors feed.now.plan)) }
-    ensures seat { IfSome result (λ seat. slice_get (actors feed.now.plan) seat.place ≡ Some seat.actor) }
-    ensures goes { IfSome result (λ seat. may_go feed.now.plan feed.now.journal seat.actor ≡ true) }
-    ensures next { IfSome result (λ seat. seat.place + 1 < 2 ^ 64) }
+    requires going { IsGoing feed.now.run.plan }
+    requires kept { IsKept feed.now.run.plan feed.now.run.journal }
+    requires caught { IsCaughtUp feed.now }
+    ensures first { option_map (λ candidate. candidate.actor) result ≡ find (is_wanted wanted feed.now.run.plan feed.now.run.journal (owned feed.now.run.plan member.workers member.worker)) (drop from (actors feed.now.run.plan)) }
+    ensures candidate { IfSome result (λ candidate. slice_get (actors feed.now.run.plan) candidate.place ≡ Some candidate.actor) }
+    ensures goes { IfSome result (λ candidate. may_go feed.now.run.plan feed.now.run.journal candidate.actor ≡ true) }
+    ensures next { IfSome result (λ candidate. candidate.place + 1 < 2 ^ 64) }
 {
     for place in from..feed.actor_count() {
         let actor = feed.actor_at(place);
-        let seat = Seat { place, actor };
-        if is_wanted(feed, member, seat, sought) {
-            return Some(seat);
+        let candidate = Candidate { place, actor };
+        if is_wanted(feed, member, candidate, wanted) {
+            return Some(candidate);
         }
     }
     None
@@ -71,23 +79,28 @@ fn next_seat<V: Serve>(
 /// Whose turn the worker takes, where its rotation goes on from this place: its next actor that may go, else the first one of
 /// others that may and doesn't wait, else the first one of others that waits.
 #[tactic(auto, using(crate::proofs::WorkerRun::Picking::by_first, crate::proofs::WorkerRun::Picking::by_second, crate::proofs::WorkerRun::Picking::by_third, crate::proofs::WorkerRun::Picking::by_last))]
-pub(crate) fn pick<V: Serve>(feed: &FeedRun<'_, V>, member: Member, from: usize) -> Option<Seat>
+pub(crate) fn pick<V: Serve>(
+    feed: &FeedRun<'_, V>,
+    member: Member,
+    from: usize,
+) -> Option<Candidate>
     requires some { 0 < member.workers }
-    requires going { IsGoing feed.now.plan }
-    requires kept { IsKept feed.now.plan feed.now.journal }
-    ensures picked { (last : Option Actor) → GoesOnFrom feed.now.plan member.workers member.worker from last → option_map (λ seat. seat.actor) result ≡ picked feed.now.plan feed.now.journal (owned feed.now.plan member.workers member.worker) last }
-    ensures seat { IfSome result (λ seat. slice_get (actors feed.now.plan) seat.place ≡ Some seat.actor) }
-    ensures goes { IfSome result (λ seat. may_go feed.now.plan feed.now.journal seat.actor ≡ true) }
-    ensures next { IfSome result (λ seat. seat.place + 1 < 2 ^ 64) }
+    requires going { IsGoing feed.now.run.plan }
+    requires kept { IsKept feed.now.run.plan feed.now.run.journal }
+    requires caught { IsCaughtUp feed.now }
+    ensures picked { (last : Option Actor) → GoesOnFrom feed.now.run.plan member.workers member.worker from last → option_map (λ candidate. candidate.actor) result ≡ picked feed.now.run.plan feed.now.run.journal (owned feed.now.run.plan member.workers member.worker) last }
+    ensures candidate { IfSome result (λ candidate. slice_get (actors feed.now.run.plan) candidate.place ≡ Some candidate.actor) }
+    ensures goes { IfSome result (λ candidate. may_go feed.now.run.plan feed.now.run.journal candidate.actor ≡ true) }
+    ensures next { IfSome result (λ candidate. candidate.place + 1 < 2 ^ 64) }
 {
-    if let Some(seat) = next_seat(feed, member, Wanted::Own, from) {
-        return Some(seat);
+    if let Some(candidate) = next_candidate(feed, member, Wanted::Own, from) {
+        return Some(candidate);
     }
-    if let Some(seat) = next_seat(feed, member, Wanted::Own, 0) {
-        return Some(seat);
+    if let Some(candidate) = next_candidate(feed, member, Wanted::Own, 0) {
+        return Some(candidate);
     }
-    if let Some(seat) = next_seat(feed, member, Wanted::Idle, 0) {
-        return Some(seat);
+    if let Some(candidate) = next_candidate(feed, member, Wanted::Idle, 0) {
+        return Some(candidate);
     }
-    next_seat(feed, member, Wanted::Waiting, 0)
+    next_candidate(feed, member, Wanted::Waiting, 0)
 }

@@ -8,12 +8,11 @@ ghost use Rattle.run_workers.specs.WorkerRun.WorkedRuns.{journal_of, listed, tur
 ghost use Rattle.run_turns.specs.Runs.{is_over};
 
 use crate::worker_run::choice::pick;
-use crate::worker_run::notes::{Turns, note, place_from};
-use crate::worker_run::seats::Member;
+use crate::worker_run::members::Member;
+use crate::worker_run::worker_turns::{Turns, note, place_from};
 use plan_data::Plan;
 use run_desk::{SharedState, Turned};
-use run_feed::FeedRun;
-use run_turns::{Run, Stepped};
+use run_turns::{FeedRun, Run, Stepped};
 use server_api::Serve;
 use server_model::Entry;
 use std::alloc::{AllocError, Global};
@@ -45,15 +44,15 @@ impl<'a, V: Serve> Model for Worked<'a, V> {
 
     ghost Value = { WorkedView };
 
-    ghost view = { λ worked. record { plan = worked.feed.plan; workers = worked.workers; list = listed worked.turns.items worked.feed.journal; is_short = worked.is_short } };
+    ghost view = { λ worked. record { plan = worked.feed.run.plan; workers = worked.workers; list = listed worked.turns.items worked.feed.run.journal; is_short = worked.is_short } };
 
-    ghost invariant = { λ worked. IsWorked worked.feed worked.workers worked.turns.items (vec_len worked.turns) (vec_capacity worked.turns) worked.places.items worked.is_short };
+    ghost invariant = { λ worked. IsWorked worked.feed.run worked.workers worked.turns.items (vec_len worked.turns) (vec_capacity worked.turns) worked.places.items worked.is_short };
 }
 
 /// The entry of the last turn.
 fn last_entry<'r, V: Serve>(feed: &'r FeedRun<'_, V>) -> &'r Entry
-    requires { feed.now.journal ≢ [] }
-    ensures { slice_get feed.now.journal (length feed.now.journal - 1) ≡ Some result.now }
+    requires { feed.now.run.journal ≢ [] }
+    ensures { slice_get feed.now.run.journal (length feed.now.run.journal - 1) ≡ Some result.now }
 {
     match feed.run().journal().last() {
         Some(entry) => entry,
@@ -70,10 +69,10 @@ impl<'a, V: Serve> Worked<'a, V> {
         workers: u32,
     ) -> Result<Worked<'a, V>, AllocError>
         requires some { 1 ≤ workers }
-        requires going { IsGoing feed.plan }
-        requires fresh { feed.journal ≡ [] }
-        requires server { feed.server ≡ opening feed.plan }
-        ensures { IfOk result (λ worked. worked ≡ record { plan = feed.entry.plan; workers = workers; list = []; is_short = false }) }
+        requires going { IsGoing feed.run.plan }
+        requires fresh { feed.run.journal ≡ [] }
+        requires server { feed.run.server ≡ opening feed.run.plan }
+        ensures { IfOk result (λ worked. worked ≡ record { plan = feed.entry.run.plan; workers = workers; list = []; is_short = false }) }
     {
         let limit = feed.run().plan().options().turn_limit;
         Ok(Worked {
@@ -86,8 +85,9 @@ impl<'a, V: Serve> Worked<'a, V> {
         })
     }
 
-    /// Takes one turn for this worker, unless the run is over: a loss between calls that is due, whosever session it takes, or
-    /// else the turn of the actor that the rule gives the worker. Once there was no memory for a turn, none is taken any more.
+    /// Takes one turn for this worker, unless the run is over: after the catch-up, where one is due, a loss between calls that is
+    /// due, whosever session it takes, or else the turn of the actor that the rule gives the worker. Once there was no memory for a
+    /// turn, none is taken any more.
     pub fn take(&mut self, worker: u32) -> Turned
         ensures over { (result ≡ turned.Over) ↔ WasOver self.old.plan (journal_of self.old.list) }
         ensures works { Works self.old worker result self.new }
@@ -103,17 +103,18 @@ impl<'a, V: Serve> Worked<'a, V> {
             worker,
         };
         let from = place_from(self.places.as_slice(), worker);
-        let Some(seat) = pick(&self.feed, member, from) else {
+        self.feed.choose();
+        let Some(candidate) = pick(&self.feed, member, from) else {
             unreachable!()
         };
-        match self.feed.step(seat.actor) {
+        match self.feed.step(candidate.actor) {
             Stepped::Took => {
                 let entry = last_entry(&self.feed);
                 note(
                     &mut self.turns,
                     self.places.as_mut_slice(),
                     member,
-                    seat,
+                    candidate,
                     entry,
                 );
                 Turned::Took

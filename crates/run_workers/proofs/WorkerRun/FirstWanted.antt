@@ -1,4 +1,4 @@
--- The first of a list, from a place on, that is sought.
+-- The first of a list, from a place on, that is wanted.
 use Rattle.std.proofs.Common.{◌≡◌, ◌≤◌, ℕ, zero, suc, ◌+◌, Bool, true, false, List, [], ◌∷◌, drop, length, Some, None, refl, sym, ◌∙◌, arith}
 use Rattle.std.specs.List.{slice_get, find}
 

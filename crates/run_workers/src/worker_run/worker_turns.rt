@@ -1,10 +1,10 @@
-//! What is noted of the turns that workers took.
+//! The turns that workers took, and the place from which each rotation goes on.
 
 ghost use Rattle.std.specs.Prelude.{◌≡◌, ◌<◌, ◌+◌, ◌^◌, [], ◌∷◌, ◌++◌, length, vec_len, vec_capacity, slice_index};
 ghost use Rattle.server_model.specs.Entries.{is_cut};
 ghost use Rattle.run_workers.specs.WorkerRun.Workers.{places_after};
 
-use crate::worker_run::seats::{Member, Seat};
+use crate::worker_run::members::{Candidate, Member};
 use base_script::Actor;
 use server_model::{Asked, Entry};
 use std::marker::Model;
@@ -62,23 +62,23 @@ pub(crate) fn note(
     turns: &mut Turns,
     places: &mut [usize],
     member: Member,
-    seat: Seat,
+    candidate: Candidate,
     entry: &Entry,
 )
     requires some { 0 < member.workers }
     requires room { vec_len turns.old < vec_capacity turns.old }
     requires places { length places.old ≡ member.workers }
-    requires next { seat.place + 1 < 2 ^ 64 }
+    requires next { candidate.place + 1 < 2 ^ 64 }
     ensures turns { turns.new.items ≡ turns.old.items ++ record { worker = member.worker; actor = entry.now.actor } ∷ [] }
     ensures count { vec_len turns.new ≡ vec_len turns.old + 1 }
     ensures room { vec_capacity turns.new ≡ vec_capacity turns.old }
-    ensures places { places.new ≡ places_after places.old member seat.place (is_cut entry.now.asked) }
+    ensures places { places.new ≡ places_after places.old member candidate.place (is_cut entry.now.asked) }
 {
     turns.push_reserved(WorkerTurn {
         worker: member.worker,
         actor: entry.actor,
     });
-    if !is_cut(entry) && member.owns(seat.place) {
-        places[member.worker as usize] = seat.place + 1;
+    if !is_cut(entry) && member.owns(candidate.place) {
+        places[member.worker as usize] = candidate.place + 1;
     }
 }

@@ -1,4 +1,4 @@
-//! The actors by their places in the fixed order.
+//! A worker, and an actor whose turn it may take.
 
 ghost use Rattle.std.specs.Prelude.{◌≡◌, ◌<◌, ◌==◌, ◌%◌};
 
@@ -15,7 +15,7 @@ pub(crate) struct Member {
 
 /// An actor, and its place in the fixed order, from 0.
 #[derive(Clone, Copy)]
-pub(crate) struct Seat {
+pub(crate) struct Candidate {
     /// From 0, in the fixed order.
     pub(crate) place: usize,
     /// The actor at this place.
