@@ -1,3 +1,7 @@
 mod Steps
 pub mod RunTurns
 pub mod DueTurns
+pub mod ActorPlaces
+pub mod Replicas
+pub mod Holding
+pub mod FeedRuns

@@ -3,3 +3,4 @@ pub mod Costs
 pub mod Planned
 pub mod Ranging
 pub mod Served
+pub mod Reserving

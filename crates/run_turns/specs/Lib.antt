@@ -1,3 +1,5 @@
 pub mod Runs
 pub mod RunTurns
 pub mod DueTurns
+pub mod Replicas
+pub mod FeedRuns

@@ -15,6 +15,8 @@ ghost use Rattle.tool_state.specs.Verdicts.{verdict_meant};
 ghost use Rattle.proof_journals.specs.Machine.Runnable.{IsRunnable};
 ghost use Rattle.proof_journals.specs.Run.Counts.{IsAfter};
 ghost use Rattle.run_turns.specs.DueTurns.Due.{due, MayCost};
+ghost use Rattle.run_state.specs.Books.{IsRunState};
+ghost use Rattle.run_turns.specs.RunTurns.Invariants.{IsRun};
 ghost use Rattle.run_turns.specs.Runs.{is_over, TakesTurn, IsUnmoved, Steps};
 
 use crate::due::{due, is_due};
@@ -59,6 +61,17 @@ impl<'a, V: Serve> Model for Run<'a, V> {
     ghost view = { λ r. record { plan = r.run_state.plan.now; journal = r.run_state.journal.items; server = V.state r.server } };
 
     ghost invariant = { λ r. IsRun r.run_state.plan.now r.run_state.journal.items r.run_state r.sessions (V.state r.server) };
+}
+
+/// A run taken apart.
+#[derive(Drop)]
+pub struct RunParts<'a, V: Serve> {
+    /// The journal, with what is kept of it.
+    pub run_state: RunState<'a>,
+    /// The server after the journal's turns.
+    pub server: V,
+    /// How many sessions the server made at most.
+    pub sessions: u32,
 }
 
 /// The journal of a run state.
@@ -225,6 +238,36 @@ impl<'a, V: Serve> Run<'a, V> {
         ensures following { IsAfter (state_at self.now.plan self.now.journal) self.now.server }
     {
         &self.server
+    }
+
+    /// The journal, with what is kept of it.
+    pub fn run_state(&self) -> &RunState<'a>
+        ensures kept { IsRunState self.now.plan self.now.journal result.now }
+        ensures plan { result.now.plan.now ≡ self.now.plan }
+        ensures journal { result.now.journal.items ≡ self.now.journal }
+    {
+        &self.run_state
+    }
+
+    /// Makes room for so many turns more than the run has. Where there is no memory, the run is as before.
+    pub fn reserve(&mut self, turns: usize) -> Result<(), AllocError>
+        ensures { self.new ≡ self.old }
+    {
+        self.run_state.journal.reserve(turns)
+    }
+
+    /// The parts, for who goes on with them.
+    pub fn into_parts(self) -> RunParts<'a, V>
+        ensures run { IsRun self.entry.plan self.entry.journal result.run_state result.sessions (V.state result.server) }
+        ensures plan { result.run_state.plan.now ≡ self.entry.plan }
+        ensures journal { result.run_state.journal.items ≡ self.entry.journal }
+        ensures server { V.state result.server ≡ self.entry.server }
+    {
+        RunParts {
+            run_state: self.run_state,
+            server: self.server,
+            sessions: self.sessions,
+        }
     }
 
     /// The server and the journal.

@@ -14,8 +14,7 @@ use crate::worker_run::{Turns, Worked};
 use base_edges::Gate;
 use run_desk::Passes;
 use run_desk::turn_queue_workers::{Ending, take_turns};
-use run_feed::FeedRun;
-use run_turns::Run;
+use run_turns::{FeedRun, Run};
 use server_api::Serve;
 use std::alloc::{AllocError, Global};
 use std::snapshot::Snapshot;
@@ -48,17 +47,17 @@ pub fn run_by_workers<'a, V: Serve + Send, R: Threads + Wait + Sync, G: Gate + S
 ) -> Result<Ran<'a, V>, AllocError>
     requires some { 1 ≤ workers }
     requires few { workers ≤ 16 }
-    requires going { IsGoing feed.plan }
-    requires fresh { feed.journal ≡ [] }
-    requires server { feed.server ≡ opening feed.plan }
-    ensures plan { IfOk result (λ ran. ran.run.plan ≡ feed.entry.plan) }
-    ensures kept { IfOk result (λ ran. IsKept feed.entry.plan ran.run.journal) }
+    requires going { IsGoing feed.run.plan }
+    requires fresh { feed.run.journal ≡ [] }
+    requires server { feed.run.server ≡ opening feed.run.plan }
+    ensures plan { IfOk result (λ ran. ran.run.plan ≡ feed.entry.run.plan) }
+    ensures kept { IfOk result (λ ran. IsKept feed.entry.run.plan ran.run.journal) }
     ensures numbered { IfOk result (λ ran. NumbersSessions ran.run.journal) }
-    ensures stops { IfOk result (λ ran. Stops feed.entry.plan ran.run.journal) }
-    ensures order { IfOk result (λ ran. RunOrder feed.entry.plan ran.run.journal ran.turns.items workers) }
+    ensures stops { IfOk result (λ ran. Stops feed.entry.run.plan ran.run.journal) }
+    ensures order { IfOk result (λ ran. RunOrder feed.entry.run.plan ran.run.journal ran.turns.items workers) }
     ensures passes { IfOk result (λ ran. IsByPasses ran.passes.value.items ran.run.journal ran.turns.items workers) }
-    ensures over { IfOk result (λ ran. ran.ending ≡ Over → is_over feed.entry.plan ran.run.journal ≡ true) }
-    ensures server { IfOk result (λ ran. ran.ending ≡ Over → ran.run.server ≡ state_at feed.entry.plan ran.run.journal) }
+    ensures over { IfOk result (λ ran. ran.ending ≡ Over → is_over feed.entry.run.plan ran.run.journal ≡ true) }
+    ensures server { IfOk result (λ ran. ran.ending ≡ Over → ran.run.server ≡ state_at feed.entry.run.plan ran.run.journal) }
 {
     let worked = Worked::open(alloc, feed, workers)?;
     let done = take_turns(rt, alloc, worked, workers, gate)?;

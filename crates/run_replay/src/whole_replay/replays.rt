@@ -9,12 +9,11 @@ ghost use Rattle.run_replay.specs.declared.whole_replay.replays.Replayed.TheVari
 ghost use Rattle.run_replay.specs.WholeReplay.Marks.{counted, logged_at_mark};
 ghost use Rattle.run_replay.specs.WholeReplay.Replays.{IsFresh, IsReplaying, Passes, IsStalled};
 
-use crate::whole_replay::choice::choose;
+use crate::whole_replay::choice::next_turn;
 use crate::whole_replay::place::OrderPlace;
 use base_script::Actor;
 use base_values::Names;
-use run_feed::FeedRun;
-use run_turns::{Run, Stepped};
+use run_turns::{FeedRun, Run, Stepped};
 use server_api::Serve;
 
 /// What became of a replay.
@@ -46,20 +45,21 @@ impl ReplayOutcome {
     }
 }
 
-/// Takes the turn that comes next: a loss between calls where one is due, which uses up no word and no place; else the next
-/// actor's.
+/// Takes the turn that comes next, after the catch-up that may be due: a loss between calls where one is due, which uses up no word
+/// and no place; else the next actor's.
 #[tactic(auto, using(crate::proofs::WholeReplay::Passing::pass_cut, crate::proofs::WholeReplay::Passing::pass_turn, crate::proofs::WholeReplay::Passing::pass_stalls))]
 fn pass<V: Serve>(feed: &mut FeedRun<'_, V>, place: &mut OrderPlace) -> Stepped
-    requires { IsReplaying feed.old place.old }
-    ensures { Passes feed.old result feed.new place.new }
+    requires { IsReplaying feed.old.run place.old }
+    ensures { Passes feed.old.run result feed.new.run place.new }
 {
     if feed.run().is_over() {
         return Stepped::Over;
     }
+    feed.choose();
     if feed.run().is_cut_due() {
         return feed.step(Actor::Op);
     }
-    let Some(next) = choose(feed, *place) else {
+    let Some(next) = next_turn(feed, *place) else {
         return Stepped::Idle;
     };
     match feed.step(next.actor) {
@@ -88,14 +88,14 @@ fn counted<V: Serve>(run: &Run<'_, V>, tables: &Names, logged: Option<u64>) -> O
 /// RENAME. Where there is no memory for a turn, those before it stay.
 #[tactic(auto, using(crate::proofs::WholeReplay::GoingOn::begins, crate::proofs::WholeReplay::GoingOn::is_replay, crate::proofs::WholeReplay::GoingOn::still_replay, crate::proofs::WholeReplay::GoingOn::it_stops, crate::proofs::WholeReplay::GoingOn::still_stops, crate::proofs::WholeReplay::Marking::goes_on_counted, crate::proofs::WholeReplay::Marking::still_counted))]
 pub fn replay<V: Serve>(feed: &mut FeedRun<'_, V>, tables: &Names) -> ReplayOutcome
-    requires { IsFresh feed.old }
-    ensures plan { feed.new.plan ≡ feed.old.plan }
-    ensures replay { IsReplay feed.new.plan feed.new.journal }
-    ensures stops { Stops feed.new.plan feed.new.journal }
-    ensures over { result.replayed ≡ replayed.Over → is_over feed.new.plan feed.new.journal ≡ true }
-    ensures stalled { result.replayed ≡ replayed.Stalled → IsStalled feed.new.plan feed.new.journal }
-    ensures server { result.replayed ≢ replayed.NoMemory → feed.new.server ≡ state_at feed.new.plan feed.new.journal }
-    ensures logged { result.logged ≡ logged_at_mark feed.new.plan tables.now feed.new.journal }
+    requires { IsFresh feed.old.run }
+    ensures plan { feed.new.run.plan ≡ feed.old.run.plan }
+    ensures replay { IsReplay feed.new.run.plan feed.new.run.journal }
+    ensures stops { Stops feed.new.run.plan feed.new.run.journal }
+    ensures over { result.replayed ≡ replayed.Over → is_over feed.new.run.plan feed.new.run.journal ≡ true }
+    ensures stalled { result.replayed ≡ replayed.Stalled → IsStalled feed.new.run.plan feed.new.run.journal }
+    ensures server { result.replayed ≢ replayed.NoMemory → feed.new.run.server ≡ state_at feed.new.run.plan feed.new.run.journal }
+    ensures logged { result.logged ≡ logged_at_mark feed.new.run.plan tables.now feed.new.run.journal }
 {
     let mut logged = None;
     let mut place = OrderPlace {

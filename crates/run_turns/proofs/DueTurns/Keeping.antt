@@ -27,7 +27,7 @@ use Rattle.run_turns.specs.DueTurns.MigrationRun.ServerTurns.{opened_on, answer_
 use Rattle.run_turns.specs.DueTurns.Due.{session_at, next_entry}
 use Rattle.run_turns.specs.DueTurns.Laws.{IsKeptWith, DueTurnsAreKept, DueTurnsAreNumbered}
 use Rattle.run_turns.proofs.DueTurns.Coming.{Comes, Cuts, Gives, comes, Asks, Commands, Called, given_asks, given_uncut, operator_unstruck, Lives, cut_lives}
-use Rattle.run_turns.proofs.DueTurns.Serving.{answers_same, draws_same, after_more}
+use Rattle.run_turns.proofs.DueTurns.Turning.{answered as turn_answered, seated as turn_seated, goes_after}
 
 module _ (plan : PlanData) (journal : List Entry) (server : State) (actor : Actor) (turn : Turn) (kept : IsKept plan journal) (following : IsAfter (state_at plan journal) server) (comes_so : Comes plan journal actor turn) where
   abbrev session : ℕ
@@ -49,19 +49,8 @@ module _ (plan : PlanData) (journal : List Entry) (server : State) (actor : Acto
           asks (Commands word own same) = side ∙ ap (side_due plan journal) own ∙ operator_unstruck plan journal
           asks (Called called) = absurd (false≢true (sym lost ∙ ap may_lose (sym is) ∙ called))
 
-  same_answer : answer_on server session turn ≡ inner_answer (state_at plan journal) entry
-  unfolding entry_on inner_answer
-  same_answer = ap (given_at turn.side turn.asked) (answers_same (state_at plan journal) server (is_command turn.asked) (not (is_client turn.actor)) session turn.asked following)
-
-  same_draw : entry.draw ≡ drawn_of (state_at plan journal) entry (inner_answer (state_at plan journal) entry)
-  unfolding entry_on
-  same_draw =
-      ap (drawn_in (opened_on server session turn) session turn.asked) same_answer
-      ∙ draws_same (state_at plan journal) server (is_command turn.asked) (not (is_client turn.actor)) session turn.asked (inner_answer (state_at plan journal) entry) following
-
   answered : IsAnswered (state_at plan journal) entry
-  unfolding entry_on
-  answered = record { sides = λ lost. unlost turn.asked refl lost; answer = ap (heard turn.side) same_answer; missed = ap (missed turn.side) same_answer; draw = same_draw }
+  answered = turn_answered plan journal server turn kept.faithful kept.sessions following (λ lost. unlost turn.asked refl lost)
 
   -- THE PLAN
 
@@ -88,12 +77,6 @@ module _ (plan : PlanData) (journal : List Entry) (server : State) (actor : Acto
 
   -- THE PROGRAM
 
-  living : Living journal (state_at plan journal)
-  living = all_living plan journal kept.faithful kept.sessions
-
-  new_number : sessions_named journal < server.made + 1
-  new_number = let named : (state_at plan journal).made ≡ sessions_named journal = living.named in omega (arith, named, following.made)
-
   given_of : (asked : Asked) → given plan journal turn.actor ≡ Some asked → IsGiven plan journal entry asked
   unfolding entry_on
   given_of (Call request) is = is
@@ -115,24 +98,14 @@ module _ (plan : PlanData) (journal : List Entry) (server : State) (actor : Acto
       by (Cuts at none same) = cut_lives plan journal turn.actor at
       by (Gives none same gives side) = absurd (true≢false (ap is_cut (sym cut) ∙ given_uncut plan journal turn.actor turn.asked gives))
 
-  seated : (asked : Asked) (live : Option ℕ) → (asked ≡ Cut → live ≢ None) → entry.session ≡ session_at asked live server.made → IsInSession journal entry asked live
-  seated (Command word) (Some own) lives is = is
-  seated (Command word) None lives is = is
-  seated (Call request) (Some own) lives is = is
-  seated (Call request) None lives is = subst (λ (n : ℕ). sessions_named journal < n) (sym is) new_number
-  seated Poll (Some own) lives is = is
-  seated Poll None lives is = subst (λ (n : ℕ). sessions_named journal < n) (sym is) new_number
-  seated Cut (Some own) lives is = is
-  seated Cut None lives is = lives refl refl
-
   followed : IsFollowed plan journal entry
   unfolding entry_on
-  followed = record { given = follows_given; session = seated turn.asked (live_session journal turn.actor) (λ cut none. none-some (cut_session cut).number (sym none ∙ (cut_session cut).is)) refl }
+  followed = record { given = follows_given; session = turn_seated plan journal server turn kept.faithful kept.sessions following (λ cut none. none-some (cut_session cut).number (sym none ∙ (cut_session cut).is)) }
 
   pub turn_kept : IsKeptWith plan journal server entry
   turn_kept = record {
     kept = kept_more plan journal entry kept answered planned followed;
-    following = subst (λ (s : State). IsAfter s (after_entry server entry)) (sym (state_more (opening plan) journal entry)) (after_more (state_at plan journal) server entry following);
+    following = goes_after plan journal server turn kept.faithful kept.sessions following;
   }
 
 -- *Due turns are kept*

@@ -29,33 +29,8 @@ use Rattle.run_turns.specs.DueTurns.MigrationRun.Sessions.{IsSessionOf}
 use Rattle.run_turns.specs.DueTurns.MigrationRun.ServerTurns.{session_for, opened_on, MayTurn}
 use Rattle.run_turns.proofs.DueTurns.MigrationRun.Connecting.{opened_live}
 use Rattle.run_turns.proofs.DueTurns.Coming.{Comes, Cuts, Gives, comes, given_uncut, Lives, cut_lives}
-use Rattle.run_turns.proofs.DueTurns.Serving.{opened_numbered}
+use Rattle.run_turns.proofs.DueTurns.Turning.{take_own as takes_own, stays_open as turn_stays_open, asked_may}
 use Rattle.run_turns.specs.DueTurns.DueCalls.Laws.{DueTurnsMayBe}
-
--- WHATEVER NUMBER WAS MADE LAST
-
-call_numbered : (made : ℕ) (state : State) (n : ℕ) (request : Request) → MayCall state n request → MayCall (numbered made state) n request
-call_numbered made state n request may = record { live = may.live; idle = may.idle; comes = may.comes; formed = may.formed }
-
-poll_numbered : (made : ℕ) (state : State) (n : ℕ) → MayPoll state n → MayPoll (numbered made state) n
-poll_numbered made state n may = record { live = may.live; waiting = may.waiting; waits = may.waits; formed = may.formed }
-
-loses_numbered : (made : ℕ) (state : State) (n : ℕ) (side : Option Side) (asked : Asked) → LosesWell state n side asked → LosesWell (numbered made state) n side asked
-loses_numbered made state n None asked well = well
-loses_numbered made state n (Some side) Poll well = poll_numbered made state n well
-loses_numbered made state n (Some side) (Call request) well = call_numbered made state n request well
-loses_numbered made state n (Some side) (Command word) well = absurd well
-loses_numbered made state n (Some side) Cut well = absurd well
-
-lose_numbered : (made : ℕ) (state : State) (n : ℕ) (side : Option Side) (asked : Asked) → MayLose state n side asked → MayLose (numbered made state) n side asked
-lose_numbered made state n side asked may = record { live = may.live; well = loses_numbered made state n side asked may.well }
-
-ask_numbered : (made : ℕ) (state : State) (n : ℕ) (side : Option Side) (asked : Asked) → MayAsk state n side asked → MayAsk (numbered made state) n side asked
-ask_numbered made state n None (Call request) may = call_numbered made state n request may
-ask_numbered made state n None Poll may = poll_numbered made state n may
-ask_numbered made state n None (Command word) may = tt
-ask_numbered made state n None Cut may = lose_numbered made state n None Cut may
-ask_numbered made state n (Some side) asked may = lose_numbered made state n (Some side) asked may
 
 module _ (plan : PlanData) (journal : List Entry) (server : State) (actor : Actor) (turn : Turn) (runs : IsRunnable plan) (kept : IsKept plan journal) (following : IsAfter (state_at plan journal) server) (made : server.made ≤ 4294967295) (room : live_session journal turn.actor ≡ None → server.made < 4294967295) (comes_so : Comes plan journal actor turn) (called : is_command turn.asked ≡ false) where
   abbrev now : State
@@ -67,24 +42,8 @@ module _ (plan : PlanData) (journal : List Entry) (server : State) (actor : Acto
   abbrev n : ℕ
   n = session_for live server.made
 
-  living : Living journal now
-  living = all_living plan journal kept.faithful kept.sessions
-
-  -- THE SESSION
-
-  own_reported : (session : Option ℕ) → live ≡ session → IsSessionOf (numbered server.made now) turn.actor session
-  own_reported (Some own) is = living.kinds turn.actor own is
-  own_reported None is = λ k more. living.fresh k (omega (arith, more, following.made))
-
-  own : IsSessionOf server turn.actor live
-  own = subst (λ (s : State). IsSessionOf s turn.actor live) (sym following.same) (own_reported live refl)
-
-  may_take : (session : Option ℕ) → MayTake journal (session_for session server.made) session
-  may_take (Some own) = refl
-  may_take None = let named : now.made ≡ sessions_named journal = living.named in omega (arith, named, following.made)
-
   take_own : MayTake journal n live
-  take_own = may_take live
+  take_own = takes_own plan journal server turn kept.faithful kept.sessions following
 
   -- WHAT IS ASKED
 
@@ -93,9 +52,7 @@ module _ (plan : PlanData) (journal : List Entry) (server : State) (actor : Acto
 
   -- the session that lives already
   stays_open : (own : ℕ) → live ≡ Some own → (n ≡ own) × (open_reported ≡ now)
-  stays_open own is =
-      let same : n ≡ own = ap (λ (o : Option ℕ). session_for o server.made) is in
-      (same, ap (λ (k : ℕ). opens_if false (not (is_client turn.actor)) k now) same ∙ sym (opened_live now own (not (is_client turn.actor)) (living.kinds turn.actor own is)))
+  stays_open = turn_stays_open plan journal server turn kept.faithful kept.sessions following
 
   losses : MayLoseAny plan journal turn.actor
   losses = losses_may plan journal turn.actor runs kept.faithful kept.follows
@@ -134,26 +91,8 @@ module _ (plan : PlanData) (journal : List Entry) (server : State) (actor : Acto
           subst (λ (side : Option Side). MayAsk open_reported n side turn.asked) (sym none) (subst (MayAsk open_reported n None) (sym cut) (cut_may lives.number lives.is))
       by (Gives none same gives side) = given_may turn.side turn.asked called gives
 
-  may : MayAsk (opened_on server n turn) n turn.side turn.asked
-  may =
-      subst (λ (s : State). MayAsk s n turn.side turn.asked)
-      (sym (ap (λ (b : Bool). opens_if b (not (is_client turn.actor)) n server) called ∙ ap (opens_if false (not (is_client turn.actor)) n) following.same ∙ opened_numbered false (not (is_client turn.actor)) n server.made now))
-      (ask_numbered _ open_reported n turn.side turn.asked reported_may)
-
-  few : length server.sessions ≤ server.made
-  few = subst (λ (s : State). length s.sessions ≤ server.made) (sym following.same) (omega (arith, living.few, following.made))
-
   pub turn_may : MayTurn server live turn
-  turn_may = record {
-    own = own;
-    apart = subst (λ (s : State). AreApart s.sessions) (sym following.same) living.apart;
-    few = few;
-    waits = subst NoneWaits (sym following.same) (all_waits plan journal kept.faithful kept.sessions);
-    made = made;
-    opens = room;
-    called = called;
-    may = may;
-  }
+  turn_may = asked_may plan journal server turn kept.faithful kept.sessions following made room called reported_may
 
 -- *Due turns may be taken*
 pub turns_may_be : DueTurnsMayBe

@@ -7,7 +7,7 @@ use Rattle.run_workers.proofs.runs.run_by_workers.Goals as goal
 
 pub returns-clause-order : goal.returns-clause-order
 returns-clause-order g c =
-    ran_ordered c.in_ok-done.done.shared_state c.args.feed.plan c.args.workers c.stop-run.result.0.journal c.stop-run.result.1.items c.stop-run.ensures.worked (ap (λ (o : Opening). o.plan) c.in_ok-done.ensures.opening ∙ ap (λ (v : WorkedView). v.plan) c.in_ok-worked.ensures)
+    ran_ordered c.in_ok-done.done.shared_state c.args.feed.run.plan c.args.workers c.stop-run.result.0.journal c.stop-run.result.1.items c.stop-run.ensures.worked (ap (λ (o : Opening). o.plan) c.in_ok-done.ensures.opening ∙ ap (λ (v : WorkedView). v.plan) c.in_ok-worked.ensures)
     (ap (λ (o : Opening). o.workers) c.in_ok-done.ensures.opening ∙ ap (λ (v : WorkedView). v.workers) c.in_ok-worked.ensures) c.in_ok-done.ensures.below c.stop-run.ensures.journal c.stop-run.ensures.turns
 
 pub returns-clause-passes : goal.returns-clause-passes
@@ -16,15 +16,15 @@ returns-clause-passes g c =
 
 pub returns-clause-over : goal.returns-clause-over
 returns-clause-over g c = λ over.
-    ran_over c.in_ok-done.done.shared_state c.args.feed.plan c.stop-run.result.0.journal c.stop-run.ensures.worked (ap (λ (o : Opening). o.plan) c.in_ok-done.ensures.opening ∙ ap (λ (v : WorkedView). v.plan) c.in_ok-worked.ensures) c.stop-run.ensures.journal
+    ran_over c.in_ok-done.done.shared_state c.args.feed.run.plan c.stop-run.result.0.journal c.stop-run.ensures.worked (ap (λ (o : Opening). o.plan) c.in_ok-done.ensures.opening ∙ ap (λ (v : WorkedView). v.plan) c.in_ok-worked.ensures) c.stop-run.ensures.journal
     (c.in_ok-done.ensures.over over)
 
 pub returns-clause-stops : goal.returns-clause-stops
 returns-clause-stops g c =
-    ran_stopped c.in_ok-done.done.shared_state c.args.feed.plan c.stop-run.result.0.journal c.stop-run.ensures.worked (ap (λ (o : Opening). o.plan) c.in_ok-done.ensures.opening ∙ ap (λ (v : WorkedView). v.plan) c.in_ok-worked.ensures) c.stop-run.ensures.journal
+    ran_stopped c.in_ok-done.done.shared_state c.args.feed.run.plan c.stop-run.result.0.journal c.stop-run.ensures.worked (ap (λ (o : Opening). o.plan) c.in_ok-done.ensures.opening ∙ ap (λ (v : WorkedView). v.plan) c.in_ok-worked.ensures) c.stop-run.ensures.journal
 
 pub returns-clause-server : goal.returns-clause-server
 returns-clause-server g c = λ over.
     let plan_is = ap (λ (o : Opening). o.plan) c.in_ok-done.ensures.opening ∙ ap (λ (v : WorkedView). v.plan) c.in_ok-worked.ensures in
-    ran_stands c.stop-run.result.0 c.args.feed.plan (c.stop-run.ensures.plan ∙ plan_is) c.stop-run.ensures.server
-    (ran_over c.in_ok-done.done.shared_state c.args.feed.plan c.stop-run.result.0.journal c.stop-run.ensures.worked plan_is c.stop-run.ensures.journal (c.in_ok-done.ensures.over over))
+    ran_stands c.stop-run.result.0 c.args.feed.run.plan (c.stop-run.ensures.plan ∙ plan_is) c.stop-run.ensures.server
+    (ran_over c.in_ok-done.done.shared_state c.args.feed.run.plan c.stop-run.result.0.journal c.stop-run.ensures.worked plan_is c.stop-run.ensures.journal (c.in_ok-done.ensures.over over))

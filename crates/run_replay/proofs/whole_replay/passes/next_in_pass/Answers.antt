@@ -8,20 +8,20 @@ use Rattle.run_replay.proofs.whole_replay.passes.next_in_pass.Goals as goal
 
 pub returns-then-may_go : goal.returns-then-may_go
 returns-then-may_go g c =
-    let none : words_from 0 (drop c.run_count-words.result c.args.feed.now.plan.turns) ≡ [] = ap (λ (n : ℕ). words_from 0 (drop n c.args.feed.now.plan.turns)) c.run_count-words.ensures ∙ no_words c.args.feed.now.plan.turns in
+    let none : words_from 0 (drop c.run_count-words.result c.args.feed.now.run.plan.turns) ≡ [] = ap (λ (n : ℕ). words_from 0 (drop n c.args.feed.now.run.plan.turns)) c.run_count-words.ensures ∙ no_words c.args.feed.now.run.plan.turns in
     ap
     (λ (words : List Actor).
-    let one : Choice = record { actor = c.actor_at-actor.result; queue = record { words = words; round = drop (c.loop-place.place + 1) (actors c.args.feed.now.plan) } } in
+    let one : Choice = record { actor = c.actor_at-actor.result; queue = record { words = words; round = drop (c.loop-place.place + 1) (actors c.args.feed.now.run.plan) } } in
     Some one)
     none
-    ∙ by_taken (may_go c.args.feed.now.plan c.args.feed.now.journal) (actors c.args.feed.now.plan) c.loop-place.place c.actor_at-actor.result
-    (first_ready (may_go c.args.feed.now.plan c.args.feed.now.journal) (drop c.args.from (actors c.args.feed.now.plan))) c.actor_at-actor.ensures (sym c.may_go.ensures ∙ c.if-may_go.true) c.loop-place.invariant
+    ∙ by_taken (may_go c.args.feed.now.run.plan c.args.feed.now.run.journal) (actors c.args.feed.now.run.plan) c.loop-place.place c.actor_at-actor.result
+    (first_ready (may_go c.args.feed.now.run.plan c.args.feed.now.run.journal) (drop c.args.from (actors c.args.feed.now.run.plan))) c.actor_at-actor.ensures (sym c.may_go.ensures ∙ c.if-may_go.true) c.loop-place.invariant
 
 pub loop-place-preserved : goal.loop-place-preserved
 loop-place-preserved g c =
-    actor_passed (may_go c.args.feed.now.plan c.args.feed.now.journal) (actors c.args.feed.now.plan) c.loop-place.place c.actor_at-actor.result c.actor_at-actor.ensures (sym c.may_go.ensures ∙ c.if-may_go.false) ∙ c.loop-place.invariant
+    actor_passed (may_go c.args.feed.now.run.plan c.args.feed.now.run.journal) (actors c.args.feed.now.run.plan) c.loop-place.place c.actor_at-actor.result c.actor_at-actor.ensures (sym c.may_go.ensures ∙ c.if-may_go.false) ∙ c.loop-place.invariant
 
 pub returns : goal.returns
 returns g c =
-    by_spent (may_go c.args.feed.now.plan c.args.feed.now.journal) (actors c.args.feed.now.plan) c.loop-place.place (first_ready (may_go c.args.feed.now.plan c.args.feed.now.journal) (drop c.args.from (actors c.args.feed.now.plan)))
+    by_spent (may_go c.args.feed.now.run.plan c.args.feed.now.run.journal) (actors c.args.feed.now.run.plan) c.loop-place.place (first_ready (may_go c.args.feed.now.run.plan c.args.feed.now.run.journal) (drop c.args.from (actors c.args.feed.now.run.plan)))
     (grind (arith, nat_tests, c.loop-place-test.false, c.actor_count-place-end.ensures)) c.loop-place.invariant

@@ -13,4 +13,4 @@ pub record Replaying (before now : RunView) (place : OrderPlace) (turn : ℕ) (t
 
 -- so many turns were taken, all of them the replay's, and the events were counted at the mark
 abbrev pub invariant-loop-turn : goal.invariant-loop-turn
-invariant-loop-turn g l = Replaying l.fn.feed l.feed l.place l._turn l.tables l.logged
+invariant-loop-turn g l = Replaying l.fn.feed.run l.feed.run l.place l._turn l.tables l.logged

@@ -5,4 +5,4 @@ use Rattle.run_replay.proofs.whole_replay.words.next_word.Given as goal
 
 -- the words from here on decide
 abbrev pub invariant-loop-index : goal.invariant-loop-index
-invariant-loop-index g l = first_ready (may_go l.feed.plan l.feed.journal) (words_from l.used (drop l.index l.feed.plan.turns)) ≡ first_ready (may_go l.feed.plan l.feed.journal) (words_from l.place.used (drop l.place.run l.feed.plan.turns))
+invariant-loop-index g l = first_ready (may_go l.feed.run.plan l.feed.run.journal) (words_from l.used (drop l.index l.feed.run.plan.turns)) ≡ first_ready (may_go l.feed.run.plan l.feed.run.journal) (words_from l.place.used (drop l.place.run l.feed.run.plan.turns))

@@ -5,8 +5,8 @@ use Rattle.plan_data.specs.declared.options.Options.{Options}
 use Rattle.plan_data.specs.PlanData.{PlanData}
 use Rattle.tool_program.specs.Feeds.{lags}
 use Rattle.tool_program.specs.JournalWords.Journals.{state_at}
-use Rattle.run_feed.proofs.Replicas.{starting_held}
-use Rattle.run_feed.proofs.replica.Replica.is_held_back.Goals as goal
+use Rattle.run_turns.proofs.Replicas.{starting_held}
+use Rattle.run_turns.proofs.replica.Replica.is_held_back.Goals as goal
 
 pub returns-then-starting : goal.returns-then-starting
 returns-then-starting g c =

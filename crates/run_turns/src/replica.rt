@@ -5,14 +5,14 @@ ghost use Rattle.base_values.specs.ToolNames.{log_name};
 ghost use Rattle.tool_program.specs.Feeds.{events_between, holds_read, is_held_back, lags, read_tables};
 ghost use Rattle.tool_program.specs.JournalWords.Journals.{state_at};
 ghost use Rattle.tool_program.specs.Orders.{caught_up, is_caught, may_go_at, risen};
-ghost use Rattle.run_feed.specs.Replicas.{IsReplicaOf};
+ghost use Rattle.run_turns.specs.Replicas.{IsReplicaOf};
 
 use crate::actors::{actor_at, actor_count};
+use crate::run::Run;
 use base_script::Actor;
 use base_values::tool_names::log_name;
 use base_values::{Duplicate, Names, Sequence};
 use plan_data::Plan;
-use run_turns::Run;
 use server_api::Serve;
 use std::alloc::{AllocError, Global};
 use std::cmp::max;
@@ -75,7 +75,7 @@ impl Replica {
 
     /// Whether the actor is held back.
     #[tactic(auto, using(crate::proofs::Replicas::none_held, crate::proofs::Replicas::read_held, crate::proofs::Replicas::else_held, crate::proofs::Replicas::starting_held, crate::proofs::Replicas::never_held))]
-    fn is_held_back<V: Serve>(&self, run: &Run<'_, V>, actor: Actor) -> bool
+    pub(crate) fn is_held_back<V: Serve>(&self, run: &Run<'_, V>, actor: Actor) -> bool
         requires { IsReplicaOf run.now.plan self.now }
         ensures { result ≡ is_held_back run.now.plan run.now.journal self.now.held actor }
     {
@@ -101,11 +101,15 @@ impl Replica {
     }
 
     /// Whether a catch-up is due: some actor is ready, and every ready actor is held back.
-    #[tactic(auto, using(crate::proofs::Holding::one_goes, crate::proofs::Holding::one_stays, crate::proofs::Holding::nobody_goes))]
+    #[tactic(auto, using(crate::proofs::Holding::one_goes, crate::proofs::Holding::one_stays, crate::proofs::Holding::nobody_goes, crate::proofs::Holding::none_caught))]
     fn is_caught<V: Serve>(&self, run: &Run<'_, V>) -> bool
         requires { IsReplicaOf run.now.plan self.now }
         ensures { result ≡ is_caught run.now.plan run.now.journal self.now.held }
     {
+        // Without a replica nobody is held back, and no actor has to be asked.
+        if run.plan().options().replica_step == 0 {
+            return false;
+        }
         let mut is_someone_ready = false;
         for place in 0..actor_count(run) {
             let actor = actor_at(run, place);

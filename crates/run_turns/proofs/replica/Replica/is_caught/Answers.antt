@@ -1,8 +1,8 @@
 use Rattle.std.proofs.Common.{Bool, ◌||◌, sym, ap, ◌∙◌}
 use Rattle.tool_program.specs.Orders.{is_ready}
-use Rattle.run_feed.proofs.Holding.{one_stays}
-use Rattle.run_feed.proofs.replica.Replica.is_caught.Goals.{then-is_someone_ready, else-is_someone_ready}
-use Rattle.run_feed.proofs.replica.Replica.is_caught.Goals as goal
+use Rattle.run_turns.proofs.Holding.{one_stays}
+use Rattle.run_turns.proofs.replica.Replica.is_caught.Goals.{then-is_someone_ready, else-is_someone_ready}
+use Rattle.run_turns.proofs.replica.Replica.is_caught.Goals as goal
 
 pub loop-place-preserved : goal.loop-place-preserved
 loop-place-preserved g c =

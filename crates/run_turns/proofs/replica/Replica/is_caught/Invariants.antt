@@ -1,5 +1,5 @@
-use Rattle.run_feed.proofs.Holding.{Seeks}
-use Rattle.run_feed.proofs.replica.Replica.is_caught.Given as goal
+use Rattle.run_turns.proofs.Holding.{Seeks}
+use Rattle.run_turns.proofs.replica.Replica.is_caught.Given as goal
 
 -- the actors from here on decide
 abbrev pub invariant-loop-place : goal.invariant-loop-place

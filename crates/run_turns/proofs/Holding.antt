@@ -1,8 +1,9 @@
 -- What the replica holds behind a turn more.
 use Rattle.std.proofs.Common.{◌≡◌, ◌≤◌, ℕ, ◌+◌, Bool, true, false, not, ◌&&◌, ◌||◌, List, [], ◌∷◌, ◌++◌, drop, length, Some, refl, sym, ap, ◌∙◌, append_assoc, append-nil}
-use Rattle.std.specs.Prelude.{fold}
+use Rattle.std.specs.Prelude.{◌==◌, fold}
 use Rattle.std.specs.List.{slice_get, list_any}
 use Rattle.std.proofs.Math.Bool.{and-false, and-true, or-false}
+use Rattle.std.proofs.Math.Path.{fun_ext}
 use Rattle.std.proofs.lemmas.List.{drop_all}
 use Rattle.std.proofs.lemmas.List.Sums.{fold-append}
 use Rattle.base_script.specs.declared.actor.Actor.{Actor}
@@ -10,6 +11,7 @@ use Rattle.server_model.specs.declared.entry.Entry.{Entry}
 use Rattle.plan_data.specs.PlanData.{PlanData}
 use Rattle.run_state.proofs.Clients.{left_here}
 use Rattle.tool_program.specs.Orders.{actors, caught_up, held_after, held_behind, Held, is_caught, is_ready, may_go_at, replica_length, risen}
+use Rattle.run_turns.proofs.Replicas.{none_held}
 
 -- THE FOLD
 
@@ -47,6 +49,20 @@ unfolding replica_length held_behind
 length_none plan = refl
 
 -- WHO MAY GO, ACTOR BY ACTOR
+
+-- without a replica nobody is held back, so no catch-up is due
+goes_ready : (plan : PlanData) (journal : List Entry) (held : ℕ) → (plan.options.replica_step == 0) ≡ true → (actor : Actor) → may_go_at plan journal held actor ≡ is_ready plan journal actor
+goes_ready plan journal held none actor = ap (λ (b : Bool). is_ready plan journal actor && not b) (sym (none_held plan journal held actor none)) ∙ and-true (is_ready plan journal actor)
+
+never_both : (b : Bool) → (b && not b) ≡ false
+never_both true = refl
+never_both false = refl
+
+pub none_caught : (plan : PlanData) (journal : List Entry) (held : ℕ) → (plan.options.replica_step == 0) ≡ true → false ≡ is_caught plan journal held
+none_caught plan journal held none =
+    sym
+    (ap (λ (test : Actor → Bool). list_any (is_ready plan journal) (actors plan) && not (list_any test (actors plan))) (fun_ext (goes_ready plan journal held none))
+    ∙ never_both (list_any (is_ready plan journal) (actors plan)))
 
 -- whether an actor passes a test, from a place on
 any_here : (test : Actor → Bool) (all : List Actor) (place : ℕ) (actor : Actor) → slice_get all place ≡ Some actor → list_any test (drop place all) ≡ (test actor || list_any test (drop (place + 1) all))

@@ -18,8 +18,8 @@ use Rattle.tool_program.specs.Programs.{given}
 use Rattle.proof_journals.specs.Run.Counts.{IsAfter}
 use Rattle.tool_state.specs.Feeds.{read_in, starts}
 use Rattle.tool_state.specs.declared.log_read.LogRead.{LogRead}
-use Rattle.run_feed.specs.declared.replica.Replica.{Replica}
-use Rattle.run_feed.specs.Replicas.{IsReplicaOf}
+use Rattle.run_turns.specs.declared.replica.Replica.{Replica}
+use Rattle.run_turns.specs.Replicas.{IsReplicaOf}
 
 -- THE SERVER'S LOG IS THAT OF THE STATE AFTER THE TURNS
 

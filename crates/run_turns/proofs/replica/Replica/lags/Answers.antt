@@ -5,8 +5,8 @@ use Rattle.plan_data.specs.declared.options.Options.{Options}
 use Rattle.plan_data.specs.PlanData.{PlanData}
 use Rattle.tool_program.specs.Feeds.{lag}
 use Rattle.tool_program.specs.JournalWords.Journals.{state_at}
-use Rattle.run_feed.proofs.Replicas.{lag_is}
-use Rattle.run_feed.proofs.replica.Replica.lags.Goals as goal
+use Rattle.run_turns.proofs.Replicas.{lag_is}
+use Rattle.run_turns.proofs.replica.Replica.lags.Goals as goal
 
 pub returns : goal.returns
 returns g c =

@@ -3,8 +3,8 @@
 ghost use Rattle.std.specs.Prelude.{◌≡◌, ◌<◌, length, slice_get, Some};
 ghost use Rattle.tool_program.specs.Orders.{actors};
 
+use crate::run::Run;
 use base_script::Actor;
-use run_turns::Run;
 use server_api::Serve;
 
 /// How many actors the plan has.

@@ -1,4 +1,0 @@
-pub mod ActorPlaces
-pub mod Replicas
-pub mod Holding
-pub mod FeedRuns
