@@ -1,0 +1,4 @@
+pub mod Finishes
+pub mod Checkpoints
+pub mod Callable
+pub mod Stages

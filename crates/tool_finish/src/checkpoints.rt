@@ -1,0 +1,48 @@
+//! Whether a run wrote a checkpoint. Nothing here takes memory.
+
+ghost use Rattle.std.specs.Prelude.{◌≡◌};
+ghost use Rattle.std.specs.List.{list_any};
+ghost use Rattle.tool_program.specs.NoteWriter.Notes.{is_checkpoint};
+ghost use Rattle.tool_finish.specs.Checkpoints.{asks_checkpoint, was_done, writes_checkpoint};
+
+use base_script::{Actor, Statement};
+use base_values::Value;
+use server_model::{Answer, Asked, Entry, Request};
+
+/// Whether it is the row with id 0.
+fn is_checkpoint(row: &[Value]) -> bool
+    ensures { result ≡ is_checkpoint row.now }
+{
+    match row {
+        [Value::Num(id), ..] => *id == 0,
+        _ => false,
+    }
+}
+
+fn asks_checkpoint(actor: Actor, asked: &Asked) -> bool
+    ensures { result ≡ asks_checkpoint actor asked.now }
+{
+    match (actor, asked) {
+        (Actor::Insp, Asked::Call(Request::Do(Statement::Replace { values, .. }))) => {
+            is_checkpoint(values.as_slice())
+        }
+        _ => false,
+    }
+}
+
+/// Whether the call was done, also where nobody heard of it.
+fn was_done(entry: &Entry) -> bool
+    ensures { result ≡ was_done entry.now.answer entry.now.missed }
+{
+    matches!(
+        (&entry.answer, &entry.missed),
+        (Answer::Ok(_), _) | (_, Some(Answer::Ok(_)))
+    )
+}
+
+/// Whether a checkpoint was written in these turns.
+pub fn has_written(run: &[Entry]) -> bool
+    ensures { result ≡ list_any writes_checkpoint run.now }
+{
+    run.iter().any(|entry| asks_checkpoint(entry.actor, &entry.asked) && was_done(entry))
+}
