@@ -1,0 +1,14 @@
+pub mod Shrinking
+pub mod ChunkEnds
+pub mod Rising
+pub mod Recalling
+pub mod Copying
+pub mod Coverage
+pub mod Noting
+pub mod Written
+pub mod LastCheckpoints
+pub mod ChangelogTurns
+pub mod StoredRows
+pub mod Statements
+pub mod Existing
+pub mod Lasting

@@ -1,0 +1,4 @@
+pub mod Coverage
+pub mod ChunkEnds
+pub mod Checkpoints
+pub mod Laws
