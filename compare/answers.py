@@ -8,11 +8,11 @@ WAITS = re.compile(r" waits (\d+)$")
 EQUAL_ROW = "answers of a REPLACE by an equal row, which counts 1 in the server"
 
 
-def answer_text(told):
+def answer_text(reported):
     """An answer of rehearsal.py as a trace has it: what the tool alone gets is `other`."""
-    if told[0] == "refused":
-        return f"error {told[1]}"
-    return f"ok {told[1]}" if told[0] == "ok" else "other"
+    if reported[0] == "refused":
+        return f"error {reported[1]}"
+    return f"ok {reported[1]}" if reported[0] == "ok" else "other"
 
 
 def loss_text(is_done, is_refused, is_over):

@@ -1,7 +1,7 @@
 """A server's own binary log, read as a replica reads it: each change of a row, in the order of the log.
 
 Only what the comparison needs: rows of integers, VARCHAR and VARBINARY with all their columns. The statement that a change belongs to
-is in the log as well; a REPLACE is told as the rows that it displaces and the row that it writes.
+is in the log as well; a REPLACE is reported as the rows that it displaces and the row that it writes.
 """
 import dataclasses
 import struct

@@ -89,8 +89,8 @@ def turns_of(program, pairs):
     ran = iter(program.asker.run("replay", [dataclasses.replace(plan, turn_limit=at) for plan, _, at in asked]))
     turns = {}
     for plan, report in pairs:
-        told = [[[] for _ in report.replies], *(Report(next(ran)).replies for _ in report.order)] if has_waits(report) else None
-        turns[plan.name] = [(client, told is not None and is_wait(told[at][client], told[at + 1][client])) for at, client in enumerate(report.order)]
+        reported = [[[] for _ in report.replies], *(Report(next(ran)).replies for _ in report.order)] if has_waits(report) else None
+        turns[plan.name] = [(client, reported is not None and is_wait(reported[at][client], reported[at + 1][client])) for at, client in enumerate(report.order)]
     return turns
 
 
@@ -206,7 +206,7 @@ PLANTS = {
 
 
 def plant(program, plans):
-    """Changes a copy of an output in one place, once for each kind of difference, and wants it to be told as unexplained."""
+    """Changes a copy of an output in one place, once for each kind of difference, and wants it to be reported as unexplained."""
     missed = 0
     with Server() as server:
         printed = [it for it in printed_by(program, [plan for plan in plans if plan.clients]) if it[2].status == 0]

@@ -218,8 +218,8 @@ class Play:
         """gh-ost's one statement for a chunk is BeginSpan, and CopyRow of each key."""
         keys = [key for key in map(str, range(int(low), int(high) + 1)) if f"({row(key)})" in self.rows[old]]
         span = f"record {{ low = Closed ({row(low)}); high = Closed ({row(high)}) }}"
-        told = f"answers.Keys ({listed(f'({row(it)})' for it in keys)}) ({row(high)})"
-        self.entry(session, f"Call (requests.BeginSpan ({name(old)}) ({span}) {len(keys)})", told)
+        reported = f"answers.Keys ({listed(f'({row(it)})' for it in keys)}) ({row(high)})"
+        self.entry(session, f"Call (requests.BeginSpan ({name(old)}) ({span}) {len(keys)})", reported)
         for key in keys:
             self.copy_row(session, old, into, key, "answers.Ok 1")
 

@@ -123,10 +123,10 @@ class Judge:
 
     def shape(self):
         ours, theirs = shape_of(self.check.text), self.served.shape
-        told = ["none" if it is None else it.told() for it in (ours, theirs)]
-        self.is_shaped = told[0] == told[1] if ours else True
+        reported = ["none" if it is None else it.reported() for it in (ours, theirs)]
+        self.is_shaped = reported[0] == reported[1] if ours else True
         if not self.is_shaped:
-            self.differ("shape", "", *told)
+            self.differ("shape", "", *reported)
 
     def are_rows_taken(self, code):
         first = 0 if self.report.is_of_second else code
@@ -150,7 +150,7 @@ class Judge:
             theirs = self.served.answers[client, place]
             self.refused += [line] if theirs[0] == "error" else []
             if not self.count.add_answer(ours, theirs):
-                self.differ("answer", f"client {client + 1} line {place + 1}: {line}", told(ours), told(theirs))
+                self.differ("answer", f"client {client + 1} line {place + 1}: {line}", reported(ours), reported(theirs))
                 if self.parts():
                     return False
         return True
@@ -166,7 +166,7 @@ class Judge:
             places[client] += 1
             self.refused += [line] if answer[0] == "error" else []
             if not self.count.add_answer(told_by_us, answer):
-                self.differ("answer", f"client {client + 1} reply {places[client]}: {line}", told(told_by_us), told(answer), is_early)
+                self.differ("answer", f"client {client + 1} reply {places[client]}: {line}", reported(told_by_us), reported(answer), is_early)
                 if self.parts():
                     return False
         if not self.served.left and places != [len(it) for it in self.report.replies]:
@@ -203,6 +203,6 @@ class Judge:
         return True
 
 
-def told(answer):
+def reported(answer):
     form, what = answer
     return f"{form} {what}" if form != "rows" else f"rows {' '.join(what)}"

@@ -44,7 +44,7 @@ EXPLAINED = {
     # (a key names one column twice)
     "the server refuses the plan's tables by 1060",
 }
-FAULTS_TOLD = "of two faults another is told"
+FAULTS_TOLD = "of two faults another is reported"
 
 
 # ---------------------------------------------------------------------- plans
@@ -342,7 +342,7 @@ class Pair:
         """An order of actors that the server answered at once in which the model gives the clients among them the same answers."""
 
         def ask(found):
-            wanted = {it: rehearsal.reply_of(rehearsal.clients[it], rehearsal.told(rehearsal.talks[it].call, rehearsal.talks[it]))[0] for it in found if it in rehearsal.clients}
+            wanted = {it: rehearsal.reply_of(rehearsal.clients[it], rehearsal.reported(rehearsal.talks[it].call, rehearsal.talks[it]))[0] for it in found if it in rehearsal.clients}
             for order in itertools.permutations(found) if len(found) < 5 and wanted else ():
                 replies = self.run_on(rehearsal, rehearsal.turns, order)
                 if all(replies[client][-1:] == [reply] for client, reply in wanted.items()):
@@ -356,7 +356,7 @@ class Pair:
         refused = self.printed(tree)
         if refused.status == 2:
             return "the plan is refused", refused.text.strip(), None
-        rehearsal, kind, told = None, "same", ""
+        rehearsal, kind, reported = None, "same", ""
         try:
             rehearsal = Rehearsal(self.server, tree)
             rehearsal.model_waits = self.waits_in_model(rehearsal)
@@ -365,16 +365,16 @@ class Pair:
                 self.plants(rehearsal)
             rehearsal.follow()
             rehearsal.finish()
-            kind, told = self.compare(name, rehearsal)
+            kind, reported = self.compare(name, rehearsal)
         except Stop as stop:
-            kind, told = stop.kind, stop.told
+            kind, reported = stop.kind, stop.reported
         finally:
             if rehearsal:
                 self.slowest = max(self.slowest, rehearsal.wakeups.slowest)
                 rehearsal.close()
                 self.counts.update(rehearsal.counts)
                 self.counts["turns"] += len(rehearsal.turns)
-        return kind, told, rehearsal
+        return kind, reported, rehearsal
 
     def compare(self, name, rehearsal):
         """The program, given the turns, must print the report that the server's answers make."""
@@ -390,8 +390,8 @@ class Pair:
             if self.report(rehearsal, other) == masked(rehearsal.report(other)):
                 self.counts["plans with a wait that the model doesn't have"] += 1
                 return self.same(name, rehearsal, other)
-        told = self.class_of(rehearsal, turns) or "UNEXPLAINED"
-        return told, f"{toml(rehearsal.ordered(turns))}--- the program\n{ours}--- the server\n{theirs}"
+        reported = self.class_of(rehearsal, turns) or "UNEXPLAINED"
+        return reported, f"{toml(rehearsal.ordered(turns))}--- the program\n{ours}--- the server\n{theirs}"
 
     def same(self, name, rehearsal, turns):
         """The reports are the same: then each answer of the server is held against the trace's line."""
@@ -409,8 +409,8 @@ class Pair:
             for table, theirs in rehearsal.counters.items() if rehearsal.is_over() else ():
                 ours = self.counter(rehearsal, turns, table)
                 if ours != theirs:
-                    told = class_of_numbers(rehearsal, len(turns), table, ours, theirs) or "UNEXPLAINED"
-                    return told, f"{toml(rehearsal.ordered(turns))}--- at the end {table} gives out {ours}, and by the server {theirs}"
+                    reported = class_of_numbers(rehearsal, len(turns), table, ours, theirs) or "UNEXPLAINED"
+                    return reported, f"{toml(rehearsal.ordered(turns))}--- at the end {table} gives out {ours}, and by the server {theirs}"
                 self.counts["counters at the end that are the same"] += 1
         self.counts[f"verdict {rehearsal.verdict_kind.split()[0]}"] += 1
         for end, text in (("toml", toml(rehearsal.ordered(turns))), ("report", masked(rehearsal.report(turns)))) if self.keep else ():
@@ -450,9 +450,9 @@ class Pair:
         if is_number or rehearsal.spare and ["error", "1264"] in (model[1:], server[1:]):
             # (other numbers, of which one side has none left, or one that is taken by now)
             numbers = [int(it[4]) if len(it) == 5 else None for it in (model, server)]
-            told = class_of_numbers(rehearsal, high, rehearsal.table_at(turn), *numbers)
-            if told and (told == DRAWN_EARLY or server[1:] != ["error", "1062"]):
-                return told
+            reported = class_of_numbers(rehearsal, high, rehearsal.table_at(turn), *numbers)
+            if reported and (reported == DRAWN_EARLY or server[1:] != ["error", "1062"]):
+                return reported
         if model[:2] == server[:2] and model[1] == "error":
             return f"{FAULTS_TOLD}: {model[2]}, and {server[2]} by the server"
         if turn.line.upper().startswith("REPLACE") and model[1] == server[1] == "ok" and int(model[2]) == int(server[2]) + 1:
@@ -529,10 +529,10 @@ def given_plans():
 
 def run_all(pair, plans, says, kinds):
     for name, tree in plans:
-        kind, told, _ = pair.rehearse(name, tree)
+        kind, reported, _ = pair.rehearse(name, tree)
         kinds.setdefault(kind, []).append(name)
         if kind != "same" and says or not is_explained(kind):
-            print(f"{name}: {kind}: {told}", flush=True)
+            print(f"{name}: {kind}: {reported}", flush=True)
 
 
 def cuts(rehearsal):
@@ -565,19 +565,19 @@ def no_lock(rehearsal):
 
 def other_answer(rehearsal):
     """An answer of the tool from which no turn follows: the hint's count."""
-    told = rehearsal.told
-    rehearsal.told = lambda call, talk: ("ok", 2) if call.what == "hint" else told(call, talk)
+    reported = rehearsal.reported
+    rehearsal.reported = lambda call, talk: ("ok", 2) if call.what == "hint" else reported(call, talk)
 
 
 def other_number(rehearsal):
     """The next number but one, wherever a client draws one."""
-    told = rehearsal.told
+    reported = rehearsal.reported
 
     def next_but_one(call, talk):
-        answer = told(call, talk)
+        answer = reported(call, talk)
         return ("ok", answer[1], answer[2] + 1) if answer[0] == "ok" and len(answer) == 3 and answer[2] else answer
 
-    rehearsal.told = next_but_one
+    rehearsal.reported = next_but_one
 
 
 def no_carried_counter(rehearsal):
@@ -595,13 +595,13 @@ def no_carried_counter(rehearsal):
 
 def lesser_counter(rehearsal):
     """The counter that is carried is one too small."""
-    told = rehearsal.told
+    reported = rehearsal.reported
 
     def one_less(call, talk):
-        answer = told(call, talk)
+        answer = reported(call, talk)
         return ("at", answer[1] - 1) if call.what == "show counter" and answer[0] == "at" else answer
 
-    rehearsal.told = one_less
+    rehearsal.reported = one_less
 
 
 def other_blockers(rehearsal):
@@ -623,7 +623,7 @@ FAULTS = {
 
 
 def plant_faults(program):
-    """The status: 0 where each planted fault is told by some plan."""
+    """The status: 0 where each planted fault is reported by some plan."""
     drawing = [(name, tree) for name, tree in plans_of_folder(f"{TOP}/examples") if tree["version"] == 2]
     plans, missed = [*plans_of_cases("worked"), *plans_of_folder(CLASSES), *drawing], 0
     with Server(*log_options()) as server:
@@ -631,9 +631,9 @@ def plant_faults(program):
         same = [(name, tree) for name, tree in plans if plain.rehearse(name, tree)[0] == "same"]
         for fault, plants in FAULTS.items():
             planted = Pair(program, server, plants)
-            told = [name for name, tree in same if planted.rehearse(name, tree)[0] != "same"]
-            print(f"planted: {fault}: told by {len(told)} of the {len(same)} plans that are the same without it", flush=True)
-            missed += not told
+            reported = [name for name, tree in same if planted.rehearse(name, tree)[0] != "same"]
+            print(f"planted: {fault}: reported by {len(reported)} of the {len(same)} plans that are the same without it", flush=True)
+            missed += not reported
     return 1 if missed else 0
 
 
@@ -654,7 +654,7 @@ def show_classes(program):
 
 
 def compare_migrations(program, plans, says, keep=None):
-    """The status: 0 where each plan is the same, or differs by a class that is told. What was done is told also where it is stopped."""
+    """The status: 0 where each plan is the same, or differs by a class that is reported. What was done is reported also where it is stopped."""
     kinds, pair = {}, None
     try:
         with Server(*log_options()) as server:

@@ -35,7 +35,7 @@ class Plan:
         if self.clients:
             scripts = ", ".join(quoted("\n".join(script)) for script in self.clients)
             text += f"clients = [{scripts}]\n"
-            # The tool waits until all clients are done, as the server is told the ALTER after their lines.
+            # The tool waits until all clients are done, as the server gets the ALTER after their lines.
             text += f'turns = "{self.order_of_clients()}"\n'
         text += table_text(self.create, self.rows)
         if self.second:

@@ -45,9 +45,9 @@ OPTIONS = {
 class Stop(Exception):
     """The two can't go on beside each other: a class of difference, and what was seen."""
 
-    def __init__(self, kind, told):
-        Exception.__init__(self, kind, told)
-        self.kind, self.told = kind, told
+    def __init__(self, kind, reported):
+        Exception.__init__(self, kind, reported)
+        self.kind, self.reported = kind, reported
 
 
 @dataclasses.dataclass
@@ -159,8 +159,8 @@ class Rehearsal:
 
     def columns_of(self, table):
         """The columns of a table with their kinds, the places of its clustered key, and those of all its unique keys."""
-        told = f"SELECT COLUMN_NAME, COLUMN_TYPE, IS_NULLABLE FROM information_schema.COLUMNS WHERE TABLE_SCHEMA = '{self.database}' AND TABLE_NAME = '{table}' ORDER BY ORDINAL_POSITION"
-        columns = [[it.decode() if isinstance(it, bytes) else it for it in row] for row in self.monitor.need(told).rows]
+        reported = f"SELECT COLUMN_NAME, COLUMN_TYPE, IS_NULLABLE FROM information_schema.COLUMNS WHERE TABLE_SCHEMA = '{self.database}' AND TABLE_NAME = '{table}' ORDER BY ORDINAL_POSITION"
+        columns = [[it.decode() if isinstance(it, bytes) else it for it in row] for row in self.monitor.need(reported).rows]
         names = [it[0] for it in columns]
         index = self.monitor.need(f"SHOW INDEX FROM `{table}`")
         at = [index.names.index(it) for it in ("Key_name", "Non_unique", "Column_name")]
@@ -337,8 +337,8 @@ class Rehearsal:
 
     def lock_of(self, talk):
         """What a session waits for: a gap, a row with its index and the one that has it, or a name."""
-        told = self.monitor.ask(LOCK.format(talk.session.number))
-        for mode, index, data, _, owner in [] if isinstance(told, Refused) else told.rows:
+        reported = self.monitor.ask(LOCK.format(talk.session.number))
+        for mode, index, data, _, owner in [] if isinstance(reported, Refused) else reported.rows:
             by = next((it for it, other in self.talks.items() if other.session.number == int(owner)), "?")
             if "GAP" in mode or "supremum" in str(data):
                 return "a gap", by
@@ -522,8 +522,8 @@ class Rehearsal:
         waits = self.model_waits(self.turns, actor, True)
         if label is None if waits is None else waits:
             return False
-        told = f"client {call.lines[0].split()[0].upper()}" if actor in self.clients else f"{actor}: {call.what}"
-        self.count(f"the server waits longer: {told} for {label or 'a row that another waits for, or that it only touches'}")
+        reported = f"client {call.lines[0].split()[0].upper()}" if actor in self.clients else f"{actor}: {call.what}"
+        self.count(f"the server waits longer: {reported} for {label or 'a row that another waits for, or that it only touches'}")
         return True
 
     def take(self, actor, talk, polls, side):
@@ -568,7 +568,7 @@ class Rehearsal:
         """The session is lost after its call, before the answer is heard."""
         call, is_over = talk.call, talk.polls + polls == self.longest_wait(actor)
         entry.note = "lost"
-        entry.answer = loss_text(is_done, is_done and self.told(call, talk)[0] == "refused", is_over)
+        entry.answer = loss_text(is_done, is_done and self.reported(call, talk)[0] == "refused", is_over)
         self.count("losses after a call")
         if is_done and call.what == "rename" and isinstance(talk.result, Ok):
             self.renamed()
@@ -661,16 +661,16 @@ class Rehearsal:
 
     def answer(self, actor, talk, entry, turn):
         call, talk.call = talk.call, None
-        told = self.told(call, talk)
-        entry.answer = answer_text(told)
+        reported = self.reported(call, talk)
+        entry.answer = answer_text(reported)
         self.count(f"answers of {'clients' if actor in self.clients else 'the tool'}")
-        if told[0] == "refused" and told[1] == 1213:
+        if reported[0] == "refused" and reported[1] == 1213:
             raise Stop(self.deadlock(actor), f"{actor}: {call.lines[-1]}")
         client = self.clients.get(actor)
         if client:
-            self.answer_client(actor, client, talk, entry, told)
+            self.answer_client(actor, client, talk, entry, reported)
         else:
-            self.answer_tool(actor, call, talk, told, turn)
+            self.answer_tool(actor, call, talk, reported, turn)
         if not talk.is_open:
             self.releases += 1
 
@@ -678,10 +678,10 @@ class Rehearsal:
         is_asked = any(talk.call and talk.call.what == "lock tables" for talk in self.talks.values())
         return "a deadlock of names: " + ("LOCK TABLES waits for a transaction that has read, which then writes" if is_asked and self.has_name(actor) else f"at {actor}")
 
-    def answer_client(self, actor, client, talk, entry, told):
-        if told[0] == "refused" and told[1] == 1146:
+    def answer_client(self, actor, client, talk, entry, reported):
+        if reported[0] == "refused" and reported[1] == 1146:
             raise Stop("a client's table is missing", f"{actor}: {client.lines[client.at]}")
-        entry.reply = (actor, *self.reply_of(client, told))
+        entry.reply = (actor, *self.reply_of(client, reported))
         entry.answer = entry.reply[1].partition(" ")[2]
         self.draw_as_the_model(Call("line", [client.lines[client.at]]), talk)
         transaction = client.transaction
@@ -700,14 +700,14 @@ class Rehearsal:
             self.count("numbers drawn by clients from the new table", "ALTER" in self.history and self.spare.table_of(call.lines[-1]) == self.table)
 
     @staticmethod
-    def reply_of(client, told):
-        if told[0] == "ok" and len(told) == 3 and told[2]:
-            return (f"{client.place()} ok {told[1]} id {told[2]}",)
-        if told[0] == "rows":
-            return f"{client.place()} rows {len(told[1])}", *sorted(printed_row(row) for row in told[1])
-        return (f"{client.place()} {'ok' if told[0] == 'ok' else 'error'} {told[1]}",)
+    def reply_of(client, reported):
+        if reported[0] == "ok" and len(reported) == 3 and reported[2]:
+            return (f"{client.place()} ok {reported[1]} id {reported[2]}",)
+        if reported[0] == "rows":
+            return f"{client.place()} rows {len(reported[1])}", *sorted(printed_row(row) for row in reported[1])
+        return (f"{client.place()} {'ok' if reported[0] == 'ok' else 'error'} {reported[1]}",)
 
-    def answer_tool(self, actor, call, talk, told, turn):
+    def answer_tool(self, actor, call, talk, reported, turn):
         if call.what in ("begin", "chunk"):
             talk.is_open = True
         elif call.what in ("commit", "rollback"):
@@ -719,17 +719,17 @@ class Rehearsal:
         elif call.what == "set counter":
             self.count("counters that are carried to the new table")
         elif call.what == "rename":
-            self.count("RENAME done" if told[0] == "ok" else f"RENAME refused by {told[1]}")
-            if told[0] == "ok":
+            self.count("RENAME done" if reported[0] == "ok" else f"RENAME refused by {reported[1]}")
+            if reported[0] == "ok":
                 self.renamed()
-        if told[0] == "refused" and (call.what, told[1]) != ("rename", 1050) and told[1] not in (1048, 1062, 1264, 1366, 1406):
-            raise Stop(f"the server refuses a call by {told[1]}", f"{actor}: {call.lines[-1]}")
+        if reported[0] == "refused" and (call.what, reported[1]) != ("rename", 1050) and reported[1] not in (1048, 1062, 1264, 1366, 1406):
+            raise Stop(f"the server refuses a call by {reported[1]}", f"{actor}: {call.lines[-1]}")
         try:
-            self.tool.took(actor, call, told, turn)
+            self.tool.took(actor, call, reported, turn)
         except Bad as bad:
             raise Stop("the server refuses a statement of the tool", str(bad)) from bad
 
-    def told(self, call, talk):
+    def reported(self, call, talk):
         """The answer in migration.py's words."""
         if call.what == "read log":
             position = self.tool.applier.position
@@ -781,7 +781,7 @@ class Rehearsal:
 
     def tables(self):
         """The tables of the plan with their rows, and the names of all."""
-        told = []
+        reported = []
         for table in self.tree["tables"]:
             name = self.name_in(table["create"]).strip("`")
             if name in (f"_{self.table}_gho", f"_{self.table}_ghc", f"_{self.table}_del"):
@@ -789,9 +789,9 @@ class Rehearsal:
             rows = self.monitor.need(f"SELECT * FROM `{name}`")
             self.count("tables compared")
             self.count("rows compared", len(rows.rows))
-            told += [f"table {name} ({', '.join(rows.names)})", *sorted(printed_row(row) for row in rows.rows)]
+            reported += [f"table {name} ({', '.join(rows.names)})", *sorted(printed_row(row) for row in rows.rows)]
         names = sorted(it.decode() if isinstance(it, bytes) else it for (it,) in self.monitor.need("SHOW TABLES").rows)
-        return [*told, " ".join(["tables", *names])]
+        return [*reported, " ".join(["tables", *names])]
 
     def finish(self):
         """Ends all sessions, and reads the tables."""
@@ -810,8 +810,8 @@ class Rehearsal:
 
     def counter(self, table):
         """The number that a table gives out next; none where it has none left."""
-        told = "SELECT AUTO_INCREMENT FROM information_schema.TABLES WHERE TABLE_SCHEMA = '{0}' AND TABLE_NAME = '{1}'"
-        number = int(self.monitor.need(told.format(self.database, table)).rows[0][0])
+        reported = "SELECT AUTO_INCREMENT FROM information_schema.TABLES WHERE TABLE_SCHEMA = '{0}' AND TABLE_NAME = '{1}'"
+        number = int(self.monitor.need(reported.format(self.database, table)).rows[0][0])
         self.monitor.need("SET @mode = @@sql_mode, sql_mode = ''")
         self.monitor.need("BEGIN")
         drawn = self.monitor.ask(f"INSERT INTO `{table}` () VALUES ()")

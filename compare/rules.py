@@ -106,7 +106,7 @@ OWN_OF_STATEMENTS = [
     Own("a condition is on a key", ("answer",), (1235,), lambda _, it: condition_of(it)),
     Own("an UPDATE sets a column once", ("answer",), (1110,), lambda _, it: begins(it, "UPDATE")),
     Own("a REPLACE counts each row that it displaces, also an equal one", ("answer",), (0,), displaces_an_equal_row),
-    Own("a value that doesn't fit is told before a column that has none", ("answer",), (1048, 1264, 1366, 1406), lambda _, it: it.theirs == "error 1364"),
+    Own("a value that doesn't fit is reported before a column that has none", ("answer",), (1048, 1264, 1366, 1406), lambda _, it: it.theirs == "error 1364"),
     Own("of several columns that don't store the first of the table is named", ("answer",), (1048, 1264, 1366, 1406), lambda _, it: it.theirs in UNSTORED),
     Own("a number past its column's range is refused like any other value", ("answer",), (1264,), lambda _, it: it.theirs in [f"error {number}" for number in NO_NUMBER_LEFT]),
     Own("a statement that waits draws in the turn that answers it", ("answer",), (0,), lambda _, it: it.is_early and it.is_other_number()),

@@ -84,7 +84,7 @@ class Stage:
 
 
 def play(server, scene):
-    """Each step with the server's answer, up to one that differs from what is known: behind it nothing is as told."""
+    """Each step with the server's answer, up to one that differs from what is known: behind it nothing is as reported."""
     stage, played = Stage(server, scene), []
     for step in scene.steps:
         answer = stage.take(step)

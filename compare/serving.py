@@ -35,7 +35,7 @@ class Shape:
     def __init__(self, columns, keys, comment):
         self.columns, self.keys, self.comment = columns, sorted(keys), comment
 
-    def told(self):
+    def reported(self):
         listed = [f"{name} {kind}{'' if nullable else ' NOT NULL'}{f' DEFAULT {default}' if has else ''}" for name, kind, nullable, has, default in self.columns]
         return "; ".join([*listed, *self.keys, f"COMMENT {self.comment}"])
 
@@ -150,8 +150,8 @@ class Bench:
 
     def shape(self):
         """Of the table `t`, which has no rows, and none afterwards."""
-        told = "SELECT COLUMN_NAME, COLUMN_TYPE, IS_NULLABLE, COLUMN_DEFAULT FROM information_schema.COLUMNS"
-        columns = self.session.need(f"{told} WHERE TABLE_SCHEMA = 'shape' AND TABLE_NAME = 't' ORDER BY ORDINAL_POSITION").rows
+        reported = "SELECT COLUMN_NAME, COLUMN_TYPE, IS_NULLABLE, COLUMN_DEFAULT FROM information_schema.COLUMNS"
+        columns = self.session.need(f"{reported} WHERE TABLE_SCHEMA = 'shape' AND TABLE_NAME = 't' ORDER BY ORDINAL_POSITION").rows
         if not columns:
             return None
         columns = [[text_of(it) for it in column] for column in columns]

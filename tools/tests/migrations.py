@@ -68,7 +68,7 @@ class Answers(unittest.TestCase):
 
     def test_blockers(self):
         """Sessions are numbered as they are opened: insp, c1, copy, apply, ren, and lock, c2 behind them."""
-        for first, second, behind, told in (
+        for first, second, behind, reported in (
             (None, None, (), ([], None)),
             ({"apply"}, {"apply", "c1"}, (), ([2], None)),
             ({"apply"}, {"ren", "c9"}, (), ([1], "7 ren poll waits 4")),
@@ -79,21 +79,21 @@ class Answers(unittest.TestCase):
         ):
             given = turns()
             given[5].blockers, given[6].blockers, given[5].behind, given[6].behind = first, second, behind, ()
-            with self.subTest(told):
+            with self.subTest(reported):
                 ways, other = ANSWERS.blockers_compared(given, TRACE)
-                self.assertEqual((list(ways.values()), other and other.partition(",")[0]), told)
+                self.assertEqual((list(ways.values()), other and other.partition(",")[0]), reported)
 
     def test_blocker_that_is_answered(self):
         """The server has answered the copier, who waits for c1 in the model: c2 waits for c1, and in the server for the copier."""
         trace = "\n#journal\n1 copy call other\n2 c1 call ok 1\n3 copy call waits 2\n4 c2 call waits 2\ndone\n"
-        for early, told in (({"copy"}, ([1], None)), (set(), ([], "4 c2 call waits 2"))):
+        for early, reported in (({"copy"}, ([1], None)), (set(), ([], "4 c2 call waits 2"))):
             given = [turn("copy", "other"), turn("c1", "ok 1"), turn("copy", "waits"), turn("c2", "waits", blockers={"copy"}, behind=(), early=early)]
-            with self.subTest(told):
+            with self.subTest(reported):
                 ways, other = ANSWERS.blockers_compared(given, trace)
-                self.assertEqual((list(ways.values()), other and other.partition(",")[0]), told)
+                self.assertEqual((list(ways.values()), other and other.partition(",")[0]), reported)
 
     def test_other_answers(self):
-        for at, change, told in (
+        for at, change, reported in (
             (1, {"answer": "ok 0"}, "turn 2"),
             (2, {"reply": ("c1", "1.1 rows 2", "(1)", "(3)")}, "turn 3"),
             (5, {"what": "drop"}, "turn 6"),
@@ -102,8 +102,8 @@ class Answers(unittest.TestCase):
         ):
             wrong = turns()
             wrong[at].__dict__.update(change)
-            with self.subTest(told):
-                self.assertTrue(ANSWERS.compared(wrong, TRACE)[2].startswith(told + ","))
+            with self.subTest(reported):
+                self.assertTrue(ANSWERS.compared(wrong, TRACE)[2].startswith(reported + ","))
         self.assertEqual(ANSWERS.compared(turns()[:-1], TRACE)[2], "the program has 10 turns, and the server 9")
 
     def test_equal_row(self):
@@ -114,7 +114,7 @@ class Answers(unittest.TestCase):
         self.assertTrue(ANSWERS.compared(wrong, TRACE)[2].startswith("turn 5, INSERT"))
 
     def test_words(self):
-        for told, text in ((("ok", 3), "ok 3"), (("refused", 1406, "c"), "error 1406"), (("waits", True), "other"), (("at", 7), "other")):
-            self.assertEqual(ANSWERS.answer_text(told), text)
+        for reported, text in ((("ok", 3), "ok 3"), (("refused", 1406, "c"), "error 1406"), (("waits", True), "other"), (("at", 7), "other")):
+            self.assertEqual(ANSWERS.answer_text(reported), text)
         for case, text in (((True, False, False), "done"), ((True, True, False), "refused"), ((False, False, False), "waited"), ((False, False, True), "refused")):
             self.assertEqual(ANSWERS.loss_text(*case), f"lost {text}")

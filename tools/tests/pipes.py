@@ -49,9 +49,9 @@ class Streams(unittest.TestCase):
 
     def expect(self, words, found, line):
         """The last line on standard error; the converter's notes come before it."""
-        status, told = found
-        self.assertEqual((status, told.split("\n")[-2]), (125, f"{words[0]}: {line}"))
-        self.assertNotIn("Traceback", told)
+        status, reported = found
+        self.assertEqual((status, reported.split("\n")[-2]), (125, f"{words[0]}: {line}"))
+        self.assertNotIn("Traceback", reported)
 
     def test_output_that_cannot_be_written(self):
         for words, given in self.calls():
@@ -90,10 +90,10 @@ class Streams(unittest.TestCase):
                 self.assertEqual(self.call(words), line)
 
     def test_noise(self):
-        """Bytes that are no text are told as such."""
+        """Bytes that are no text are reported as such."""
         noise = bytes(range(256)) * 8
         for words, status in ((["convert", "-", "--alter", "x"], 1), (["timeline"], 2), (["stats"], 2), (["sweep", "--program", self.reports, "-"], 2)):
             with self.subTest(words):
-                found, told = self.call(words, noise)
-                self.assertEqual(found, status, told)
-                self.assertNotIn("Traceback", told)
+                found, reported = self.call(words, noise)
+                self.assertEqual(found, status, reported)
+                self.assertNotIn("Traceback", reported)

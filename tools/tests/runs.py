@@ -99,8 +99,8 @@ class Looked(unittest.TestCase):
         plan = plan.replace(b"\n#journal", b"\n[[tables]]\ncreate = 'CREATE TABLE u (id INT AUTO_INCREMENT PRIMARY KEY, v INT)'\n\n#journal")
         for number in (b"", b" id 7"):
             given = plan.replace(b"\n12 c1 poll ok 1\n", b"\n12 c1 poll ok 1" + number + b"\n")
-            status, printed, told = run("timeline", "--table", "--from", "12", "--to", "12", given=given)
-            self.assertEqual((status, printed.split(), told), (0, ["12", "c1", *"INSERT INTO u (v) VALUES (1) ok 1".split(), *number.decode().split()], ""))
+            status, printed, reported = run("timeline", "--table", "--from", "12", "--to", "12", given=given)
+            self.assertEqual((status, printed.split(), reported), (0, ["12", "c1", *"INSERT INTO u (v) VALUES (1) ok 1".split(), *number.decode().split()], ""))
             self.assertIn(" ok 1" + number.decode(), run("timeline", given=given)[1])
             status, printed, _ = run("stats", given=given)
             self.assertEqual(status, 0)
@@ -129,9 +129,9 @@ class Looked(unittest.TestCase):
     def test_faulty_words(self):
         for words in (["--frob"], ["--from"], ["--from", "0"], ["--from", "99"], ["--from", "9", "--to", "8"], ["x.trace"]):
             with self.subTest(words):
-                status, printed, told = run("timeline", *words, given=trace("beside"))
+                status, printed, reported = run("timeline", *words, given=trace("beside"))
                 self.assertEqual((status, printed), (1, ""))
-                self.assertRegex(told, "^timeline: ")
+                self.assertRegex(reported, "^timeline: ")
         self.assertEqual(run("stats", "--beside", given=trace("beside"))[0], 1)
         self.assertEqual(run("stats", "--beside", "/no/such", given=trace("beside"))[::2], (1, "stats: /no/such: No such file or directory\n"))
 
