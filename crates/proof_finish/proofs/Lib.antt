@@ -1,0 +1,15 @@
+pub mod Owners
+pub mod Holders
+pub mod Prompt
+pub mod Machines
+pub mod Runs
+pub mod Walks
+pub mod Marks
+pub mod Sentries
+pub mod Refusals
+pub mod Verdicts
+pub mod Starts
+pub mod Standing
+pub mod Asks
+pub mod Calls
+pub mod Callable

@@ -1,0 +1,7 @@
+pub mod Prompt
+pub mod Runs
+pub mod Walks
+pub mod Marks
+pub mod Verdicts
+pub mod Starts
+pub mod Callable

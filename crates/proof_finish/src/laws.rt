@@ -1,0 +1,52 @@
+//! What holds of a new tool's turns: each function's contract is a law.
+
+ghost use Rattle.proof_finish.specs.Callable.{FinishesMayCall};
+ghost use Rattle.proof_finish.specs.Marks.{FinishesAlterOnce};
+ghost use Rattle.proof_finish.specs.Prompt.{AnswersComeAtOnce, FinishesKeepSessions};
+ghost use Rattle.proof_finish.specs.Runs.{FinishesAreRuns, FinishesAreSerial};
+ghost use Rattle.proof_finish.specs.Starts.{RangesAreNow};
+ghost use Rattle.proof_finish.specs.Verdicts.{DoneFinishesAltered, FinishesRevertByRows, RevertedFinishesDidNot};
+ghost use Rattle.proof_finish.specs.Walks.{FinishesAlter};
+
+/// None of the new tool's calls waits, times out or is lost.
+pub fn answers_come_at_once()
+    ensures calls { AnswersComeAtOnce }
+    ensures sessions { FinishesKeepSessions }
+{}
+
+/// A finished run is a run of its plan, and serial, where the new table is the altered one when the tables are exchanged.
+pub fn finishes_are_runs()
+    ensures runs { FinishesAreRuns }
+    ensures serial { FinishesAreSerial }
+{}
+
+/// Where the new copier and the new applier start right, the new table is the altered one when the tables are exchanged.
+pub fn finishes_alter()
+    ensures { FinishesAlter }
+{}
+
+/// The range that a new tool is answered is that of the migrated table's rows as they exist.
+pub fn ranges_are_now()
+    ensures { RangesAreNow }
+{}
+
+/// The ALTER is at most once in the history of a run's turns and the new tool's together.
+pub fn finishes_alter_once()
+    ensures { FinishesAlterOnce }
+{}
+
+/// Where a new tool is done, the ALTER is in the history of the run's turns and its own; where it reverts, it isn't.
+pub fn finish_verdicts_are_right()
+    ensures done { DoneFinishesAltered }
+    ensures reverted { RevertedFinishesDidNot }
+{}
+
+/// A new tool reverts only by a row that doesn't fit: its refusal is in the journal, at a turn of the new tool's, and is the verdict's cause.
+pub fn finishes_revert_by_rows()
+    ensures { FinishesRevertByRows }
+{}
+
+/// What the new tool asks may be asked of the server as it then is.
+pub fn finishes_may_call()
+    ensures { FinishesMayCall }
+{}
