@@ -1,0 +1,10 @@
+pub mod Owners
+pub mod Calls
+pub mod Checkpoints
+pub mod CopierTurns
+pub mod Exchanging
+pub mod Keys
+pub mod Losses
+pub mod Reading
+pub mod Stages
+pub mod Starting
