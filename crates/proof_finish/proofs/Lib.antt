@@ -8,8 +8,11 @@ pub mod Marks
 pub mod Sentries
 pub mod Refusals
 pub mod Verdicts
+pub mod Counts
+pub mod Batches
 pub mod Starts
 pub mod Standing
 pub mod Asks
 pub mod Calls
 pub mod Callable
+pub mod Leaving

@@ -39,7 +39,7 @@ use Rattle.tool_finish.specs.declared.stage.Stage.{Stage}
 use Rattle.tool_finish.specs.declared.stage.Stage.TheVariants.{Losing, Listing, Reading, Clearing, ReadingCounter, SettingCounter, Ranging, Copying, Applying, Exchanging, DroppingLog, DroppingOld, RollingBack, Done, Reverted}
 use Rattle.tool_finish.specs.declared.stage.UnfitRow.{UnfitRow}
 use Rattle.tool_finish.specs.declared.stage.UnfitRow.TheVariants.{Copied, Applied}
-use Rattle.tool_finish.specs.Finishes.{Asking, first_live, losing, next, rolls_back, stage_behind, took, IsFinishTurn}
+use Rattle.tool_finish.specs.Finishes.{first_live, losing, next, rolls_back, stage_behind, took, IsFinishTurn}
 use Rattle.tool_finish.specs.Finishes as finishes
 use Rattle.tool_finish.proofs.Walking.{stage_more}
 use Rattle.proof_journals.specs.Machine.Runnable.{IsRunnable}

@@ -87,7 +87,7 @@ use Rattle.proof_finish.proofs.Prompt.{after_is, alone_more, answer_is, finish_t
 -- WHAT A SESSION STANDS AT
 
 -- who locked no table, and waits with nothing
-none_locked : (own : Option ℕ) (number : ℕ) (sessions : List Session) → AllByRecursion (IsFreeBut own) sessions → (face_of sessions number).locked ≡ []
+pub none_locked : (own : Option ℕ) (number : ℕ) (sessions : List Session) → AllByRecursion (IsFreeBut own) sessions → (face_of sessions number).locked ≡ []
 none_locked own number [] all = refl
 none_locked own number (first ∷ sessions) all = by (first.number == number) (none_locked own number sessions all.1) where
   by : (b : Bool) → (face_of sessions number).locked ≡ [] → (face_in (cond b (Some first) (session_of number sessions))).locked ≡ []
@@ -129,12 +129,12 @@ run_guarded plan run runs kept off migrating = by (moment plan run).tool.tool_ph
 -- WHAT EXISTS AT EACH STAGE
 
 -- the tables as they were listed
-record SeenTables (plan : PlanData) (tables : Database) (seen : Listed) : Type 0 where
+pub record SeenTables (plan : PlanData) (tables : Database) (seen : Listed) : Type 0 where
   exist : TablesExist plan tables
   new : seen.new_table ≡ true
   free : seen.sentry ≡ false → IsFree plan tables
 
-abbrev GuardAt : PlanData → List Entry → Stage → Type 0
+abbrev pub GuardAt : PlanData → List Entry → Stage → Type 0
 GuardAt plan journal Losing = GuardedTables plan (state_at plan journal).tables ⊎ (was_altered plan journal ≡ true)
 GuardAt plan journal Listing = GuardedTables plan (state_at plan journal).tables ⊎ (was_altered plan journal ≡ true)
 GuardAt plan journal (Reading seen) = SeenTables plan (state_at plan journal).tables seen ⊎ (was_altered plan journal ≡ true)
@@ -384,14 +384,14 @@ module _ (plan : PlanData) (journal : List Entry) (entry : Entry) (in_own : IsSe
 -- ALONG THE TURNS
 
 -- *What exists* behind these turns
-record Guards (plan : PlanData) (run turns : List Entry) : Type 0 where
-  marked : GoesMarked plan run turns
-  guard : GuardAt plan (run ++ turns) (stage_behind plan run turns)
+pub record Guards (plan : PlanData) (run turns : List Entry) : Type 0 where
+  pub marked : GoesMarked plan run turns
+  pub guard : GuardAt plan (run ++ turns) (stage_behind plan run turns)
 
 abbrev Turn : PlanData → List Entry → List Entry → Entry → Type 0
 Turn plan run before entry = IsFinishTurn plan run before entry × IsAnswered (state_at plan before) entry
 
-guards_more : (plan : PlanData) (run turns : List Entry) (entry : Entry) → Turn plan run (run ++ turns) entry → Guards plan run turns → Guards plan run (turns ++ entry ∷ [])
+pub guards_more : (plan : PlanData) (run turns : List Entry) (entry : Entry) → Turn plan run (run ++ turns) entry → Guards plan run turns → Guards plan run (turns ++ entry ∷ [])
 guards_more plan run turns entry turn guards =
     let journal : List Entry = run ++ turns in
     let more : List Entry = journal ++ entry ∷ [] in
@@ -408,13 +408,13 @@ guards_more plan run turns entry turn guards =
           (subst (MarkAt plan more) (stage_more plan run turns entry) (subst (λ (j : List Entry). MarkAt plan j (stage_behind plan run (turns ++ entry ∷ []))) all marked.marks)) guards.guard));
     }
 
-all_guard : (plan : PlanData) (run turns rest : List Entry) → Along (Turn plan run) (run ++ turns) rest → Guards plan run turns → Guards plan run (turns ++ rest)
+pub all_guard : (plan : PlanData) (run turns rest : List Entry) → Along (Turn plan run) (run ++ turns) rest → Guards plan run turns → Guards plan run (turns ++ rest)
 all_guard plan run turns [] kept guards = subst (Guards plan run) (sym (append-nil turns)) guards
 all_guard plan run turns (entry ∷ rest) kept guards =
     subst (Guards plan run) (append_assoc turns (entry ∷ []) rest)
     (all_guard plan run (turns ++ entry ∷ []) rest (subst (λ (all : List Entry). Along (Turn plan run) all rest) (append_assoc run turns (entry ∷ [])) kept.1) (guards_more plan run turns entry kept.0 guards))
 
-guard_begins : (plan : PlanData) (run : List Entry) → IsRunnable plan → IsSerialPlan plan → IsKept plan run → is_migrating (moment plan run).tool.tool_phase ≡ true → Guards plan run []
+pub guard_begins : (plan : PlanData) (run : List Entry) → IsRunnable plan → IsSerialPlan plan → IsKept plan run → is_migrating (moment plan run).tool.tool_phase ≡ true → Guards plan run []
 unfolding stage_behind
 guard_begins plan run runs serial kept migrating = record {
   marked = marked_run plan run runs serial kept;
@@ -429,7 +429,7 @@ guard_begins plan run runs serial kept migrating = record {
   by false at = at
 
 -- a run that wrote a checkpoint is migrating
-migrating_of : (plan : PlanData) (run : List Entry) → has_checkpoint plan run ≡ true → is_migrating (moment plan run).tool.tool_phase ≡ true
+pub migrating_of : (plan : PlanData) (run : List Entry) → has_checkpoint plan run ≡ true → is_migrating (moment plan run).tool.tool_phase ≡ true
 unfolding has_checkpoint
 migrating_of plan run has = by (is_migrating (moment plan run).tool.tool_phase) (list_any writes_checkpoint run) (has_table (log_name plan.table) (state_at plan run).tables) has where
   by : (a b c : Bool) → (a && b && c) ≡ true → a ≡ true

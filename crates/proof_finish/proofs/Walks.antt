@@ -41,7 +41,7 @@ use Rattle.tool_program.specs.EventApplier.Appliers as appliers
 use Rattle.tool_finish.specs.declared.stage.Stage.{Stage}
 use Rattle.tool_finish.specs.declared.stage.Stage.TheVariants.{Losing, Listing, Reading, Clearing, ReadingCounter, SettingCounter, Ranging, Copying, Applying, Exchanging, DroppingLog, DroppingOld, RollingBack, Done, Reverted}
 use Rattle.tool_finish.specs.declared.stage.Listed.{Listed}
-use Rattle.tool_finish.specs.Finishes.{applied, applier_from, applying, checkpoint_in, copied, copier_from, copying, counter_read, counting, dropped_log, has_read, listed, losing, next, ranged, stage_behind, took, IsFinishTurn}
+use Rattle.tool_finish.specs.Finishes.{applied, applier_from, applying, checkpoint_in, copied, copier_from, copying, counter_read, counting, dropped_log, has_read, listed, next, ranged, stage_behind, took, IsFinishTurn}
 use Rattle.tool_finish.specs.Finishes as finishes
 use Rattle.tool_finish.proofs.Walking.{stage_more}
 use Rattle.plan_data.specs.PlanData.{has_counter}

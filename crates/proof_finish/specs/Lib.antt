@@ -3,5 +3,7 @@ pub mod Runs
 pub mod Walks
 pub mod Marks
 pub mod Verdicts
+pub mod Counts
+pub mod Batches
 pub mod Starts
 pub mod Callable

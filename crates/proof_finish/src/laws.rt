@@ -1,6 +1,8 @@
 //! What holds of a new tool's turns: each function's contract is a law.
 
-ghost use Rattle.proof_finish.specs.Callable.{FinishesMayCall};
+ghost use Rattle.proof_finish.specs.Batches.{ApplierTurnsAreFew, ReadsLetGoOn};
+ghost use Rattle.proof_finish.specs.Callable.{FinishesMayCall, KeptRunsLeaveTables};
+ghost use Rattle.proof_finish.specs.Counts.{OtherTurnsAreFew};
 ghost use Rattle.proof_finish.specs.Marks.{FinishesAlterOnce};
 ghost use Rattle.proof_finish.specs.Prompt.{AnswersComeAtOnce, FinishesKeepSessions};
 ghost use Rattle.proof_finish.specs.Runs.{FinishesAreRuns, FinishesAreSerial};
@@ -46,7 +48,20 @@ pub fn finishes_revert_by_rows()
     ensures { FinishesRevertByRows }
 {}
 
-/// What the new tool asks may be asked of the server as it then is.
+/// What the new tool asks may be asked of the server as it then is; a kept run leaves the tables for that.
 pub fn finishes_may_call()
-    ensures { FinishesMayCall }
+    ensures calls { FinishesMayCall }
+    ensures tables { KeptRunsLeaveTables }
+{}
+
+/// Besides its copier's and its applier's turns a new tool loses no more sessions than there are actors, and makes nine calls at most.
+pub fn other_turns_are_few()
+    ensures { OtherTurnsAreFew }
+{}
+
+/// Each turn of an applier leaves one turn fewer of six for each event that isn't read, where its answer lets it go on, as
+/// the reading of some event does.
+pub fn applier_turns_are_few()
+    ensures turns { ApplierTurnsAreFew }
+    ensures reads { ReadsLetGoOn }
 {}
