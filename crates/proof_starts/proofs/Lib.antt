@@ -8,3 +8,6 @@ pub mod Losses
 pub mod Reading
 pub mod Stages
 pub mod Starting
+pub mod PrintedKeys
+pub mod StoredKeys
+pub mod Finishable

@@ -1,5 +1,5 @@
 -- The new tool starts where the run's checkpoint is.
-use Rattle.std.specs.Prelude.{◌≡◌, ◌<◌, ℕ, ◌==◌, false, List, [], ◌∷◌, ◌++◌, Some}
+use Rattle.std.specs.Prelude.{◌≡◌, ◌<◌, ℕ, ◌==◌, true, false, List, [], ◌∷◌, ◌++◌, Some}
 use Rattle.table_store.specs.Databases.{find_table}
 use Rattle.server_model.specs.declared.answer.Answer.{Answer}
 use Rattle.server_model.specs.declared.answer.Answer.TheVariants as answers
@@ -10,8 +10,11 @@ use Rattle.tool_program.specs.Tools.{Migrating, Work, moment}
 use Rattle.extra_notes.specs.declared.checkpoint.Checkpoint.{Checkpoint}
 use Rattle.tool_finish.specs.declared.stage.Listed.{Listed}
 use Rattle.tool_finish.specs.declared.stage.Stage.TheVariants.{Ranging, Reading}
+use Rattle.tool_finish.specs.Callable.{IsFinishable}
+use Rattle.tool_finish.specs.Checkpoints.{has_checkpoint}
 use Rattle.tool_finish.specs.Finishes.{IsFinish, applier_from, copier_from, stage_behind}
-use Rattle.proof_journals.specs.Plans.{IsPlanRun, limits_of, scene_of}
+use Rattle.proof_journals.specs.Machine.Runnable.{IsRunnable}
+use Rattle.proof_journals.specs.Plans.{IsPlanRun, IsSerialPlan, limits_of, scene_of}
 use Rattle.proof_journals.specs.Run.Kept.{IsKept}
 use Rattle.proof_journals.specs.Ghost.HeldKeys.{Clustered}
 use Rattle.proof_journals.specs.Ghost.Rows.Moments.{Row}
@@ -25,6 +28,7 @@ use Rattle.proof_migration.specs.Program.Turns.Laws.{IsMigrationOf}
 use Rattle.proof_resume.specs.Reached.Checkpoints.{checkpoint_stored}
 use Rattle.proof_resume.specs.Reached.Coverage.{IsBehindTool, left_in}
 use Rattle.proof_bounds.specs.AttemptTurns.Attempts.{MayTry}
+use Rattle.proof_finish.specs.Callable.{ReachKeyed}
 use Rattle.proof_finish.specs.Runs.{ExchangesAltered}
 use Rattle.proof_finish.specs.Walks.{StartsRight}
 use Rattle.proof_plain.specs.Plans.{IsShort, PlainPlan}
@@ -85,3 +89,14 @@ abbrev pub FinishesExchangeAltered : Type 0
 FinishesExchangeAltered =
     (plan : PlanData) (is : IsAlterable plan) (at : Clustered is.table.schema) → IsMigrationOf plan (migration_of is.table.schema is.new) is.table.rows → MayTry plan → PlainPlan plan → (run : List Entry) (work : Work) → IsKept plan run → IsUnaltered plan run
     → (moment plan run).tool.tool_phase ≡ Migrating work → IsShort run → (turns : List Entry) → IsFaithful plan (run ++ turns) → IsFinish plan run turns → ExchangesAltered plan run turns × IsPlanRun plan (run ++ turns)
+
+-- *What is found is keyed*: it reaches to a key of the migrated table, whatever the plan's values are.
+abbrev pub FoundIsKeyed : Type 0
+FoundIsKeyed =
+    (plan : PlanData) (run : List Entry) (work : Work) → IsRunnable plan → IsSerialPlan plan → MayTry plan → IsKept plan run → IsUnaltered plan run → (moment plan run).tool.tool_phase ≡ Migrating work → (found : Checkpoint) → IsStored plan run found → ReachKeyed plan found.reach
+
+-- *Kept runs are finishable*: behind a kept run that has a checkpoint each call of the new tool may be made of the server as it then is,
+-- whether the RENAME was done or not.
+abbrev pub KeptRunsAreFinishable : Type 0
+KeptRunsAreFinishable =
+    (plan : PlanData) (m : Migration) (at : Clustered m.schema) (rows : List Row) → IsMigrationOf plan m rows → MayTry plan → find_table m.name plan.tables ≡ Some (record { schema = m.schema; rows = rows }) → (run : List Entry) → IsKept plan run → has_checkpoint plan run ≡ true → IsFinishable plan run

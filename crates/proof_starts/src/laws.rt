@@ -1,6 +1,6 @@
 //! How the new tool begins: each function's contract is a law.
 
-ghost use Rattle.proof_starts.specs.Laws.{CheckpointsAreRead, FinishesExchangeAltered, FinishesStart, FinishesStartRight, FoundIsBehind, RangesStart, ReadsAnswerCheckpoint, StagesFind};
+ghost use Rattle.proof_starts.specs.Laws.{CheckpointsAreRead, FinishesExchangeAltered, FinishesStart, FinishesStartRight, FoundIsBehind, FoundIsKeyed, KeptRunsAreFinishable, RangesStart, ReadsAnswerCheckpoint, StagesFind};
 
 /// Each stage before the copy finds what it needs: after the losses nobody is there, and nothing else was changed. The SELECT answers the
 /// checkpoint's row.
@@ -27,4 +27,11 @@ pub fn checkpoints_are_read()
 pub fn finishes_exchange_altered()
     ensures right { FinishesStartRight }
     ensures altered { FinishesExchangeAltered }
+{}
+
+/// Behind every kept run that has a checkpoint each call of the new tool may be made: what a run that is finished asks. The checkpoint
+/// that the new tool finds reaches to a key of the migrated table.
+pub fn kept_runs_are_finishable()
+    ensures keyed { FoundIsKeyed }
+    ensures finishable { KeptRunsAreFinishable }
 {}
