@@ -18,6 +18,7 @@ default_options = record {
   replica_step = 0;
   replica_pause = 1;
   max_lag = 10;
+  resume = false;
   approve_renamed_columns = false;
   initially_drop_ghost_table = false;
   initially_drop_old_table = false;

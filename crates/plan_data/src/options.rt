@@ -33,6 +33,8 @@ pub struct Options {
     pub replica_pause: u32,
     /// How many events of the changelog it may lack where a chunk or an attempt begins (`--max-lag-millis`, in events): 1 to 1,000.
     pub max_lag: u32,
+    /// Whether a new tool finishes a run that has taken all its turns, hasn't ended and left a checkpoint (`--resume`).
+    pub resume: bool,
     /// Whether the ALTER may give columns other names (`--approve-renamed-columns`).
     pub approve_renamed_columns: bool,
     /// Whether a new table that an earlier run left is dropped (`--initially-drop-ghost-table`).
@@ -75,6 +77,7 @@ impl Default for Options {
             replica_step: 0,
             replica_pause: 1,
             max_lag: 10,
+            resume: false,
             approve_renamed_columns: false,
             initially_drop_ghost_table: false,
             initially_drop_old_table: false,

@@ -32,19 +32,19 @@ is_truth_key key =
     || bytes_eq key (codes "show_history") || bytes_eq key (codes "show_turns") || bytes_eq key (codes "show_tables")
     || bytes_eq key (codes "show_replies")
 
--- those that version 2 has besides: of notes and of a replica, which have numbers too, and what isn't built yet
+-- those that version 2 has besides: of notes and of a replica, which have numbers too, and one that is true or false
 unfoldable pub is_note_key : List ℕ → Bool
 is_note_key key = bytes_eq key (codes "notes") || bytes_eq key (codes "note_every")
 
 unfoldable pub is_replica_key : List ℕ → Bool
 is_replica_key key = bytes_eq key (codes "replica_step") || bytes_eq key (codes "replica_pause") || bytes_eq key (codes "max_lag")
 
-unfoldable pub is_later_key : List ℕ → Bool
-is_later_key key = bytes_eq key (codes "resume")
+unfoldable pub is_resume_key : List ℕ → Bool
+is_resume_key key = bytes_eq key (codes "resume")
 
 -- the keys of the options of a plan, where `first` tells of version 1
 abbrev pub is_option_key : Bool → List ℕ → Bool
-is_option_key first key = is_number_key key || is_truth_key key || (not first && (is_note_key key || is_replica_key key || is_later_key key))
+is_option_key first key = is_number_key key || is_truth_key key || (not first && (is_note_key key || is_replica_key key || is_resume_key key))
 
 -- the number 1
 abbrev pub is_one : Option ℤ → Bool
@@ -78,10 +78,6 @@ knows_keys members =
     all_keys is_plan_key members
     && all_items_pass (λ value. all_pass is_table_key (as_table value)) (array_at (codes "tables") members)
     && all_pass (is_option_key (is_first_version members)) (table_at (codes "options") members)
-
--- an option of version 2 is there that isn't built yet
-abbrev pub has_later_key : Members → Bool
-has_later_key members = not (all_pass (λ key. not (is_later_key key)) (table_at (codes "options") members))
 
 -- the table has the key
 abbrev pub has_key : List ℕ → Members → Bool

@@ -71,6 +71,7 @@ truths_in options = do
   show_turns ← truth_or default_options.show_turns (option_at (codes "show_turns") options)
   show_tables ← truth_or default_options.show_tables (option_at (codes "show_tables") options)
   show_replies ← truth_or default_options.show_replies (option_at (codes "show_replies") options)
+  resume ← truth_or default_options.resume (option_at (codes "resume") options)
   Ok (record {
     approve_renamed_columns = approve_renamed_columns;
     initially_drop_ghost_table = initially_drop_ghost_table;
@@ -81,6 +82,7 @@ truths_in options = do
     show_turns = show_turns;
     show_tables = show_tables;
     show_replies = show_replies;
+    resume = resume;
   })
 
 -- a number from low to high
@@ -131,6 +133,7 @@ options_within numbers truths = do
     replica_step = version_two.replica_step;
     replica_pause = version_two.replica_pause;
     max_lag = version_two.max_lag;
+    resume = truths.resume;
     approve_renamed_columns = truths.approve_renamed_columns;
     initially_drop_ghost_table = truths.initially_drop_ghost_table;
     initially_drop_old_table = truths.initially_drop_old_table;

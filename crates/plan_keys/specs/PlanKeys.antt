@@ -1,5 +1,5 @@
 -- *Keys*: what the keys of a plan's document say, or why they are refused. This project's rule.
-use Rattle.std.specs.Prelude.{codes, ℕ, ℤ, Bool, not, if◌then◌else◌, List, map, Option, Some, None, Result, Ok, Err}
+use Rattle.std.specs.Prelude.{codes, ℕ, ℤ, not, if◌then◌else◌, List, map, Option, Some, None, Result, Ok, Err}
 use Rattle.toml.specs.Data.{Data, Items, Members, get_member, as_array, as_table}
 use Rattle.base_values.specs.SchemaRules.Results.{◌>>=◌}
 use Rattle.plan_data.specs.declared.options.Options.{Options}
@@ -12,17 +12,16 @@ use Rattle.plan_keys.specs.declared.texts.PlanTexts as code_texts
 use Rattle.plan_keys.specs.declared.keys.PlanKeys as code_keys
 use Rattle.plan_keys.specs.declared.keys.TypedKeys as code_typed
 use Rattle.plan_keys.specs.Documents.{needed_text, text_or_empty, texts_or_none, table_or_none, needed_number}
-use Rattle.plan_keys.specs.Known.{knows_keys, has_needed_keys, has_later_key}
+use Rattle.plan_keys.specs.Known.{knows_keys, has_needed_keys}
 use Rattle.plan_keys.specs.Limits.{TableData, TextData, has_too_many}
 use Rattle.plan_keys.specs.Options.{numbers_in, truths_in, within, options_within}
 use Rattle.plan_keys.specs.Walks.{each_item}
 
--- the version of a plan, its texts, its options, and whether it has options that aren't built yet
+-- the version of a plan, its texts and its options
 pub record KeyData : Type 0 where
   pub version : ℕ
   pub texts : TextData
   pub options : Options
-  pub later : Bool
 
 -- the same before ranges are looked at, with the number at the key `version`
 pub record TypedData : Type 0 where
@@ -30,7 +29,6 @@ pub record TypedData : Type 0 where
   pub texts : TextData
   pub numbers : NumberKeys
   pub truths : TruthKeys
-  pub later : Bool
 
 -- one of the tables
 unfoldable pub table_of : Members → Result TableData KeyRefusal
@@ -71,14 +69,14 @@ typed_of members = do
   options ← table_or_none (get_member (codes "options") members)
   numbers ← numbers_in options
   truths ← truths_in options
-  Ok (record { version = version; texts = texts; numbers = numbers; truths = truths; later = has_later_key members })
+  Ok (record { version = version; texts = texts; numbers = numbers; truths = truths })
 
 -- each number is in its range; that of `version` is 1 or 2
 unfoldable pub in_range : TypedData → Result KeyData KeyRefusal
 in_range keys = do
   version ← within 1 2 keys.version
   options ← options_within keys.numbers keys.truths
-  Ok (record { version = version; texts = keys.texts; options = options; later = keys.later })
+  Ok (record { version = version; texts = keys.texts; options = options })
 
 -- no count is over its limit
 abbrev pub few : KeyData → Result KeyData KeyRefusal
@@ -108,7 +106,7 @@ text_data texts = record {
 }
 
 abbrev pub typed_data : code_typed.TypedKeys → TypedData
-typed_data keys = record { version = keys.version; texts = text_data keys.texts; numbers = keys.numbers; truths = keys.truths; later = keys.later }
+typed_data keys = record { version = keys.version; texts = text_data keys.texts; numbers = keys.numbers; truths = keys.truths }
 
 abbrev pub key_data : code_keys.PlanKeys → KeyData
-key_data keys = record { version = keys.version; texts = text_data keys.texts; options = keys.options; later = keys.later }
+key_data keys = record { version = keys.version; texts = text_data keys.texts; options = keys.options }

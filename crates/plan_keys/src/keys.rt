@@ -8,7 +8,7 @@ ghost use Rattle.base_values.specs.Faults.{Answers};
 
 use crate::documents::{member_at, needed_number, table_or_none};
 use crate::fault::{KeyFault, KeyRefusal};
-use crate::known::{has_later_key, has_needed_keys, knows_keys};
+use crate::known::{has_needed_keys, knows_keys};
 use crate::limits::has_too_many;
 use crate::options::{NumberKeys, TruthKeys, numbers_in, options_within, truths_in, within};
 use crate::texts::{PlanTexts, texts_of};
@@ -25,8 +25,6 @@ pub struct PlanKeys<'a> {
     pub texts: PlanTexts<'a>,
     /// The options, within their ranges.
     pub options: Options,
-    /// Whether it has options of version 2 that aren't built yet.
-    pub later: bool,
 }
 
 /// What is at the keys, each value of its type.
@@ -40,8 +38,6 @@ pub struct TypedKeys<'a> {
     pub numbers: NumberKeys,
     /// The options that are true or false.
     pub truths: TruthKeys,
-    /// Whether there are options of version 2 that aren't built yet.
-    pub later: bool,
 }
 
 #[tactic(auto, unfolding(crate::specs::PlanKeys::typed_of))]
@@ -58,7 +54,6 @@ fn typed_of<'a>(alloc: Global, document: &'a Table) -> Result<TypedKeys<'a>, Key
         texts,
         numbers,
         truths,
-        later: has_later_key(document),
     })
 }
 
@@ -72,7 +67,6 @@ fn in_range(keys: TypedKeys<'_>) -> Result<PlanKeys<'_>, KeyFault>
         version,
         texts: keys.texts,
         options,
-        later: keys.later,
     })
 }
 

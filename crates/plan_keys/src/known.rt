@@ -1,10 +1,10 @@
 //! Which keys a plan has, and which it has to have.
 
-ghost use Rattle.std.specs.Prelude.{◌≡◌, not, is_some, option_map};
+ghost use Rattle.std.specs.Prelude.{◌≡◌, is_some, option_map};
 ghost use Rattle.std.specs.Str.{bytes_eq};
 ghost use Rattle.toml.specs.Data.{as_array, as_table};
 ghost use Rattle.toml.specs.View.{view, table_view, items_view};
-ghost use Rattle.plan_keys.specs.Known.{is_plan_key, is_table_key, is_number_key, is_truth_key, is_note_key, is_replica_key, is_later_key, is_option_key, is_one, is_first_version, has_later_key, all_pass, all_items_pass, array_at, table_at, knows_keys, has_key, has_create, has_needed_keys};
+ghost use Rattle.plan_keys.specs.Known.{is_plan_key, is_table_key, is_number_key, is_truth_key, is_note_key, is_replica_key, is_resume_key, is_option_key, is_one, is_first_version, all_pass, all_items_pass, array_at, table_at, knows_keys, has_key, has_create, has_needed_keys};
 ghost use Rattle.plan_keys.specs.Walks.{all_keys, all_items};
 
 use crate::documents::member_at;
@@ -82,9 +82,9 @@ fn is_replica_key(key: &[u8]) -> bool
     is_word(key, "replica_step") || is_word(key, "replica_pause") || is_word(key, "max_lag")
 }
 
-#[tactic(auto, unfolding(crate::specs::Known::is_later_key))]
-fn is_later_key(key: &[u8]) -> bool
-    ensures { result ≡ is_later_key key.now }
+#[tactic(auto, unfolding(crate::specs::Known::is_resume_key))]
+fn is_resume_key(key: &[u8]) -> bool
+    ensures { result ≡ is_resume_key key.now }
 {
     is_word(key, "resume")
 }
@@ -94,7 +94,7 @@ fn is_option_key(first: bool, key: &[u8]) -> bool
 {
     is_number_key(key)
         || is_truth_key(key)
-        || (!first && (is_note_key(key) || is_replica_key(key) || is_later_key(key)))
+        || (!first && (is_note_key(key) || is_replica_key(key) || is_resume_key(key)))
 }
 
 /// Whether the document says that it is of version 1, which has fewer options than version 2.
@@ -133,22 +133,6 @@ fn knows_option_keys(first: bool, table: Option<&Table>) -> bool
         None => true,
         Some(table) => table.keys().all(|key| is_option_key(first, key.as_bytes())),
     }
-}
-
-fn has_no_later_key(table: Option<&Table>) -> bool
-    ensures { result ≡ all_pass (λ key. not (is_later_key key)) (option_map (λ table. table_view table.now) table.entry) }
-{
-    match table {
-        None => true,
-        Some(table) => table.keys().all(|key| !is_later_key(key.as_bytes())),
-    }
-}
-
-/// Whether an option of version 2 is there that isn't built yet.
-pub fn has_later_key(document: &Table) -> bool
-    ensures { result ≡ has_later_key (table_view document.now) }
-{
-    !has_no_later_key(table_at(document, "options"))
 }
 
 fn knows_items_keys(items: &[Value]) -> bool

@@ -86,6 +86,8 @@ pub struct TruthKeys {
     pub show_tables: bool,
     /// `show_replies`.
     pub show_replies: bool,
+    /// `resume`, which version 2 has besides.
+    pub resume: bool,
 }
 
 /// What is at a key of the options.
@@ -178,6 +180,7 @@ pub fn truths_in(options: Option<&Table>) -> Result<TruthKeys, KeyFault>
     let show_turns = truth_or(default.show_turns, option_at(options, "show_turns"))?;
     let show_tables = truth_or(default.show_tables, option_at(options, "show_tables"))?;
     let show_replies = truth_or(default.show_replies, option_at(options, "show_replies"))?;
+    let resume = truth_or(default.resume, option_at(options, "resume"))?;
     Ok(TruthKeys {
         approve_renamed_columns,
         initially_drop_ghost_table,
@@ -188,6 +191,7 @@ pub fn truths_in(options: Option<&Table>) -> Result<TruthKeys, KeyFault>
         show_turns,
         show_tables,
         show_replies,
+        resume,
     })
 }
 
@@ -252,6 +256,7 @@ pub fn options_within(numbers: NumberKeys, truths: TruthKeys) -> Result<Options,
         replica_step: version_two.replica_step,
         replica_pause: version_two.replica_pause,
         max_lag: version_two.max_lag,
+        resume: truths.resume,
         approve_renamed_columns: truths.approve_renamed_columns,
         initially_drop_ghost_table: truths.initially_drop_ghost_table,
         initially_drop_old_table: truths.initially_drop_old_table,

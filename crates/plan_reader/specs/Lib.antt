@@ -1,4 +1,3 @@
-pub mod Built
 pub mod Clients
 pub mod Openings
 pub mod Orders

@@ -12,7 +12,6 @@ use Rattle.plan_reader.specs.declared.fault.PlanRefusal.{PlanRefusal}
 use Rattle.plan_reader.specs.declared.fault.PlanRefusal.TheVariants.{TooLong, NotToml}
 use Rattle.plan_reader.specs.Refusals.{of_keys, or_refused}
 use Rattle.plan_reader.specs.Openings.{OpeningData, opening_of}
-use Rattle.plan_reader.specs.Built.{built}
 use Rattle.plan_reader.specs.Clients.{clients_of}
 use Rattle.plan_reader.specs.Orders.{OrderData, few_orders, orders_of}
 
@@ -34,14 +33,14 @@ unfoldable pub keys_in : Members → Result KeyData PlanRefusal
 keys_in members = of_keys (keys_of members) >>= few_orders
 
 -- A document's plan, or its first refusal: the keys come first; then the tables, and the ALTER of the one to migrate; then
--- the clients' scripts; then the operator, the losses and the turns; and last what isn't built yet.
+-- the clients' scripts; and then the operator, the losses and the turns.
 unfoldable pub plan_at : Members → Result PlanData PlanRefusal
 plan_at members = do
   keys ← keys_in members
   opening ← opening_of keys
   clients ← clients_of keys.texts.table keys.texts.clients
   orders ← orders_of (length clients) keys.texts
-  built keys (plan_of keys opening clients orders)
+  Ok (plan_of keys opening clients orders)
 
 -- the document that bytes spell, where they are one
 unfoldable pub document : List ℕ → Option Members

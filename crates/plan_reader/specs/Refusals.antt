@@ -16,7 +16,7 @@ use Rattle.plan_orders.specs.declared.turn_order.fault.TurnRefusal.{TurnRefusal}
 use Rattle.plan_reader.specs.declared.fault.Place.{Place}
 use Rattle.plan_reader.specs.declared.fault.Place.TheVariants as places
 use Rattle.plan_reader.specs.declared.fault.PlanRefusal.{PlanRefusal}
-use Rattle.plan_reader.specs.declared.fault.PlanRefusal.TheVariants.{TooLong, NotToml, Keys, Tables, NoTable, Leftover, Alter, Script, Operator, Fault, Turn, NotBuilt}
+use Rattle.plan_reader.specs.declared.fault.PlanRefusal.TheVariants.{TooLong, NotToml, Keys, Tables, NoTable, Leftover, Alter, Script, Operator, Fault, Turn}
 
 -- ---- numbers and names
 
@@ -33,7 +33,6 @@ refusal_code (Script client refusal) = script_code refusal.code
 refusal_code (Operator refusal) = order_code refusal
 refusal_code (Fault fault refusal) = order_code refusal
 refusal_code (Turn refusal) = (56, codes "unknown_name")
-refusal_code NotBuilt = (60, codes "not_built")
 
 -- ---- places
 
@@ -60,7 +59,6 @@ refusal_place (Script client refusal) = places.Client client refusal.line
 refusal_place (Operator refusal) = operator_place refusal
 refusal_place (Fault fault refusal) = places.Fault fault
 refusal_place (Turn refusal) = places.TurnWord refusal.word
-refusal_place NotBuilt = places.Nowhere
 
 -- ---- what a part's refusal is to the plan
 

@@ -75,8 +75,6 @@ pub enum PlanRefusal {
     },
     /// 56: a word of the order of turns.
     Turn(TurnRefusal),
-    /// 60: the plan asks for what this program doesn't do yet.
-    NotBuilt,
 }
 
 fn table_place(refusal: TableRefusal) -> Place
@@ -117,7 +115,6 @@ impl PlanRefusal {
             PlanRefusal::Operator(refusal) => refusal.code(),
             PlanRefusal::Fault { refusal, .. } => refusal.code(),
             PlanRefusal::Turn(_) => (56, "unknown_name"),
-            PlanRefusal::NotBuilt => (60, "not_built"),
         }
     }
 
@@ -140,7 +137,6 @@ impl PlanRefusal {
             PlanRefusal::Operator(refusal) => operator_place(refusal),
             PlanRefusal::Fault { fault, .. } => Place::Fault(fault),
             PlanRefusal::Turn(refusal) => Place::TurnWord(refusal.word),
-            PlanRefusal::NotBuilt => Place::Nowhere,
         }
     }
 }

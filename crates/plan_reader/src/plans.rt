@@ -57,9 +57,6 @@ fn plan_at(alloc: Global, document: &Table) -> Result<Plan, PlanFault>
     let opening = opening_of(alloc, &table, &keys)?;
     let clients = clients_of(alloc, &table, keys.texts.clients.as_slice())?;
     let orders = orders_of(alloc, clients.len() as u32, &keys.texts)?;
-    if keys.later {
-        return Err(PlanFault::Refused(PlanRefusal::NotBuilt));
-    }
     let parts = PlanParts {
         table,
         alter: opening.alter,

@@ -33,7 +33,7 @@ abbrev map_101 : List MapColumn
 map_101 = (record { kind = VarChar 4; nullable = true; origin = from.Added (Text (codes "n")) } ∷ record { kind = Int 1 false; nullable = false; origin = from.Old 0 } ∷ record { kind = Int 4 false; nullable = true; origin = from.Old 1 } ∷ record { kind = Int 4 false; nullable = true; origin = from.Old 2 } ∷ [])
 
 abbrev pub plan_101 : PlanData
-plan_101 = record { table = codes "t"; alter = (clauses.Add (record { name = codes "b"; kind = VarChar 4; nullable = None; default = (Some (Text (codes "n"))); auto = false }) First ∷ clauses.Change (codes "m0") (record { name = codes "m0"; kind = Int 4 false; nullable = None; default = None; auto = false }) Unsaid ∷ []); tables = (record { schema = record { name = codes "t"; columns = (record { name = codes "id"; kind = Int 1 false; nullable = false; default = None; auto = false } ∷ record { name = codes "m0"; kind = Int 4 false; nullable = true; default = (Some Null); auto = false } ∷ record { name = codes "v"; kind = Int 4 false; nullable = true; default = (Some Null); auto = false } ∷ []); uniques = (record { name = None; places = (0 ∷ []) } ∷ record { name = (Some (codes "u0")); places = (1 ∷ []) } ∷ []); indexes = []; comment = []; start = None }; rows = (((Num (pos 5)) ∷ (Num (pos 2)) ∷ (Num (pos 6)) ∷ []) ∷ []) } ∷ record { schema = record { name = codes "_t_ghc"; columns = (record { name = codes "id"; kind = Int 4 false; nullable = false; default = None; auto = false } ∷ []); uniques = (record { name = None; places = (0 ∷ []) } ∷ []); indexes = []; comment = []; start = None }; rows = (((Num (pos 3)) ∷ []) ∷ []) } ∷ []); clients = ((record { line = 1; word = (words.Do (statements.Select (codes "t") shown.Count conditions.All)) } ∷ record { line = 2; word = (words.Do (statements.Delete (codes "t") (conditions.Equal (record { column = codes "id"; value = (Num (pos 3)) } ∷ [])))) } ∷ record { line = 3; word = words.Begin } ∷ record { line = 4; word = (words.Do (statements.Insert (codes "t") (Some (codes "id" ∷ codes "m0" ∷ [])) ((Num (pos 7)) ∷ (Num (pos 6)) ∷ []) None)) } ∷ record { line = 5; word = words.Commit } ∷ []) ∷ [] ∷ []); operator = (record { word = commanded.NoThrottle; units = 1 } ∷ record { word = commanded.Unpostpone; units = 1 } ∷ record { word = (commanded.ChunkSize 1); units = 1 } ∷ record { word = commanded.Wait; units = 3 } ∷ record { word = commanded.Wait; units = 1 } ∷ record { word = commanded.Wait; units = 4 } ∷ []); faults = (losses.Turn 36 (Client 2) ∷ []); turns = (record { actor = Insp; times = 5 } ∷ record { actor = Apply; times = 1 } ∷ record { actor = Op; times = 5 } ∷ record { actor = Op; times = 2 } ∷ record { actor = (Client 1); times = 5 } ∷ record { actor = Insp; times = 5 } ∷ record { actor = Lock; times = 3 } ∷ record { actor = Copy; times = 1 } ∷ record { actor = Apply; times = 5 } ∷ record { actor = Copy; times = 1 } ∷ record { actor = Op; times = 1 } ∷ record { actor = Op; times = 1 } ∷ record { actor = (Client 2); times = 5 } ∷ record { actor = Lock; times = 5 } ∷ record { actor = Op; times = 3 } ∷ record { actor = Lock; times = 1 } ∷ record { actor = (Client 2); times = 3 } ∷ record { actor = Op; times = 1 } ∷ record { actor = Ren; times = 5 } ∷ record { actor = Ren; times = 1 } ∷ record { actor = (Client 1); times = 1 } ∷ record { actor = (Client 2); times = 1 } ∷ record { actor = Insp; times = 1 } ∷ record { actor = Insp; times = 3 } ∷ record { actor = Op; times = 5 } ∷ record { actor = (Client 2); times = 2 } ∷ record { actor = Insp; times = 1 } ∷ record { actor = Lock; times = 1 } ∷ record { actor = (Client 2); times = 3 } ∷ record { actor = Insp; times = 1 } ∷ record { actor = (Client 1); times = 2 } ∷ record { actor = Ren; times = 3 } ∷ record { actor = Apply; times = 2 } ∷ record { actor = Insp; times = 1 } ∷ record { actor = Ren; times = 3 } ∷ record { actor = Copy; times = 5 } ∷ record { actor = Copy; times = 3 } ∷ record { actor = (Client 2); times = 1 } ∷ record { actor = Copy; times = 1 } ∷ record { actor = (Client 2); times = 5 } ∷ record { actor = (Client 1); times = 1 } ∷ record { actor = Ren; times = 1 } ∷ record { actor = Lock; times = 1 } ∷ record { actor = Lock; times = 5 } ∷ record { actor = Copy; times = 1 } ∷ record { actor = Lock; times = 5 } ∷ record { actor = Apply; times = 1 } ∷ record { actor = Lock; times = 2 } ∷ record { actor = Apply; times = 1 } ∷ record { actor = Lock; times = 3 } ∷ record { actor = Lock; times = 1 } ∷ record { actor = Insp; times = 1 } ∷ record { actor = Apply; times = 3 } ∷ record { actor = (Client 2); times = 1 } ∷ record { actor = Copy; times = 1 } ∷ record { actor = Insp; times = 2 } ∷ record { actor = Copy; times = 1 } ∷ record { actor = (Client 1); times = 1 } ∷ record { actor = Insp; times = 1 } ∷ record { actor = Ren; times = 5 } ∷ []); options = record { chunk_size = 2; dml_batch_size = 3; default_retries = 1; max_backlog = 100; drain_limit = 2000; client_wait = 1; tool_wait = 30; max_load = 64; turn_limit = 200000; notes = 0; note_every = 100; replica_step = 0; replica_pause = 1; max_lag = 10; approve_renamed_columns = true; initially_drop_ghost_table = false; initially_drop_old_table = false; ok_to_drop_table = false; postpone = false; show_history = true; show_turns = true; show_tables = true; show_replies = true } }
+plan_101 = record { table = codes "t"; alter = (clauses.Add (record { name = codes "b"; kind = VarChar 4; nullable = None; default = (Some (Text (codes "n"))); auto = false }) First ∷ clauses.Change (codes "m0") (record { name = codes "m0"; kind = Int 4 false; nullable = None; default = None; auto = false }) Unsaid ∷ []); tables = (record { schema = record { name = codes "t"; columns = (record { name = codes "id"; kind = Int 1 false; nullable = false; default = None; auto = false } ∷ record { name = codes "m0"; kind = Int 4 false; nullable = true; default = (Some Null); auto = false } ∷ record { name = codes "v"; kind = Int 4 false; nullable = true; default = (Some Null); auto = false } ∷ []); uniques = (record { name = None; places = (0 ∷ []) } ∷ record { name = (Some (codes "u0")); places = (1 ∷ []) } ∷ []); indexes = []; comment = []; start = None }; rows = (((Num (pos 5)) ∷ (Num (pos 2)) ∷ (Num (pos 6)) ∷ []) ∷ []) } ∷ record { schema = record { name = codes "_t_ghc"; columns = (record { name = codes "id"; kind = Int 4 false; nullable = false; default = None; auto = false } ∷ []); uniques = (record { name = None; places = (0 ∷ []) } ∷ []); indexes = []; comment = []; start = None }; rows = (((Num (pos 3)) ∷ []) ∷ []) } ∷ []); clients = ((record { line = 1; word = (words.Do (statements.Select (codes "t") shown.Count conditions.All)) } ∷ record { line = 2; word = (words.Do (statements.Delete (codes "t") (conditions.Equal (record { column = codes "id"; value = (Num (pos 3)) } ∷ [])))) } ∷ record { line = 3; word = words.Begin } ∷ record { line = 4; word = (words.Do (statements.Insert (codes "t") (Some (codes "id" ∷ codes "m0" ∷ [])) ((Num (pos 7)) ∷ (Num (pos 6)) ∷ []) None)) } ∷ record { line = 5; word = words.Commit } ∷ []) ∷ [] ∷ []); operator = (record { word = commanded.NoThrottle; units = 1 } ∷ record { word = commanded.Unpostpone; units = 1 } ∷ record { word = (commanded.ChunkSize 1); units = 1 } ∷ record { word = commanded.Wait; units = 3 } ∷ record { word = commanded.Wait; units = 1 } ∷ record { word = commanded.Wait; units = 4 } ∷ []); faults = (losses.Turn 36 (Client 2) ∷ []); turns = (record { actor = Insp; times = 5 } ∷ record { actor = Apply; times = 1 } ∷ record { actor = Op; times = 5 } ∷ record { actor = Op; times = 2 } ∷ record { actor = (Client 1); times = 5 } ∷ record { actor = Insp; times = 5 } ∷ record { actor = Lock; times = 3 } ∷ record { actor = Copy; times = 1 } ∷ record { actor = Apply; times = 5 } ∷ record { actor = Copy; times = 1 } ∷ record { actor = Op; times = 1 } ∷ record { actor = Op; times = 1 } ∷ record { actor = (Client 2); times = 5 } ∷ record { actor = Lock; times = 5 } ∷ record { actor = Op; times = 3 } ∷ record { actor = Lock; times = 1 } ∷ record { actor = (Client 2); times = 3 } ∷ record { actor = Op; times = 1 } ∷ record { actor = Ren; times = 5 } ∷ record { actor = Ren; times = 1 } ∷ record { actor = (Client 1); times = 1 } ∷ record { actor = (Client 2); times = 1 } ∷ record { actor = Insp; times = 1 } ∷ record { actor = Insp; times = 3 } ∷ record { actor = Op; times = 5 } ∷ record { actor = (Client 2); times = 2 } ∷ record { actor = Insp; times = 1 } ∷ record { actor = Lock; times = 1 } ∷ record { actor = (Client 2); times = 3 } ∷ record { actor = Insp; times = 1 } ∷ record { actor = (Client 1); times = 2 } ∷ record { actor = Ren; times = 3 } ∷ record { actor = Apply; times = 2 } ∷ record { actor = Insp; times = 1 } ∷ record { actor = Ren; times = 3 } ∷ record { actor = Copy; times = 5 } ∷ record { actor = Copy; times = 3 } ∷ record { actor = (Client 2); times = 1 } ∷ record { actor = Copy; times = 1 } ∷ record { actor = (Client 2); times = 5 } ∷ record { actor = (Client 1); times = 1 } ∷ record { actor = Ren; times = 1 } ∷ record { actor = Lock; times = 1 } ∷ record { actor = Lock; times = 5 } ∷ record { actor = Copy; times = 1 } ∷ record { actor = Lock; times = 5 } ∷ record { actor = Apply; times = 1 } ∷ record { actor = Lock; times = 2 } ∷ record { actor = Apply; times = 1 } ∷ record { actor = Lock; times = 3 } ∷ record { actor = Lock; times = 1 } ∷ record { actor = Insp; times = 1 } ∷ record { actor = Apply; times = 3 } ∷ record { actor = (Client 2); times = 1 } ∷ record { actor = Copy; times = 1 } ∷ record { actor = Insp; times = 2 } ∷ record { actor = Copy; times = 1 } ∷ record { actor = (Client 1); times = 1 } ∷ record { actor = Insp; times = 1 } ∷ record { actor = Ren; times = 5 } ∷ []); options = record { chunk_size = 2; dml_batch_size = 3; default_retries = 1; max_backlog = 100; drain_limit = 2000; client_wait = 1; tool_wait = 30; max_load = 64; turn_limit = 200000; notes = 0; note_every = 100; replica_step = 0; replica_pause = 1; max_lag = 10; resume = false; approve_renamed_columns = true; initially_drop_ghost_table = false; initially_drop_old_table = false; ok_to_drop_table = false; postpone = false; show_history = true; show_turns = true; show_tables = true; show_replies = true } }
 
 abbrev pub journal_101 : List Entry
 journal_101 =
@@ -110,7 +110,7 @@ abbrev map_102 : List MapColumn
 map_102 = (record { kind = Int 4 false; nullable = false; origin = from.Old 0 } ∷ record { kind = Int 4 false; nullable = true; origin = from.Old 1 } ∷ record { kind = Int 4 false; nullable = true; origin = from.Old 2 } ∷ record { kind = Int 4 false; nullable = true; origin = from.Added Null } ∷ [])
 
 abbrev plan_102 : PlanData
-plan_102 = record { table = codes "t"; alter = (clauses.Add (record { name = codes "b"; kind = Int 4 false; nullable = None; default = None; auto = false }) Unsaid ∷ []); tables = (record { schema = record { name = codes "t"; columns = (record { name = codes "id"; kind = Int 4 false; nullable = false; default = None; auto = false } ∷ record { name = codes "m"; kind = Int 4 false; nullable = true; default = (Some Null); auto = false } ∷ record { name = codes "v"; kind = Int 4 false; nullable = true; default = (Some Null); auto = false } ∷ []); uniques = (record { name = None; places = (0 ∷ []) } ∷ record { name = (Some (codes "u0")); places = (1 ∷ []) } ∷ []); indexes = []; comment = []; start = None }; rows = (((Num (pos 2)) ∷ Null ∷ (Num (pos 5)) ∷ []) ∷ ((Num (pos 3)) ∷ Null ∷ (Num (pos 5)) ∷ []) ∷ ((Num (pos 4)) ∷ (Num (pos 1)) ∷ (Num (pos 5)) ∷ []) ∷ ((Num (pos 6)) ∷ (Num (pos 2)) ∷ (Num (pos 5)) ∷ []) ∷ []) } ∷ []); clients = ((record { line = 1; word = (words.Do (statements.Delete (codes "t") (conditions.Equal (record { column = codes "id"; value = (Num (pos 1)) } ∷ [])))) } ∷ record { line = 2; word = (words.Do (statements.Delete (codes "t") (conditions.Equal (record { column = codes "id"; value = (Num (pos 5)) } ∷ [])))) } ∷ record { line = 3; word = (words.Do (statements.Update (codes "t") (record { column = codes "m"; value = Null } ∷ []) (conditions.Equal (record { column = codes "id"; value = (Num (pos 6)) } ∷ [])))) } ∷ record { line = 4; word = (words.Do (statements.Insert (codes "t") None ((Num (pos 5)) ∷ (Num (pos 1)) ∷ (Num (pos 3)) ∷ []) None)) } ∷ record { line = 5; word = (words.Do (statements.Update (codes "t") (record { column = codes "v"; value = (Num (pos 2)) } ∷ []) (conditions.Equal (record { column = codes "id"; value = (Num (pos 2)) } ∷ [])))) } ∷ record { line = 6; word = (words.Do (statements.Replace (codes "t") None ((Num (pos 2)) ∷ (Num (pos 3)) ∷ Null ∷ []) None)) } ∷ record { line = 7; word = (words.Do (statements.Update (codes "t") (record { column = codes "m"; value = Null } ∷ []) (conditions.Equal (record { column = codes "id"; value = (Num (pos 6)) } ∷ [])))) } ∷ record { line = 8; word = (words.Do (statements.Update (codes "t") (record { column = codes "id"; value = (Num (pos 6)) } ∷ []) (conditions.Equal (record { column = codes "id"; value = (Num (pos 2)) } ∷ [])))) } ∷ record { line = 9; word = (words.Do (statements.Delete (codes "t") (conditions.Equal (record { column = codes "id"; value = (Num (pos 5)) } ∷ [])))) } ∷ []) ∷ (record { line = 1; word = (words.Do (statements.Update (codes "t") (record { column = codes "v"; value = (Num (pos 2)) } ∷ []) (conditions.Equal (record { column = codes "id"; value = (Num (pos 3)) } ∷ [])))) } ∷ record { line = 2; word = words.Begin } ∷ record { line = 3; word = (words.Do (statements.Update (codes "t") (record { column = codes "v"; value = (Num (pos 2)) } ∷ []) (conditions.Equal (record { column = codes "id"; value = (Num (pos 2)) } ∷ [])))) } ∷ record { line = 4; word = (words.Do (statements.Update (codes "t") (record { column = codes "m"; value = Null } ∷ []) (conditions.Equal (record { column = codes "id"; value = (Num (pos 2)) } ∷ [])))) } ∷ record { line = 5; word = words.Commit } ∷ record { line = 6; word = (words.Do (statements.Update (codes "t") (record { column = codes "m"; value = (Num (pos 2)) } ∷ []) (conditions.Equal (record { column = codes "id"; value = (Num (pos 1)) } ∷ [])))) } ∷ record { line = 7; word = words.Begin } ∷ record { line = 8; word = (words.Do (statements.Delete (codes "t") (conditions.Equal (record { column = codes "id"; value = (Num (pos 1)) } ∷ [])))) } ∷ record { line = 9; word = (words.Do (statements.Update (codes "t") (record { column = codes "v"; value = Null } ∷ []) (conditions.Equal (record { column = codes "id"; value = (Num (pos 6)) } ∷ [])))) } ∷ record { line = 10; word = words.Commit } ∷ record { line = 11; word = (words.Do (statements.Update (codes "t") (record { column = codes "id"; value = (Num (pos 2)) } ∷ []) (conditions.Equal (record { column = codes "m"; value = (Num (pos 2)) } ∷ [])))) } ∷ record { line = 12; word = (words.Do (statements.Update (codes "t") (record { column = codes "m"; value = (Num (pos 2)) } ∷ []) (conditions.Equal (record { column = codes "id"; value = (Num (pos 6)) } ∷ [])))) } ∷ record { line = 13; word = (words.Do (statements.Update (codes "t") (record { column = codes "v"; value = (Num (pos 2)) } ∷ []) (conditions.Equal (record { column = codes "id"; value = (Num (pos 2)) } ∷ [])))) } ∷ []) ∷ []); operator = []; faults = (losses.Nth Insp 9 sides_at.Before ∷ losses.Nth Insp 4 sides_at.Before ∷ losses.Turn 28 Apply ∷ losses.Nth Ren 29 sides_at.After ∷ []); turns = (record { actor = Insp; times = 4 } ∷ record { actor = (Client 1); times = 2 } ∷ record { actor = Insp; times = 1 } ∷ record { actor = Apply; times = 1 } ∷ record { actor = Apply; times = 1 } ∷ record { actor = (Client 1); times = 6 } ∷ record { actor = (Client 1); times = 3 } ∷ record { actor = (Client 1); times = 9 } ∷ record { actor = (Client 2); times = 2 } ∷ record { actor = Apply; times = 9 } ∷ record { actor = (Client 2); times = 6 } ∷ record { actor = (Client 2); times = 9 } ∷ record { actor = (Client 1); times = 6 } ∷ record { actor = (Client 2); times = 6 } ∷ record { actor = (Client 2); times = 1 } ∷ record { actor = (Client 2); times = 6 } ∷ record { actor = Copy; times = 3 } ∷ record { actor = (Client 2); times = 6 } ∷ record { actor = (Client 1); times = 9 } ∷ record { actor = (Client 1); times = 4 } ∷ record { actor = (Client 2); times = 3 } ∷ record { actor = (Client 2); times = 6 } ∷ record { actor = (Client 2); times = 9 } ∷ record { actor = (Client 2); times = 6 } ∷ record { actor = (Client 1); times = 2 } ∷ record { actor = Copy; times = 2 } ∷ record { actor = Copy; times = 1 } ∷ record { actor = (Client 2); times = 1 } ∷ record { actor = (Client 1); times = 1 } ∷ record { actor = Copy; times = 9 } ∷ record { actor = (Client 2); times = 3 } ∷ record { actor = (Client 1); times = 2 } ∷ record { actor = Copy; times = 3 } ∷ []); options = record { chunk_size = 2; dml_batch_size = 3; default_retries = 60; max_backlog = 100; drain_limit = 2000; client_wait = 5; tool_wait = 9; max_load = 64; turn_limit = 200000; notes = 0; note_every = 100; replica_step = 0; replica_pause = 1; max_lag = 10; approve_renamed_columns = false; initially_drop_ghost_table = false; initially_drop_old_table = false; ok_to_drop_table = false; postpone = false; show_history = true; show_turns = true; show_tables = true; show_replies = true } }
+plan_102 = record { table = codes "t"; alter = (clauses.Add (record { name = codes "b"; kind = Int 4 false; nullable = None; default = None; auto = false }) Unsaid ∷ []); tables = (record { schema = record { name = codes "t"; columns = (record { name = codes "id"; kind = Int 4 false; nullable = false; default = None; auto = false } ∷ record { name = codes "m"; kind = Int 4 false; nullable = true; default = (Some Null); auto = false } ∷ record { name = codes "v"; kind = Int 4 false; nullable = true; default = (Some Null); auto = false } ∷ []); uniques = (record { name = None; places = (0 ∷ []) } ∷ record { name = (Some (codes "u0")); places = (1 ∷ []) } ∷ []); indexes = []; comment = []; start = None }; rows = (((Num (pos 2)) ∷ Null ∷ (Num (pos 5)) ∷ []) ∷ ((Num (pos 3)) ∷ Null ∷ (Num (pos 5)) ∷ []) ∷ ((Num (pos 4)) ∷ (Num (pos 1)) ∷ (Num (pos 5)) ∷ []) ∷ ((Num (pos 6)) ∷ (Num (pos 2)) ∷ (Num (pos 5)) ∷ []) ∷ []) } ∷ []); clients = ((record { line = 1; word = (words.Do (statements.Delete (codes "t") (conditions.Equal (record { column = codes "id"; value = (Num (pos 1)) } ∷ [])))) } ∷ record { line = 2; word = (words.Do (statements.Delete (codes "t") (conditions.Equal (record { column = codes "id"; value = (Num (pos 5)) } ∷ [])))) } ∷ record { line = 3; word = (words.Do (statements.Update (codes "t") (record { column = codes "m"; value = Null } ∷ []) (conditions.Equal (record { column = codes "id"; value = (Num (pos 6)) } ∷ [])))) } ∷ record { line = 4; word = (words.Do (statements.Insert (codes "t") None ((Num (pos 5)) ∷ (Num (pos 1)) ∷ (Num (pos 3)) ∷ []) None)) } ∷ record { line = 5; word = (words.Do (statements.Update (codes "t") (record { column = codes "v"; value = (Num (pos 2)) } ∷ []) (conditions.Equal (record { column = codes "id"; value = (Num (pos 2)) } ∷ [])))) } ∷ record { line = 6; word = (words.Do (statements.Replace (codes "t") None ((Num (pos 2)) ∷ (Num (pos 3)) ∷ Null ∷ []) None)) } ∷ record { line = 7; word = (words.Do (statements.Update (codes "t") (record { column = codes "m"; value = Null } ∷ []) (conditions.Equal (record { column = codes "id"; value = (Num (pos 6)) } ∷ [])))) } ∷ record { line = 8; word = (words.Do (statements.Update (codes "t") (record { column = codes "id"; value = (Num (pos 6)) } ∷ []) (conditions.Equal (record { column = codes "id"; value = (Num (pos 2)) } ∷ [])))) } ∷ record { line = 9; word = (words.Do (statements.Delete (codes "t") (conditions.Equal (record { column = codes "id"; value = (Num (pos 5)) } ∷ [])))) } ∷ []) ∷ (record { line = 1; word = (words.Do (statements.Update (codes "t") (record { column = codes "v"; value = (Num (pos 2)) } ∷ []) (conditions.Equal (record { column = codes "id"; value = (Num (pos 3)) } ∷ [])))) } ∷ record { line = 2; word = words.Begin } ∷ record { line = 3; word = (words.Do (statements.Update (codes "t") (record { column = codes "v"; value = (Num (pos 2)) } ∷ []) (conditions.Equal (record { column = codes "id"; value = (Num (pos 2)) } ∷ [])))) } ∷ record { line = 4; word = (words.Do (statements.Update (codes "t") (record { column = codes "m"; value = Null } ∷ []) (conditions.Equal (record { column = codes "id"; value = (Num (pos 2)) } ∷ [])))) } ∷ record { line = 5; word = words.Commit } ∷ record { line = 6; word = (words.Do (statements.Update (codes "t") (record { column = codes "m"; value = (Num (pos 2)) } ∷ []) (conditions.Equal (record { column = codes "id"; value = (Num (pos 1)) } ∷ [])))) } ∷ record { line = 7; word = words.Begin } ∷ record { line = 8; word = (words.Do (statements.Delete (codes "t") (conditions.Equal (record { column = codes "id"; value = (Num (pos 1)) } ∷ [])))) } ∷ record { line = 9; word = (words.Do (statements.Update (codes "t") (record { column = codes "v"; value = Null } ∷ []) (conditions.Equal (record { column = codes "id"; value = (Num (pos 6)) } ∷ [])))) } ∷ record { line = 10; word = words.Commit } ∷ record { line = 11; word = (words.Do (statements.Update (codes "t") (record { column = codes "id"; value = (Num (pos 2)) } ∷ []) (conditions.Equal (record { column = codes "m"; value = (Num (pos 2)) } ∷ [])))) } ∷ record { line = 12; word = (words.Do (statements.Update (codes "t") (record { column = codes "m"; value = (Num (pos 2)) } ∷ []) (conditions.Equal (record { column = codes "id"; value = (Num (pos 6)) } ∷ [])))) } ∷ record { line = 13; word = (words.Do (statements.Update (codes "t") (record { column = codes "v"; value = (Num (pos 2)) } ∷ []) (conditions.Equal (record { column = codes "id"; value = (Num (pos 2)) } ∷ [])))) } ∷ []) ∷ []); operator = []; faults = (losses.Nth Insp 9 sides_at.Before ∷ losses.Nth Insp 4 sides_at.Before ∷ losses.Turn 28 Apply ∷ losses.Nth Ren 29 sides_at.After ∷ []); turns = (record { actor = Insp; times = 4 } ∷ record { actor = (Client 1); times = 2 } ∷ record { actor = Insp; times = 1 } ∷ record { actor = Apply; times = 1 } ∷ record { actor = Apply; times = 1 } ∷ record { actor = (Client 1); times = 6 } ∷ record { actor = (Client 1); times = 3 } ∷ record { actor = (Client 1); times = 9 } ∷ record { actor = (Client 2); times = 2 } ∷ record { actor = Apply; times = 9 } ∷ record { actor = (Client 2); times = 6 } ∷ record { actor = (Client 2); times = 9 } ∷ record { actor = (Client 1); times = 6 } ∷ record { actor = (Client 2); times = 6 } ∷ record { actor = (Client 2); times = 1 } ∷ record { actor = (Client 2); times = 6 } ∷ record { actor = Copy; times = 3 } ∷ record { actor = (Client 2); times = 6 } ∷ record { actor = (Client 1); times = 9 } ∷ record { actor = (Client 1); times = 4 } ∷ record { actor = (Client 2); times = 3 } ∷ record { actor = (Client 2); times = 6 } ∷ record { actor = (Client 2); times = 9 } ∷ record { actor = (Client 2); times = 6 } ∷ record { actor = (Client 1); times = 2 } ∷ record { actor = Copy; times = 2 } ∷ record { actor = Copy; times = 1 } ∷ record { actor = (Client 2); times = 1 } ∷ record { actor = (Client 1); times = 1 } ∷ record { actor = Copy; times = 9 } ∷ record { actor = (Client 2); times = 3 } ∷ record { actor = (Client 1); times = 2 } ∷ record { actor = Copy; times = 3 } ∷ []); options = record { chunk_size = 2; dml_batch_size = 3; default_retries = 60; max_backlog = 100; drain_limit = 2000; client_wait = 5; tool_wait = 9; max_load = 64; turn_limit = 200000; notes = 0; note_every = 100; replica_step = 0; replica_pause = 1; max_lag = 10; resume = false; approve_renamed_columns = false; initially_drop_ghost_table = false; initially_drop_old_table = false; ok_to_drop_table = false; postpone = false; show_history = true; show_turns = true; show_tables = true; show_replies = true } }
 
 abbrev journal_102 : List Entry
 journal_102 =
@@ -196,7 +196,7 @@ abbrev map_103 : List MapColumn
 map_103 = (record { kind = Int 4 false; nullable = false; origin = from.Old 0 } ∷ record { kind = Int 4 false; nullable = false; origin = from.Old 1 } ∷ record { kind = Int 4 false; nullable = true; origin = from.Old 2 } ∷ record { kind = Int 1 false; nullable = true; origin = from.Old 3 } ∷ record { kind = VarBinary 9; nullable = true; origin = from.Old 4 } ∷ [])
 
 abbrev plan_103 : PlanData
-plan_103 = record { table = codes "t"; alter = (clauses.Change (codes "v") (record { name = codes "v"; kind = VarBinary 9; nullable = None; default = None; auto = false }) Unsaid ∷ []); tables = (record { schema = record { name = codes "t"; columns = (record { name = codes "a"; kind = Int 4 false; nullable = false; default = None; auto = false } ∷ record { name = codes "c"; kind = Int 4 false; nullable = false; default = None; auto = false } ∷ record { name = codes "m0"; kind = Int 4 false; nullable = true; default = (Some Null); auto = false } ∷ record { name = codes "m1"; kind = Int 1 false; nullable = true; default = (Some Null); auto = false } ∷ record { name = codes "v"; kind = Int 4 false; nullable = true; default = (Some Null); auto = false } ∷ []); uniques = (record { name = None; places = (0 ∷ 1 ∷ []) } ∷ record { name = (Some (codes "u0")); places = (2 ∷ []) } ∷ record { name = (Some (codes "u1")); places = (0 ∷ 3 ∷ []) } ∷ []); indexes = []; comment = []; start = None }; rows = (((Num (pos 1)) ∷ (Num (pos 1)) ∷ (Num (pos 3)) ∷ (Num (pos 6)) ∷ Null ∷ []) ∷ ((Num (pos 2)) ∷ (Num (pos 2)) ∷ (Num (pos 7)) ∷ (Num (pos 7)) ∷ (Num (pos 2)) ∷ []) ∷ ((Num (pos 3)) ∷ (Num (pos 6)) ∷ (Num (pos 1)) ∷ (Num (pos 3)) ∷ (Num (pos 7)) ∷ []) ∷ ((Num (pos 6)) ∷ (Num (pos 6)) ∷ (Num (pos 4)) ∷ (Num (pos 6)) ∷ (Num (pos 3)) ∷ []) ∷ []) } ∷ []); clients = ((record { line = 1; word = (words.Do (statements.Select (codes "t") (shown.Columns (codes "a" ∷ [])) (conditions.Equal (record { column = codes "c"; value = (Num (pos 4)) } ∷ record { column = codes "a"; value = (Num (pos 4)) } ∷ [])))) } ∷ record { line = 2; word = (words.Do (statements.Replace (codes "t") (Some (codes "a" ∷ codes "c" ∷ codes "m0" ∷ codes "m1" ∷ codes "v" ∷ [])) ((Num (pos 5)) ∷ (Num (pos 6)) ∷ (Num (pos 4)) ∷ (Num (pos 1)) ∷ (Num (pos 4)) ∷ []) None)) } ∷ record { line = 3; word = words.Begin } ∷ record { line = 4; word = (words.Do (statements.Update (codes "t") (record { column = codes "a"; value = (Num (pos 4)) } ∷ record { column = codes "m1"; value = (Num (pos 3)) } ∷ []) (conditions.Equal (record { column = codes "m1"; value = (Num (pos 6)) } ∷ record { column = codes "a"; value = (Num (pos 6)) } ∷ [])))) } ∷ record { line = 5; word = (words.Do (statements.Select (codes "t") shown.All (conditions.Equal (record { column = codes "m0"; value = (Num (pos 5)) } ∷ [])))) } ∷ record { line = 6; word = (words.Do (statements.Delete (codes "t") (conditions.Equal (record { column = codes "c"; value = (Num (pos 7)) } ∷ record { column = codes "a"; value = (Num (pos 7)) } ∷ [])))) } ∷ record { line = 7; word = words.Commit } ∷ []) ∷ (record { line = 1; word = words.Begin } ∷ record { line = 2; word = (words.Do (statements.Delete (codes "t") (conditions.Equal (record { column = codes "a"; value = (Num (pos 1)) } ∷ record { column = codes "c"; value = (Num (pos 2)) } ∷ [])))) } ∷ record { line = 3; word = (words.Do (statements.Update (codes "t") (record { column = codes "a"; value = (Num (pos 4)) } ∷ record { column = codes "c"; value = (Num (pos 6)) } ∷ record { column = codes "m0"; value = (Num (pos 2)) } ∷ []) (conditions.Equal (record { column = codes "c"; value = (Num (pos 4)) } ∷ record { column = codes "a"; value = (Num (pos 6)) } ∷ [])))) } ∷ record { line = 4; word = (words.Do (statements.Insert (codes "t") None ((Num (pos 1)) ∷ (Num (pos 3)) ∷ (Num (pos 1)) ∷ (Num (pos 6)) ∷ Null ∷ []) None)) } ∷ record { line = 5; word = words.Commit } ∷ []) ∷ []); operator = []; faults = []; turns = (record { actor = Copy; times = 5 } ∷ record { actor = (Client 1); times = 1 } ∷ record { actor = (Client 2); times = 3 } ∷ record { actor = Apply; times = 3 } ∷ record { actor = Insp; times = 2 } ∷ record { actor = Insp; times = 2 } ∷ []); options = record { chunk_size = 1; dml_batch_size = 4; default_retries = 60; max_backlog = 100; drain_limit = 2; client_wait = 9; tool_wait = 2; max_load = 64; turn_limit = 200000; notes = 0; note_every = 100; replica_step = 0; replica_pause = 1; max_lag = 10; approve_renamed_columns = true; initially_drop_ghost_table = false; initially_drop_old_table = false; ok_to_drop_table = false; postpone = false; show_history = true; show_turns = true; show_tables = true; show_replies = true } }
+plan_103 = record { table = codes "t"; alter = (clauses.Change (codes "v") (record { name = codes "v"; kind = VarBinary 9; nullable = None; default = None; auto = false }) Unsaid ∷ []); tables = (record { schema = record { name = codes "t"; columns = (record { name = codes "a"; kind = Int 4 false; nullable = false; default = None; auto = false } ∷ record { name = codes "c"; kind = Int 4 false; nullable = false; default = None; auto = false } ∷ record { name = codes "m0"; kind = Int 4 false; nullable = true; default = (Some Null); auto = false } ∷ record { name = codes "m1"; kind = Int 1 false; nullable = true; default = (Some Null); auto = false } ∷ record { name = codes "v"; kind = Int 4 false; nullable = true; default = (Some Null); auto = false } ∷ []); uniques = (record { name = None; places = (0 ∷ 1 ∷ []) } ∷ record { name = (Some (codes "u0")); places = (2 ∷ []) } ∷ record { name = (Some (codes "u1")); places = (0 ∷ 3 ∷ []) } ∷ []); indexes = []; comment = []; start = None }; rows = (((Num (pos 1)) ∷ (Num (pos 1)) ∷ (Num (pos 3)) ∷ (Num (pos 6)) ∷ Null ∷ []) ∷ ((Num (pos 2)) ∷ (Num (pos 2)) ∷ (Num (pos 7)) ∷ (Num (pos 7)) ∷ (Num (pos 2)) ∷ []) ∷ ((Num (pos 3)) ∷ (Num (pos 6)) ∷ (Num (pos 1)) ∷ (Num (pos 3)) ∷ (Num (pos 7)) ∷ []) ∷ ((Num (pos 6)) ∷ (Num (pos 6)) ∷ (Num (pos 4)) ∷ (Num (pos 6)) ∷ (Num (pos 3)) ∷ []) ∷ []) } ∷ []); clients = ((record { line = 1; word = (words.Do (statements.Select (codes "t") (shown.Columns (codes "a" ∷ [])) (conditions.Equal (record { column = codes "c"; value = (Num (pos 4)) } ∷ record { column = codes "a"; value = (Num (pos 4)) } ∷ [])))) } ∷ record { line = 2; word = (words.Do (statements.Replace (codes "t") (Some (codes "a" ∷ codes "c" ∷ codes "m0" ∷ codes "m1" ∷ codes "v" ∷ [])) ((Num (pos 5)) ∷ (Num (pos 6)) ∷ (Num (pos 4)) ∷ (Num (pos 1)) ∷ (Num (pos 4)) ∷ []) None)) } ∷ record { line = 3; word = words.Begin } ∷ record { line = 4; word = (words.Do (statements.Update (codes "t") (record { column = codes "a"; value = (Num (pos 4)) } ∷ record { column = codes "m1"; value = (Num (pos 3)) } ∷ []) (conditions.Equal (record { column = codes "m1"; value = (Num (pos 6)) } ∷ record { column = codes "a"; value = (Num (pos 6)) } ∷ [])))) } ∷ record { line = 5; word = (words.Do (statements.Select (codes "t") shown.All (conditions.Equal (record { column = codes "m0"; value = (Num (pos 5)) } ∷ [])))) } ∷ record { line = 6; word = (words.Do (statements.Delete (codes "t") (conditions.Equal (record { column = codes "c"; value = (Num (pos 7)) } ∷ record { column = codes "a"; value = (Num (pos 7)) } ∷ [])))) } ∷ record { line = 7; word = words.Commit } ∷ []) ∷ (record { line = 1; word = words.Begin } ∷ record { line = 2; word = (words.Do (statements.Delete (codes "t") (conditions.Equal (record { column = codes "a"; value = (Num (pos 1)) } ∷ record { column = codes "c"; value = (Num (pos 2)) } ∷ [])))) } ∷ record { line = 3; word = (words.Do (statements.Update (codes "t") (record { column = codes "a"; value = (Num (pos 4)) } ∷ record { column = codes "c"; value = (Num (pos 6)) } ∷ record { column = codes "m0"; value = (Num (pos 2)) } ∷ []) (conditions.Equal (record { column = codes "c"; value = (Num (pos 4)) } ∷ record { column = codes "a"; value = (Num (pos 6)) } ∷ [])))) } ∷ record { line = 4; word = (words.Do (statements.Insert (codes "t") None ((Num (pos 1)) ∷ (Num (pos 3)) ∷ (Num (pos 1)) ∷ (Num (pos 6)) ∷ Null ∷ []) None)) } ∷ record { line = 5; word = words.Commit } ∷ []) ∷ []); operator = []; faults = []; turns = (record { actor = Copy; times = 5 } ∷ record { actor = (Client 1); times = 1 } ∷ record { actor = (Client 2); times = 3 } ∷ record { actor = Apply; times = 3 } ∷ record { actor = Insp; times = 2 } ∷ record { actor = Insp; times = 2 } ∷ []); options = record { chunk_size = 1; dml_batch_size = 4; default_retries = 60; max_backlog = 100; drain_limit = 2; client_wait = 9; tool_wait = 2; max_load = 64; turn_limit = 200000; notes = 0; note_every = 100; replica_step = 0; replica_pause = 1; max_lag = 10; resume = false; approve_renamed_columns = true; initially_drop_ghost_table = false; initially_drop_old_table = false; ok_to_drop_table = false; postpone = false; show_history = true; show_turns = true; show_tables = true; show_replies = true } }
 
 abbrev journal_103 : List Entry
 journal_103 =
@@ -276,7 +276,7 @@ abbrev map_104 : List MapColumn
 map_104 = (record { kind = Int 1 false; nullable = true; origin = from.Old 0 } ∷ record { kind = Int 4 false; nullable = false; origin = from.Old 2 } ∷ [])
 
 abbrev plan_104 : PlanData
-plan_104 = record { table = codes "t"; alter = (clauses.Drop (codes "v") ∷ []); tables = (record { schema = record { name = codes "t"; columns = (record { name = codes "m0"; kind = Int 1 false; nullable = true; default = (Some Null); auto = false } ∷ record { name = codes "v"; kind = Int 4 false; nullable = true; default = (Some Null); auto = false } ∷ record { name = codes "id"; kind = Int 4 false; nullable = false; default = None; auto = false } ∷ []); uniques = (record { name = None; places = (2 ∷ []) } ∷ record { name = (Some (codes "u0")); places = (2 ∷ 0 ∷ []) } ∷ []); indexes = []; comment = []; start = None }; rows = (((Num (pos 4)) ∷ (Num (pos 3)) ∷ (Num (pos 1)) ∷ []) ∷ (Null ∷ (Num (pos 2)) ∷ (Num (pos 2)) ∷ []) ∷ (Null ∷ (Num (pos 99999)) ∷ (Num (pos 5)) ∷ []) ∷ []) } ∷ []); clients = ([] ∷ []); operator = []; faults = []; turns = (record { actor = Ren; times = 1 } ∷ record { actor = Lock; times = 1 } ∷ record { actor = Ren; times = 1 } ∷ record { actor = Insp; times = 2 } ∷ record { actor = Insp; times = 2 } ∷ record { actor = (Client 1); times = 1 } ∷ record { actor = Lock; times = 3 } ∷ record { actor = (Client 1); times = 3 } ∷ record { actor = Lock; times = 1 } ∷ record { actor = Insp; times = 3 } ∷ record { actor = Copy; times = 3 } ∷ record { actor = Apply; times = 1 } ∷ record { actor = (Client 1); times = 3 } ∷ record { actor = Copy; times = 2 } ∷ record { actor = Insp; times = 1 } ∷ record { actor = Ren; times = 1 } ∷ record { actor = Lock; times = 1 } ∷ record { actor = Apply; times = 1 } ∷ []); options = record { chunk_size = 2; dml_batch_size = 10; default_retries = 60; max_backlog = 1; drain_limit = 2000; client_wait = 5; tool_wait = 5; max_load = 64; turn_limit = 200000; notes = 0; note_every = 100; replica_step = 0; replica_pause = 1; max_lag = 10; approve_renamed_columns = true; initially_drop_ghost_table = false; initially_drop_old_table = false; ok_to_drop_table = true; postpone = false; show_history = true; show_turns = true; show_tables = true; show_replies = true } }
+plan_104 = record { table = codes "t"; alter = (clauses.Drop (codes "v") ∷ []); tables = (record { schema = record { name = codes "t"; columns = (record { name = codes "m0"; kind = Int 1 false; nullable = true; default = (Some Null); auto = false } ∷ record { name = codes "v"; kind = Int 4 false; nullable = true; default = (Some Null); auto = false } ∷ record { name = codes "id"; kind = Int 4 false; nullable = false; default = None; auto = false } ∷ []); uniques = (record { name = None; places = (2 ∷ []) } ∷ record { name = (Some (codes "u0")); places = (2 ∷ 0 ∷ []) } ∷ []); indexes = []; comment = []; start = None }; rows = (((Num (pos 4)) ∷ (Num (pos 3)) ∷ (Num (pos 1)) ∷ []) ∷ (Null ∷ (Num (pos 2)) ∷ (Num (pos 2)) ∷ []) ∷ (Null ∷ (Num (pos 99999)) ∷ (Num (pos 5)) ∷ []) ∷ []) } ∷ []); clients = ([] ∷ []); operator = []; faults = []; turns = (record { actor = Ren; times = 1 } ∷ record { actor = Lock; times = 1 } ∷ record { actor = Ren; times = 1 } ∷ record { actor = Insp; times = 2 } ∷ record { actor = Insp; times = 2 } ∷ record { actor = (Client 1); times = 1 } ∷ record { actor = Lock; times = 3 } ∷ record { actor = (Client 1); times = 3 } ∷ record { actor = Lock; times = 1 } ∷ record { actor = Insp; times = 3 } ∷ record { actor = Copy; times = 3 } ∷ record { actor = Apply; times = 1 } ∷ record { actor = (Client 1); times = 3 } ∷ record { actor = Copy; times = 2 } ∷ record { actor = Insp; times = 1 } ∷ record { actor = Ren; times = 1 } ∷ record { actor = Lock; times = 1 } ∷ record { actor = Apply; times = 1 } ∷ []); options = record { chunk_size = 2; dml_batch_size = 10; default_retries = 60; max_backlog = 1; drain_limit = 2000; client_wait = 5; tool_wait = 5; max_load = 64; turn_limit = 200000; notes = 0; note_every = 100; replica_step = 0; replica_pause = 1; max_lag = 10; resume = false; approve_renamed_columns = true; initially_drop_ghost_table = false; initially_drop_old_table = false; ok_to_drop_table = true; postpone = false; show_history = true; show_turns = true; show_tables = true; show_replies = true } }
 
 abbrev journal_104 : List Entry
 journal_104 =
@@ -330,7 +330,7 @@ abbrev map_105 : List MapColumn
 map_105 = (record { kind = Int 4 false; nullable = false; origin = from.Old 0 } ∷ record { kind = VarChar 6; nullable = true; origin = from.Old 1 } ∷ record { kind = Int 4 false; nullable = false; origin = from.Added (Num (pos 7)) } ∷ [])
 
 abbrev plan_105 : PlanData
-plan_105 = record { table = codes "t"; alter = (clauses.Add (record { name = codes "b"; kind = Int 4 false; nullable = (Some false); default = (Some (Num (pos 7))); auto = false }) Unsaid ∷ []); tables = (record { schema = record { name = codes "t"; columns = (record { name = codes "id"; kind = Int 4 false; nullable = false; default = None; auto = false } ∷ record { name = codes "v"; kind = VarChar 6; nullable = true; default = (Some (Text (codes "5"))); auto = false } ∷ []); uniques = (record { name = None; places = (0 ∷ []) } ∷ []); indexes = []; comment = []; start = None }; rows = [] } ∷ []); clients = ([] ∷ (record { line = 1; word = (words.Do (statements.Select (codes "t") (shown.Columns (codes "id" ∷ [])) (conditions.Equal (record { column = codes "id"; value = (Num (pos 5)) } ∷ [])))) } ∷ record { line = 2; word = (words.Do (statements.Delete (codes "t") (conditions.Equal (record { column = codes "id"; value = (Num (pos 3)) } ∷ [])))) } ∷ record { line = 3; word = words.Begin } ∷ record { line = 4; word = words.Rollback } ∷ record { line = 5; word = (words.Do (statements.Delete (codes "t") (conditions.Equal (record { column = codes "id"; value = (Num (pos 99999999999)) } ∷ [])))) } ∷ record { line = 6; word = (words.Do (statements.Select (codes "t") shown.Count (conditions.Equal (record { column = codes "id"; value = (Num (pos 6)) } ∷ [])))) } ∷ record { line = 7; word = words.Begin } ∷ record { line = 8; word = (words.Do (statements.Replace (codes "t") None ((Num (pos 3)) ∷ (Text (codes "b")) ∷ []) None)) } ∷ record { line = 9; word = (words.Do (statements.Insert (codes "t") (Some (codes "id" ∷ codes "v" ∷ [])) ((Num (pos 5)) ∷ (Num (pos 4)) ∷ []) None)) } ∷ record { line = 10; word = words.Rollback } ∷ []) ∷ (record { line = 1; word = words.Begin } ∷ record { line = 2; word = (words.Do (statements.Update (codes "t") (record { column = codes "v"; value = (Text (codes "c")) } ∷ []) conditions.All)) } ∷ record { line = 3; word = words.Commit } ∷ []) ∷ []); operator = (record { word = commanded.Throttle; units = 1 } ∷ record { word = commanded.Wait; units = 3 } ∷ record { word = (commanded.ChunkSize 1); units = 1 } ∷ record { word = commanded.Panic; units = 1 } ∷ record { word = commanded.Unpostpone; units = 1 } ∷ record { word = commanded.Unpostpone; units = 1 } ∷ record { word = commanded.NoThrottle; units = 1 } ∷ []); faults = (losses.Turn 24 Copy ∷ []); turns = (record { actor = Insp; times = 5 } ∷ record { actor = (Client 1); times = 1 } ∷ record { actor = (Client 3); times = 2 } ∷ record { actor = (Client 2); times = 3 } ∷ record { actor = Copy; times = 2 } ∷ record { actor = Insp; times = 5 } ∷ record { actor = Op; times = 3 } ∷ record { actor = (Client 2); times = 3 } ∷ record { actor = Copy; times = 5 } ∷ record { actor = Apply; times = 5 } ∷ record { actor = Insp; times = 1 } ∷ record { actor = (Client 3); times = 3 } ∷ record { actor = Copy; times = 5 } ∷ record { actor = Insp; times = 2 } ∷ record { actor = (Client 2); times = 2 } ∷ record { actor = (Client 3); times = 1 } ∷ record { actor = Ren; times = 3 } ∷ record { actor = (Client 2); times = 1 } ∷ record { actor = Copy; times = 2 } ∷ record { actor = (Client 3); times = 1 } ∷ record { actor = (Client 3); times = 1 } ∷ record { actor = Lock; times = 2 } ∷ record { actor = Op; times = 1 } ∷ record { actor = Op; times = 1 } ∷ record { actor = Op; times = 1 } ∷ record { actor = (Client 2); times = 1 } ∷ record { actor = (Client 1); times = 2 } ∷ record { actor = (Client 2); times = 2 } ∷ record { actor = (Client 3); times = 1 } ∷ record { actor = Op; times = 1 } ∷ record { actor = Insp; times = 1 } ∷ record { actor = Copy; times = 1 } ∷ record { actor = (Client 1); times = 2 } ∷ record { actor = (Client 2); times = 2 } ∷ record { actor = Ren; times = 5 } ∷ record { actor = (Client 1); times = 5 } ∷ record { actor = Op; times = 5 } ∷ record { actor = Op; times = 3 } ∷ record { actor = Insp; times = 1 } ∷ record { actor = (Client 2); times = 1 } ∷ record { actor = (Client 2); times = 2 } ∷ record { actor = (Client 2); times = 1 } ∷ record { actor = (Client 2); times = 1 } ∷ []); options = record { chunk_size = 1; dml_batch_size = 10; default_retries = 5; max_backlog = 100; drain_limit = 2000; client_wait = 30; tool_wait = 2; max_load = 64; turn_limit = 200000; notes = 0; note_every = 100; replica_step = 0; replica_pause = 1; max_lag = 10; approve_renamed_columns = true; initially_drop_ghost_table = false; initially_drop_old_table = false; ok_to_drop_table = true; postpone = false; show_history = true; show_turns = true; show_tables = true; show_replies = true } }
+plan_105 = record { table = codes "t"; alter = (clauses.Add (record { name = codes "b"; kind = Int 4 false; nullable = (Some false); default = (Some (Num (pos 7))); auto = false }) Unsaid ∷ []); tables = (record { schema = record { name = codes "t"; columns = (record { name = codes "id"; kind = Int 4 false; nullable = false; default = None; auto = false } ∷ record { name = codes "v"; kind = VarChar 6; nullable = true; default = (Some (Text (codes "5"))); auto = false } ∷ []); uniques = (record { name = None; places = (0 ∷ []) } ∷ []); indexes = []; comment = []; start = None }; rows = [] } ∷ []); clients = ([] ∷ (record { line = 1; word = (words.Do (statements.Select (codes "t") (shown.Columns (codes "id" ∷ [])) (conditions.Equal (record { column = codes "id"; value = (Num (pos 5)) } ∷ [])))) } ∷ record { line = 2; word = (words.Do (statements.Delete (codes "t") (conditions.Equal (record { column = codes "id"; value = (Num (pos 3)) } ∷ [])))) } ∷ record { line = 3; word = words.Begin } ∷ record { line = 4; word = words.Rollback } ∷ record { line = 5; word = (words.Do (statements.Delete (codes "t") (conditions.Equal (record { column = codes "id"; value = (Num (pos 99999999999)) } ∷ [])))) } ∷ record { line = 6; word = (words.Do (statements.Select (codes "t") shown.Count (conditions.Equal (record { column = codes "id"; value = (Num (pos 6)) } ∷ [])))) } ∷ record { line = 7; word = words.Begin } ∷ record { line = 8; word = (words.Do (statements.Replace (codes "t") None ((Num (pos 3)) ∷ (Text (codes "b")) ∷ []) None)) } ∷ record { line = 9; word = (words.Do (statements.Insert (codes "t") (Some (codes "id" ∷ codes "v" ∷ [])) ((Num (pos 5)) ∷ (Num (pos 4)) ∷ []) None)) } ∷ record { line = 10; word = words.Rollback } ∷ []) ∷ (record { line = 1; word = words.Begin } ∷ record { line = 2; word = (words.Do (statements.Update (codes "t") (record { column = codes "v"; value = (Text (codes "c")) } ∷ []) conditions.All)) } ∷ record { line = 3; word = words.Commit } ∷ []) ∷ []); operator = (record { word = commanded.Throttle; units = 1 } ∷ record { word = commanded.Wait; units = 3 } ∷ record { word = (commanded.ChunkSize 1); units = 1 } ∷ record { word = commanded.Panic; units = 1 } ∷ record { word = commanded.Unpostpone; units = 1 } ∷ record { word = commanded.Unpostpone; units = 1 } ∷ record { word = commanded.NoThrottle; units = 1 } ∷ []); faults = (losses.Turn 24 Copy ∷ []); turns = (record { actor = Insp; times = 5 } ∷ record { actor = (Client 1); times = 1 } ∷ record { actor = (Client 3); times = 2 } ∷ record { actor = (Client 2); times = 3 } ∷ record { actor = Copy; times = 2 } ∷ record { actor = Insp; times = 5 } ∷ record { actor = Op; times = 3 } ∷ record { actor = (Client 2); times = 3 } ∷ record { actor = Copy; times = 5 } ∷ record { actor = Apply; times = 5 } ∷ record { actor = Insp; times = 1 } ∷ record { actor = (Client 3); times = 3 } ∷ record { actor = Copy; times = 5 } ∷ record { actor = Insp; times = 2 } ∷ record { actor = (Client 2); times = 2 } ∷ record { actor = (Client 3); times = 1 } ∷ record { actor = Ren; times = 3 } ∷ record { actor = (Client 2); times = 1 } ∷ record { actor = Copy; times = 2 } ∷ record { actor = (Client 3); times = 1 } ∷ record { actor = (Client 3); times = 1 } ∷ record { actor = Lock; times = 2 } ∷ record { actor = Op; times = 1 } ∷ record { actor = Op; times = 1 } ∷ record { actor = Op; times = 1 } ∷ record { actor = (Client 2); times = 1 } ∷ record { actor = (Client 1); times = 2 } ∷ record { actor = (Client 2); times = 2 } ∷ record { actor = (Client 3); times = 1 } ∷ record { actor = Op; times = 1 } ∷ record { actor = Insp; times = 1 } ∷ record { actor = Copy; times = 1 } ∷ record { actor = (Client 1); times = 2 } ∷ record { actor = (Client 2); times = 2 } ∷ record { actor = Ren; times = 5 } ∷ record { actor = (Client 1); times = 5 } ∷ record { actor = Op; times = 5 } ∷ record { actor = Op; times = 3 } ∷ record { actor = Insp; times = 1 } ∷ record { actor = (Client 2); times = 1 } ∷ record { actor = (Client 2); times = 2 } ∷ record { actor = (Client 2); times = 1 } ∷ record { actor = (Client 2); times = 1 } ∷ []); options = record { chunk_size = 1; dml_batch_size = 10; default_retries = 5; max_backlog = 100; drain_limit = 2000; client_wait = 30; tool_wait = 2; max_load = 64; turn_limit = 200000; notes = 0; note_every = 100; replica_step = 0; replica_pause = 1; max_lag = 10; resume = false; approve_renamed_columns = true; initially_drop_ghost_table = false; initially_drop_old_table = false; ok_to_drop_table = true; postpone = false; show_history = true; show_turns = true; show_tables = true; show_replies = true } }
 
 abbrev journal_105 : List Entry
 journal_105 =
@@ -390,7 +390,7 @@ abbrev map_106 : List MapColumn
 map_106 = (record { kind = Int 4 false; nullable = false; origin = from.Old 0 } ∷ record { kind = Int 4 false; nullable = false; origin = from.Old 1 } ∷ record { kind = Int 4 false; nullable = true; origin = from.Added Null } ∷ [])
 
 abbrev plan_106 : PlanData
-plan_106 = record { table = codes "t"; alter = (clauses.Add (record { name = codes "b"; kind = Int 4 false; nullable = None; default = None; auto = false }) Unsaid ∷ []); tables = (record { schema = record { name = codes "t"; columns = (record { name = codes "a"; kind = Int 4 false; nullable = false; default = None; auto = false } ∷ record { name = codes "c"; kind = Int 4 false; nullable = false; default = None; auto = false } ∷ []); uniques = (record { name = None; places = (1 ∷ 0 ∷ []) } ∷ []); indexes = []; comment = []; start = None }; rows = (((Num (pos 7)) ∷ (Num (pos 5)) ∷ []) ∷ []) } ∷ []); clients = ((record { line = 1; word = words.Begin } ∷ record { line = 2; word = words.Commit } ∷ record { line = 3; word = words.Begin } ∷ record { line = 4; word = (words.Do (statements.Delete (codes "t") (conditions.Equal (record { column = codes "a"; value = (Num (pos 2)) } ∷ record { column = codes "c"; value = (Num (pos 4)) } ∷ [])))) } ∷ record { line = 5; word = words.Commit } ∷ []) ∷ []); operator = (record { word = (commanded.ChunkSize 1); units = 1 } ∷ record { word = commanded.Wait; units = 4 } ∷ record { word = commanded.Wait; units = 5 } ∷ record { word = commanded.Wait; units = 24 } ∷ []); faults = []; turns = (record { actor = Insp; times = 7 } ∷ record { actor = Copy; times = 3 } ∷ record { actor = (Client 1); times = 1 } ∷ record { actor = Copy; times = 1 } ∷ record { actor = Op; times = 2 } ∷ record { actor = Insp; times = 1 } ∷ record { actor = Copy; times = 1 } ∷ record { actor = Copy; times = 1 } ∷ record { actor = Op; times = 1 } ∷ record { actor = Insp; times = 3 } ∷ record { actor = Op; times = 1 } ∷ record { actor = Op; times = 1 } ∷ record { actor = Insp; times = 1 } ∷ record { actor = (Client 1); times = 2 } ∷ record { actor = Insp; times = 2 } ∷ record { actor = Ren; times = 3 } ∷ record { actor = Copy; times = 1 } ∷ record { actor = Apply; times = 1 } ∷ record { actor = (Client 1); times = 1 } ∷ record { actor = Apply; times = 1 } ∷ record { actor = Lock; times = 1 } ∷ record { actor = Apply; times = 5 } ∷ record { actor = Copy; times = 1 } ∷ record { actor = Ren; times = 1 } ∷ record { actor = Insp; times = 3 } ∷ record { actor = Copy; times = 5 } ∷ record { actor = Op; times = 3 } ∷ record { actor = Apply; times = 5 } ∷ record { actor = (Client 1); times = 1 } ∷ record { actor = Insp; times = 1 } ∷ record { actor = (Client 1); times = 1 } ∷ record { actor = Ren; times = 1 } ∷ record { actor = Insp; times = 1 } ∷ record { actor = (Client 1); times = 3 } ∷ record { actor = Ren; times = 1 } ∷ record { actor = Ren; times = 3 } ∷ record { actor = Lock; times = 1 } ∷ record { actor = Apply; times = 1 } ∷ record { actor = Copy; times = 5 } ∷ record { actor = Lock; times = 1 } ∷ record { actor = Ren; times = 1 } ∷ record { actor = Ren; times = 1 } ∷ record { actor = Lock; times = 3 } ∷ record { actor = Insp; times = 2 } ∷ record { actor = Apply; times = 2 } ∷ record { actor = Insp; times = 3 } ∷ record { actor = Apply; times = 1 } ∷ []); options = record { chunk_size = 2; dml_batch_size = 2; default_retries = 5; max_backlog = 2; drain_limit = 2000; client_wait = 2; tool_wait = 3; max_load = 64; turn_limit = 200000; notes = 0; note_every = 100; replica_step = 0; replica_pause = 1; max_lag = 10; approve_renamed_columns = true; initially_drop_ghost_table = false; initially_drop_old_table = false; ok_to_drop_table = false; postpone = false; show_history = true; show_turns = true; show_tables = true; show_replies = true } }
+plan_106 = record { table = codes "t"; alter = (clauses.Add (record { name = codes "b"; kind = Int 4 false; nullable = None; default = None; auto = false }) Unsaid ∷ []); tables = (record { schema = record { name = codes "t"; columns = (record { name = codes "a"; kind = Int 4 false; nullable = false; default = None; auto = false } ∷ record { name = codes "c"; kind = Int 4 false; nullable = false; default = None; auto = false } ∷ []); uniques = (record { name = None; places = (1 ∷ 0 ∷ []) } ∷ []); indexes = []; comment = []; start = None }; rows = (((Num (pos 7)) ∷ (Num (pos 5)) ∷ []) ∷ []) } ∷ []); clients = ((record { line = 1; word = words.Begin } ∷ record { line = 2; word = words.Commit } ∷ record { line = 3; word = words.Begin } ∷ record { line = 4; word = (words.Do (statements.Delete (codes "t") (conditions.Equal (record { column = codes "a"; value = (Num (pos 2)) } ∷ record { column = codes "c"; value = (Num (pos 4)) } ∷ [])))) } ∷ record { line = 5; word = words.Commit } ∷ []) ∷ []); operator = (record { word = (commanded.ChunkSize 1); units = 1 } ∷ record { word = commanded.Wait; units = 4 } ∷ record { word = commanded.Wait; units = 5 } ∷ record { word = commanded.Wait; units = 24 } ∷ []); faults = []; turns = (record { actor = Insp; times = 7 } ∷ record { actor = Copy; times = 3 } ∷ record { actor = (Client 1); times = 1 } ∷ record { actor = Copy; times = 1 } ∷ record { actor = Op; times = 2 } ∷ record { actor = Insp; times = 1 } ∷ record { actor = Copy; times = 1 } ∷ record { actor = Copy; times = 1 } ∷ record { actor = Op; times = 1 } ∷ record { actor = Insp; times = 3 } ∷ record { actor = Op; times = 1 } ∷ record { actor = Op; times = 1 } ∷ record { actor = Insp; times = 1 } ∷ record { actor = (Client 1); times = 2 } ∷ record { actor = Insp; times = 2 } ∷ record { actor = Ren; times = 3 } ∷ record { actor = Copy; times = 1 } ∷ record { actor = Apply; times = 1 } ∷ record { actor = (Client 1); times = 1 } ∷ record { actor = Apply; times = 1 } ∷ record { actor = Lock; times = 1 } ∷ record { actor = Apply; times = 5 } ∷ record { actor = Copy; times = 1 } ∷ record { actor = Ren; times = 1 } ∷ record { actor = Insp; times = 3 } ∷ record { actor = Copy; times = 5 } ∷ record { actor = Op; times = 3 } ∷ record { actor = Apply; times = 5 } ∷ record { actor = (Client 1); times = 1 } ∷ record { actor = Insp; times = 1 } ∷ record { actor = (Client 1); times = 1 } ∷ record { actor = Ren; times = 1 } ∷ record { actor = Insp; times = 1 } ∷ record { actor = (Client 1); times = 3 } ∷ record { actor = Ren; times = 1 } ∷ record { actor = Ren; times = 3 } ∷ record { actor = Lock; times = 1 } ∷ record { actor = Apply; times = 1 } ∷ record { actor = Copy; times = 5 } ∷ record { actor = Lock; times = 1 } ∷ record { actor = Ren; times = 1 } ∷ record { actor = Ren; times = 1 } ∷ record { actor = Lock; times = 3 } ∷ record { actor = Insp; times = 2 } ∷ record { actor = Apply; times = 2 } ∷ record { actor = Insp; times = 3 } ∷ record { actor = Apply; times = 1 } ∷ []); options = record { chunk_size = 2; dml_batch_size = 2; default_retries = 5; max_backlog = 2; drain_limit = 2000; client_wait = 2; tool_wait = 3; max_load = 64; turn_limit = 200000; notes = 0; note_every = 100; replica_step = 0; replica_pause = 1; max_lag = 10; resume = false; approve_renamed_columns = true; initially_drop_ghost_table = false; initially_drop_old_table = false; ok_to_drop_table = false; postpone = false; show_history = true; show_turns = true; show_tables = true; show_replies = true } }
 
 abbrev journal_106 : List Entry
 journal_106 =
@@ -456,7 +456,7 @@ abbrev map_108 : List MapColumn
 map_108 = (record { kind = Int 4 false; nullable = false; origin = from.Old 0 } ∷ record { kind = VarChar 3; nullable = true; origin = from.Old 1 } ∷ record { kind = Int 4 false; nullable = true; origin = from.Old 2 } ∷ record { kind = Int 4 false; nullable = true; origin = from.Added Null } ∷ [])
 
 abbrev plan_108 : PlanData
-plan_108 = record { table = codes "t"; alter = (clauses.Add (record { name = codes "b"; kind = Int 4 false; nullable = None; default = None; auto = false }) Unsaid ∷ []); tables = (record { schema = record { name = codes "t"; columns = (record { name = codes "id"; kind = Int 4 false; nullable = false; default = None; auto = false } ∷ record { name = codes "m"; kind = VarChar 3; nullable = true; default = (Some Null); auto = false } ∷ record { name = codes "v"; kind = Int 4 false; nullable = true; default = (Some Null); auto = false } ∷ []); uniques = (record { name = None; places = (0 ∷ []) } ∷ record { name = (Some (codes "u0")); places = (1 ∷ []) } ∷ []); indexes = []; comment = []; start = None }; rows = (((Num (pos 1)) ∷ (Text (codes "2")) ∷ (Num (pos 5)) ∷ []) ∷ ((Num (pos 3)) ∷ Null ∷ (Num (pos 5)) ∷ []) ∷ ((Num (pos 4)) ∷ (Text (codes "3")) ∷ (Num (pos 5)) ∷ []) ∷ ((Num (pos 5)) ∷ Null ∷ (Num (pos 5)) ∷ []) ∷ ((Num (pos 6)) ∷ Null ∷ (Num (pos 5)) ∷ []) ∷ []) } ∷ []); clients = ((record { line = 1; word = (words.Do (statements.Update (codes "t") (record { column = codes "m"; value = Null } ∷ []) (conditions.Equal (record { column = codes "id"; value = (Num (pos 1)) } ∷ [])))) } ∷ record { line = 2; word = (words.Do (statements.Update (codes "t") (record { column = codes "id"; value = (Num (pos 4)) } ∷ []) (conditions.Equal (record { column = codes "id"; value = (Num (pos 2)) } ∷ [])))) } ∷ record { line = 3; word = (words.Do (statements.Insert (codes "t") None ((Num (pos 5)) ∷ (Num (pos 1)) ∷ Null ∷ []) None)) } ∷ record { line = 4; word = (words.Do (statements.Update (codes "t") (record { column = codes "v"; value = (Num (pos 1)) } ∷ []) (conditions.Equal (record { column = codes "id"; value = (Num (pos 3)) } ∷ [])))) } ∷ record { line = 5; word = (words.Do (statements.Delete (codes "t") (conditions.Equal (record { column = codes "id"; value = (Num (pos 2)) } ∷ [])))) } ∷ record { line = 6; word = (words.Do (statements.Delete (codes "t") (conditions.Equal (record { column = codes "id"; value = (Num (pos 1)) } ∷ [])))) } ∷ record { line = 7; word = (words.Do (statements.Update (codes "t") (record { column = codes "id"; value = (Num (pos 6)) } ∷ []) (conditions.Equal (record { column = codes "m"; value = (Num (pos 1)) } ∷ [])))) } ∷ record { line = 8; word = words.Begin } ∷ record { line = 9; word = (words.Do (statements.Delete (codes "t") (conditions.Equal (record { column = codes "id"; value = (Num (pos 5)) } ∷ [])))) } ∷ record { line = 10; word = (words.Do (statements.Delete (codes "t") (conditions.Equal (record { column = codes "id"; value = (Num (pos 3)) } ∷ [])))) } ∷ record { line = 11; word = words.Commit } ∷ record { line = 12; word = words.Begin } ∷ record { line = 13; word = (words.Do (statements.Update (codes "t") (record { column = codes "m"; value = Null } ∷ []) (conditions.Equal (record { column = codes "id"; value = (Num (pos 3)) } ∷ [])))) } ∷ record { line = 14; word = (words.Do (statements.Update (codes "t") (record { column = codes "v"; value = Null } ∷ []) (conditions.Equal (record { column = codes "m"; value = (Num (pos 1)) } ∷ [])))) } ∷ record { line = 15; word = words.Commit } ∷ record { line = 16; word = (words.Do (statements.Delete (codes "t") (conditions.Equal (record { column = codes "id"; value = (Num (pos 2)) } ∷ [])))) } ∷ []) ∷ []); operator = []; faults = (losses.Nth Lock 24 sides_at.After ∷ []); turns = (record { actor = Insp; times = 4 } ∷ record { actor = Insp; times = 1 } ∷ record { actor = (Client 1); times = 3 } ∷ record { actor = (Client 1); times = 1 } ∷ record { actor = Copy; times = 1 } ∷ record { actor = Copy; times = 9 } ∷ record { actor = Apply; times = 1 } ∷ record { actor = Apply; times = 1 } ∷ record { actor = (Client 1); times = 1 } ∷ record { actor = (Client 1); times = 1 } ∷ record { actor = (Client 1); times = 9 } ∷ record { actor = (Client 1); times = 9 } ∷ record { actor = Copy; times = 9 } ∷ record { actor = Apply; times = 3 } ∷ record { actor = Apply; times = 3 } ∷ record { actor = Copy; times = 1 } ∷ record { actor = (Client 1); times = 9 } ∷ record { actor = Apply; times = 1 } ∷ record { actor = Apply; times = 1 } ∷ record { actor = Apply; times = 4 } ∷ record { actor = (Client 1); times = 4 } ∷ record { actor = Apply; times = 6 } ∷ record { actor = (Client 1); times = 1 } ∷ record { actor = Apply; times = 6 } ∷ record { actor = (Client 1); times = 4 } ∷ record { actor = (Client 1); times = 3 } ∷ record { actor = Apply; times = 4 } ∷ record { actor = (Client 1); times = 3 } ∷ record { actor = Apply; times = 4 } ∷ record { actor = (Client 1); times = 9 } ∷ record { actor = Apply; times = 6 } ∷ record { actor = (Client 1); times = 1 } ∷ record { actor = (Client 1); times = 3 } ∷ record { actor = (Client 1); times = 1 } ∷ record { actor = (Client 1); times = 6 } ∷ record { actor = Apply; times = 9 } ∷ record { actor = (Client 1); times = 1 } ∷ record { actor = (Client 1); times = 2 } ∷ record { actor = (Client 1); times = 9 } ∷ record { actor = (Client 1); times = 4 } ∷ []); options = record { chunk_size = 3; dml_batch_size = 3; default_retries = 60; max_backlog = 100; drain_limit = 2000; client_wait = 2; tool_wait = 30; max_load = 64; turn_limit = 200000; notes = 0; note_every = 100; replica_step = 0; replica_pause = 1; max_lag = 10; approve_renamed_columns = false; initially_drop_ghost_table = false; initially_drop_old_table = false; ok_to_drop_table = false; postpone = false; show_history = true; show_turns = true; show_tables = true; show_replies = true } }
+plan_108 = record { table = codes "t"; alter = (clauses.Add (record { name = codes "b"; kind = Int 4 false; nullable = None; default = None; auto = false }) Unsaid ∷ []); tables = (record { schema = record { name = codes "t"; columns = (record { name = codes "id"; kind = Int 4 false; nullable = false; default = None; auto = false } ∷ record { name = codes "m"; kind = VarChar 3; nullable = true; default = (Some Null); auto = false } ∷ record { name = codes "v"; kind = Int 4 false; nullable = true; default = (Some Null); auto = false } ∷ []); uniques = (record { name = None; places = (0 ∷ []) } ∷ record { name = (Some (codes "u0")); places = (1 ∷ []) } ∷ []); indexes = []; comment = []; start = None }; rows = (((Num (pos 1)) ∷ (Text (codes "2")) ∷ (Num (pos 5)) ∷ []) ∷ ((Num (pos 3)) ∷ Null ∷ (Num (pos 5)) ∷ []) ∷ ((Num (pos 4)) ∷ (Text (codes "3")) ∷ (Num (pos 5)) ∷ []) ∷ ((Num (pos 5)) ∷ Null ∷ (Num (pos 5)) ∷ []) ∷ ((Num (pos 6)) ∷ Null ∷ (Num (pos 5)) ∷ []) ∷ []) } ∷ []); clients = ((record { line = 1; word = (words.Do (statements.Update (codes "t") (record { column = codes "m"; value = Null } ∷ []) (conditions.Equal (record { column = codes "id"; value = (Num (pos 1)) } ∷ [])))) } ∷ record { line = 2; word = (words.Do (statements.Update (codes "t") (record { column = codes "id"; value = (Num (pos 4)) } ∷ []) (conditions.Equal (record { column = codes "id"; value = (Num (pos 2)) } ∷ [])))) } ∷ record { line = 3; word = (words.Do (statements.Insert (codes "t") None ((Num (pos 5)) ∷ (Num (pos 1)) ∷ Null ∷ []) None)) } ∷ record { line = 4; word = (words.Do (statements.Update (codes "t") (record { column = codes "v"; value = (Num (pos 1)) } ∷ []) (conditions.Equal (record { column = codes "id"; value = (Num (pos 3)) } ∷ [])))) } ∷ record { line = 5; word = (words.Do (statements.Delete (codes "t") (conditions.Equal (record { column = codes "id"; value = (Num (pos 2)) } ∷ [])))) } ∷ record { line = 6; word = (words.Do (statements.Delete (codes "t") (conditions.Equal (record { column = codes "id"; value = (Num (pos 1)) } ∷ [])))) } ∷ record { line = 7; word = (words.Do (statements.Update (codes "t") (record { column = codes "id"; value = (Num (pos 6)) } ∷ []) (conditions.Equal (record { column = codes "m"; value = (Num (pos 1)) } ∷ [])))) } ∷ record { line = 8; word = words.Begin } ∷ record { line = 9; word = (words.Do (statements.Delete (codes "t") (conditions.Equal (record { column = codes "id"; value = (Num (pos 5)) } ∷ [])))) } ∷ record { line = 10; word = (words.Do (statements.Delete (codes "t") (conditions.Equal (record { column = codes "id"; value = (Num (pos 3)) } ∷ [])))) } ∷ record { line = 11; word = words.Commit } ∷ record { line = 12; word = words.Begin } ∷ record { line = 13; word = (words.Do (statements.Update (codes "t") (record { column = codes "m"; value = Null } ∷ []) (conditions.Equal (record { column = codes "id"; value = (Num (pos 3)) } ∷ [])))) } ∷ record { line = 14; word = (words.Do (statements.Update (codes "t") (record { column = codes "v"; value = Null } ∷ []) (conditions.Equal (record { column = codes "m"; value = (Num (pos 1)) } ∷ [])))) } ∷ record { line = 15; word = words.Commit } ∷ record { line = 16; word = (words.Do (statements.Delete (codes "t") (conditions.Equal (record { column = codes "id"; value = (Num (pos 2)) } ∷ [])))) } ∷ []) ∷ []); operator = []; faults = (losses.Nth Lock 24 sides_at.After ∷ []); turns = (record { actor = Insp; times = 4 } ∷ record { actor = Insp; times = 1 } ∷ record { actor = (Client 1); times = 3 } ∷ record { actor = (Client 1); times = 1 } ∷ record { actor = Copy; times = 1 } ∷ record { actor = Copy; times = 9 } ∷ record { actor = Apply; times = 1 } ∷ record { actor = Apply; times = 1 } ∷ record { actor = (Client 1); times = 1 } ∷ record { actor = (Client 1); times = 1 } ∷ record { actor = (Client 1); times = 9 } ∷ record { actor = (Client 1); times = 9 } ∷ record { actor = Copy; times = 9 } ∷ record { actor = Apply; times = 3 } ∷ record { actor = Apply; times = 3 } ∷ record { actor = Copy; times = 1 } ∷ record { actor = (Client 1); times = 9 } ∷ record { actor = Apply; times = 1 } ∷ record { actor = Apply; times = 1 } ∷ record { actor = Apply; times = 4 } ∷ record { actor = (Client 1); times = 4 } ∷ record { actor = Apply; times = 6 } ∷ record { actor = (Client 1); times = 1 } ∷ record { actor = Apply; times = 6 } ∷ record { actor = (Client 1); times = 4 } ∷ record { actor = (Client 1); times = 3 } ∷ record { actor = Apply; times = 4 } ∷ record { actor = (Client 1); times = 3 } ∷ record { actor = Apply; times = 4 } ∷ record { actor = (Client 1); times = 9 } ∷ record { actor = Apply; times = 6 } ∷ record { actor = (Client 1); times = 1 } ∷ record { actor = (Client 1); times = 3 } ∷ record { actor = (Client 1); times = 1 } ∷ record { actor = (Client 1); times = 6 } ∷ record { actor = Apply; times = 9 } ∷ record { actor = (Client 1); times = 1 } ∷ record { actor = (Client 1); times = 2 } ∷ record { actor = (Client 1); times = 9 } ∷ record { actor = (Client 1); times = 4 } ∷ []); options = record { chunk_size = 3; dml_batch_size = 3; default_retries = 60; max_backlog = 100; drain_limit = 2000; client_wait = 2; tool_wait = 30; max_load = 64; turn_limit = 200000; notes = 0; note_every = 100; replica_step = 0; replica_pause = 1; max_lag = 10; resume = false; approve_renamed_columns = false; initially_drop_ghost_table = false; initially_drop_old_table = false; ok_to_drop_table = false; postpone = false; show_history = true; show_turns = true; show_tables = true; show_replies = true } }
 
 abbrev journal_108 : List Entry
 journal_108 =
@@ -537,7 +537,7 @@ abbrev map_111 : List MapColumn
 map_111 = (record { kind = Int 1 false; nullable = false; origin = from.Old 0 } ∷ record { kind = Int 4 false; nullable = true; origin = from.Old 1 } ∷ record { kind = Int 4 false; nullable = true; origin = from.Old 2 } ∷ record { kind = Int 4 false; nullable = true; origin = from.Added Null } ∷ [])
 
 abbrev plan_111 : PlanData
-plan_111 = record { table = codes "t"; alter = (clauses.Add (record { name = codes "b"; kind = Int 4 false; nullable = None; default = None; auto = false }) Unsaid ∷ []); tables = (record { schema = record { name = codes "t"; columns = (record { name = codes "id"; kind = Int 1 false; nullable = false; default = None; auto = false } ∷ record { name = codes "m0"; kind = Int 4 false; nullable = true; default = (Some Null); auto = false } ∷ record { name = codes "v"; kind = Int 4 false; nullable = true; default = (Some Null); auto = false } ∷ []); uniques = (record { name = None; places = (0 ∷ []) } ∷ record { name = (Some (codes "u0")); places = (1 ∷ []) } ∷ []); indexes = []; comment = []; start = None }; rows = (((Num (pos 3)) ∷ Null ∷ (Num (pos 5)) ∷ []) ∷ ((Num (pos 6)) ∷ (Num (pos 4)) ∷ Null ∷ []) ∷ ((Num (pos 7)) ∷ (Num (pos 5)) ∷ (Num (pos 3)) ∷ []) ∷ []) } ∷ []); clients = ((record { line = 1; word = (words.Do (statements.Insert (codes "t") (Some (codes "id" ∷ codes "m0" ∷ [])) ((Num (pos 7)) ∷ (Num (pos 6)) ∷ []) None)) } ∷ record { line = 2; word = (words.Do (statements.Insert (codes "t") (Some (codes "id" ∷ codes "v" ∷ [])) ((Num (pos 6)) ∷ (Num (pos 7)) ∷ []) None)) } ∷ record { line = 3; word = (words.Do (statements.Insert (codes "t") None ((Text (codes "6")) ∷ Null ∷ (Num (pos 5)) ∷ []) None)) } ∷ record { line = 4; word = (words.Do (statements.Update (codes "t") (record { column = codes "id"; value = (Num (pos 7)) } ∷ record { column = codes "m0"; value = (Num (pos 2)) } ∷ record { column = codes "v"; value = (Num (pos 2)) } ∷ []) (conditions.Range (record { column = codes "id"; sign = signs.Less; value = (Num (pos 99999999999)) } ∷ record { column = codes "id"; sign = signs.AtLeast; value = (Num (pos 5)) } ∷ [])))) } ∷ []) ∷ (record { line = 1; word = (words.Do (statements.Replace (codes "t") None ((Num (pos 7)) ∷ (Num (pos 3)) ∷ Null ∷ []) None)) } ∷ record { line = 2; word = (words.Do (statements.Update (codes "t") (record { column = codes "id"; value = (Num (pos 3)) } ∷ record { column = codes "m0"; value = (Num (pos 99999999999)) } ∷ []) (conditions.Equal (record { column = codes "id"; value = (Num (pos 5)) } ∷ [])))) } ∷ []) ∷ []); operator = (record { word = commanded.Wait; units = 6 } ∷ record { word = commanded.Wait; units = 1 } ∷ record { word = commanded.Unpostpone; units = 1 } ∷ record { word = commanded.Panic; units = 1 } ∷ record { word = commanded.Wait; units = 5 } ∷ record { word = commanded.Unpostpone; units = 1 } ∷ record { word = commanded.NoThrottle; units = 1 } ∷ record { word = commanded.Unpostpone; units = 1 } ∷ []); faults = (losses.Turn 25 Ren ∷ losses.Turn 49 (Client 2) ∷ losses.Turn 17 Lock ∷ []); turns = (record { actor = Insp; times = 5 } ∷ record { actor = Op; times = 5 } ∷ record { actor = Ren; times = 3 } ∷ record { actor = Insp; times = 2 } ∷ record { actor = Ren; times = 1 } ∷ record { actor = Insp; times = 1 } ∷ record { actor = Copy; times = 5 } ∷ record { actor = Copy; times = 1 } ∷ record { actor = Insp; times = 1 } ∷ record { actor = (Client 2); times = 1 } ∷ record { actor = (Client 2); times = 1 } ∷ record { actor = Apply; times = 2 } ∷ record { actor = (Client 2); times = 3 } ∷ record { actor = (Client 2); times = 2 } ∷ record { actor = (Client 1); times = 1 } ∷ record { actor = Apply; times = 5 } ∷ record { actor = Ren; times = 1 } ∷ record { actor = (Client 1); times = 1 } ∷ record { actor = Insp; times = 1 } ∷ record { actor = Copy; times = 5 } ∷ record { actor = (Client 1); times = 1 } ∷ record { actor = Ren; times = 1 } ∷ record { actor = Lock; times = 3 } ∷ record { actor = Lock; times = 5 } ∷ record { actor = Copy; times = 1 } ∷ record { actor = (Client 2); times = 5 } ∷ record { actor = Ren; times = 1 } ∷ record { actor = Insp; times = 1 } ∷ record { actor = Insp; times = 2 } ∷ record { actor = Apply; times = 3 } ∷ record { actor = (Client 1); times = 3 } ∷ record { actor = (Client 1); times = 2 } ∷ record { actor = (Client 1); times = 1 } ∷ record { actor = Ren; times = 1 } ∷ record { actor = Insp; times = 3 } ∷ record { actor = Ren; times = 5 } ∷ record { actor = Ren; times = 1 } ∷ record { actor = Ren; times = 1 } ∷ record { actor = Copy; times = 2 } ∷ record { actor = Lock; times = 1 } ∷ record { actor = Insp; times = 1 } ∷ []); options = record { chunk_size = 2; dml_batch_size = 1; default_retries = 2; max_backlog = 100; drain_limit = 2000; client_wait = 1; tool_wait = 5; max_load = 64; turn_limit = 200000; notes = 0; note_every = 100; replica_step = 0; replica_pause = 1; max_lag = 10; approve_renamed_columns = true; initially_drop_ghost_table = false; initially_drop_old_table = false; ok_to_drop_table = true; postpone = true; show_history = true; show_turns = true; show_tables = true; show_replies = true } }
+plan_111 = record { table = codes "t"; alter = (clauses.Add (record { name = codes "b"; kind = Int 4 false; nullable = None; default = None; auto = false }) Unsaid ∷ []); tables = (record { schema = record { name = codes "t"; columns = (record { name = codes "id"; kind = Int 1 false; nullable = false; default = None; auto = false } ∷ record { name = codes "m0"; kind = Int 4 false; nullable = true; default = (Some Null); auto = false } ∷ record { name = codes "v"; kind = Int 4 false; nullable = true; default = (Some Null); auto = false } ∷ []); uniques = (record { name = None; places = (0 ∷ []) } ∷ record { name = (Some (codes "u0")); places = (1 ∷ []) } ∷ []); indexes = []; comment = []; start = None }; rows = (((Num (pos 3)) ∷ Null ∷ (Num (pos 5)) ∷ []) ∷ ((Num (pos 6)) ∷ (Num (pos 4)) ∷ Null ∷ []) ∷ ((Num (pos 7)) ∷ (Num (pos 5)) ∷ (Num (pos 3)) ∷ []) ∷ []) } ∷ []); clients = ((record { line = 1; word = (words.Do (statements.Insert (codes "t") (Some (codes "id" ∷ codes "m0" ∷ [])) ((Num (pos 7)) ∷ (Num (pos 6)) ∷ []) None)) } ∷ record { line = 2; word = (words.Do (statements.Insert (codes "t") (Some (codes "id" ∷ codes "v" ∷ [])) ((Num (pos 6)) ∷ (Num (pos 7)) ∷ []) None)) } ∷ record { line = 3; word = (words.Do (statements.Insert (codes "t") None ((Text (codes "6")) ∷ Null ∷ (Num (pos 5)) ∷ []) None)) } ∷ record { line = 4; word = (words.Do (statements.Update (codes "t") (record { column = codes "id"; value = (Num (pos 7)) } ∷ record { column = codes "m0"; value = (Num (pos 2)) } ∷ record { column = codes "v"; value = (Num (pos 2)) } ∷ []) (conditions.Range (record { column = codes "id"; sign = signs.Less; value = (Num (pos 99999999999)) } ∷ record { column = codes "id"; sign = signs.AtLeast; value = (Num (pos 5)) } ∷ [])))) } ∷ []) ∷ (record { line = 1; word = (words.Do (statements.Replace (codes "t") None ((Num (pos 7)) ∷ (Num (pos 3)) ∷ Null ∷ []) None)) } ∷ record { line = 2; word = (words.Do (statements.Update (codes "t") (record { column = codes "id"; value = (Num (pos 3)) } ∷ record { column = codes "m0"; value = (Num (pos 99999999999)) } ∷ []) (conditions.Equal (record { column = codes "id"; value = (Num (pos 5)) } ∷ [])))) } ∷ []) ∷ []); operator = (record { word = commanded.Wait; units = 6 } ∷ record { word = commanded.Wait; units = 1 } ∷ record { word = commanded.Unpostpone; units = 1 } ∷ record { word = commanded.Panic; units = 1 } ∷ record { word = commanded.Wait; units = 5 } ∷ record { word = commanded.Unpostpone; units = 1 } ∷ record { word = commanded.NoThrottle; units = 1 } ∷ record { word = commanded.Unpostpone; units = 1 } ∷ []); faults = (losses.Turn 25 Ren ∷ losses.Turn 49 (Client 2) ∷ losses.Turn 17 Lock ∷ []); turns = (record { actor = Insp; times = 5 } ∷ record { actor = Op; times = 5 } ∷ record { actor = Ren; times = 3 } ∷ record { actor = Insp; times = 2 } ∷ record { actor = Ren; times = 1 } ∷ record { actor = Insp; times = 1 } ∷ record { actor = Copy; times = 5 } ∷ record { actor = Copy; times = 1 } ∷ record { actor = Insp; times = 1 } ∷ record { actor = (Client 2); times = 1 } ∷ record { actor = (Client 2); times = 1 } ∷ record { actor = Apply; times = 2 } ∷ record { actor = (Client 2); times = 3 } ∷ record { actor = (Client 2); times = 2 } ∷ record { actor = (Client 1); times = 1 } ∷ record { actor = Apply; times = 5 } ∷ record { actor = Ren; times = 1 } ∷ record { actor = (Client 1); times = 1 } ∷ record { actor = Insp; times = 1 } ∷ record { actor = Copy; times = 5 } ∷ record { actor = (Client 1); times = 1 } ∷ record { actor = Ren; times = 1 } ∷ record { actor = Lock; times = 3 } ∷ record { actor = Lock; times = 5 } ∷ record { actor = Copy; times = 1 } ∷ record { actor = (Client 2); times = 5 } ∷ record { actor = Ren; times = 1 } ∷ record { actor = Insp; times = 1 } ∷ record { actor = Insp; times = 2 } ∷ record { actor = Apply; times = 3 } ∷ record { actor = (Client 1); times = 3 } ∷ record { actor = (Client 1); times = 2 } ∷ record { actor = (Client 1); times = 1 } ∷ record { actor = Ren; times = 1 } ∷ record { actor = Insp; times = 3 } ∷ record { actor = Ren; times = 5 } ∷ record { actor = Ren; times = 1 } ∷ record { actor = Ren; times = 1 } ∷ record { actor = Copy; times = 2 } ∷ record { actor = Lock; times = 1 } ∷ record { actor = Insp; times = 1 } ∷ []); options = record { chunk_size = 2; dml_batch_size = 1; default_retries = 2; max_backlog = 100; drain_limit = 2000; client_wait = 1; tool_wait = 5; max_load = 64; turn_limit = 200000; notes = 0; note_every = 100; replica_step = 0; replica_pause = 1; max_lag = 10; resume = false; approve_renamed_columns = true; initially_drop_ghost_table = false; initially_drop_old_table = false; ok_to_drop_table = true; postpone = true; show_history = true; show_turns = true; show_tables = true; show_replies = true } }
 
 abbrev journal_111 : List Entry
 journal_111 =

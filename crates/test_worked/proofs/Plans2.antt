@@ -34,7 +34,7 @@ abbrev map_112 : List MapColumn
 map_112 = (record { kind = VarBinary 3; nullable = false; origin = from.Old 0 } ∷ record { kind = Int 1 false; nullable = false; origin = from.Old 1 } ∷ record { kind = Int 4 false; nullable = false; origin = from.Old 2 } ∷ [])
 
 abbrev plan_112 : PlanData
-plan_112 = record { table = codes "t"; alter = (clauses.DropIndex (codes "u0") ∷ []); tables = (record { schema = record { name = codes "t"; columns = (record { name = codes "id"; kind = VarBinary 3; nullable = false; default = None; auto = false } ∷ record { name = codes "m0"; kind = Int 1 false; nullable = false; default = None; auto = false } ∷ record { name = codes "v"; kind = Int 4 false; nullable = false; default = None; auto = false } ∷ []); uniques = (record { name = None; places = (0 ∷ []) } ∷ record { name = (Some (codes "u0")); places = (1 ∷ []) } ∷ []); indexes = []; comment = []; start = None }; rows = (((Blob (49 ∷ [])) ∷ (Num (pos 7)) ∷ (Num (pos 7)) ∷ []) ∷ ((Blob (97 ∷ [])) ∷ (Num (pos 1)) ∷ (Num (pos 3)) ∷ []) ∷ ((Blob (99 ∷ [])) ∷ (Num (pos 5)) ∷ (Num (pos 5)) ∷ []) ∷ ((Blob (100 ∷ [])) ∷ (Num (pos 3)) ∷ (Num (pos 5)) ∷ []) ∷ ((Blob (103 ∷ [])) ∷ (Num (pos 2)) ∷ (Num (pos 4)) ∷ []) ∷ []) } ∷ []); clients = ([] ∷ []); operator = []; faults = (losses.Nth Lock 1 sides_at.After ∷ []); turns = (record { actor = Insp; times = 5 } ∷ record { actor = Op; times = 1 } ∷ record { actor = Insp; times = 1 } ∷ record { actor = Copy; times = 1 } ∷ record { actor = (Client 1); times = 3 } ∷ record { actor = Copy; times = 5 } ∷ record { actor = Apply; times = 3 } ∷ record { actor = Copy; times = 5 } ∷ record { actor = Copy; times = 2 } ∷ record { actor = Op; times = 5 } ∷ record { actor = Lock; times = 3 } ∷ record { actor = Lock; times = 5 } ∷ record { actor = (Client 1); times = 2 } ∷ record { actor = Insp; times = 2 } ∷ record { actor = Copy; times = 3 } ∷ record { actor = Lock; times = 5 } ∷ record { actor = Copy; times = 3 } ∷ record { actor = Ren; times = 5 } ∷ record { actor = Insp; times = 1 } ∷ record { actor = Insp; times = 1 } ∷ record { actor = Lock; times = 5 } ∷ record { actor = Insp; times = 3 } ∷ record { actor = Insp; times = 1 } ∷ record { actor = Insp; times = 5 } ∷ record { actor = Apply; times = 1 } ∷ record { actor = Lock; times = 1 } ∷ record { actor = Op; times = 3 } ∷ record { actor = Apply; times = 1 } ∷ record { actor = Op; times = 1 } ∷ record { actor = Lock; times = 1 } ∷ record { actor = (Client 1); times = 1 } ∷ record { actor = Insp; times = 1 } ∷ record { actor = Copy; times = 1 } ∷ record { actor = Apply; times = 3 } ∷ record { actor = Insp; times = 2 } ∷ record { actor = Copy; times = 1 } ∷ record { actor = Insp; times = 5 } ∷ record { actor = Copy; times = 5 } ∷ record { actor = Copy; times = 2 } ∷ record { actor = Copy; times = 1 } ∷ record { actor = Insp; times = 1 } ∷ record { actor = Ren; times = 5 } ∷ []); options = record { chunk_size = 2; dml_batch_size = 3; default_retries = 3; max_backlog = 0; drain_limit = 2000; client_wait = 3; tool_wait = 5; max_load = 64; turn_limit = 200000; notes = 0; note_every = 100; replica_step = 0; replica_pause = 1; max_lag = 10; approve_renamed_columns = true; initially_drop_ghost_table = false; initially_drop_old_table = false; ok_to_drop_table = false; postpone = false; show_history = true; show_turns = true; show_tables = true; show_replies = true } }
+plan_112 = record { table = codes "t"; alter = (clauses.DropIndex (codes "u0") ∷ []); tables = (record { schema = record { name = codes "t"; columns = (record { name = codes "id"; kind = VarBinary 3; nullable = false; default = None; auto = false } ∷ record { name = codes "m0"; kind = Int 1 false; nullable = false; default = None; auto = false } ∷ record { name = codes "v"; kind = Int 4 false; nullable = false; default = None; auto = false } ∷ []); uniques = (record { name = None; places = (0 ∷ []) } ∷ record { name = (Some (codes "u0")); places = (1 ∷ []) } ∷ []); indexes = []; comment = []; start = None }; rows = (((Blob (49 ∷ [])) ∷ (Num (pos 7)) ∷ (Num (pos 7)) ∷ []) ∷ ((Blob (97 ∷ [])) ∷ (Num (pos 1)) ∷ (Num (pos 3)) ∷ []) ∷ ((Blob (99 ∷ [])) ∷ (Num (pos 5)) ∷ (Num (pos 5)) ∷ []) ∷ ((Blob (100 ∷ [])) ∷ (Num (pos 3)) ∷ (Num (pos 5)) ∷ []) ∷ ((Blob (103 ∷ [])) ∷ (Num (pos 2)) ∷ (Num (pos 4)) ∷ []) ∷ []) } ∷ []); clients = ([] ∷ []); operator = []; faults = (losses.Nth Lock 1 sides_at.After ∷ []); turns = (record { actor = Insp; times = 5 } ∷ record { actor = Op; times = 1 } ∷ record { actor = Insp; times = 1 } ∷ record { actor = Copy; times = 1 } ∷ record { actor = (Client 1); times = 3 } ∷ record { actor = Copy; times = 5 } ∷ record { actor = Apply; times = 3 } ∷ record { actor = Copy; times = 5 } ∷ record { actor = Copy; times = 2 } ∷ record { actor = Op; times = 5 } ∷ record { actor = Lock; times = 3 } ∷ record { actor = Lock; times = 5 } ∷ record { actor = (Client 1); times = 2 } ∷ record { actor = Insp; times = 2 } ∷ record { actor = Copy; times = 3 } ∷ record { actor = Lock; times = 5 } ∷ record { actor = Copy; times = 3 } ∷ record { actor = Ren; times = 5 } ∷ record { actor = Insp; times = 1 } ∷ record { actor = Insp; times = 1 } ∷ record { actor = Lock; times = 5 } ∷ record { actor = Insp; times = 3 } ∷ record { actor = Insp; times = 1 } ∷ record { actor = Insp; times = 5 } ∷ record { actor = Apply; times = 1 } ∷ record { actor = Lock; times = 1 } ∷ record { actor = Op; times = 3 } ∷ record { actor = Apply; times = 1 } ∷ record { actor = Op; times = 1 } ∷ record { actor = Lock; times = 1 } ∷ record { actor = (Client 1); times = 1 } ∷ record { actor = Insp; times = 1 } ∷ record { actor = Copy; times = 1 } ∷ record { actor = Apply; times = 3 } ∷ record { actor = Insp; times = 2 } ∷ record { actor = Copy; times = 1 } ∷ record { actor = Insp; times = 5 } ∷ record { actor = Copy; times = 5 } ∷ record { actor = Copy; times = 2 } ∷ record { actor = Copy; times = 1 } ∷ record { actor = Insp; times = 1 } ∷ record { actor = Ren; times = 5 } ∷ []); options = record { chunk_size = 2; dml_batch_size = 3; default_retries = 3; max_backlog = 0; drain_limit = 2000; client_wait = 3; tool_wait = 5; max_load = 64; turn_limit = 200000; notes = 0; note_every = 100; replica_step = 0; replica_pause = 1; max_lag = 10; resume = false; approve_renamed_columns = true; initially_drop_ghost_table = false; initially_drop_old_table = false; ok_to_drop_table = false; postpone = false; show_history = true; show_turns = true; show_tables = true; show_replies = true } }
 
 abbrev journal_112 : List Entry
 journal_112 =
@@ -109,7 +109,7 @@ abbrev map_115 : List MapColumn
 map_115 = (record { kind = VarChar 4; nullable = true; origin = from.Added (Text (codes "n")) } ∷ record { kind = Int 4 false; nullable = false; origin = from.Old 0 } ∷ record { kind = Int 4 false; nullable = true; origin = from.Old 1 } ∷ record { kind = VarChar 3; nullable = true; origin = from.Old 2 } ∷ record { kind = Int 4 false; nullable = false; origin = from.Old 3 } ∷ [])
 
 abbrev plan_115 : PlanData
-plan_115 = record { table = codes "t"; alter = (clauses.Add (record { name = codes "b"; kind = VarChar 4; nullable = None; default = (Some (Text (codes "n"))); auto = false }) First ∷ []); tables = (record { schema = record { name = codes "t"; columns = (record { name = codes "id"; kind = Int 4 false; nullable = false; default = None; auto = false } ∷ record { name = codes "m0"; kind = Int 4 false; nullable = true; default = (Some Null); auto = false } ∷ record { name = codes "m1"; kind = VarChar 3; nullable = true; default = (Some Null); auto = false } ∷ record { name = codes "v"; kind = Int 4 false; nullable = false; default = None; auto = false } ∷ []); uniques = (record { name = None; places = (0 ∷ []) } ∷ record { name = (Some (codes "u0")); places = (1 ∷ []) } ∷ record { name = (Some (codes "u1")); places = (2 ∷ []) } ∷ []); indexes = []; comment = []; start = None }; rows = (((Num (pos 1)) ∷ (Num (pos 5)) ∷ Null ∷ (Num (pos 5)) ∷ []) ∷ ((Num (pos 4)) ∷ Null ∷ Null ∷ (Num (pos 5)) ∷ []) ∷ ((Num (pos 5)) ∷ (Num (pos 2)) ∷ (Text (codes "2")) ∷ (Num (pos 300)) ∷ []) ∷ ((Num (pos 6)) ∷ (Num (pos 3)) ∷ (Text (codes "e")) ∷ (Num (pos 5)) ∷ []) ∷ ((Num (pos 7)) ∷ (Num (pos 4)) ∷ Null ∷ (Num (pos 2)) ∷ []) ∷ []) } ∷ []); clients = []; operator = []; faults = (losses.Turn 24 Apply ∷ losses.Nth Lock 2 sides_at.After ∷ losses.Turn 57 Copy ∷ []); turns = (record { actor = Insp; times = 5 } ∷ record { actor = Lock; times = 1 } ∷ record { actor = Copy; times = 2 } ∷ record { actor = Apply; times = 5 } ∷ record { actor = Ren; times = 3 } ∷ record { actor = Insp; times = 1 } ∷ record { actor = Lock; times = 1 } ∷ record { actor = Insp; times = 1 } ∷ record { actor = Copy; times = 2 } ∷ record { actor = Copy; times = 2 } ∷ record { actor = Ren; times = 2 } ∷ record { actor = Lock; times = 2 } ∷ record { actor = Copy; times = 1 } ∷ record { actor = Copy; times = 3 } ∷ record { actor = Op; times = 1 } ∷ record { actor = Apply; times = 1 } ∷ record { actor = Lock; times = 1 } ∷ record { actor = Lock; times = 2 } ∷ record { actor = Ren; times = 2 } ∷ record { actor = Op; times = 1 } ∷ record { actor = Copy; times = 5 } ∷ record { actor = Insp; times = 2 } ∷ record { actor = Apply; times = 5 } ∷ record { actor = Insp; times = 1 } ∷ record { actor = Insp; times = 5 } ∷ record { actor = Copy; times = 3 } ∷ record { actor = Op; times = 3 } ∷ []); options = record { chunk_size = 1000; dml_batch_size = 3; default_retries = 2; max_backlog = 100; drain_limit = 2000; client_wait = 30; tool_wait = 30; max_load = 64; turn_limit = 200000; notes = 0; note_every = 100; replica_step = 0; replica_pause = 1; max_lag = 10; approve_renamed_columns = true; initially_drop_ghost_table = false; initially_drop_old_table = false; ok_to_drop_table = false; postpone = false; show_history = true; show_turns = true; show_tables = true; show_replies = true } }
+plan_115 = record { table = codes "t"; alter = (clauses.Add (record { name = codes "b"; kind = VarChar 4; nullable = None; default = (Some (Text (codes "n"))); auto = false }) First ∷ []); tables = (record { schema = record { name = codes "t"; columns = (record { name = codes "id"; kind = Int 4 false; nullable = false; default = None; auto = false } ∷ record { name = codes "m0"; kind = Int 4 false; nullable = true; default = (Some Null); auto = false } ∷ record { name = codes "m1"; kind = VarChar 3; nullable = true; default = (Some Null); auto = false } ∷ record { name = codes "v"; kind = Int 4 false; nullable = false; default = None; auto = false } ∷ []); uniques = (record { name = None; places = (0 ∷ []) } ∷ record { name = (Some (codes "u0")); places = (1 ∷ []) } ∷ record { name = (Some (codes "u1")); places = (2 ∷ []) } ∷ []); indexes = []; comment = []; start = None }; rows = (((Num (pos 1)) ∷ (Num (pos 5)) ∷ Null ∷ (Num (pos 5)) ∷ []) ∷ ((Num (pos 4)) ∷ Null ∷ Null ∷ (Num (pos 5)) ∷ []) ∷ ((Num (pos 5)) ∷ (Num (pos 2)) ∷ (Text (codes "2")) ∷ (Num (pos 300)) ∷ []) ∷ ((Num (pos 6)) ∷ (Num (pos 3)) ∷ (Text (codes "e")) ∷ (Num (pos 5)) ∷ []) ∷ ((Num (pos 7)) ∷ (Num (pos 4)) ∷ Null ∷ (Num (pos 2)) ∷ []) ∷ []) } ∷ []); clients = []; operator = []; faults = (losses.Turn 24 Apply ∷ losses.Nth Lock 2 sides_at.After ∷ losses.Turn 57 Copy ∷ []); turns = (record { actor = Insp; times = 5 } ∷ record { actor = Lock; times = 1 } ∷ record { actor = Copy; times = 2 } ∷ record { actor = Apply; times = 5 } ∷ record { actor = Ren; times = 3 } ∷ record { actor = Insp; times = 1 } ∷ record { actor = Lock; times = 1 } ∷ record { actor = Insp; times = 1 } ∷ record { actor = Copy; times = 2 } ∷ record { actor = Copy; times = 2 } ∷ record { actor = Ren; times = 2 } ∷ record { actor = Lock; times = 2 } ∷ record { actor = Copy; times = 1 } ∷ record { actor = Copy; times = 3 } ∷ record { actor = Op; times = 1 } ∷ record { actor = Apply; times = 1 } ∷ record { actor = Lock; times = 1 } ∷ record { actor = Lock; times = 2 } ∷ record { actor = Ren; times = 2 } ∷ record { actor = Op; times = 1 } ∷ record { actor = Copy; times = 5 } ∷ record { actor = Insp; times = 2 } ∷ record { actor = Apply; times = 5 } ∷ record { actor = Insp; times = 1 } ∷ record { actor = Insp; times = 5 } ∷ record { actor = Copy; times = 3 } ∷ record { actor = Op; times = 3 } ∷ []); options = record { chunk_size = 1000; dml_batch_size = 3; default_retries = 2; max_backlog = 100; drain_limit = 2000; client_wait = 30; tool_wait = 30; max_load = 64; turn_limit = 200000; notes = 0; note_every = 100; replica_step = 0; replica_pause = 1; max_lag = 10; resume = false; approve_renamed_columns = true; initially_drop_ghost_table = false; initially_drop_old_table = false; ok_to_drop_table = false; postpone = false; show_history = true; show_turns = true; show_tables = true; show_replies = true } }
 
 abbrev journal_115 : List Entry
 journal_115 =
@@ -166,7 +166,7 @@ abbrev map_116 : List MapColumn
 map_116 = (record { kind = Int 1 false; nullable = false; origin = from.Old 0 } ∷ record { kind = VarChar 1; nullable = false; origin = from.Old 1 } ∷ record { kind = Int 4 false; nullable = false; origin = from.Old 2 } ∷ [])
 
 abbrev plan_116 : PlanData
-plan_116 = record { table = codes "t"; alter = (clauses.Change (codes "m0") (record { name = codes "m0"; kind = VarChar 1; nullable = (Some false); default = None; auto = false }) Unsaid ∷ []); tables = (record { schema = record { name = codes "t"; columns = (record { name = codes "m1"; kind = Int 1 false; nullable = false; default = None; auto = false } ∷ record { name = codes "m0"; kind = VarChar 3; nullable = true; default = (Some Null); auto = false } ∷ record { name = codes "id"; kind = Int 4 false; nullable = false; default = None; auto = false } ∷ []); uniques = (record { name = (Some (codes "k")); places = (2 ∷ []) } ∷ record { name = (Some (codes "u0")); places = (1 ∷ []) } ∷ record { name = (Some (codes "u1")); places = (0 ∷ []) } ∷ []); indexes = []; comment = []; start = None }; rows = (((Num (pos 6)) ∷ (Text (codes "d")) ∷ (Num (pos 2)) ∷ []) ∷ ((Num (pos 3)) ∷ (Text (codes "a")) ∷ (Num (pos 5)) ∷ []) ∷ ((Num (pos 2)) ∷ (Text (codes "c")) ∷ (Num (pos 6)) ∷ []) ∷ []) } ∷ []); clients = ((record { line = 1; word = (words.Do (statements.Delete (codes "t") (conditions.Equal (record { column = codes "id"; value = (Num (pos 6)) } ∷ [])))) } ∷ record { line = 2; word = (words.Do (statements.Insert (codes "t") None ((Num (pos 2)) ∷ (Num (pos 6)) ∷ (Num (pos 4)) ∷ (Num (pos 1)) ∷ []) None)) } ∷ record { line = 3; word = words.Begin } ∷ record { line = 4; word = (words.Do (statements.Replace (codes "t") (Some (codes "m0" ∷ codes "id" ∷ [])) ((Text (codes "b")) ∷ (Num (pos 4)) ∷ []) None)) } ∷ record { line = 5; word = words.Rollback } ∷ record { line = 6; word = (words.Do (statements.Delete (codes "t") (conditions.Equal (record { column = codes "id"; value = (Num (pos 1)) } ∷ [])))) } ∷ []) ∷ [] ∷ (record { line = 1; word = (words.Do (statements.Replace (codes "t") (Some (codes "m1" ∷ codes "m0" ∷ codes "id" ∷ [])) ((Num (pos 1)) ∷ Null ∷ (Num (pos 6)) ∷ []) None)) } ∷ record { line = 2; word = (words.Do (statements.Select (codes "t") shown.Count (conditions.Equal (record { column = codes "id"; value = (Num (pos 1)) } ∷ [])))) } ∷ record { line = 3; word = words.Begin } ∷ record { line = 4; word = (words.Do (statements.Update (codes "t") (record { column = codes "m1"; value = (Num (pos 7)) } ∷ record { column = codes "m0"; value = Null } ∷ []) (conditions.Equal (record { column = codes "id"; value = (Num (pos 4)) } ∷ [])))) } ∷ record { line = 5; word = (words.Do (statements.Replace (codes "t") (Some (codes "m1" ∷ codes "m0" ∷ codes "id" ∷ [])) ((Num (pos 5)) ∷ (Num (pos 3)) ∷ (Num (pos 4)) ∷ []) None)) } ∷ record { line = 6; word = (words.Do (statements.Select (codes "t") (shown.Columns (codes "m1" ∷ [])) (conditions.Equal (record { column = codes "id"; value = (Num (pos 1)) } ∷ [])))) } ∷ record { line = 7; word = words.Commit } ∷ []) ∷ []); operator = []; faults = (losses.Turn 7 Insp ∷ []); turns = []; options = record { chunk_size = 3; dml_batch_size = 10; default_retries = 5; max_backlog = 100; drain_limit = 2000; client_wait = 3; tool_wait = 2; max_load = 64; turn_limit = 200000; notes = 0; note_every = 100; replica_step = 0; replica_pause = 1; max_lag = 10; approve_renamed_columns = true; initially_drop_ghost_table = false; initially_drop_old_table = false; ok_to_drop_table = true; postpone = false; show_history = true; show_turns = true; show_tables = true; show_replies = true } }
+plan_116 = record { table = codes "t"; alter = (clauses.Change (codes "m0") (record { name = codes "m0"; kind = VarChar 1; nullable = (Some false); default = None; auto = false }) Unsaid ∷ []); tables = (record { schema = record { name = codes "t"; columns = (record { name = codes "m1"; kind = Int 1 false; nullable = false; default = None; auto = false } ∷ record { name = codes "m0"; kind = VarChar 3; nullable = true; default = (Some Null); auto = false } ∷ record { name = codes "id"; kind = Int 4 false; nullable = false; default = None; auto = false } ∷ []); uniques = (record { name = (Some (codes "k")); places = (2 ∷ []) } ∷ record { name = (Some (codes "u0")); places = (1 ∷ []) } ∷ record { name = (Some (codes "u1")); places = (0 ∷ []) } ∷ []); indexes = []; comment = []; start = None }; rows = (((Num (pos 6)) ∷ (Text (codes "d")) ∷ (Num (pos 2)) ∷ []) ∷ ((Num (pos 3)) ∷ (Text (codes "a")) ∷ (Num (pos 5)) ∷ []) ∷ ((Num (pos 2)) ∷ (Text (codes "c")) ∷ (Num (pos 6)) ∷ []) ∷ []) } ∷ []); clients = ((record { line = 1; word = (words.Do (statements.Delete (codes "t") (conditions.Equal (record { column = codes "id"; value = (Num (pos 6)) } ∷ [])))) } ∷ record { line = 2; word = (words.Do (statements.Insert (codes "t") None ((Num (pos 2)) ∷ (Num (pos 6)) ∷ (Num (pos 4)) ∷ (Num (pos 1)) ∷ []) None)) } ∷ record { line = 3; word = words.Begin } ∷ record { line = 4; word = (words.Do (statements.Replace (codes "t") (Some (codes "m0" ∷ codes "id" ∷ [])) ((Text (codes "b")) ∷ (Num (pos 4)) ∷ []) None)) } ∷ record { line = 5; word = words.Rollback } ∷ record { line = 6; word = (words.Do (statements.Delete (codes "t") (conditions.Equal (record { column = codes "id"; value = (Num (pos 1)) } ∷ [])))) } ∷ []) ∷ [] ∷ (record { line = 1; word = (words.Do (statements.Replace (codes "t") (Some (codes "m1" ∷ codes "m0" ∷ codes "id" ∷ [])) ((Num (pos 1)) ∷ Null ∷ (Num (pos 6)) ∷ []) None)) } ∷ record { line = 2; word = (words.Do (statements.Select (codes "t") shown.Count (conditions.Equal (record { column = codes "id"; value = (Num (pos 1)) } ∷ [])))) } ∷ record { line = 3; word = words.Begin } ∷ record { line = 4; word = (words.Do (statements.Update (codes "t") (record { column = codes "m1"; value = (Num (pos 7)) } ∷ record { column = codes "m0"; value = Null } ∷ []) (conditions.Equal (record { column = codes "id"; value = (Num (pos 4)) } ∷ [])))) } ∷ record { line = 5; word = (words.Do (statements.Replace (codes "t") (Some (codes "m1" ∷ codes "m0" ∷ codes "id" ∷ [])) ((Num (pos 5)) ∷ (Num (pos 3)) ∷ (Num (pos 4)) ∷ []) None)) } ∷ record { line = 6; word = (words.Do (statements.Select (codes "t") (shown.Columns (codes "m1" ∷ [])) (conditions.Equal (record { column = codes "id"; value = (Num (pos 1)) } ∷ [])))) } ∷ record { line = 7; word = words.Commit } ∷ []) ∷ []); operator = []; faults = (losses.Turn 7 Insp ∷ []); turns = []; options = record { chunk_size = 3; dml_batch_size = 10; default_retries = 5; max_backlog = 100; drain_limit = 2000; client_wait = 3; tool_wait = 2; max_load = 64; turn_limit = 200000; notes = 0; note_every = 100; replica_step = 0; replica_pause = 1; max_lag = 10; resume = false; approve_renamed_columns = true; initially_drop_ghost_table = false; initially_drop_old_table = false; ok_to_drop_table = true; postpone = false; show_history = true; show_turns = true; show_tables = true; show_replies = true } }
 
 abbrev journal_116 : List Entry
 journal_116 =
@@ -230,7 +230,7 @@ abbrev map_119 : List MapColumn
 map_119 = (record { kind = Int 8 false; nullable = false; origin = from.Old 0 } ∷ record { kind = Int 1 false; nullable = true; origin = from.Old 1 } ∷ [])
 
 abbrev plan_119 : PlanData
-plan_119 = record { table = codes "t"; alter = (clauses.Change (codes "v") (record { name = codes "v"; kind = Int 1 false; nullable = None; default = None; auto = false }) Unsaid ∷ []); tables = (record { schema = record { name = codes "t"; columns = (record { name = codes "id"; kind = Int 8 false; nullable = false; default = None; auto = false } ∷ record { name = codes "v"; kind = Int 2 false; nullable = true; default = (Some (Num (pos 5))); auto = false } ∷ []); uniques = (record { name = None; places = (0 ∷ []) } ∷ []); indexes = (record { name = (Some (codes "v")); places = (1 ∷ []) } ∷ []); comment = []; start = None }; rows = [] } ∷ []); clients = ((record { line = 1; word = (words.Do (statements.Update (codes "t") (record { column = codes "v"; value = Null } ∷ []) (conditions.Range (record { column = codes "id"; sign = signs.AtLeast; value = (Num (pos 3)) } ∷ record { column = codes "id"; sign = signs.AtMost; value = (Num (pos 5)) } ∷ [])))) } ∷ record { line = 2; word = (words.Do (statements.Replace (codes "t") (Some (codes "id" ∷ codes "v" ∷ [])) ((Num (pos 4)) ∷ Null ∷ []) None)) } ∷ record { line = 3; word = words.Begin } ∷ record { line = 4; word = words.Commit } ∷ []) ∷ []); operator = []; faults = (losses.Nth Op 5 sides_at.Before ∷ losses.Nth Ren 22 sides_at.Before ∷ losses.Turn 54 Lock ∷ losses.Nth Copy 5 sides_at.Before ∷ losses.Nth Insp 2 sides_at.After ∷ losses.Turn 30 Ren ∷ losses.Nth Insp 12 sides_at.Before ∷ losses.Nth Op 2 sides_at.Before ∷ losses.Nth Insp 1 sides_at.Before ∷ losses.Turn 3 Lock ∷ losses.Nth (Client 1) 20 sides_at.After ∷ losses.Nth Copy 1 sides_at.After ∷ []); turns = (record { actor = Apply; times = 3 } ∷ record { actor = (Client 1); times = 1 } ∷ record { actor = Lock; times = 2 } ∷ record { actor = Insp; times = 1 } ∷ record { actor = Lock; times = 1 } ∷ record { actor = Lock; times = 3 } ∷ record { actor = Op; times = 1 } ∷ record { actor = Ren; times = 1 } ∷ record { actor = Insp; times = 1 } ∷ record { actor = Op; times = 2 } ∷ record { actor = (Client 1); times = 1 } ∷ record { actor = Lock; times = 1 } ∷ record { actor = (Client 1); times = 1 } ∷ record { actor = (Client 1); times = 2 } ∷ record { actor = Ren; times = 1 } ∷ record { actor = Apply; times = 1 } ∷ record { actor = Lock; times = 5 } ∷ record { actor = Insp; times = 1 } ∷ record { actor = Ren; times = 1 } ∷ record { actor = Lock; times = 1 } ∷ record { actor = Op; times = 3 } ∷ record { actor = Ren; times = 1 } ∷ record { actor = Ren; times = 2 } ∷ record { actor = Copy; times = 1 } ∷ record { actor = Ren; times = 2 } ∷ record { actor = Apply; times = 1 } ∷ record { actor = Insp; times = 2 } ∷ record { actor = Insp; times = 3 } ∷ record { actor = Ren; times = 2 } ∷ record { actor = Ren; times = 5 } ∷ record { actor = (Client 1); times = 1 } ∷ record { actor = (Client 1); times = 5 } ∷ record { actor = (Client 1); times = 1 } ∷ record { actor = Lock; times = 1 } ∷ record { actor = Lock; times = 2 } ∷ record { actor = Copy; times = 5 } ∷ record { actor = Ren; times = 1 } ∷ record { actor = Copy; times = 5 } ∷ record { actor = Ren; times = 3 } ∷ []); options = record { chunk_size = 5; dml_batch_size = 3; default_retries = 60; max_backlog = 1; drain_limit = 5; client_wait = 1; tool_wait = 9; max_load = 64; turn_limit = 200000; notes = 0; note_every = 100; replica_step = 0; replica_pause = 1; max_lag = 10; approve_renamed_columns = true; initially_drop_ghost_table = false; initially_drop_old_table = false; ok_to_drop_table = false; postpone = false; show_history = true; show_turns = true; show_tables = true; show_replies = true } }
+plan_119 = record { table = codes "t"; alter = (clauses.Change (codes "v") (record { name = codes "v"; kind = Int 1 false; nullable = None; default = None; auto = false }) Unsaid ∷ []); tables = (record { schema = record { name = codes "t"; columns = (record { name = codes "id"; kind = Int 8 false; nullable = false; default = None; auto = false } ∷ record { name = codes "v"; kind = Int 2 false; nullable = true; default = (Some (Num (pos 5))); auto = false } ∷ []); uniques = (record { name = None; places = (0 ∷ []) } ∷ []); indexes = (record { name = (Some (codes "v")); places = (1 ∷ []) } ∷ []); comment = []; start = None }; rows = [] } ∷ []); clients = ((record { line = 1; word = (words.Do (statements.Update (codes "t") (record { column = codes "v"; value = Null } ∷ []) (conditions.Range (record { column = codes "id"; sign = signs.AtLeast; value = (Num (pos 3)) } ∷ record { column = codes "id"; sign = signs.AtMost; value = (Num (pos 5)) } ∷ [])))) } ∷ record { line = 2; word = (words.Do (statements.Replace (codes "t") (Some (codes "id" ∷ codes "v" ∷ [])) ((Num (pos 4)) ∷ Null ∷ []) None)) } ∷ record { line = 3; word = words.Begin } ∷ record { line = 4; word = words.Commit } ∷ []) ∷ []); operator = []; faults = (losses.Nth Op 5 sides_at.Before ∷ losses.Nth Ren 22 sides_at.Before ∷ losses.Turn 54 Lock ∷ losses.Nth Copy 5 sides_at.Before ∷ losses.Nth Insp 2 sides_at.After ∷ losses.Turn 30 Ren ∷ losses.Nth Insp 12 sides_at.Before ∷ losses.Nth Op 2 sides_at.Before ∷ losses.Nth Insp 1 sides_at.Before ∷ losses.Turn 3 Lock ∷ losses.Nth (Client 1) 20 sides_at.After ∷ losses.Nth Copy 1 sides_at.After ∷ []); turns = (record { actor = Apply; times = 3 } ∷ record { actor = (Client 1); times = 1 } ∷ record { actor = Lock; times = 2 } ∷ record { actor = Insp; times = 1 } ∷ record { actor = Lock; times = 1 } ∷ record { actor = Lock; times = 3 } ∷ record { actor = Op; times = 1 } ∷ record { actor = Ren; times = 1 } ∷ record { actor = Insp; times = 1 } ∷ record { actor = Op; times = 2 } ∷ record { actor = (Client 1); times = 1 } ∷ record { actor = Lock; times = 1 } ∷ record { actor = (Client 1); times = 1 } ∷ record { actor = (Client 1); times = 2 } ∷ record { actor = Ren; times = 1 } ∷ record { actor = Apply; times = 1 } ∷ record { actor = Lock; times = 5 } ∷ record { actor = Insp; times = 1 } ∷ record { actor = Ren; times = 1 } ∷ record { actor = Lock; times = 1 } ∷ record { actor = Op; times = 3 } ∷ record { actor = Ren; times = 1 } ∷ record { actor = Ren; times = 2 } ∷ record { actor = Copy; times = 1 } ∷ record { actor = Ren; times = 2 } ∷ record { actor = Apply; times = 1 } ∷ record { actor = Insp; times = 2 } ∷ record { actor = Insp; times = 3 } ∷ record { actor = Ren; times = 2 } ∷ record { actor = Ren; times = 5 } ∷ record { actor = (Client 1); times = 1 } ∷ record { actor = (Client 1); times = 5 } ∷ record { actor = (Client 1); times = 1 } ∷ record { actor = Lock; times = 1 } ∷ record { actor = Lock; times = 2 } ∷ record { actor = Copy; times = 5 } ∷ record { actor = Ren; times = 1 } ∷ record { actor = Copy; times = 5 } ∷ record { actor = Ren; times = 3 } ∷ []); options = record { chunk_size = 5; dml_batch_size = 3; default_retries = 60; max_backlog = 1; drain_limit = 5; client_wait = 1; tool_wait = 9; max_load = 64; turn_limit = 200000; notes = 0; note_every = 100; replica_step = 0; replica_pause = 1; max_lag = 10; resume = false; approve_renamed_columns = true; initially_drop_ghost_table = false; initially_drop_old_table = false; ok_to_drop_table = false; postpone = false; show_history = true; show_turns = true; show_tables = true; show_replies = true } }
 
 abbrev journal_119 : List Entry
 journal_119 =
@@ -310,7 +310,7 @@ abbrev map_122 : List MapColumn
 map_122 = (record { kind = Int 4 false; nullable = false; origin = from.Old 0 } ∷ record { kind = Int 4 false; nullable = false; origin = from.Old 1 } ∷ record { kind = Int 4 false; nullable = false; origin = from.Added (Num (pos 7)) } ∷ [])
 
 abbrev plan_122 : PlanData
-plan_122 = record { table = codes "t"; alter = (clauses.Add (record { name = codes "b"; kind = Int 4 false; nullable = (Some false); default = (Some (Num (pos 7))); auto = false }) Unsaid ∷ []); tables = (record { schema = record { name = codes "t"; columns = (record { name = codes "id"; kind = Int 4 false; nullable = false; default = None; auto = false } ∷ record { name = codes "m0"; kind = Int 4 false; nullable = false; default = None; auto = false } ∷ []); uniques = (record { name = (Some (codes "k")); places = (0 ∷ []) } ∷ record { name = (Some (codes "u0")); places = (1 ∷ []) } ∷ []); indexes = []; comment = []; start = None }; rows = [] } ∷ record { schema = record { name = codes "_t_gho"; columns = (record { name = codes "id"; kind = Int 4 false; nullable = false; default = None; auto = false } ∷ []); uniques = (record { name = None; places = (0 ∷ []) } ∷ []); indexes = []; comment = []; start = None }; rows = [] } ∷ []); clients = ((record { line = 1; word = (words.Do (statements.Update (codes "t") (record { column = codes "m0"; value = (Num (pos 3)) } ∷ []) (conditions.Equal (record { column = codes "id"; value = (Blob (255 ∷ [])) } ∷ [])))) } ∷ record { line = 2; word = words.Begin } ∷ record { line = 3; word = (words.Do (statements.Insert (codes "t") None ((Num (pos 4)) ∷ (Num (pos 5)) ∷ []) None)) } ∷ record { line = 4; word = (words.Do (statements.Select (codes "t") shown.All (conditions.Equal (record { column = codes "id"; value = (Num (pos 3)) } ∷ [])))) } ∷ record { line = 5; word = (words.Do (statements.Delete (codes "t") (conditions.Equal (record { column = codes "id"; value = (Num (pos 6)) } ∷ [])))) } ∷ record { line = 6; word = words.Commit } ∷ []) ∷ (record { line = 1; word = (words.Do (statements.Delete (codes "t") (conditions.Equal (record { column = codes "id"; value = (Num (pos 7)) } ∷ [])))) } ∷ record { line = 2; word = words.Begin } ∷ record { line = 3; word = words.Rollback } ∷ []) ∷ (record { line = 1; word = words.Begin } ∷ record { line = 2; word = (words.Do (statements.Update (codes "t") (record { column = codes "id"; value = (Num (pos 7)) } ∷ record { column = codes "m0"; value = (Num (pos 3)) } ∷ []) (conditions.Range (record { column = codes "id"; sign = signs.AtLeast; value = (Num (pos 2)) } ∷ [])))) } ∷ record { line = 3; word = words.Commit } ∷ record { line = 4; word = words.Begin } ∷ record { line = 5; word = (words.Do (statements.Insert (codes "t") None ((Num (pos 3)) ∷ (Num (pos 5)) ∷ []) None)) } ∷ record { line = 6; word = (words.Do (statements.Select (codes "t") (shown.Columns (codes "id" ∷ [])) (conditions.Equal (record { column = codes "id"; value = (Num (pos 7)) } ∷ [])))) } ∷ record { line = 7; word = words.Commit } ∷ []) ∷ []); operator = []; faults = (losses.Turn 38 (Client 3) ∷ losses.Nth Lock 2 sides_at.After ∷ []); turns = (record { actor = Insp; times = 5 } ∷ record { actor = Apply; times = 1 } ∷ record { actor = Copy; times = 1 } ∷ record { actor = Lock; times = 1 } ∷ record { actor = Op; times = 1 } ∷ record { actor = Insp; times = 1 } ∷ record { actor = Apply; times = 1 } ∷ record { actor = (Client 2); times = 5 } ∷ record { actor = Op; times = 2 } ∷ record { actor = Lock; times = 1 } ∷ record { actor = Copy; times = 1 } ∷ record { actor = (Client 1); times = 5 } ∷ record { actor = Insp; times = 3 } ∷ record { actor = Insp; times = 1 } ∷ record { actor = (Client 1); times = 2 } ∷ record { actor = Apply; times = 5 } ∷ record { actor = (Client 1); times = 1 } ∷ record { actor = Insp; times = 1 } ∷ record { actor = (Client 1); times = 3 } ∷ record { actor = Lock; times = 1 } ∷ record { actor = Ren; times = 1 } ∷ record { actor = (Client 3); times = 1 } ∷ record { actor = Apply; times = 3 } ∷ record { actor = (Client 2); times = 1 } ∷ record { actor = (Client 3); times = 1 } ∷ record { actor = Op; times = 1 } ∷ record { actor = Apply; times = 1 } ∷ record { actor = (Client 3); times = 2 } ∷ record { actor = Insp; times = 3 } ∷ record { actor = Lock; times = 1 } ∷ record { actor = (Client 1); times = 2 } ∷ record { actor = Apply; times = 1 } ∷ record { actor = Insp; times = 1 } ∷ record { actor = Ren; times = 5 } ∷ record { actor = Apply; times = 1 } ∷ record { actor = Ren; times = 1 } ∷ record { actor = (Client 2); times = 1 } ∷ []); options = record { chunk_size = 1000; dml_batch_size = 3; default_retries = 60; max_backlog = 100; drain_limit = 2000; client_wait = 3; tool_wait = 5; max_load = 0; turn_limit = 200000; notes = 0; note_every = 100; replica_step = 0; replica_pause = 1; max_lag = 10; approve_renamed_columns = true; initially_drop_ghost_table = true; initially_drop_old_table = false; ok_to_drop_table = false; postpone = false; show_history = true; show_turns = true; show_tables = true; show_replies = true } }
+plan_122 = record { table = codes "t"; alter = (clauses.Add (record { name = codes "b"; kind = Int 4 false; nullable = (Some false); default = (Some (Num (pos 7))); auto = false }) Unsaid ∷ []); tables = (record { schema = record { name = codes "t"; columns = (record { name = codes "id"; kind = Int 4 false; nullable = false; default = None; auto = false } ∷ record { name = codes "m0"; kind = Int 4 false; nullable = false; default = None; auto = false } ∷ []); uniques = (record { name = (Some (codes "k")); places = (0 ∷ []) } ∷ record { name = (Some (codes "u0")); places = (1 ∷ []) } ∷ []); indexes = []; comment = []; start = None }; rows = [] } ∷ record { schema = record { name = codes "_t_gho"; columns = (record { name = codes "id"; kind = Int 4 false; nullable = false; default = None; auto = false } ∷ []); uniques = (record { name = None; places = (0 ∷ []) } ∷ []); indexes = []; comment = []; start = None }; rows = [] } ∷ []); clients = ((record { line = 1; word = (words.Do (statements.Update (codes "t") (record { column = codes "m0"; value = (Num (pos 3)) } ∷ []) (conditions.Equal (record { column = codes "id"; value = (Blob (255 ∷ [])) } ∷ [])))) } ∷ record { line = 2; word = words.Begin } ∷ record { line = 3; word = (words.Do (statements.Insert (codes "t") None ((Num (pos 4)) ∷ (Num (pos 5)) ∷ []) None)) } ∷ record { line = 4; word = (words.Do (statements.Select (codes "t") shown.All (conditions.Equal (record { column = codes "id"; value = (Num (pos 3)) } ∷ [])))) } ∷ record { line = 5; word = (words.Do (statements.Delete (codes "t") (conditions.Equal (record { column = codes "id"; value = (Num (pos 6)) } ∷ [])))) } ∷ record { line = 6; word = words.Commit } ∷ []) ∷ (record { line = 1; word = (words.Do (statements.Delete (codes "t") (conditions.Equal (record { column = codes "id"; value = (Num (pos 7)) } ∷ [])))) } ∷ record { line = 2; word = words.Begin } ∷ record { line = 3; word = words.Rollback } ∷ []) ∷ (record { line = 1; word = words.Begin } ∷ record { line = 2; word = (words.Do (statements.Update (codes "t") (record { column = codes "id"; value = (Num (pos 7)) } ∷ record { column = codes "m0"; value = (Num (pos 3)) } ∷ []) (conditions.Range (record { column = codes "id"; sign = signs.AtLeast; value = (Num (pos 2)) } ∷ [])))) } ∷ record { line = 3; word = words.Commit } ∷ record { line = 4; word = words.Begin } ∷ record { line = 5; word = (words.Do (statements.Insert (codes "t") None ((Num (pos 3)) ∷ (Num (pos 5)) ∷ []) None)) } ∷ record { line = 6; word = (words.Do (statements.Select (codes "t") (shown.Columns (codes "id" ∷ [])) (conditions.Equal (record { column = codes "id"; value = (Num (pos 7)) } ∷ [])))) } ∷ record { line = 7; word = words.Commit } ∷ []) ∷ []); operator = []; faults = (losses.Turn 38 (Client 3) ∷ losses.Nth Lock 2 sides_at.After ∷ []); turns = (record { actor = Insp; times = 5 } ∷ record { actor = Apply; times = 1 } ∷ record { actor = Copy; times = 1 } ∷ record { actor = Lock; times = 1 } ∷ record { actor = Op; times = 1 } ∷ record { actor = Insp; times = 1 } ∷ record { actor = Apply; times = 1 } ∷ record { actor = (Client 2); times = 5 } ∷ record { actor = Op; times = 2 } ∷ record { actor = Lock; times = 1 } ∷ record { actor = Copy; times = 1 } ∷ record { actor = (Client 1); times = 5 } ∷ record { actor = Insp; times = 3 } ∷ record { actor = Insp; times = 1 } ∷ record { actor = (Client 1); times = 2 } ∷ record { actor = Apply; times = 5 } ∷ record { actor = (Client 1); times = 1 } ∷ record { actor = Insp; times = 1 } ∷ record { actor = (Client 1); times = 3 } ∷ record { actor = Lock; times = 1 } ∷ record { actor = Ren; times = 1 } ∷ record { actor = (Client 3); times = 1 } ∷ record { actor = Apply; times = 3 } ∷ record { actor = (Client 2); times = 1 } ∷ record { actor = (Client 3); times = 1 } ∷ record { actor = Op; times = 1 } ∷ record { actor = Apply; times = 1 } ∷ record { actor = (Client 3); times = 2 } ∷ record { actor = Insp; times = 3 } ∷ record { actor = Lock; times = 1 } ∷ record { actor = (Client 1); times = 2 } ∷ record { actor = Apply; times = 1 } ∷ record { actor = Insp; times = 1 } ∷ record { actor = Ren; times = 5 } ∷ record { actor = Apply; times = 1 } ∷ record { actor = Ren; times = 1 } ∷ record { actor = (Client 2); times = 1 } ∷ []); options = record { chunk_size = 1000; dml_batch_size = 3; default_retries = 60; max_backlog = 100; drain_limit = 2000; client_wait = 3; tool_wait = 5; max_load = 0; turn_limit = 200000; notes = 0; note_every = 100; replica_step = 0; replica_pause = 1; max_lag = 10; resume = false; approve_renamed_columns = true; initially_drop_ghost_table = true; initially_drop_old_table = false; ok_to_drop_table = false; postpone = false; show_history = true; show_turns = true; show_tables = true; show_replies = true } }
 
 abbrev journal_122 : List Entry
 journal_122 =
@@ -386,7 +386,7 @@ abbrev map_129 : List MapColumn
 map_129 = (record { kind = Int 8 false; nullable = false; origin = from.Old 0 } ∷ [])
 
 abbrev plan_129 : PlanData
-plan_129 = record { table = codes "t"; alter = (clauses.Change (codes "id") (record { name = codes "id"; kind = Int 8 false; nullable = None; default = None; auto = false }) Unsaid ∷ []); tables = (record { schema = record { name = codes "t"; columns = (record { name = codes "id"; kind = Int 1 false; nullable = false; default = None; auto = false } ∷ []); uniques = (record { name = None; places = (0 ∷ []) } ∷ []); indexes = []; comment = []; start = None }; rows = [] } ∷ []); clients = ((record { line = 1; word = (words.Do (statements.Delete (codes "t") conditions.All)) } ∷ record { line = 2; word = (words.Do (statements.Update (codes "t") (record { column = codes "id"; value = (Num (pos 2)) } ∷ []) (conditions.Equal (record { column = codes "id"; value = (Num (pos 6)) } ∷ [])))) } ∷ record { line = 3; word = words.Begin } ∷ record { line = 4; word = (words.Do (statements.Select (codes "t") (shown.Columns (codes "id" ∷ [])) (conditions.Equal (record { column = codes "id"; value = (Num (pos 4)) } ∷ [])))) } ∷ record { line = 5; word = (words.Do (statements.Update (codes "t") (record { column = codes "id"; value = (Num (pos 2)) } ∷ []) (conditions.Range (record { column = codes "id"; sign = signs.AtLeast; value = (Num (pos 5)) } ∷ record { column = codes "id"; sign = signs.AtMost; value = (Num (pos 4)) } ∷ [])))) } ∷ record { line = 6; word = (words.Do (statements.Insert (codes "t") (Some (codes "id" ∷ [])) ((Num (pos 5)) ∷ []) None)) } ∷ record { line = 7; word = words.Commit } ∷ []) ∷ []); operator = []; faults = []; turns = (record { actor = Lock; times = 1 } ∷ record { actor = Apply; times = 1 } ∷ record { actor = Op; times = 2 } ∷ record { actor = Op; times = 1 } ∷ record { actor = Insp; times = 5 } ∷ record { actor = Lock; times = 1 } ∷ record { actor = Ren; times = 2 } ∷ record { actor = (Client 1); times = 3 } ∷ record { actor = (Client 1); times = 2 } ∷ record { actor = Apply; times = 3 } ∷ record { actor = Op; times = 1 } ∷ record { actor = (Client 1); times = 1 } ∷ record { actor = Op; times = 1 } ∷ record { actor = Op; times = 3 } ∷ record { actor = Lock; times = 2 } ∷ record { actor = Op; times = 5 } ∷ record { actor = Apply; times = 5 } ∷ record { actor = (Client 1); times = 5 } ∷ record { actor = Ren; times = 1 } ∷ record { actor = Apply; times = 3 } ∷ record { actor = Apply; times = 1 } ∷ record { actor = Op; times = 2 } ∷ record { actor = Copy; times = 1 } ∷ record { actor = Apply; times = 3 } ∷ record { actor = Op; times = 3 } ∷ record { actor = Ren; times = 3 } ∷ record { actor = Copy; times = 5 } ∷ record { actor = Lock; times = 3 } ∷ record { actor = Insp; times = 1 } ∷ record { actor = (Client 1); times = 3 } ∷ record { actor = Lock; times = 3 } ∷ record { actor = Copy; times = 1 } ∷ record { actor = Apply; times = 1 } ∷ record { actor = Ren; times = 1 } ∷ record { actor = Lock; times = 1 } ∷ record { actor = Lock; times = 1 } ∷ record { actor = Lock; times = 2 } ∷ record { actor = (Client 1); times = 2 } ∷ record { actor = Ren; times = 2 } ∷ record { actor = Insp; times = 1 } ∷ record { actor = (Client 1); times = 1 } ∷ record { actor = Apply; times = 5 } ∷ record { actor = Ren; times = 1 } ∷ record { actor = (Client 1); times = 1 } ∷ record { actor = Ren; times = 1 } ∷ record { actor = Op; times = 1 } ∷ record { actor = Insp; times = 1 } ∷ record { actor = Ren; times = 1 } ∷ record { actor = Insp; times = 3 } ∷ record { actor = Lock; times = 1 } ∷ record { actor = (Client 1); times = 1 } ∷ record { actor = Insp; times = 1 } ∷ []); options = record { chunk_size = 2; dml_batch_size = 10; default_retries = 9; max_backlog = 1; drain_limit = 2000; client_wait = 2; tool_wait = 5; max_load = 64; turn_limit = 200000; notes = 0; note_every = 100; replica_step = 0; replica_pause = 1; max_lag = 10; approve_renamed_columns = true; initially_drop_ghost_table = false; initially_drop_old_table = false; ok_to_drop_table = false; postpone = false; show_history = true; show_turns = true; show_tables = true; show_replies = true } }
+plan_129 = record { table = codes "t"; alter = (clauses.Change (codes "id") (record { name = codes "id"; kind = Int 8 false; nullable = None; default = None; auto = false }) Unsaid ∷ []); tables = (record { schema = record { name = codes "t"; columns = (record { name = codes "id"; kind = Int 1 false; nullable = false; default = None; auto = false } ∷ []); uniques = (record { name = None; places = (0 ∷ []) } ∷ []); indexes = []; comment = []; start = None }; rows = [] } ∷ []); clients = ((record { line = 1; word = (words.Do (statements.Delete (codes "t") conditions.All)) } ∷ record { line = 2; word = (words.Do (statements.Update (codes "t") (record { column = codes "id"; value = (Num (pos 2)) } ∷ []) (conditions.Equal (record { column = codes "id"; value = (Num (pos 6)) } ∷ [])))) } ∷ record { line = 3; word = words.Begin } ∷ record { line = 4; word = (words.Do (statements.Select (codes "t") (shown.Columns (codes "id" ∷ [])) (conditions.Equal (record { column = codes "id"; value = (Num (pos 4)) } ∷ [])))) } ∷ record { line = 5; word = (words.Do (statements.Update (codes "t") (record { column = codes "id"; value = (Num (pos 2)) } ∷ []) (conditions.Range (record { column = codes "id"; sign = signs.AtLeast; value = (Num (pos 5)) } ∷ record { column = codes "id"; sign = signs.AtMost; value = (Num (pos 4)) } ∷ [])))) } ∷ record { line = 6; word = (words.Do (statements.Insert (codes "t") (Some (codes "id" ∷ [])) ((Num (pos 5)) ∷ []) None)) } ∷ record { line = 7; word = words.Commit } ∷ []) ∷ []); operator = []; faults = []; turns = (record { actor = Lock; times = 1 } ∷ record { actor = Apply; times = 1 } ∷ record { actor = Op; times = 2 } ∷ record { actor = Op; times = 1 } ∷ record { actor = Insp; times = 5 } ∷ record { actor = Lock; times = 1 } ∷ record { actor = Ren; times = 2 } ∷ record { actor = (Client 1); times = 3 } ∷ record { actor = (Client 1); times = 2 } ∷ record { actor = Apply; times = 3 } ∷ record { actor = Op; times = 1 } ∷ record { actor = (Client 1); times = 1 } ∷ record { actor = Op; times = 1 } ∷ record { actor = Op; times = 3 } ∷ record { actor = Lock; times = 2 } ∷ record { actor = Op; times = 5 } ∷ record { actor = Apply; times = 5 } ∷ record { actor = (Client 1); times = 5 } ∷ record { actor = Ren; times = 1 } ∷ record { actor = Apply; times = 3 } ∷ record { actor = Apply; times = 1 } ∷ record { actor = Op; times = 2 } ∷ record { actor = Copy; times = 1 } ∷ record { actor = Apply; times = 3 } ∷ record { actor = Op; times = 3 } ∷ record { actor = Ren; times = 3 } ∷ record { actor = Copy; times = 5 } ∷ record { actor = Lock; times = 3 } ∷ record { actor = Insp; times = 1 } ∷ record { actor = (Client 1); times = 3 } ∷ record { actor = Lock; times = 3 } ∷ record { actor = Copy; times = 1 } ∷ record { actor = Apply; times = 1 } ∷ record { actor = Ren; times = 1 } ∷ record { actor = Lock; times = 1 } ∷ record { actor = Lock; times = 1 } ∷ record { actor = Lock; times = 2 } ∷ record { actor = (Client 1); times = 2 } ∷ record { actor = Ren; times = 2 } ∷ record { actor = Insp; times = 1 } ∷ record { actor = (Client 1); times = 1 } ∷ record { actor = Apply; times = 5 } ∷ record { actor = Ren; times = 1 } ∷ record { actor = (Client 1); times = 1 } ∷ record { actor = Ren; times = 1 } ∷ record { actor = Op; times = 1 } ∷ record { actor = Insp; times = 1 } ∷ record { actor = Ren; times = 1 } ∷ record { actor = Insp; times = 3 } ∷ record { actor = Lock; times = 1 } ∷ record { actor = (Client 1); times = 1 } ∷ record { actor = Insp; times = 1 } ∷ []); options = record { chunk_size = 2; dml_batch_size = 10; default_retries = 9; max_backlog = 1; drain_limit = 2000; client_wait = 2; tool_wait = 5; max_load = 64; turn_limit = 200000; notes = 0; note_every = 100; replica_step = 0; replica_pause = 1; max_lag = 10; resume = false; approve_renamed_columns = true; initially_drop_ghost_table = false; initially_drop_old_table = false; ok_to_drop_table = false; postpone = false; show_history = true; show_turns = true; show_tables = true; show_replies = true } }
 
 abbrev journal_129 : List Entry
 journal_129 =
@@ -457,7 +457,7 @@ abbrev map_142 : List MapColumn
 map_142 = (record { kind = Int 8 false; nullable = true; origin = from.Old 0 } ∷ record { kind = VarChar 6; nullable = true; origin = from.Old 1 } ∷ record { kind = VarBinary 3; nullable = false; origin = from.Old 2 } ∷ [])
 
 abbrev plan_142 : PlanData
-plan_142 = record { table = codes "t"; alter = (clauses.Change (codes "m0") (record { name = codes "m0"; kind = Int 8 false; nullable = None; default = None; auto = false }) Unsaid ∷ []); tables = (record { schema = record { name = codes "t"; columns = (record { name = codes "m0"; kind = Int 1 false; nullable = true; default = (Some Null); auto = false } ∷ record { name = codes "v"; kind = VarChar 6; nullable = true; default = (Some Null); auto = false } ∷ record { name = codes "id"; kind = VarBinary 3; nullable = false; default = None; auto = false } ∷ []); uniques = (record { name = None; places = (2 ∷ []) } ∷ record { name = (Some (codes "u0")); places = (2 ∷ 0 ∷ []) } ∷ []); indexes = []; comment = []; start = None }; rows = (((Num (pos 4)) ∷ Null ∷ (Blob (3 ∷ [])) ∷ []) ∷ ((Num (pos 5)) ∷ (Text (codes "b")) ∷ (Blob (6 ∷ [])) ∷ []) ∷ ((Num (pos 3)) ∷ (Text (codes "99999")) ∷ (Blob (52 ∷ [])) ∷ []) ∷ ((Num (pos 2)) ∷ (Text (codes "300")) ∷ (Blob (53 ∷ [])) ∷ []) ∷ ((Num (pos 6)) ∷ (Text (codes "3")) ∷ (Blob (97 ∷ [])) ∷ []) ∷ ((Num (pos 6)) ∷ (Text (codes "c")) ∷ (Blob (98 ∷ [])) ∷ []) ∷ ((Num (pos 6)) ∷ (Text (codes "6")) ∷ (Blob (103 ∷ [])) ∷ []) ∷ []) } ∷ []); clients = ([] ∷ (record { line = 1; word = words.Begin } ∷ record { line = 2; word = (words.Do (statements.Insert (codes "t") (Some (codes "m0" ∷ codes "v" ∷ codes "id" ∷ [])) ((Text (codes "3")) ∷ (Num (pos 1000)) ∷ (Text (codes "c")) ∷ []) None)) } ∷ record { line = 3; word = words.Rollback } ∷ []) ∷ []); operator = (record { word = commanded.Throttle; units = 1 } ∷ record { word = commanded.NoThrottle; units = 1 } ∷ []); faults = (losses.Turn 17 Copy ∷ []); turns = (record { actor = (Client 2); times = 3 } ∷ record { actor = Lock; times = 5 } ∷ record { actor = (Client 1); times = 2 } ∷ record { actor = Copy; times = 5 } ∷ record { actor = Apply; times = 1 } ∷ record { actor = Copy; times = 5 } ∷ record { actor = Insp; times = 2 } ∷ record { actor = (Client 1); times = 1 } ∷ record { actor = (Client 1); times = 5 } ∷ record { actor = Op; times = 1 } ∷ record { actor = Apply; times = 2 } ∷ record { actor = Copy; times = 1 } ∷ record { actor = Insp; times = 1 } ∷ record { actor = Op; times = 1 } ∷ record { actor = Lock; times = 5 } ∷ record { actor = Copy; times = 2 } ∷ record { actor = Copy; times = 1 } ∷ record { actor = Insp; times = 1 } ∷ record { actor = Op; times = 1 } ∷ record { actor = Ren; times = 1 } ∷ record { actor = Op; times = 5 } ∷ record { actor = (Client 2); times = 5 } ∷ record { actor = Copy; times = 1 } ∷ []); options = record { chunk_size = 1; dml_batch_size = 1; default_retries = 1; max_backlog = 100; drain_limit = 2000; client_wait = 2; tool_wait = 30; max_load = 64; turn_limit = 200000; notes = 0; note_every = 100; replica_step = 0; replica_pause = 1; max_lag = 10; approve_renamed_columns = true; initially_drop_ghost_table = false; initially_drop_old_table = false; ok_to_drop_table = false; postpone = true; show_history = true; show_turns = true; show_tables = true; show_replies = true } }
+plan_142 = record { table = codes "t"; alter = (clauses.Change (codes "m0") (record { name = codes "m0"; kind = Int 8 false; nullable = None; default = None; auto = false }) Unsaid ∷ []); tables = (record { schema = record { name = codes "t"; columns = (record { name = codes "m0"; kind = Int 1 false; nullable = true; default = (Some Null); auto = false } ∷ record { name = codes "v"; kind = VarChar 6; nullable = true; default = (Some Null); auto = false } ∷ record { name = codes "id"; kind = VarBinary 3; nullable = false; default = None; auto = false } ∷ []); uniques = (record { name = None; places = (2 ∷ []) } ∷ record { name = (Some (codes "u0")); places = (2 ∷ 0 ∷ []) } ∷ []); indexes = []; comment = []; start = None }; rows = (((Num (pos 4)) ∷ Null ∷ (Blob (3 ∷ [])) ∷ []) ∷ ((Num (pos 5)) ∷ (Text (codes "b")) ∷ (Blob (6 ∷ [])) ∷ []) ∷ ((Num (pos 3)) ∷ (Text (codes "99999")) ∷ (Blob (52 ∷ [])) ∷ []) ∷ ((Num (pos 2)) ∷ (Text (codes "300")) ∷ (Blob (53 ∷ [])) ∷ []) ∷ ((Num (pos 6)) ∷ (Text (codes "3")) ∷ (Blob (97 ∷ [])) ∷ []) ∷ ((Num (pos 6)) ∷ (Text (codes "c")) ∷ (Blob (98 ∷ [])) ∷ []) ∷ ((Num (pos 6)) ∷ (Text (codes "6")) ∷ (Blob (103 ∷ [])) ∷ []) ∷ []) } ∷ []); clients = ([] ∷ (record { line = 1; word = words.Begin } ∷ record { line = 2; word = (words.Do (statements.Insert (codes "t") (Some (codes "m0" ∷ codes "v" ∷ codes "id" ∷ [])) ((Text (codes "3")) ∷ (Num (pos 1000)) ∷ (Text (codes "c")) ∷ []) None)) } ∷ record { line = 3; word = words.Rollback } ∷ []) ∷ []); operator = (record { word = commanded.Throttle; units = 1 } ∷ record { word = commanded.NoThrottle; units = 1 } ∷ []); faults = (losses.Turn 17 Copy ∷ []); turns = (record { actor = (Client 2); times = 3 } ∷ record { actor = Lock; times = 5 } ∷ record { actor = (Client 1); times = 2 } ∷ record { actor = Copy; times = 5 } ∷ record { actor = Apply; times = 1 } ∷ record { actor = Copy; times = 5 } ∷ record { actor = Insp; times = 2 } ∷ record { actor = (Client 1); times = 1 } ∷ record { actor = (Client 1); times = 5 } ∷ record { actor = Op; times = 1 } ∷ record { actor = Apply; times = 2 } ∷ record { actor = Copy; times = 1 } ∷ record { actor = Insp; times = 1 } ∷ record { actor = Op; times = 1 } ∷ record { actor = Lock; times = 5 } ∷ record { actor = Copy; times = 2 } ∷ record { actor = Copy; times = 1 } ∷ record { actor = Insp; times = 1 } ∷ record { actor = Op; times = 1 } ∷ record { actor = Ren; times = 1 } ∷ record { actor = Op; times = 5 } ∷ record { actor = (Client 2); times = 5 } ∷ record { actor = Copy; times = 1 } ∷ []); options = record { chunk_size = 1; dml_batch_size = 1; default_retries = 1; max_backlog = 100; drain_limit = 2000; client_wait = 2; tool_wait = 30; max_load = 64; turn_limit = 200000; notes = 0; note_every = 100; replica_step = 0; replica_pause = 1; max_lag = 10; resume = false; approve_renamed_columns = true; initially_drop_ghost_table = false; initially_drop_old_table = false; ok_to_drop_table = false; postpone = true; show_history = true; show_turns = true; show_tables = true; show_replies = true } }
 
 abbrev journal_142 : List Entry
 journal_142 =
@@ -501,7 +501,7 @@ abbrev map_145 : List MapColumn
 map_145 = (record { kind = Int 4 false; nullable = true; origin = from.Old 0 } ∷ record { kind = Int 1 false; nullable = true; origin = from.Old 1 } ∷ record { kind = VarChar 6; nullable = true; origin = from.Old 2 } ∷ record { kind = Int 8 false; nullable = false; origin = from.Old 3 } ∷ [])
 
 abbrev plan_145 : PlanData
-plan_145 = record { table = codes "t"; alter = (clauses.AddIndex None (codes "v" ∷ []) ∷ []); tables = (record { schema = record { name = codes "t"; columns = (record { name = codes "m0"; kind = Int 4 false; nullable = true; default = (Some Null); auto = false } ∷ record { name = codes "m1"; kind = Int 1 false; nullable = true; default = (Some Null); auto = false } ∷ record { name = codes "v"; kind = VarChar 6; nullable = true; default = (Some Null); auto = false } ∷ record { name = codes "id"; kind = Int 8 false; nullable = false; default = None; auto = false } ∷ []); uniques = (record { name = None; places = (3 ∷ []) } ∷ record { name = (Some (codes "u0")); places = (0 ∷ []) } ∷ record { name = (Some (codes "u1")); places = (1 ∷ []) } ∷ []); indexes = []; comment = []; start = None }; rows = (((Num (pos 5)) ∷ (Num (pos 1)) ∷ Null ∷ (Num (pos 3)) ∷ []) ∷ ((Num (pos 2)) ∷ Null ∷ Null ∷ (Num (pos 4)) ∷ []) ∷ (Null ∷ (Num (pos 6)) ∷ (Text (codes "d")) ∷ (Num (pos 5)) ∷ []) ∷ ((Num (pos 3)) ∷ (Num (pos 2)) ∷ Null ∷ (Num (pos 7)) ∷ []) ∷ []) } ∷ record { schema = record { name = codes "u"; columns = (record { name = codes "v"; kind = VarChar 6; nullable = false; default = None; auto = false } ∷ record { name = codes "id"; kind = Int 4 false; nullable = false; default = None; auto = false } ∷ record { name = codes "m0"; kind = Int 1 false; nullable = true; default = (Some Null); auto = false } ∷ record { name = codes "m1"; kind = Int 4 false; nullable = true; default = (Some Null); auto = false } ∷ []); uniques = (record { name = None; places = (1 ∷ []) } ∷ record { name = (Some (codes "u0")); places = (2 ∷ []) } ∷ record { name = (Some (codes "u1")); places = (3 ∷ []) } ∷ []); indexes = []; comment = []; start = None }; rows = [] } ∷ []); clients = ((record { line = 1; word = (words.Do (statements.Update (codes "t") (record { column = codes "m0"; value = Null } ∷ record { column = codes "m1"; value = Null } ∷ record { column = codes "v"; value = (Text (codes "a")) } ∷ record { column = codes "id"; value = (Num (pos 1)) } ∷ []) (conditions.Equal (record { column = codes "m0"; value = (Num (pos 7)) } ∷ [])))) } ∷ record { line = 2; word = (words.Do (statements.Select (codes "t") shown.Count conditions.All)) } ∷ []) ∷ (record { line = 1; word = (words.Do (statements.Insert (codes "t") None ((Num (pos 7)) ∷ (Num (pos 1)) ∷ (Text (codes "b")) ∷ (Num (pos 7)) ∷ []) None)) } ∷ record { line = 2; word = (words.Do (statements.Replace (codes "t") (Some (codes "m0" ∷ codes "m1" ∷ codes "v" ∷ codes "id" ∷ [])) ((Num (pos 3)) ∷ (Num (pos 7)) ∷ Null ∷ (Num (pos 6)) ∷ []) None)) } ∷ record { line = 3; word = (words.Do (statements.Replace (codes "t") None ((Num (pos 5)) ∷ Null ∷ (Num (pos 99999)) ∷ (Num (pos 1)) ∷ []) None)) } ∷ record { line = 4; word = words.Begin } ∷ record { line = 5; word = (words.Do (statements.Insert (codes "t") (Some (codes "m0" ∷ codes "v" ∷ codes "id" ∷ [])) (Null ∷ (Num (pos 6)) ∷ (Num (pos 6)) ∷ []) None)) } ∷ record { line = 6; word = words.Rollback } ∷ []) ∷ []); operator = (record { word = (commanded.ChunkSize 1); units = 1 } ∷ record { word = commanded.Throttle; units = 1 } ∷ record { word = commanded.Wait; units = 1 } ∷ record { word = commanded.Panic; units = 1 } ∷ record { word = commanded.NoThrottle; units = 1 } ∷ []); faults = (losses.Nth Ren 3 sides_at.After ∷ losses.Nth Lock 11 sides_at.Before ∷ []); turns = (record { actor = Insp; times = 5 } ∷ record { actor = Apply; times = 3 } ∷ record { actor = Lock; times = 2 } ∷ record { actor = (Client 1); times = 2 } ∷ record { actor = Op; times = 3 } ∷ record { actor = Copy; times = 5 } ∷ record { actor = Op; times = 1 } ∷ record { actor = Insp; times = 1 } ∷ record { actor = (Client 2); times = 1 } ∷ record { actor = Copy; times = 1 } ∷ record { actor = Ren; times = 2 } ∷ record { actor = Insp; times = 1 } ∷ record { actor = Ren; times = 1 } ∷ record { actor = Ren; times = 1 } ∷ record { actor = Insp; times = 5 } ∷ record { actor = Op; times = 1 } ∷ record { actor = (Client 1); times = 3 } ∷ record { actor = Lock; times = 3 } ∷ record { actor = Copy; times = 1 } ∷ record { actor = (Client 1); times = 1 } ∷ record { actor = Copy; times = 1 } ∷ record { actor = Op; times = 3 } ∷ record { actor = Lock; times = 5 } ∷ record { actor = Insp; times = 5 } ∷ record { actor = Insp; times = 1 } ∷ record { actor = Apply; times = 2 } ∷ record { actor = Ren; times = 2 } ∷ record { actor = Ren; times = 5 } ∷ record { actor = Insp; times = 2 } ∷ record { actor = Lock; times = 1 } ∷ record { actor = Ren; times = 1 } ∷ record { actor = Copy; times = 5 } ∷ record { actor = (Client 2); times = 1 } ∷ record { actor = (Client 2); times = 2 } ∷ record { actor = Lock; times = 3 } ∷ record { actor = Copy; times = 1 } ∷ record { actor = Insp; times = 1 } ∷ record { actor = Copy; times = 1 } ∷ record { actor = Apply; times = 5 } ∷ record { actor = Copy; times = 5 } ∷ []); options = record { chunk_size = 5; dml_batch_size = 10; default_retries = 9; max_backlog = 2; drain_limit = 2000; client_wait = 2; tool_wait = 1; max_load = 2; turn_limit = 200000; notes = 0; note_every = 100; replica_step = 0; replica_pause = 1; max_lag = 10; approve_renamed_columns = true; initially_drop_ghost_table = false; initially_drop_old_table = false; ok_to_drop_table = false; postpone = false; show_history = true; show_turns = true; show_tables = true; show_replies = true } }
+plan_145 = record { table = codes "t"; alter = (clauses.AddIndex None (codes "v" ∷ []) ∷ []); tables = (record { schema = record { name = codes "t"; columns = (record { name = codes "m0"; kind = Int 4 false; nullable = true; default = (Some Null); auto = false } ∷ record { name = codes "m1"; kind = Int 1 false; nullable = true; default = (Some Null); auto = false } ∷ record { name = codes "v"; kind = VarChar 6; nullable = true; default = (Some Null); auto = false } ∷ record { name = codes "id"; kind = Int 8 false; nullable = false; default = None; auto = false } ∷ []); uniques = (record { name = None; places = (3 ∷ []) } ∷ record { name = (Some (codes "u0")); places = (0 ∷ []) } ∷ record { name = (Some (codes "u1")); places = (1 ∷ []) } ∷ []); indexes = []; comment = []; start = None }; rows = (((Num (pos 5)) ∷ (Num (pos 1)) ∷ Null ∷ (Num (pos 3)) ∷ []) ∷ ((Num (pos 2)) ∷ Null ∷ Null ∷ (Num (pos 4)) ∷ []) ∷ (Null ∷ (Num (pos 6)) ∷ (Text (codes "d")) ∷ (Num (pos 5)) ∷ []) ∷ ((Num (pos 3)) ∷ (Num (pos 2)) ∷ Null ∷ (Num (pos 7)) ∷ []) ∷ []) } ∷ record { schema = record { name = codes "u"; columns = (record { name = codes "v"; kind = VarChar 6; nullable = false; default = None; auto = false } ∷ record { name = codes "id"; kind = Int 4 false; nullable = false; default = None; auto = false } ∷ record { name = codes "m0"; kind = Int 1 false; nullable = true; default = (Some Null); auto = false } ∷ record { name = codes "m1"; kind = Int 4 false; nullable = true; default = (Some Null); auto = false } ∷ []); uniques = (record { name = None; places = (1 ∷ []) } ∷ record { name = (Some (codes "u0")); places = (2 ∷ []) } ∷ record { name = (Some (codes "u1")); places = (3 ∷ []) } ∷ []); indexes = []; comment = []; start = None }; rows = [] } ∷ []); clients = ((record { line = 1; word = (words.Do (statements.Update (codes "t") (record { column = codes "m0"; value = Null } ∷ record { column = codes "m1"; value = Null } ∷ record { column = codes "v"; value = (Text (codes "a")) } ∷ record { column = codes "id"; value = (Num (pos 1)) } ∷ []) (conditions.Equal (record { column = codes "m0"; value = (Num (pos 7)) } ∷ [])))) } ∷ record { line = 2; word = (words.Do (statements.Select (codes "t") shown.Count conditions.All)) } ∷ []) ∷ (record { line = 1; word = (words.Do (statements.Insert (codes "t") None ((Num (pos 7)) ∷ (Num (pos 1)) ∷ (Text (codes "b")) ∷ (Num (pos 7)) ∷ []) None)) } ∷ record { line = 2; word = (words.Do (statements.Replace (codes "t") (Some (codes "m0" ∷ codes "m1" ∷ codes "v" ∷ codes "id" ∷ [])) ((Num (pos 3)) ∷ (Num (pos 7)) ∷ Null ∷ (Num (pos 6)) ∷ []) None)) } ∷ record { line = 3; word = (words.Do (statements.Replace (codes "t") None ((Num (pos 5)) ∷ Null ∷ (Num (pos 99999)) ∷ (Num (pos 1)) ∷ []) None)) } ∷ record { line = 4; word = words.Begin } ∷ record { line = 5; word = (words.Do (statements.Insert (codes "t") (Some (codes "m0" ∷ codes "v" ∷ codes "id" ∷ [])) (Null ∷ (Num (pos 6)) ∷ (Num (pos 6)) ∷ []) None)) } ∷ record { line = 6; word = words.Rollback } ∷ []) ∷ []); operator = (record { word = (commanded.ChunkSize 1); units = 1 } ∷ record { word = commanded.Throttle; units = 1 } ∷ record { word = commanded.Wait; units = 1 } ∷ record { word = commanded.Panic; units = 1 } ∷ record { word = commanded.NoThrottle; units = 1 } ∷ []); faults = (losses.Nth Ren 3 sides_at.After ∷ losses.Nth Lock 11 sides_at.Before ∷ []); turns = (record { actor = Insp; times = 5 } ∷ record { actor = Apply; times = 3 } ∷ record { actor = Lock; times = 2 } ∷ record { actor = (Client 1); times = 2 } ∷ record { actor = Op; times = 3 } ∷ record { actor = Copy; times = 5 } ∷ record { actor = Op; times = 1 } ∷ record { actor = Insp; times = 1 } ∷ record { actor = (Client 2); times = 1 } ∷ record { actor = Copy; times = 1 } ∷ record { actor = Ren; times = 2 } ∷ record { actor = Insp; times = 1 } ∷ record { actor = Ren; times = 1 } ∷ record { actor = Ren; times = 1 } ∷ record { actor = Insp; times = 5 } ∷ record { actor = Op; times = 1 } ∷ record { actor = (Client 1); times = 3 } ∷ record { actor = Lock; times = 3 } ∷ record { actor = Copy; times = 1 } ∷ record { actor = (Client 1); times = 1 } ∷ record { actor = Copy; times = 1 } ∷ record { actor = Op; times = 3 } ∷ record { actor = Lock; times = 5 } ∷ record { actor = Insp; times = 5 } ∷ record { actor = Insp; times = 1 } ∷ record { actor = Apply; times = 2 } ∷ record { actor = Ren; times = 2 } ∷ record { actor = Ren; times = 5 } ∷ record { actor = Insp; times = 2 } ∷ record { actor = Lock; times = 1 } ∷ record { actor = Ren; times = 1 } ∷ record { actor = Copy; times = 5 } ∷ record { actor = (Client 2); times = 1 } ∷ record { actor = (Client 2); times = 2 } ∷ record { actor = Lock; times = 3 } ∷ record { actor = Copy; times = 1 } ∷ record { actor = Insp; times = 1 } ∷ record { actor = Copy; times = 1 } ∷ record { actor = Apply; times = 5 } ∷ record { actor = Copy; times = 5 } ∷ []); options = record { chunk_size = 5; dml_batch_size = 10; default_retries = 9; max_backlog = 2; drain_limit = 2000; client_wait = 2; tool_wait = 1; max_load = 2; turn_limit = 200000; notes = 0; note_every = 100; replica_step = 0; replica_pause = 1; max_lag = 10; resume = false; approve_renamed_columns = true; initially_drop_ghost_table = false; initially_drop_old_table = false; ok_to_drop_table = false; postpone = false; show_history = true; show_turns = true; show_tables = true; show_replies = true } }
 
 abbrev journal_145 : List Entry
 journal_145 =

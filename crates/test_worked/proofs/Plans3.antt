@@ -34,7 +34,7 @@ abbrev map_157 : List MapColumn
 map_157 = (record { kind = Int 4 false; nullable = false; origin = from.Old 0 } ∷ record { kind = VarChar 8; nullable = false; origin = from.Old 1 } ∷ [])
 
 abbrev plan_157 : PlanData
-plan_157 = record { table = codes "t"; alter = (clauses.Change (codes "v") (record { name = codes "v"; kind = VarChar 8; nullable = (Some false); default = None; auto = false }) Unsaid ∷ []); tables = (record { schema = record { name = codes "t"; columns = (record { name = codes "id"; kind = Int 4 false; nullable = false; default = None; auto = false } ∷ record { name = codes "v"; kind = Int 2 false; nullable = true; default = (Some Null); auto = false } ∷ []); uniques = (record { name = None; places = (0 ∷ []) } ∷ []); indexes = (record { name = (Some (codes "v")); places = (1 ∷ []) } ∷ []); comment = []; start = None }; rows = (((Num (pos 4)) ∷ (Num (pos 5)) ∷ []) ∷ ((Num (pos 7)) ∷ (Num (pos 3)) ∷ []) ∷ []) } ∷ record { schema = record { name = codes "u"; columns = (record { name = codes "id"; kind = VarBinary 3; nullable = false; default = None; auto = false } ∷ record { name = codes "m0"; kind = Int 1 false; nullable = false; default = None; auto = false } ∷ []); uniques = (record { name = None; places = (0 ∷ []) } ∷ record { name = (Some (codes "u0")); places = (1 ∷ []) } ∷ []); indexes = []; comment = codes "x"; start = None }; rows = [] } ∷ []); clients = ((record { line = 1; word = (words.Do (statements.Update (codes "t") (record { column = codes "v"; value = (Num (pos 5)) } ∷ []) (conditions.Equal (record { column = codes "id"; value = (Num (pos 4)) } ∷ [])))) } ∷ []) ∷ []); operator = []; faults = (losses.Nth Copy 4 sides_at.After ∷ losses.Turn 46 Ren ∷ []); turns = (record { actor = Ren; times = 1 } ∷ record { actor = Op; times = 1 } ∷ record { actor = Insp; times = 1 } ∷ record { actor = Ren; times = 3 } ∷ record { actor = Ren; times = 1 } ∷ record { actor = (Client 1); times = 1 } ∷ record { actor = Copy; times = 3 } ∷ record { actor = Insp; times = 3 } ∷ []); options = record { chunk_size = 2; dml_batch_size = 4; default_retries = 2; max_backlog = 0; drain_limit = 2000; client_wait = 3; tool_wait = 1; max_load = 64; turn_limit = 200000; notes = 0; note_every = 100; replica_step = 0; replica_pause = 1; max_lag = 10; approve_renamed_columns = true; initially_drop_ghost_table = false; initially_drop_old_table = false; ok_to_drop_table = false; postpone = false; show_history = true; show_turns = true; show_tables = true; show_replies = true } }
+plan_157 = record { table = codes "t"; alter = (clauses.Change (codes "v") (record { name = codes "v"; kind = VarChar 8; nullable = (Some false); default = None; auto = false }) Unsaid ∷ []); tables = (record { schema = record { name = codes "t"; columns = (record { name = codes "id"; kind = Int 4 false; nullable = false; default = None; auto = false } ∷ record { name = codes "v"; kind = Int 2 false; nullable = true; default = (Some Null); auto = false } ∷ []); uniques = (record { name = None; places = (0 ∷ []) } ∷ []); indexes = (record { name = (Some (codes "v")); places = (1 ∷ []) } ∷ []); comment = []; start = None }; rows = (((Num (pos 4)) ∷ (Num (pos 5)) ∷ []) ∷ ((Num (pos 7)) ∷ (Num (pos 3)) ∷ []) ∷ []) } ∷ record { schema = record { name = codes "u"; columns = (record { name = codes "id"; kind = VarBinary 3; nullable = false; default = None; auto = false } ∷ record { name = codes "m0"; kind = Int 1 false; nullable = false; default = None; auto = false } ∷ []); uniques = (record { name = None; places = (0 ∷ []) } ∷ record { name = (Some (codes "u0")); places = (1 ∷ []) } ∷ []); indexes = []; comment = codes "x"; start = None }; rows = [] } ∷ []); clients = ((record { line = 1; word = (words.Do (statements.Update (codes "t") (record { column = codes "v"; value = (Num (pos 5)) } ∷ []) (conditions.Equal (record { column = codes "id"; value = (Num (pos 4)) } ∷ [])))) } ∷ []) ∷ []); operator = []; faults = (losses.Nth Copy 4 sides_at.After ∷ losses.Turn 46 Ren ∷ []); turns = (record { actor = Ren; times = 1 } ∷ record { actor = Op; times = 1 } ∷ record { actor = Insp; times = 1 } ∷ record { actor = Ren; times = 3 } ∷ record { actor = Ren; times = 1 } ∷ record { actor = (Client 1); times = 1 } ∷ record { actor = Copy; times = 3 } ∷ record { actor = Insp; times = 3 } ∷ []); options = record { chunk_size = 2; dml_batch_size = 4; default_retries = 2; max_backlog = 0; drain_limit = 2000; client_wait = 3; tool_wait = 1; max_load = 64; turn_limit = 200000; notes = 0; note_every = 100; replica_step = 0; replica_pause = 1; max_lag = 10; resume = false; approve_renamed_columns = true; initially_drop_ghost_table = false; initially_drop_old_table = false; ok_to_drop_table = false; postpone = false; show_history = true; show_turns = true; show_tables = true; show_replies = true } }
 
 abbrev journal_157 : List Entry
 journal_157 =
@@ -96,7 +96,7 @@ abbrev map_159 : List MapColumn
 map_159 = (record { kind = VarBinary 3; nullable = false; origin = from.Old 0 } ∷ record { kind = Int 4 false; nullable = true; origin = from.Old 1 } ∷ record { kind = VarChar 2; nullable = false; origin = from.Old 2 } ∷ [])
 
 abbrev plan_159 : PlanData
-plan_159 = record { table = codes "t"; alter = (clauses.Change (codes "v") (record { name = codes "v"; kind = VarChar 2; nullable = (Some false); default = None; auto = false }) Unsaid ∷ []); tables = (record { schema = record { name = codes "t"; columns = (record { name = codes "id"; kind = VarBinary 3; nullable = false; default = None; auto = false } ∷ record { name = codes "m0"; kind = Int 4 false; nullable = true; default = (Some (Num (pos 1))); auto = false } ∷ record { name = codes "v"; kind = VarChar 6; nullable = true; default = (Some Null); auto = false } ∷ []); uniques = (record { name = None; places = (0 ∷ []) } ∷ record { name = (Some (codes "u0")); places = (1 ∷ []) } ∷ []); indexes = []; comment = []; start = None }; rows = (((Blob (4 ∷ [])) ∷ Null ∷ (Text (codes "3")) ∷ []) ∷ ((Blob (6 ∷ [])) ∷ (Num (pos 6)) ∷ (Text (codes "3")) ∷ []) ∷ ((Blob (99 ∷ [])) ∷ (Num (pos 5)) ∷ (Text (codes "g")) ∷ []) ∷ ((Blob (100 ∷ [])) ∷ Null ∷ (Text (codes "e")) ∷ []) ∷ ((Blob (101 ∷ [])) ∷ Null ∷ Null ∷ []) ∷ ((Blob (102 ∷ [])) ∷ (Num (pos 2)) ∷ (Text (codes "d")) ∷ []) ∷ []) } ∷ record { schema = record { name = codes "u"; columns = (record { name = codes "id"; kind = VarChar 3; nullable = false; default = None; auto = false } ∷ record { name = codes "m0"; kind = Int 1 false; nullable = true; default = (Some (Num (pos 1))); auto = false } ∷ []); uniques = (record { name = None; places = (0 ∷ []) } ∷ record { name = (Some (codes "u0")); places = (1 ∷ []) } ∷ []); indexes = []; comment = []; start = None }; rows = (((Text (codes "a")) ∷ (Num (pos 5)) ∷ []) ∷ ((Text (codes "b")) ∷ (Num (pos 4)) ∷ []) ∷ ((Text (codes "f")) ∷ (Num (pos 3)) ∷ []) ∷ ((Text (codes "g")) ∷ (Num (pos 6)) ∷ []) ∷ []) } ∷ []); clients = ((record { line = 1; word = (words.Do (statements.Replace (codes "t") (Some (codes "id" ∷ codes "m0" ∷ [])) ((Num (pos 5)) ∷ (Num (pos 7)) ∷ []) None)) } ∷ record { line = 2; word = (words.Do (statements.Insert (codes "t") (Some (codes "id" ∷ codes "m0" ∷ codes "v" ∷ [])) ((Blob (6 ∷ [])) ∷ (Num (pos 2)) ∷ Null ∷ []) None)) } ∷ record { line = 3; word = (words.Do (statements.Select (codes "t") shown.Count (conditions.Equal (record { column = codes "id"; value = (Text (codes "b")) } ∷ [])))) } ∷ record { line = 4; word = (words.Do (statements.Insert (codes "t") None ((Text (codes "g")) ∷ (Num (pos 2)) ∷ Null ∷ []) None)) } ∷ []) ∷ (record { line = 1; word = (words.Do (statements.Update (codes "t") (record { column = codes "id"; value = (Blob (3 ∷ [])) } ∷ []) (conditions.Range (record { column = codes "id"; sign = signs.Less; value = (Blob (3 ∷ [])) } ∷ record { column = codes "id"; sign = signs.AtMost; value = (Text (codes "b")) } ∷ [])))) } ∷ []) ∷ (record { line = 1; word = (words.Do (statements.Insert (codes "t") None ((Text (codes "d")) ∷ (Num (pos 7)) ∷ Null ∷ []) None)) } ∷ []) ∷ (record { line = 1; word = (words.Do (statements.Insert (codes "t") None ((Blob (1 ∷ [])) ∷ (Num (pos 2)) ∷ (Text (codes "c")) ∷ []) None)) } ∷ []) ∷ []); operator = []; faults = (losses.Turn 37 Apply ∷ losses.Nth Op 3 sides_at.Before ∷ losses.Nth (Client 4) 2 sides_at.After ∷ []); turns = (record { actor = Insp; times = 3 } ∷ record { actor = (Client 1); times = 3 } ∷ record { actor = Copy; times = 1 } ∷ record { actor = Apply; times = 1 } ∷ record { actor = (Client 3); times = 3 } ∷ record { actor = Lock; times = 1 } ∷ record { actor = Copy; times = 2 } ∷ record { actor = Ren; times = 3 } ∷ record { actor = Lock; times = 1 } ∷ record { actor = (Client 4); times = 5 } ∷ record { actor = Insp; times = 3 } ∷ record { actor = (Client 3); times = 1 } ∷ record { actor = (Client 2); times = 3 } ∷ record { actor = Insp; times = 2 } ∷ record { actor = Op; times = 5 } ∷ record { actor = Ren; times = 1 } ∷ record { actor = (Client 4); times = 5 } ∷ record { actor = Lock; times = 3 } ∷ record { actor = Lock; times = 2 } ∷ record { actor = Ren; times = 5 } ∷ record { actor = Insp; times = 5 } ∷ record { actor = Insp; times = 1 } ∷ record { actor = Lock; times = 1 } ∷ record { actor = (Client 4); times = 5 } ∷ record { actor = Apply; times = 3 } ∷ []); options = record { chunk_size = 1; dml_batch_size = 2; default_retries = 1; max_backlog = 2; drain_limit = 2000; client_wait = 9; tool_wait = 9; max_load = 1; turn_limit = 200000; notes = 0; note_every = 100; replica_step = 0; replica_pause = 1; max_lag = 10; approve_renamed_columns = true; initially_drop_ghost_table = false; initially_drop_old_table = false; ok_to_drop_table = false; postpone = false; show_history = true; show_turns = true; show_tables = true; show_replies = true } }
+plan_159 = record { table = codes "t"; alter = (clauses.Change (codes "v") (record { name = codes "v"; kind = VarChar 2; nullable = (Some false); default = None; auto = false }) Unsaid ∷ []); tables = (record { schema = record { name = codes "t"; columns = (record { name = codes "id"; kind = VarBinary 3; nullable = false; default = None; auto = false } ∷ record { name = codes "m0"; kind = Int 4 false; nullable = true; default = (Some (Num (pos 1))); auto = false } ∷ record { name = codes "v"; kind = VarChar 6; nullable = true; default = (Some Null); auto = false } ∷ []); uniques = (record { name = None; places = (0 ∷ []) } ∷ record { name = (Some (codes "u0")); places = (1 ∷ []) } ∷ []); indexes = []; comment = []; start = None }; rows = (((Blob (4 ∷ [])) ∷ Null ∷ (Text (codes "3")) ∷ []) ∷ ((Blob (6 ∷ [])) ∷ (Num (pos 6)) ∷ (Text (codes "3")) ∷ []) ∷ ((Blob (99 ∷ [])) ∷ (Num (pos 5)) ∷ (Text (codes "g")) ∷ []) ∷ ((Blob (100 ∷ [])) ∷ Null ∷ (Text (codes "e")) ∷ []) ∷ ((Blob (101 ∷ [])) ∷ Null ∷ Null ∷ []) ∷ ((Blob (102 ∷ [])) ∷ (Num (pos 2)) ∷ (Text (codes "d")) ∷ []) ∷ []) } ∷ record { schema = record { name = codes "u"; columns = (record { name = codes "id"; kind = VarChar 3; nullable = false; default = None; auto = false } ∷ record { name = codes "m0"; kind = Int 1 false; nullable = true; default = (Some (Num (pos 1))); auto = false } ∷ []); uniques = (record { name = None; places = (0 ∷ []) } ∷ record { name = (Some (codes "u0")); places = (1 ∷ []) } ∷ []); indexes = []; comment = []; start = None }; rows = (((Text (codes "a")) ∷ (Num (pos 5)) ∷ []) ∷ ((Text (codes "b")) ∷ (Num (pos 4)) ∷ []) ∷ ((Text (codes "f")) ∷ (Num (pos 3)) ∷ []) ∷ ((Text (codes "g")) ∷ (Num (pos 6)) ∷ []) ∷ []) } ∷ []); clients = ((record { line = 1; word = (words.Do (statements.Replace (codes "t") (Some (codes "id" ∷ codes "m0" ∷ [])) ((Num (pos 5)) ∷ (Num (pos 7)) ∷ []) None)) } ∷ record { line = 2; word = (words.Do (statements.Insert (codes "t") (Some (codes "id" ∷ codes "m0" ∷ codes "v" ∷ [])) ((Blob (6 ∷ [])) ∷ (Num (pos 2)) ∷ Null ∷ []) None)) } ∷ record { line = 3; word = (words.Do (statements.Select (codes "t") shown.Count (conditions.Equal (record { column = codes "id"; value = (Text (codes "b")) } ∷ [])))) } ∷ record { line = 4; word = (words.Do (statements.Insert (codes "t") None ((Text (codes "g")) ∷ (Num (pos 2)) ∷ Null ∷ []) None)) } ∷ []) ∷ (record { line = 1; word = (words.Do (statements.Update (codes "t") (record { column = codes "id"; value = (Blob (3 ∷ [])) } ∷ []) (conditions.Range (record { column = codes "id"; sign = signs.Less; value = (Blob (3 ∷ [])) } ∷ record { column = codes "id"; sign = signs.AtMost; value = (Text (codes "b")) } ∷ [])))) } ∷ []) ∷ (record { line = 1; word = (words.Do (statements.Insert (codes "t") None ((Text (codes "d")) ∷ (Num (pos 7)) ∷ Null ∷ []) None)) } ∷ []) ∷ (record { line = 1; word = (words.Do (statements.Insert (codes "t") None ((Blob (1 ∷ [])) ∷ (Num (pos 2)) ∷ (Text (codes "c")) ∷ []) None)) } ∷ []) ∷ []); operator = []; faults = (losses.Turn 37 Apply ∷ losses.Nth Op 3 sides_at.Before ∷ losses.Nth (Client 4) 2 sides_at.After ∷ []); turns = (record { actor = Insp; times = 3 } ∷ record { actor = (Client 1); times = 3 } ∷ record { actor = Copy; times = 1 } ∷ record { actor = Apply; times = 1 } ∷ record { actor = (Client 3); times = 3 } ∷ record { actor = Lock; times = 1 } ∷ record { actor = Copy; times = 2 } ∷ record { actor = Ren; times = 3 } ∷ record { actor = Lock; times = 1 } ∷ record { actor = (Client 4); times = 5 } ∷ record { actor = Insp; times = 3 } ∷ record { actor = (Client 3); times = 1 } ∷ record { actor = (Client 2); times = 3 } ∷ record { actor = Insp; times = 2 } ∷ record { actor = Op; times = 5 } ∷ record { actor = Ren; times = 1 } ∷ record { actor = (Client 4); times = 5 } ∷ record { actor = Lock; times = 3 } ∷ record { actor = Lock; times = 2 } ∷ record { actor = Ren; times = 5 } ∷ record { actor = Insp; times = 5 } ∷ record { actor = Insp; times = 1 } ∷ record { actor = Lock; times = 1 } ∷ record { actor = (Client 4); times = 5 } ∷ record { actor = Apply; times = 3 } ∷ []); options = record { chunk_size = 1; dml_batch_size = 2; default_retries = 1; max_backlog = 2; drain_limit = 2000; client_wait = 9; tool_wait = 9; max_load = 1; turn_limit = 200000; notes = 0; note_every = 100; replica_step = 0; replica_pause = 1; max_lag = 10; resume = false; approve_renamed_columns = true; initially_drop_ghost_table = false; initially_drop_old_table = false; ok_to_drop_table = false; postpone = false; show_history = true; show_turns = true; show_tables = true; show_replies = true } }
 
 abbrev journal_159 : List Entry
 journal_159 =
@@ -147,7 +147,7 @@ abbrev map_161 : List MapColumn
 map_161 = (record { kind = Int 4 false; nullable = false; origin = from.Old 0 } ∷ record { kind = Int 1 false; nullable = false; origin = from.Old 1 } ∷ [])
 
 abbrev plan_161 : PlanData
-plan_161 = record { table = codes "t"; alter = (clauses.Change (codes "m0") (record { name = codes "m0"; kind = Int 1 false; nullable = (Some false); default = None; auto = false }) Unsaid ∷ []); tables = (record { schema = record { name = codes "t"; columns = (record { name = codes "id"; kind = Int 4 false; nullable = false; default = None; auto = false } ∷ record { name = codes "m0"; kind = Int 4 false; nullable = false; default = None; auto = false } ∷ []); uniques = (record { name = (Some (codes "k")); places = (0 ∷ []) } ∷ record { name = (Some (codes "u0")); places = (0 ∷ 1 ∷ []) } ∷ []); indexes = []; comment = []; start = None }; rows = (((Num (pos 2)) ∷ (Num (pos 2)) ∷ []) ∷ ((Num (pos 3)) ∷ (Num (pos 5)) ∷ []) ∷ ((Num (pos 5)) ∷ (Num (pos 3)) ∷ []) ∷ ((Num (pos 6)) ∷ (Num (pos 7)) ∷ []) ∷ []) } ∷ []); clients = []; operator = (record { word = commanded.Unpostpone; units = 1 } ∷ record { word = commanded.Unpostpone; units = 1 } ∷ record { word = commanded.Wait; units = 12 } ∷ record { word = commanded.NoThrottle; units = 1 } ∷ record { word = (commanded.ChunkSize 3); units = 1 } ∷ record { word = commanded.Panic; units = 1 } ∷ record { word = commanded.Unpostpone; units = 1 } ∷ []); faults = []; turns = (record { actor = Insp; times = 3 } ∷ record { actor = Ren; times = 1 } ∷ record { actor = Lock; times = 1 } ∷ record { actor = Lock; times = 1 } ∷ record { actor = Ren; times = 5 } ∷ record { actor = Copy; times = 1 } ∷ record { actor = Apply; times = 3 } ∷ record { actor = Op; times = 5 } ∷ record { actor = Apply; times = 2 } ∷ record { actor = Lock; times = 5 } ∷ record { actor = Lock; times = 1 } ∷ record { actor = Copy; times = 1 } ∷ record { actor = Copy; times = 1 } ∷ record { actor = Lock; times = 1 } ∷ record { actor = Lock; times = 2 } ∷ record { actor = Lock; times = 3 } ∷ record { actor = Op; times = 5 } ∷ record { actor = Insp; times = 5 } ∷ record { actor = Apply; times = 1 } ∷ record { actor = Lock; times = 1 } ∷ record { actor = Insp; times = 2 } ∷ record { actor = Lock; times = 3 } ∷ record { actor = Op; times = 2 } ∷ record { actor = Copy; times = 2 } ∷ record { actor = Insp; times = 1 } ∷ record { actor = Ren; times = 1 } ∷ record { actor = Lock; times = 2 } ∷ record { actor = Op; times = 1 } ∷ record { actor = Apply; times = 1 } ∷ record { actor = Op; times = 2 } ∷ record { actor = Lock; times = 5 } ∷ record { actor = Copy; times = 5 } ∷ record { actor = Insp; times = 3 } ∷ record { actor = Insp; times = 3 } ∷ record { actor = Copy; times = 5 } ∷ record { actor = Insp; times = 3 } ∷ record { actor = Apply; times = 2 } ∷ record { actor = Copy; times = 2 } ∷ record { actor = Op; times = 3 } ∷ record { actor = Lock; times = 3 } ∷ record { actor = Op; times = 1 } ∷ record { actor = Apply; times = 3 } ∷ record { actor = Insp; times = 2 } ∷ record { actor = Insp; times = 1 } ∷ record { actor = Op; times = 1 } ∷ record { actor = Insp; times = 1 } ∷ record { actor = Ren; times = 1 } ∷ record { actor = Copy; times = 2 } ∷ record { actor = Lock; times = 3 } ∷ record { actor = Lock; times = 1 } ∷ record { actor = Op; times = 2 } ∷ []); options = record { chunk_size = 1; dml_batch_size = 4; default_retries = 60; max_backlog = 100; drain_limit = 2000; client_wait = 1; tool_wait = 1; max_load = 64; turn_limit = 200000; notes = 0; note_every = 100; replica_step = 0; replica_pause = 1; max_lag = 10; approve_renamed_columns = true; initially_drop_ghost_table = false; initially_drop_old_table = false; ok_to_drop_table = false; postpone = false; show_history = true; show_turns = true; show_tables = true; show_replies = true } }
+plan_161 = record { table = codes "t"; alter = (clauses.Change (codes "m0") (record { name = codes "m0"; kind = Int 1 false; nullable = (Some false); default = None; auto = false }) Unsaid ∷ []); tables = (record { schema = record { name = codes "t"; columns = (record { name = codes "id"; kind = Int 4 false; nullable = false; default = None; auto = false } ∷ record { name = codes "m0"; kind = Int 4 false; nullable = false; default = None; auto = false } ∷ []); uniques = (record { name = (Some (codes "k")); places = (0 ∷ []) } ∷ record { name = (Some (codes "u0")); places = (0 ∷ 1 ∷ []) } ∷ []); indexes = []; comment = []; start = None }; rows = (((Num (pos 2)) ∷ (Num (pos 2)) ∷ []) ∷ ((Num (pos 3)) ∷ (Num (pos 5)) ∷ []) ∷ ((Num (pos 5)) ∷ (Num (pos 3)) ∷ []) ∷ ((Num (pos 6)) ∷ (Num (pos 7)) ∷ []) ∷ []) } ∷ []); clients = []; operator = (record { word = commanded.Unpostpone; units = 1 } ∷ record { word = commanded.Unpostpone; units = 1 } ∷ record { word = commanded.Wait; units = 12 } ∷ record { word = commanded.NoThrottle; units = 1 } ∷ record { word = (commanded.ChunkSize 3); units = 1 } ∷ record { word = commanded.Panic; units = 1 } ∷ record { word = commanded.Unpostpone; units = 1 } ∷ []); faults = []; turns = (record { actor = Insp; times = 3 } ∷ record { actor = Ren; times = 1 } ∷ record { actor = Lock; times = 1 } ∷ record { actor = Lock; times = 1 } ∷ record { actor = Ren; times = 5 } ∷ record { actor = Copy; times = 1 } ∷ record { actor = Apply; times = 3 } ∷ record { actor = Op; times = 5 } ∷ record { actor = Apply; times = 2 } ∷ record { actor = Lock; times = 5 } ∷ record { actor = Lock; times = 1 } ∷ record { actor = Copy; times = 1 } ∷ record { actor = Copy; times = 1 } ∷ record { actor = Lock; times = 1 } ∷ record { actor = Lock; times = 2 } ∷ record { actor = Lock; times = 3 } ∷ record { actor = Op; times = 5 } ∷ record { actor = Insp; times = 5 } ∷ record { actor = Apply; times = 1 } ∷ record { actor = Lock; times = 1 } ∷ record { actor = Insp; times = 2 } ∷ record { actor = Lock; times = 3 } ∷ record { actor = Op; times = 2 } ∷ record { actor = Copy; times = 2 } ∷ record { actor = Insp; times = 1 } ∷ record { actor = Ren; times = 1 } ∷ record { actor = Lock; times = 2 } ∷ record { actor = Op; times = 1 } ∷ record { actor = Apply; times = 1 } ∷ record { actor = Op; times = 2 } ∷ record { actor = Lock; times = 5 } ∷ record { actor = Copy; times = 5 } ∷ record { actor = Insp; times = 3 } ∷ record { actor = Insp; times = 3 } ∷ record { actor = Copy; times = 5 } ∷ record { actor = Insp; times = 3 } ∷ record { actor = Apply; times = 2 } ∷ record { actor = Copy; times = 2 } ∷ record { actor = Op; times = 3 } ∷ record { actor = Lock; times = 3 } ∷ record { actor = Op; times = 1 } ∷ record { actor = Apply; times = 3 } ∷ record { actor = Insp; times = 2 } ∷ record { actor = Insp; times = 1 } ∷ record { actor = Op; times = 1 } ∷ record { actor = Insp; times = 1 } ∷ record { actor = Ren; times = 1 } ∷ record { actor = Copy; times = 2 } ∷ record { actor = Lock; times = 3 } ∷ record { actor = Lock; times = 1 } ∷ record { actor = Op; times = 2 } ∷ []); options = record { chunk_size = 1; dml_batch_size = 4; default_retries = 60; max_backlog = 100; drain_limit = 2000; client_wait = 1; tool_wait = 1; max_load = 64; turn_limit = 200000; notes = 0; note_every = 100; replica_step = 0; replica_pause = 1; max_lag = 10; resume = false; approve_renamed_columns = true; initially_drop_ghost_table = false; initially_drop_old_table = false; ok_to_drop_table = false; postpone = false; show_history = true; show_turns = true; show_tables = true; show_replies = true } }
 
 abbrev journal_161 : List Entry
 journal_161 =
@@ -212,7 +212,7 @@ abbrev map_170 : List MapColumn
 map_170 = (record { kind = Int 4 false; nullable = true; origin = from.Old 0 } ∷ record { kind = VarChar 6; nullable = true; origin = from.Old 1 } ∷ record { kind = Int 8 false; nullable = false; origin = from.Old 2 } ∷ [])
 
 abbrev plan_170 : PlanData
-plan_170 = record { table = codes "t"; alter = (clauses.Change (codes "id") (record { name = codes "id"; kind = Int 8 false; nullable = None; default = None; auto = false }) Unsaid ∷ []); tables = (record { schema = record { name = codes "t"; columns = (record { name = codes "m0"; kind = Int 4 false; nullable = true; default = (Some Null); auto = false } ∷ record { name = codes "v"; kind = VarChar 6; nullable = true; default = (Some Null); auto = false } ∷ record { name = codes "id"; kind = Int 1 false; nullable = false; default = None; auto = false } ∷ []); uniques = (record { name = None; places = (2 ∷ []) } ∷ record { name = (Some (codes "u0")); places = (0 ∷ []) } ∷ []); indexes = []; comment = []; start = None }; rows = ((Null ∷ Null ∷ (Num (pos 1)) ∷ []) ∷ ((Num (pos 2)) ∷ (Text (codes "b")) ∷ (Num (pos 3)) ∷ []) ∷ ((Num (pos 6)) ∷ (Text (codes "3")) ∷ (Num (pos 6)) ∷ []) ∷ (Null ∷ (Text (codes "a")) ∷ (Num (pos 7)) ∷ []) ∷ []) } ∷ record { schema = record { name = codes "u"; columns = (record { name = codes "m0"; kind = Int 4 false; nullable = false; default = None; auto = false } ∷ record { name = codes "id"; kind = Int 8 false; nullable = false; default = None; auto = false } ∷ []); uniques = (record { name = None; places = (1 ∷ []) } ∷ record { name = (Some (codes "u0")); places = (0 ∷ []) } ∷ []); indexes = []; comment = []; start = None }; rows = (((Num (pos 4)) ∷ (Num (pos 3)) ∷ []) ∷ ((Num (pos 1)) ∷ (Num (pos 5)) ∷ []) ∷ []) } ∷ []); clients = ((record { line = 1; word = (words.Do (statements.Delete (codes "t") (conditions.Equal (record { column = codes "id"; value = (Num (pos 2)) } ∷ [])))) } ∷ record { line = 2; word = (words.Do (statements.Update (codes "t") (record { column = codes "v"; value = (Num (pos 5)) } ∷ record { column = codes "id"; value = (Num (pos 5)) } ∷ []) (conditions.Range (record { column = codes "id"; sign = signs.AtLeast; value = (Num (pos 1)) } ∷ record { column = codes "id"; sign = signs.AtMost; value = (Num (pos 2)) } ∷ [])))) } ∷ record { line = 3; word = (words.Do (statements.Update (codes "t") (record { column = codes "id"; value = (Num (pos 3)) } ∷ []) (conditions.Range (record { column = codes "id"; sign = signs.AtMost; value = (Num (pos 7)) } ∷ [])))) } ∷ record { line = 4; word = words.Begin } ∷ record { line = 5; word = (words.Do (statements.Insert (codes "t") None ((Num (pos 1)) ∷ (Text (codes "d")) ∷ (Num (pos 3)) ∷ []) None)) } ∷ record { line = 6; word = (words.Do (statements.Replace (codes "t") (Some (codes "m0" ∷ codes "v" ∷ codes "id" ∷ [])) ((Num (pos 1)) ∷ (Text (codes "a")) ∷ (Num (pos 4)) ∷ []) None)) } ∷ record { line = 7; word = words.Commit } ∷ []) ∷ []); operator = (record { word = commanded.NoThrottle; units = 1 } ∷ record { word = (commanded.ChunkSize 2); units = 1 } ∷ record { word = commanded.Unpostpone; units = 1 } ∷ record { word = (commanded.ChunkSize 2); units = 1 } ∷ record { word = commanded.Panic; units = 1 } ∷ record { word = commanded.Wait; units = 21 } ∷ record { word = commanded.Throttle; units = 1 } ∷ []); faults = (losses.Turn 28 Copy ∷ []); turns = (record { actor = Insp; times = 5 } ∷ record { actor = Copy; times = 1 } ∷ record { actor = (Client 1); times = 1 } ∷ record { actor = (Client 1); times = 3 } ∷ record { actor = Apply; times = 3 } ∷ record { actor = Insp; times = 1 } ∷ record { actor = Apply; times = 1 } ∷ record { actor = Lock; times = 1 } ∷ record { actor = Lock; times = 1 } ∷ record { actor = Apply; times = 5 } ∷ record { actor = Lock; times = 2 } ∷ record { actor = Ren; times = 1 } ∷ record { actor = Ren; times = 3 } ∷ record { actor = (Client 1); times = 2 } ∷ record { actor = Apply; times = 1 } ∷ record { actor = Apply; times = 2 } ∷ record { actor = Copy; times = 5 } ∷ record { actor = Copy; times = 2 } ∷ record { actor = Insp; times = 5 } ∷ record { actor = Copy; times = 3 } ∷ record { actor = Lock; times = 1 } ∷ record { actor = Ren; times = 1 } ∷ record { actor = (Client 1); times = 5 } ∷ record { actor = Lock; times = 3 } ∷ record { actor = Apply; times = 2 } ∷ []); options = record { chunk_size = 5; dml_batch_size = 4; default_retries = 9; max_backlog = 0; drain_limit = 2000; client_wait = 3; tool_wait = 1; max_load = 64; turn_limit = 44; notes = 0; note_every = 100; replica_step = 0; replica_pause = 1; max_lag = 10; approve_renamed_columns = true; initially_drop_ghost_table = false; initially_drop_old_table = false; ok_to_drop_table = false; postpone = false; show_history = true; show_turns = true; show_tables = true; show_replies = true } }
+plan_170 = record { table = codes "t"; alter = (clauses.Change (codes "id") (record { name = codes "id"; kind = Int 8 false; nullable = None; default = None; auto = false }) Unsaid ∷ []); tables = (record { schema = record { name = codes "t"; columns = (record { name = codes "m0"; kind = Int 4 false; nullable = true; default = (Some Null); auto = false } ∷ record { name = codes "v"; kind = VarChar 6; nullable = true; default = (Some Null); auto = false } ∷ record { name = codes "id"; kind = Int 1 false; nullable = false; default = None; auto = false } ∷ []); uniques = (record { name = None; places = (2 ∷ []) } ∷ record { name = (Some (codes "u0")); places = (0 ∷ []) } ∷ []); indexes = []; comment = []; start = None }; rows = ((Null ∷ Null ∷ (Num (pos 1)) ∷ []) ∷ ((Num (pos 2)) ∷ (Text (codes "b")) ∷ (Num (pos 3)) ∷ []) ∷ ((Num (pos 6)) ∷ (Text (codes "3")) ∷ (Num (pos 6)) ∷ []) ∷ (Null ∷ (Text (codes "a")) ∷ (Num (pos 7)) ∷ []) ∷ []) } ∷ record { schema = record { name = codes "u"; columns = (record { name = codes "m0"; kind = Int 4 false; nullable = false; default = None; auto = false } ∷ record { name = codes "id"; kind = Int 8 false; nullable = false; default = None; auto = false } ∷ []); uniques = (record { name = None; places = (1 ∷ []) } ∷ record { name = (Some (codes "u0")); places = (0 ∷ []) } ∷ []); indexes = []; comment = []; start = None }; rows = (((Num (pos 4)) ∷ (Num (pos 3)) ∷ []) ∷ ((Num (pos 1)) ∷ (Num (pos 5)) ∷ []) ∷ []) } ∷ []); clients = ((record { line = 1; word = (words.Do (statements.Delete (codes "t") (conditions.Equal (record { column = codes "id"; value = (Num (pos 2)) } ∷ [])))) } ∷ record { line = 2; word = (words.Do (statements.Update (codes "t") (record { column = codes "v"; value = (Num (pos 5)) } ∷ record { column = codes "id"; value = (Num (pos 5)) } ∷ []) (conditions.Range (record { column = codes "id"; sign = signs.AtLeast; value = (Num (pos 1)) } ∷ record { column = codes "id"; sign = signs.AtMost; value = (Num (pos 2)) } ∷ [])))) } ∷ record { line = 3; word = (words.Do (statements.Update (codes "t") (record { column = codes "id"; value = (Num (pos 3)) } ∷ []) (conditions.Range (record { column = codes "id"; sign = signs.AtMost; value = (Num (pos 7)) } ∷ [])))) } ∷ record { line = 4; word = words.Begin } ∷ record { line = 5; word = (words.Do (statements.Insert (codes "t") None ((Num (pos 1)) ∷ (Text (codes "d")) ∷ (Num (pos 3)) ∷ []) None)) } ∷ record { line = 6; word = (words.Do (statements.Replace (codes "t") (Some (codes "m0" ∷ codes "v" ∷ codes "id" ∷ [])) ((Num (pos 1)) ∷ (Text (codes "a")) ∷ (Num (pos 4)) ∷ []) None)) } ∷ record { line = 7; word = words.Commit } ∷ []) ∷ []); operator = (record { word = commanded.NoThrottle; units = 1 } ∷ record { word = (commanded.ChunkSize 2); units = 1 } ∷ record { word = commanded.Unpostpone; units = 1 } ∷ record { word = (commanded.ChunkSize 2); units = 1 } ∷ record { word = commanded.Panic; units = 1 } ∷ record { word = commanded.Wait; units = 21 } ∷ record { word = commanded.Throttle; units = 1 } ∷ []); faults = (losses.Turn 28 Copy ∷ []); turns = (record { actor = Insp; times = 5 } ∷ record { actor = Copy; times = 1 } ∷ record { actor = (Client 1); times = 1 } ∷ record { actor = (Client 1); times = 3 } ∷ record { actor = Apply; times = 3 } ∷ record { actor = Insp; times = 1 } ∷ record { actor = Apply; times = 1 } ∷ record { actor = Lock; times = 1 } ∷ record { actor = Lock; times = 1 } ∷ record { actor = Apply; times = 5 } ∷ record { actor = Lock; times = 2 } ∷ record { actor = Ren; times = 1 } ∷ record { actor = Ren; times = 3 } ∷ record { actor = (Client 1); times = 2 } ∷ record { actor = Apply; times = 1 } ∷ record { actor = Apply; times = 2 } ∷ record { actor = Copy; times = 5 } ∷ record { actor = Copy; times = 2 } ∷ record { actor = Insp; times = 5 } ∷ record { actor = Copy; times = 3 } ∷ record { actor = Lock; times = 1 } ∷ record { actor = Ren; times = 1 } ∷ record { actor = (Client 1); times = 5 } ∷ record { actor = Lock; times = 3 } ∷ record { actor = Apply; times = 2 } ∷ []); options = record { chunk_size = 5; dml_batch_size = 4; default_retries = 9; max_backlog = 0; drain_limit = 2000; client_wait = 3; tool_wait = 1; max_load = 64; turn_limit = 44; notes = 0; note_every = 100; replica_step = 0; replica_pause = 1; max_lag = 10; resume = false; approve_renamed_columns = true; initially_drop_ghost_table = false; initially_drop_old_table = false; ok_to_drop_table = false; postpone = false; show_history = true; show_turns = true; show_tables = true; show_replies = true } }
 
 abbrev journal_170 : List Entry
 journal_170 =
@@ -282,7 +282,7 @@ abbrev map_171 : List MapColumn
 map_171 = (record { kind = Int 4 false; nullable = false; origin = from.Old 0 } ∷ record { kind = Int 1 false; nullable = true; origin = from.Old 1 } ∷ [])
 
 abbrev plan_171 : PlanData
-plan_171 = record { table = codes "t"; alter = (clauses.Drop (codes "v") ∷ []); tables = (record { schema = record { name = codes "t"; columns = (record { name = codes "id"; kind = Int 4 false; nullable = false; default = None; auto = false } ∷ record { name = codes "m0"; kind = Int 1 false; nullable = true; default = (Some Null); auto = false } ∷ record { name = codes "v"; kind = Int 2 false; nullable = true; default = (Some (Num (pos 5))); auto = false } ∷ []); uniques = (record { name = (Some (codes "k")); places = (0 ∷ []) } ∷ record { name = (Some (codes "u0")); places = (1 ∷ []) } ∷ []); indexes = (record { name = (Some (codes "v")); places = (2 ∷ []) } ∷ []); comment = []; start = None }; rows = (((Num (pos 7)) ∷ (Num (pos 3)) ∷ (Num (pos 2)) ∷ []) ∷ []) } ∷ []); clients = ((record { line = 1; word = words.Begin } ∷ record { line = 2; word = (words.Do (statements.Delete (codes "t") (conditions.Equal (record { column = codes "id"; value = (Num (pos 5)) } ∷ [])))) } ∷ record { line = 3; word = words.Commit } ∷ record { line = 4; word = (words.Do (statements.Delete (codes "t") (conditions.Equal (record { column = codes "m0"; value = (Num (pos 2)) } ∷ [])))) } ∷ record { line = 5; word = words.Begin } ∷ record { line = 6; word = (words.Do (statements.Replace (codes "t") None ((Num (pos 7)) ∷ (Blob (255 ∷ [])) ∷ (Text (codes "7")) ∷ []) None)) } ∷ record { line = 7; word = (words.Do (statements.Insert (codes "t") None ((Num (pos 4)) ∷ (Num (pos 4)) ∷ (Num (pos 6)) ∷ []) None)) } ∷ record { line = 8; word = words.Commit } ∷ record { line = 9; word = (words.Do (statements.Delete (codes "t") (conditions.Equal (record { column = codes "m0"; value = (Num (pos 7)) } ∷ [])))) } ∷ record { line = 10; word = (words.Do (statements.Select (codes "t") (shown.Columns (codes "id" ∷ [])) (conditions.Equal (record { column = codes "id"; value = (Num (pos 7)) } ∷ [])))) } ∷ record { line = 11; word = (words.Do (statements.Insert (codes "t") (Some (codes "id" ∷ codes "m0" ∷ codes "v" ∷ [])) ((Num (pos 6)) ∷ (Text (codes "6")) ∷ Null ∷ []) None)) } ∷ []) ∷ (record { line = 1; word = (words.Do (statements.Insert (codes "t") (Some (codes "id" ∷ codes "v" ∷ [])) ((Num (pos 1)) ∷ Null ∷ []) None)) } ∷ record { line = 2; word = (words.Do (statements.Insert (codes "t") (Some (codes "id" ∷ codes "m0" ∷ codes "v" ∷ [])) ((Num (pos 3)) ∷ (Num (pos 1)) ∷ (Num (pos 6)) ∷ []) None)) } ∷ []) ∷ [] ∷ []); operator = []; faults = []; turns = (record { actor = (Client 2); times = 1 } ∷ record { actor = Copy; times = 1 } ∷ record { actor = Copy; times = 1 } ∷ record { actor = Ren; times = 1 } ∷ record { actor = (Client 3); times = 1 } ∷ record { actor = Copy; times = 1 } ∷ record { actor = Copy; times = 2 } ∷ record { actor = (Client 1); times = 1 } ∷ record { actor = Lock; times = 1 } ∷ record { actor = (Client 1); times = 1 } ∷ record { actor = Apply; times = 5 } ∷ record { actor = (Client 2); times = 1 } ∷ record { actor = (Client 2); times = 3 } ∷ record { actor = (Client 1); times = 1 } ∷ record { actor = Insp; times = 1 } ∷ record { actor = Insp; times = 5 } ∷ record { actor = Lock; times = 1 } ∷ record { actor = Lock; times = 1 } ∷ record { actor = Insp; times = 1 } ∷ record { actor = (Client 1); times = 3 } ∷ record { actor = Op; times = 3 } ∷ record { actor = Insp; times = 1 } ∷ record { actor = (Client 2); times = 1 } ∷ record { actor = Op; times = 1 } ∷ record { actor = Op; times = 1 } ∷ record { actor = Lock; times = 5 } ∷ record { actor = (Client 2); times = 1 } ∷ record { actor = (Client 1); times = 1 } ∷ record { actor = (Client 2); times = 1 } ∷ record { actor = (Client 3); times = 3 } ∷ record { actor = Ren; times = 1 } ∷ record { actor = Lock; times = 1 } ∷ record { actor = (Client 3); times = 1 } ∷ record { actor = Lock; times = 3 } ∷ record { actor = Apply; times = 5 } ∷ record { actor = (Client 3); times = 3 } ∷ record { actor = (Client 1); times = 1 } ∷ record { actor = Op; times = 5 } ∷ record { actor = Apply; times = 1 } ∷ record { actor = Lock; times = 5 } ∷ record { actor = Copy; times = 1 } ∷ []); options = record { chunk_size = 1000; dml_batch_size = 4; default_retries = 1; max_backlog = 1; drain_limit = 3; client_wait = 5; tool_wait = 1; max_load = 64; turn_limit = 200000; notes = 0; note_every = 100; replica_step = 0; replica_pause = 1; max_lag = 10; approve_renamed_columns = true; initially_drop_ghost_table = false; initially_drop_old_table = false; ok_to_drop_table = false; postpone = false; show_history = true; show_turns = true; show_tables = true; show_replies = true } }
+plan_171 = record { table = codes "t"; alter = (clauses.Drop (codes "v") ∷ []); tables = (record { schema = record { name = codes "t"; columns = (record { name = codes "id"; kind = Int 4 false; nullable = false; default = None; auto = false } ∷ record { name = codes "m0"; kind = Int 1 false; nullable = true; default = (Some Null); auto = false } ∷ record { name = codes "v"; kind = Int 2 false; nullable = true; default = (Some (Num (pos 5))); auto = false } ∷ []); uniques = (record { name = (Some (codes "k")); places = (0 ∷ []) } ∷ record { name = (Some (codes "u0")); places = (1 ∷ []) } ∷ []); indexes = (record { name = (Some (codes "v")); places = (2 ∷ []) } ∷ []); comment = []; start = None }; rows = (((Num (pos 7)) ∷ (Num (pos 3)) ∷ (Num (pos 2)) ∷ []) ∷ []) } ∷ []); clients = ((record { line = 1; word = words.Begin } ∷ record { line = 2; word = (words.Do (statements.Delete (codes "t") (conditions.Equal (record { column = codes "id"; value = (Num (pos 5)) } ∷ [])))) } ∷ record { line = 3; word = words.Commit } ∷ record { line = 4; word = (words.Do (statements.Delete (codes "t") (conditions.Equal (record { column = codes "m0"; value = (Num (pos 2)) } ∷ [])))) } ∷ record { line = 5; word = words.Begin } ∷ record { line = 6; word = (words.Do (statements.Replace (codes "t") None ((Num (pos 7)) ∷ (Blob (255 ∷ [])) ∷ (Text (codes "7")) ∷ []) None)) } ∷ record { line = 7; word = (words.Do (statements.Insert (codes "t") None ((Num (pos 4)) ∷ (Num (pos 4)) ∷ (Num (pos 6)) ∷ []) None)) } ∷ record { line = 8; word = words.Commit } ∷ record { line = 9; word = (words.Do (statements.Delete (codes "t") (conditions.Equal (record { column = codes "m0"; value = (Num (pos 7)) } ∷ [])))) } ∷ record { line = 10; word = (words.Do (statements.Select (codes "t") (shown.Columns (codes "id" ∷ [])) (conditions.Equal (record { column = codes "id"; value = (Num (pos 7)) } ∷ [])))) } ∷ record { line = 11; word = (words.Do (statements.Insert (codes "t") (Some (codes "id" ∷ codes "m0" ∷ codes "v" ∷ [])) ((Num (pos 6)) ∷ (Text (codes "6")) ∷ Null ∷ []) None)) } ∷ []) ∷ (record { line = 1; word = (words.Do (statements.Insert (codes "t") (Some (codes "id" ∷ codes "v" ∷ [])) ((Num (pos 1)) ∷ Null ∷ []) None)) } ∷ record { line = 2; word = (words.Do (statements.Insert (codes "t") (Some (codes "id" ∷ codes "m0" ∷ codes "v" ∷ [])) ((Num (pos 3)) ∷ (Num (pos 1)) ∷ (Num (pos 6)) ∷ []) None)) } ∷ []) ∷ [] ∷ []); operator = []; faults = []; turns = (record { actor = (Client 2); times = 1 } ∷ record { actor = Copy; times = 1 } ∷ record { actor = Copy; times = 1 } ∷ record { actor = Ren; times = 1 } ∷ record { actor = (Client 3); times = 1 } ∷ record { actor = Copy; times = 1 } ∷ record { actor = Copy; times = 2 } ∷ record { actor = (Client 1); times = 1 } ∷ record { actor = Lock; times = 1 } ∷ record { actor = (Client 1); times = 1 } ∷ record { actor = Apply; times = 5 } ∷ record { actor = (Client 2); times = 1 } ∷ record { actor = (Client 2); times = 3 } ∷ record { actor = (Client 1); times = 1 } ∷ record { actor = Insp; times = 1 } ∷ record { actor = Insp; times = 5 } ∷ record { actor = Lock; times = 1 } ∷ record { actor = Lock; times = 1 } ∷ record { actor = Insp; times = 1 } ∷ record { actor = (Client 1); times = 3 } ∷ record { actor = Op; times = 3 } ∷ record { actor = Insp; times = 1 } ∷ record { actor = (Client 2); times = 1 } ∷ record { actor = Op; times = 1 } ∷ record { actor = Op; times = 1 } ∷ record { actor = Lock; times = 5 } ∷ record { actor = (Client 2); times = 1 } ∷ record { actor = (Client 1); times = 1 } ∷ record { actor = (Client 2); times = 1 } ∷ record { actor = (Client 3); times = 3 } ∷ record { actor = Ren; times = 1 } ∷ record { actor = Lock; times = 1 } ∷ record { actor = (Client 3); times = 1 } ∷ record { actor = Lock; times = 3 } ∷ record { actor = Apply; times = 5 } ∷ record { actor = (Client 3); times = 3 } ∷ record { actor = (Client 1); times = 1 } ∷ record { actor = Op; times = 5 } ∷ record { actor = Apply; times = 1 } ∷ record { actor = Lock; times = 5 } ∷ record { actor = Copy; times = 1 } ∷ []); options = record { chunk_size = 1000; dml_batch_size = 4; default_retries = 1; max_backlog = 1; drain_limit = 3; client_wait = 5; tool_wait = 1; max_load = 64; turn_limit = 200000; notes = 0; note_every = 100; replica_step = 0; replica_pause = 1; max_lag = 10; resume = false; approve_renamed_columns = true; initially_drop_ghost_table = false; initially_drop_old_table = false; ok_to_drop_table = false; postpone = false; show_history = true; show_turns = true; show_tables = true; show_replies = true } }
 
 abbrev journal_171 : List Entry
 journal_171 =
@@ -351,7 +351,7 @@ abbrev map_178 : List MapColumn
 map_178 = (record { kind = Int 4 false; nullable = false; origin = from.Old 0 } ∷ record { kind = Int 4 false; nullable = false; origin = from.Old 1 } ∷ [])
 
 abbrev plan_178 : PlanData
-plan_178 = record { table = codes "t"; alter = (clauses.Drop (codes "v") ∷ []); tables = (record { schema = record { name = codes "t"; columns = (record { name = codes "id"; kind = Int 4 false; nullable = false; default = None; auto = false } ∷ record { name = codes "m0"; kind = Int 4 false; nullable = false; default = None; auto = false } ∷ record { name = codes "v"; kind = Int 2 false; nullable = false; default = (Some (Num (pos 5))); auto = false } ∷ []); uniques = (record { name = (Some (codes "k")); places = (0 ∷ []) } ∷ record { name = (Some (codes "u0")); places = (1 ∷ []) } ∷ []); indexes = []; comment = []; start = None }; rows = [] } ∷ []); clients = ((record { line = 1; word = (words.Do (statements.Insert (codes "t") (Some (codes "id" ∷ codes "m0" ∷ codes "v" ∷ [])) ((Num (pos 5)) ∷ (Num (pos 5)) ∷ (Num (pos 7)) ∷ []) None)) } ∷ record { line = 2; word = (words.Do (statements.Insert (codes "t") (Some (codes "id" ∷ codes "m0" ∷ codes "v" ∷ [])) ((Num (pos 4)) ∷ (Num (pos 3)) ∷ (Num (pos 5)) ∷ []) None)) } ∷ record { line = 3; word = (words.Do (statements.Replace (codes "t") None ((Num (pos 1)) ∷ (Num (pos 4)) ∷ (Num (pos 5)) ∷ []) None)) } ∷ record { line = 4; word = (words.Do (statements.Insert (codes "t") None ((Num (pos 1)) ∷ (Num (pos 1)) ∷ (Num (pos 6)) ∷ (Num (pos 1)) ∷ []) None)) } ∷ record { line = 5; word = (words.Do (statements.Insert (codes "t") (Some (codes "id" ∷ codes "m0" ∷ codes "v" ∷ [])) ((Blob (255 ∷ [])) ∷ (Num (pos 4)) ∷ (Num (pos 7)) ∷ []) None)) } ∷ record { line = 6; word = (words.Do (statements.Replace (codes "t") None ((Num (pos 3)) ∷ (Num (pos 5)) ∷ (Num (pos 3)) ∷ []) None)) } ∷ []) ∷ (record { line = 1; word = words.Begin } ∷ record { line = 2; word = (words.Do (statements.Update (codes "t") (record { column = codes "v"; value = (Num (pos 6)) } ∷ []) (conditions.Equal (record { column = codes "id"; value = (Num (pos 3)) } ∷ [])))) } ∷ record { line = 3; word = (words.Do (statements.Insert (codes "t") None ((Num (pos 6)) ∷ (Num (pos 3)) ∷ (Num (pos 7)) ∷ []) None)) } ∷ record { line = 4; word = (words.Do (statements.Update (codes "t") (record { column = codes "m0"; value = (Num (pos 1)) } ∷ record { column = codes "v"; value = (Num (pos 1)) } ∷ []) (conditions.Range (record { column = codes "id"; sign = signs.Less; value = (Num (pos 4)) } ∷ [])))) } ∷ record { line = 5; word = words.Commit } ∷ record { line = 6; word = (words.Do (statements.Select (codes "t") (shown.Columns (codes "id" ∷ [])) (conditions.Equal (record { column = codes "id"; value = (Num (pos 1)) } ∷ [])))) } ∷ []) ∷ []); operator = []; faults = (losses.Turn 39 Ren ∷ []); turns = (record { actor = Insp; times = 5 } ∷ record { actor = Op; times = 5 } ∷ record { actor = Apply; times = 5 } ∷ record { actor = Ren; times = 2 } ∷ record { actor = Copy; times = 3 } ∷ record { actor = Lock; times = 2 } ∷ record { actor = Op; times = 1 } ∷ record { actor = Op; times = 3 } ∷ record { actor = (Client 2); times = 1 } ∷ record { actor = Insp; times = 3 } ∷ record { actor = Ren; times = 1 } ∷ record { actor = (Client 1); times = 2 } ∷ record { actor = Apply; times = 1 } ∷ record { actor = Op; times = 1 } ∷ []); options = record { chunk_size = 3; dml_batch_size = 10; default_retries = 1; max_backlog = 100; drain_limit = 2000; client_wait = 1; tool_wait = 3; max_load = 64; turn_limit = 88; notes = 0; note_every = 100; replica_step = 0; replica_pause = 1; max_lag = 10; approve_renamed_columns = true; initially_drop_ghost_table = false; initially_drop_old_table = false; ok_to_drop_table = false; postpone = false; show_history = true; show_turns = true; show_tables = true; show_replies = true } }
+plan_178 = record { table = codes "t"; alter = (clauses.Drop (codes "v") ∷ []); tables = (record { schema = record { name = codes "t"; columns = (record { name = codes "id"; kind = Int 4 false; nullable = false; default = None; auto = false } ∷ record { name = codes "m0"; kind = Int 4 false; nullable = false; default = None; auto = false } ∷ record { name = codes "v"; kind = Int 2 false; nullable = false; default = (Some (Num (pos 5))); auto = false } ∷ []); uniques = (record { name = (Some (codes "k")); places = (0 ∷ []) } ∷ record { name = (Some (codes "u0")); places = (1 ∷ []) } ∷ []); indexes = []; comment = []; start = None }; rows = [] } ∷ []); clients = ((record { line = 1; word = (words.Do (statements.Insert (codes "t") (Some (codes "id" ∷ codes "m0" ∷ codes "v" ∷ [])) ((Num (pos 5)) ∷ (Num (pos 5)) ∷ (Num (pos 7)) ∷ []) None)) } ∷ record { line = 2; word = (words.Do (statements.Insert (codes "t") (Some (codes "id" ∷ codes "m0" ∷ codes "v" ∷ [])) ((Num (pos 4)) ∷ (Num (pos 3)) ∷ (Num (pos 5)) ∷ []) None)) } ∷ record { line = 3; word = (words.Do (statements.Replace (codes "t") None ((Num (pos 1)) ∷ (Num (pos 4)) ∷ (Num (pos 5)) ∷ []) None)) } ∷ record { line = 4; word = (words.Do (statements.Insert (codes "t") None ((Num (pos 1)) ∷ (Num (pos 1)) ∷ (Num (pos 6)) ∷ (Num (pos 1)) ∷ []) None)) } ∷ record { line = 5; word = (words.Do (statements.Insert (codes "t") (Some (codes "id" ∷ codes "m0" ∷ codes "v" ∷ [])) ((Blob (255 ∷ [])) ∷ (Num (pos 4)) ∷ (Num (pos 7)) ∷ []) None)) } ∷ record { line = 6; word = (words.Do (statements.Replace (codes "t") None ((Num (pos 3)) ∷ (Num (pos 5)) ∷ (Num (pos 3)) ∷ []) None)) } ∷ []) ∷ (record { line = 1; word = words.Begin } ∷ record { line = 2; word = (words.Do (statements.Update (codes "t") (record { column = codes "v"; value = (Num (pos 6)) } ∷ []) (conditions.Equal (record { column = codes "id"; value = (Num (pos 3)) } ∷ [])))) } ∷ record { line = 3; word = (words.Do (statements.Insert (codes "t") None ((Num (pos 6)) ∷ (Num (pos 3)) ∷ (Num (pos 7)) ∷ []) None)) } ∷ record { line = 4; word = (words.Do (statements.Update (codes "t") (record { column = codes "m0"; value = (Num (pos 1)) } ∷ record { column = codes "v"; value = (Num (pos 1)) } ∷ []) (conditions.Range (record { column = codes "id"; sign = signs.Less; value = (Num (pos 4)) } ∷ [])))) } ∷ record { line = 5; word = words.Commit } ∷ record { line = 6; word = (words.Do (statements.Select (codes "t") (shown.Columns (codes "id" ∷ [])) (conditions.Equal (record { column = codes "id"; value = (Num (pos 1)) } ∷ [])))) } ∷ []) ∷ []); operator = []; faults = (losses.Turn 39 Ren ∷ []); turns = (record { actor = Insp; times = 5 } ∷ record { actor = Op; times = 5 } ∷ record { actor = Apply; times = 5 } ∷ record { actor = Ren; times = 2 } ∷ record { actor = Copy; times = 3 } ∷ record { actor = Lock; times = 2 } ∷ record { actor = Op; times = 1 } ∷ record { actor = Op; times = 3 } ∷ record { actor = (Client 2); times = 1 } ∷ record { actor = Insp; times = 3 } ∷ record { actor = Ren; times = 1 } ∷ record { actor = (Client 1); times = 2 } ∷ record { actor = Apply; times = 1 } ∷ record { actor = Op; times = 1 } ∷ []); options = record { chunk_size = 3; dml_batch_size = 10; default_retries = 1; max_backlog = 100; drain_limit = 2000; client_wait = 1; tool_wait = 3; max_load = 64; turn_limit = 88; notes = 0; note_every = 100; replica_step = 0; replica_pause = 1; max_lag = 10; resume = false; approve_renamed_columns = true; initially_drop_ghost_table = false; initially_drop_old_table = false; ok_to_drop_table = false; postpone = false; show_history = true; show_turns = true; show_tables = true; show_replies = true } }
 
 abbrev journal_178 : List Entry
 journal_178 =
@@ -407,7 +407,7 @@ abbrev map_182 : List MapColumn
 map_182 = (record { kind = VarChar 4; nullable = true; origin = from.Added (Text (codes "n")) } ∷ record { kind = Int 4 false; nullable = false; origin = from.Old 0 } ∷ record { kind = VarChar 3; nullable = false; origin = from.Old 1 } ∷ record { kind = VarChar 6; nullable = false; origin = from.Old 2 } ∷ [])
 
 abbrev plan_182 : PlanData
-plan_182 = record { table = codes "t"; alter = (clauses.Add (record { name = codes "b"; kind = VarChar 4; nullable = None; default = (Some (Text (codes "n"))); auto = false }) First ∷ []); tables = (record { schema = record { name = codes "t"; columns = (record { name = codes "id"; kind = Int 4 false; nullable = false; default = None; auto = false } ∷ record { name = codes "m0"; kind = VarChar 3; nullable = false; default = (Some (Text (codes "1"))); auto = false } ∷ record { name = codes "v"; kind = VarChar 6; nullable = false; default = (Some (Text (codes "5"))); auto = false } ∷ []); uniques = (record { name = None; places = (0 ∷ []) } ∷ record { name = (Some (codes "u0")); places = (0 ∷ 1 ∷ []) } ∷ []); indexes = []; comment = codes "x"; start = None }; rows = (((Num (pos 1)) ∷ (Text (codes "g")) ∷ (Text (codes "a")) ∷ []) ∷ ((Num (pos 3)) ∷ (Text (codes "f")) ∷ (Text (codes "c")) ∷ []) ∷ ((Num (pos 5)) ∷ (Text (codes "a")) ∷ (Text (codes "d")) ∷ []) ∷ ((Num (pos 6)) ∷ (Text (codes "a")) ∷ (Text (codes "e")) ∷ []) ∷ ((Num (pos 7)) ∷ (Text (codes "c")) ∷ (Text (codes "b")) ∷ []) ∷ []) } ∷ record { schema = record { name = codes "u"; columns = (record { name = codes "id"; kind = VarChar 3; nullable = false; default = None; auto = false } ∷ record { name = codes "m0"; kind = Int 4 false; nullable = true; default = (Some Null); auto = false } ∷ record { name = codes "m1"; kind = Int 1 false; nullable = true; default = (Some Null); auto = false } ∷ record { name = codes "v"; kind = Int 2 false; nullable = true; default = (Some Null); auto = false } ∷ []); uniques = (record { name = None; places = (0 ∷ []) } ∷ record { name = (Some (codes "u0")); places = (1 ∷ []) } ∷ record { name = (Some (codes "u1")); places = (2 ∷ []) } ∷ []); indexes = []; comment = []; start = None }; rows = (((Text (codes "a")) ∷ (Num (pos 3)) ∷ (Num (pos 2)) ∷ Null ∷ []) ∷ []) } ∷ record { schema = record { name = codes "_t_ghc"; columns = (record { name = codes "id"; kind = Int 4 false; nullable = false; default = None; auto = false } ∷ []); uniques = (record { name = None; places = (0 ∷ []) } ∷ []); indexes = []; comment = []; start = None }; rows = (((Num (pos 3)) ∷ []) ∷ []) } ∷ []); clients = ((record { line = 1; word = words.Begin } ∷ record { line = 2; word = (words.Do (statements.Insert (codes "t") (Some (codes "id" ∷ codes "m0" ∷ codes "v" ∷ [])) ((Num (pos 99999999999)) ∷ (Text (codes "2")) ∷ (Text (codes "g")) ∷ []) None)) } ∷ record { line = 3; word = words.Commit } ∷ record { line = 4; word = (words.Do (statements.Insert (codes "t") (Some (codes "id" ∷ codes "m0" ∷ codes "v" ∷ [])) ((Num (pos 6)) ∷ (Num (pos 1)) ∷ (Text (codes "a")) ∷ []) None)) } ∷ []) ∷ []); operator = []; faults = []; turns = (record { actor = Insp; times = 7 } ∷ record { actor = Insp; times = 1 } ∷ record { actor = (Client 1); times = 1 } ∷ record { actor = Lock; times = 5 } ∷ record { actor = Copy; times = 1 } ∷ record { actor = Insp; times = 3 } ∷ record { actor = Ren; times = 2 } ∷ []); options = record { chunk_size = 2; dml_batch_size = 3; default_retries = 3; max_backlog = 0; drain_limit = 2000; client_wait = 30; tool_wait = 1; max_load = 64; turn_limit = 200000; notes = 0; note_every = 100; replica_step = 0; replica_pause = 1; max_lag = 10; approve_renamed_columns = true; initially_drop_ghost_table = false; initially_drop_old_table = false; ok_to_drop_table = false; postpone = false; show_history = true; show_turns = true; show_tables = true; show_replies = true } }
+plan_182 = record { table = codes "t"; alter = (clauses.Add (record { name = codes "b"; kind = VarChar 4; nullable = None; default = (Some (Text (codes "n"))); auto = false }) First ∷ []); tables = (record { schema = record { name = codes "t"; columns = (record { name = codes "id"; kind = Int 4 false; nullable = false; default = None; auto = false } ∷ record { name = codes "m0"; kind = VarChar 3; nullable = false; default = (Some (Text (codes "1"))); auto = false } ∷ record { name = codes "v"; kind = VarChar 6; nullable = false; default = (Some (Text (codes "5"))); auto = false } ∷ []); uniques = (record { name = None; places = (0 ∷ []) } ∷ record { name = (Some (codes "u0")); places = (0 ∷ 1 ∷ []) } ∷ []); indexes = []; comment = codes "x"; start = None }; rows = (((Num (pos 1)) ∷ (Text (codes "g")) ∷ (Text (codes "a")) ∷ []) ∷ ((Num (pos 3)) ∷ (Text (codes "f")) ∷ (Text (codes "c")) ∷ []) ∷ ((Num (pos 5)) ∷ (Text (codes "a")) ∷ (Text (codes "d")) ∷ []) ∷ ((Num (pos 6)) ∷ (Text (codes "a")) ∷ (Text (codes "e")) ∷ []) ∷ ((Num (pos 7)) ∷ (Text (codes "c")) ∷ (Text (codes "b")) ∷ []) ∷ []) } ∷ record { schema = record { name = codes "u"; columns = (record { name = codes "id"; kind = VarChar 3; nullable = false; default = None; auto = false } ∷ record { name = codes "m0"; kind = Int 4 false; nullable = true; default = (Some Null); auto = false } ∷ record { name = codes "m1"; kind = Int 1 false; nullable = true; default = (Some Null); auto = false } ∷ record { name = codes "v"; kind = Int 2 false; nullable = true; default = (Some Null); auto = false } ∷ []); uniques = (record { name = None; places = (0 ∷ []) } ∷ record { name = (Some (codes "u0")); places = (1 ∷ []) } ∷ record { name = (Some (codes "u1")); places = (2 ∷ []) } ∷ []); indexes = []; comment = []; start = None }; rows = (((Text (codes "a")) ∷ (Num (pos 3)) ∷ (Num (pos 2)) ∷ Null ∷ []) ∷ []) } ∷ record { schema = record { name = codes "_t_ghc"; columns = (record { name = codes "id"; kind = Int 4 false; nullable = false; default = None; auto = false } ∷ []); uniques = (record { name = None; places = (0 ∷ []) } ∷ []); indexes = []; comment = []; start = None }; rows = (((Num (pos 3)) ∷ []) ∷ []) } ∷ []); clients = ((record { line = 1; word = words.Begin } ∷ record { line = 2; word = (words.Do (statements.Insert (codes "t") (Some (codes "id" ∷ codes "m0" ∷ codes "v" ∷ [])) ((Num (pos 99999999999)) ∷ (Text (codes "2")) ∷ (Text (codes "g")) ∷ []) None)) } ∷ record { line = 3; word = words.Commit } ∷ record { line = 4; word = (words.Do (statements.Insert (codes "t") (Some (codes "id" ∷ codes "m0" ∷ codes "v" ∷ [])) ((Num (pos 6)) ∷ (Num (pos 1)) ∷ (Text (codes "a")) ∷ []) None)) } ∷ []) ∷ []); operator = []; faults = []; turns = (record { actor = Insp; times = 7 } ∷ record { actor = Insp; times = 1 } ∷ record { actor = (Client 1); times = 1 } ∷ record { actor = Lock; times = 5 } ∷ record { actor = Copy; times = 1 } ∷ record { actor = Insp; times = 3 } ∷ record { actor = Ren; times = 2 } ∷ []); options = record { chunk_size = 2; dml_batch_size = 3; default_retries = 3; max_backlog = 0; drain_limit = 2000; client_wait = 30; tool_wait = 1; max_load = 64; turn_limit = 200000; notes = 0; note_every = 100; replica_step = 0; replica_pause = 1; max_lag = 10; resume = false; approve_renamed_columns = true; initially_drop_ghost_table = false; initially_drop_old_table = false; ok_to_drop_table = false; postpone = false; show_history = true; show_turns = true; show_tables = true; show_replies = true } }
 
 abbrev journal_182 : List Entry
 journal_182 =
@@ -488,7 +488,7 @@ abbrev map_185 : List MapColumn
 map_185 = (record { kind = Int 4 false; nullable = true; origin = from.Old 0 } ∷ record { kind = VarChar 6; nullable = false; origin = from.Old 1 } ∷ record { kind = Int 4 false; nullable = false; origin = from.Old 2 } ∷ [])
 
 abbrev plan_185 : PlanData
-plan_185 = record { table = codes "t"; alter = (clauses.DropIndex (codes "u0") ∷ []); tables = (record { schema = record { name = codes "t"; columns = (record { name = codes "m0"; kind = Int 4 false; nullable = true; default = (Some Null); auto = false } ∷ record { name = codes "v"; kind = VarChar 6; nullable = false; default = (Some (Text (codes "5"))); auto = false } ∷ record { name = codes "id"; kind = Int 4 false; nullable = false; default = None; auto = false } ∷ []); uniques = (record { name = None; places = (2 ∷ []) } ∷ record { name = (Some (codes "u0")); places = (0 ∷ []) } ∷ []); indexes = []; comment = []; start = None }; rows = (((Num (pos 7)) ∷ (Text (codes "d")) ∷ (Num (pos 1)) ∷ []) ∷ ((Num (pos 6)) ∷ (Text (codes "4")) ∷ (Num (pos 2)) ∷ []) ∷ ((Num (pos 2)) ∷ (Text (codes "f")) ∷ (Num (pos 3)) ∷ []) ∷ (Null ∷ (Text (codes "e")) ∷ (Num (pos 6)) ∷ []) ∷ []) } ∷ record { schema = record { name = codes "_t_gho"; columns = (record { name = codes "id"; kind = Int 4 false; nullable = false; default = None; auto = false } ∷ []); uniques = (record { name = None; places = (0 ∷ []) } ∷ []); indexes = []; comment = []; start = None }; rows = [] } ∷ []); clients = ((record { line = 1; word = words.Begin } ∷ record { line = 2; word = (words.Do (statements.Insert (codes "t") None ((Num (pos 3)) ∷ (Text (codes "d")) ∷ (Num (pos 1)) ∷ []) None)) } ∷ record { line = 3; word = words.Commit } ∷ record { line = 4; word = (words.Do (statements.Insert (codes "t") (Some (codes "m0" ∷ codes "id" ∷ [])) (Null ∷ (Num (pos 2)) ∷ []) None)) } ∷ record { line = 5; word = (words.Do (statements.Insert (codes "t") (Some (codes "m0" ∷ codes "v" ∷ codes "id" ∷ [])) (Null ∷ (Num (pos 2)) ∷ (Num (pos 7)) ∷ []) None)) } ∷ record { line = 6; word = (words.Do (statements.Select (codes "t") shown.Count (conditions.Equal (record { column = codes "id"; value = (Text (codes "2")) } ∷ [])))) } ∷ []) ∷ (record { line = 1; word = (words.Do (statements.Replace (codes "t") (Some (codes "m0" ∷ codes "v" ∷ codes "id" ∷ [])) ((Num (pos 5)) ∷ (Num (pos 6)) ∷ (Num (pos 7)) ∷ []) None)) } ∷ record { line = 2; word = (words.Do (statements.Delete (codes "t") (conditions.Equal (record { column = codes "m0"; value = (Num (pos 6)) } ∷ [])))) } ∷ record { line = 3; word = (words.Do (statements.Select (codes "t") shown.Count (conditions.Equal (record { column = codes "m0"; value = (Num (pos 2)) } ∷ [])))) } ∷ record { line = 4; word = words.Begin } ∷ record { line = 5; word = (words.Do (statements.Update (codes "t") (record { column = codes "m0"; value = (Num (pos 7)) } ∷ record { column = codes "id"; value = (Text (codes "5")) } ∷ []) (conditions.Equal (record { column = codes "id"; value = (Num (pos 7)) } ∷ [])))) } ∷ record { line = 6; word = words.Commit } ∷ record { line = 7; word = words.Begin } ∷ record { line = 8; word = (words.Do (statements.Select (codes "t") shown.All (conditions.Equal (record { column = codes "id"; value = (Num (pos 5)) } ∷ [])))) } ∷ record { line = 9; word = words.Commit } ∷ []) ∷ []); operator = []; faults = (losses.Turn 10 (Client 2) ∷ []); turns = (record { actor = (Client 2); times = 1 } ∷ record { actor = Lock; times = 1 } ∷ record { actor = Ren; times = 2 } ∷ record { actor = Apply; times = 1 } ∷ record { actor = Insp; times = 1 } ∷ record { actor = (Client 2); times = 2 } ∷ record { actor = Ren; times = 1 } ∷ record { actor = Insp; times = 2 } ∷ record { actor = Ren; times = 5 } ∷ record { actor = Op; times = 1 } ∷ record { actor = Lock; times = 5 } ∷ record { actor = Apply; times = 2 } ∷ record { actor = (Client 1); times = 5 } ∷ record { actor = Op; times = 5 } ∷ record { actor = (Client 1); times = 5 } ∷ record { actor = Apply; times = 1 } ∷ record { actor = Apply; times = 1 } ∷ record { actor = (Client 1); times = 1 } ∷ record { actor = Lock; times = 5 } ∷ record { actor = (Client 1); times = 1 } ∷ record { actor = Lock; times = 1 } ∷ record { actor = Apply; times = 1 } ∷ record { actor = (Client 2); times = 2 } ∷ record { actor = Lock; times = 3 } ∷ record { actor = Copy; times = 1 } ∷ record { actor = Lock; times = 3 } ∷ record { actor = Insp; times = 1 } ∷ record { actor = Ren; times = 3 } ∷ record { actor = (Client 2); times = 1 } ∷ record { actor = Insp; times = 1 } ∷ record { actor = (Client 1); times = 1 } ∷ record { actor = Lock; times = 5 } ∷ record { actor = Ren; times = 5 } ∷ record { actor = Apply; times = 1 } ∷ record { actor = (Client 1); times = 3 } ∷ record { actor = Apply; times = 1 } ∷ []); options = record { chunk_size = 1; dml_batch_size = 3; default_retries = 9; max_backlog = 0; drain_limit = 2000; client_wait = 5; tool_wait = 3; max_load = 64; turn_limit = 200000; notes = 0; note_every = 100; replica_step = 0; replica_pause = 1; max_lag = 10; approve_renamed_columns = true; initially_drop_ghost_table = true; initially_drop_old_table = false; ok_to_drop_table = true; postpone = false; show_history = true; show_turns = true; show_tables = true; show_replies = true } }
+plan_185 = record { table = codes "t"; alter = (clauses.DropIndex (codes "u0") ∷ []); tables = (record { schema = record { name = codes "t"; columns = (record { name = codes "m0"; kind = Int 4 false; nullable = true; default = (Some Null); auto = false } ∷ record { name = codes "v"; kind = VarChar 6; nullable = false; default = (Some (Text (codes "5"))); auto = false } ∷ record { name = codes "id"; kind = Int 4 false; nullable = false; default = None; auto = false } ∷ []); uniques = (record { name = None; places = (2 ∷ []) } ∷ record { name = (Some (codes "u0")); places = (0 ∷ []) } ∷ []); indexes = []; comment = []; start = None }; rows = (((Num (pos 7)) ∷ (Text (codes "d")) ∷ (Num (pos 1)) ∷ []) ∷ ((Num (pos 6)) ∷ (Text (codes "4")) ∷ (Num (pos 2)) ∷ []) ∷ ((Num (pos 2)) ∷ (Text (codes "f")) ∷ (Num (pos 3)) ∷ []) ∷ (Null ∷ (Text (codes "e")) ∷ (Num (pos 6)) ∷ []) ∷ []) } ∷ record { schema = record { name = codes "_t_gho"; columns = (record { name = codes "id"; kind = Int 4 false; nullable = false; default = None; auto = false } ∷ []); uniques = (record { name = None; places = (0 ∷ []) } ∷ []); indexes = []; comment = []; start = None }; rows = [] } ∷ []); clients = ((record { line = 1; word = words.Begin } ∷ record { line = 2; word = (words.Do (statements.Insert (codes "t") None ((Num (pos 3)) ∷ (Text (codes "d")) ∷ (Num (pos 1)) ∷ []) None)) } ∷ record { line = 3; word = words.Commit } ∷ record { line = 4; word = (words.Do (statements.Insert (codes "t") (Some (codes "m0" ∷ codes "id" ∷ [])) (Null ∷ (Num (pos 2)) ∷ []) None)) } ∷ record { line = 5; word = (words.Do (statements.Insert (codes "t") (Some (codes "m0" ∷ codes "v" ∷ codes "id" ∷ [])) (Null ∷ (Num (pos 2)) ∷ (Num (pos 7)) ∷ []) None)) } ∷ record { line = 6; word = (words.Do (statements.Select (codes "t") shown.Count (conditions.Equal (record { column = codes "id"; value = (Text (codes "2")) } ∷ [])))) } ∷ []) ∷ (record { line = 1; word = (words.Do (statements.Replace (codes "t") (Some (codes "m0" ∷ codes "v" ∷ codes "id" ∷ [])) ((Num (pos 5)) ∷ (Num (pos 6)) ∷ (Num (pos 7)) ∷ []) None)) } ∷ record { line = 2; word = (words.Do (statements.Delete (codes "t") (conditions.Equal (record { column = codes "m0"; value = (Num (pos 6)) } ∷ [])))) } ∷ record { line = 3; word = (words.Do (statements.Select (codes "t") shown.Count (conditions.Equal (record { column = codes "m0"; value = (Num (pos 2)) } ∷ [])))) } ∷ record { line = 4; word = words.Begin } ∷ record { line = 5; word = (words.Do (statements.Update (codes "t") (record { column = codes "m0"; value = (Num (pos 7)) } ∷ record { column = codes "id"; value = (Text (codes "5")) } ∷ []) (conditions.Equal (record { column = codes "id"; value = (Num (pos 7)) } ∷ [])))) } ∷ record { line = 6; word = words.Commit } ∷ record { line = 7; word = words.Begin } ∷ record { line = 8; word = (words.Do (statements.Select (codes "t") shown.All (conditions.Equal (record { column = codes "id"; value = (Num (pos 5)) } ∷ [])))) } ∷ record { line = 9; word = words.Commit } ∷ []) ∷ []); operator = []; faults = (losses.Turn 10 (Client 2) ∷ []); turns = (record { actor = (Client 2); times = 1 } ∷ record { actor = Lock; times = 1 } ∷ record { actor = Ren; times = 2 } ∷ record { actor = Apply; times = 1 } ∷ record { actor = Insp; times = 1 } ∷ record { actor = (Client 2); times = 2 } ∷ record { actor = Ren; times = 1 } ∷ record { actor = Insp; times = 2 } ∷ record { actor = Ren; times = 5 } ∷ record { actor = Op; times = 1 } ∷ record { actor = Lock; times = 5 } ∷ record { actor = Apply; times = 2 } ∷ record { actor = (Client 1); times = 5 } ∷ record { actor = Op; times = 5 } ∷ record { actor = (Client 1); times = 5 } ∷ record { actor = Apply; times = 1 } ∷ record { actor = Apply; times = 1 } ∷ record { actor = (Client 1); times = 1 } ∷ record { actor = Lock; times = 5 } ∷ record { actor = (Client 1); times = 1 } ∷ record { actor = Lock; times = 1 } ∷ record { actor = Apply; times = 1 } ∷ record { actor = (Client 2); times = 2 } ∷ record { actor = Lock; times = 3 } ∷ record { actor = Copy; times = 1 } ∷ record { actor = Lock; times = 3 } ∷ record { actor = Insp; times = 1 } ∷ record { actor = Ren; times = 3 } ∷ record { actor = (Client 2); times = 1 } ∷ record { actor = Insp; times = 1 } ∷ record { actor = (Client 1); times = 1 } ∷ record { actor = Lock; times = 5 } ∷ record { actor = Ren; times = 5 } ∷ record { actor = Apply; times = 1 } ∷ record { actor = (Client 1); times = 3 } ∷ record { actor = Apply; times = 1 } ∷ []); options = record { chunk_size = 1; dml_batch_size = 3; default_retries = 9; max_backlog = 0; drain_limit = 2000; client_wait = 5; tool_wait = 3; max_load = 64; turn_limit = 200000; notes = 0; note_every = 100; replica_step = 0; replica_pause = 1; max_lag = 10; resume = false; approve_renamed_columns = true; initially_drop_ghost_table = true; initially_drop_old_table = false; ok_to_drop_table = true; postpone = false; show_history = true; show_turns = true; show_tables = true; show_replies = true } }
 
 abbrev journal_185 : List Entry
 journal_185 =

@@ -34,7 +34,7 @@ abbrev map_187 : List MapColumn
 map_187 = (record { kind = Int 4 false; nullable = false; origin = from.Old 0 } ∷ record { kind = Int 4 false; nullable = false; origin = from.Old 1 } ∷ record { kind = Int 4 false; nullable = true; origin = from.Old 2 } ∷ record { kind = Int 1 false; nullable = true; origin = from.Old 3 } ∷ record { kind = VarChar 9; nullable = false; origin = from.Old 4 } ∷ [])
 
 abbrev plan_187 : PlanData
-plan_187 = record { table = codes "t"; alter = (clauses.Change (codes "v") (record { name = codes "v"; kind = VarChar 9; nullable = (Some false); default = None; auto = false }) Unsaid ∷ []); tables = (record { schema = record { name = codes "t"; columns = (record { name = codes "a"; kind = Int 4 false; nullable = false; default = None; auto = false } ∷ record { name = codes "c"; kind = Int 4 false; nullable = false; default = None; auto = false } ∷ record { name = codes "m0"; kind = Int 4 false; nullable = true; default = (Some Null); auto = false } ∷ record { name = codes "m1"; kind = Int 1 false; nullable = true; default = (Some Null); auto = false } ∷ record { name = codes "v"; kind = VarChar 6; nullable = true; default = (Some Null); auto = false } ∷ []); uniques = (record { name = None; places = (0 ∷ 1 ∷ []) } ∷ record { name = (Some (codes "u0")); places = (2 ∷ []) } ∷ record { name = (Some (codes "u1")); places = (3 ∷ []) } ∷ []); indexes = []; comment = []; start = None }; rows = (((Num (pos 3)) ∷ (Num (pos 3)) ∷ (Num (pos 7)) ∷ (Num (pos 1)) ∷ (Text (codes "6")) ∷ []) ∷ []) } ∷ []); clients = ((record { line = 1; word = (words.Do (statements.Delete (codes "t") (conditions.Equal (record { column = codes "a"; value = (Num (pos 3)) } ∷ record { column = codes "c"; value = (Num (pos 3)) } ∷ [])))) } ∷ []) ∷ (record { line = 1; word = (words.Do (statements.Update (codes "t") (record { column = codes "c"; value = (Num (pos 1)) } ∷ record { column = codes "m0"; value = (Num (pos 7)) } ∷ record { column = codes "v"; value = (Text (codes "e")) } ∷ []) (conditions.Equal (record { column = codes "c"; value = (Num (pos 3)) } ∷ record { column = codes "a"; value = (Text (codes "2")) } ∷ [])))) } ∷ record { line = 2; word = (words.Do (statements.Replace (codes "t") (Some (codes "a" ∷ codes "c" ∷ codes "m1" ∷ codes "v" ∷ [])) ((Num (pos 7)) ∷ (Num (pos 2)) ∷ (Num (pos 6)) ∷ (Text (codes "c")) ∷ []) None)) } ∷ record { line = 3; word = words.Begin } ∷ record { line = 4; word = (words.Do (statements.Delete (codes "t") (conditions.Equal (record { column = codes "m1"; value = (Num (pos 4)) } ∷ [])))) } ∷ record { line = 5; word = words.Rollback } ∷ record { line = 6; word = words.Begin } ∷ record { line = 7; word = (words.Do (statements.Update (codes "t") (record { column = codes "a"; value = (Num (pos 4)) } ∷ record { column = codes "c"; value = (Text (codes "7")) } ∷ record { column = codes "m0"; value = (Num (pos 7)) } ∷ record { column = codes "m1"; value = (Num (pos 6)) } ∷ record { column = codes "v"; value = (Text (codes "e")) } ∷ []) (conditions.Equal (record { column = codes "m0"; value = (Num (pos 4)) } ∷ [])))) } ∷ record { line = 8; word = (words.Do (statements.Update (codes "t") (record { column = codes "a"; value = (Num (pos 4)) } ∷ record { column = codes "c"; value = (Num (pos 7)) } ∷ record { column = codes "m1"; value = (Num (pos 2)) } ∷ []) (conditions.Equal (record { column = codes "a"; value = (Num (pos 1)) } ∷ record { column = codes "c"; value = (Num (pos 7)) } ∷ [])))) } ∷ record { line = 9; word = words.Commit } ∷ []) ∷ (record { line = 1; word = (words.Do (statements.Replace (codes "t") (Some (codes "a" ∷ codes "c" ∷ codes "m0" ∷ codes "m1" ∷ codes "v" ∷ [])) ((Num (pos 6)) ∷ (Num (pos 2)) ∷ (Num (pos 2)) ∷ Null ∷ Null ∷ []) None)) } ∷ []) ∷ []); operator = (record { word = commanded.Unpostpone; units = 1 } ∷ record { word = commanded.Throttle; units = 1 } ∷ record { word = commanded.Panic; units = 1 } ∷ []); faults = []; turns = (record { actor = Lock; times = 2 } ∷ record { actor = Op; times = 1 } ∷ record { actor = Op; times = 1 } ∷ record { actor = Ren; times = 2 } ∷ record { actor = Op; times = 1 } ∷ record { actor = Lock; times = 1 } ∷ record { actor = Insp; times = 1 } ∷ record { actor = (Client 2); times = 1 } ∷ record { actor = Copy; times = 5 } ∷ record { actor = Ren; times = 1 } ∷ record { actor = Apply; times = 1 } ∷ record { actor = (Client 2); times = 1 } ∷ record { actor = (Client 1); times = 1 } ∷ record { actor = (Client 2); times = 1 } ∷ record { actor = Apply; times = 1 } ∷ record { actor = Ren; times = 3 } ∷ record { actor = (Client 2); times = 5 } ∷ record { actor = (Client 3); times = 1 } ∷ record { actor = Apply; times = 1 } ∷ record { actor = Ren; times = 1 } ∷ record { actor = (Client 3); times = 1 } ∷ record { actor = Insp; times = 1 } ∷ record { actor = Op; times = 1 } ∷ record { actor = Copy; times = 2 } ∷ record { actor = Apply; times = 3 } ∷ record { actor = (Client 2); times = 3 } ∷ record { actor = Copy; times = 5 } ∷ record { actor = Op; times = 5 } ∷ record { actor = (Client 2); times = 1 } ∷ record { actor = (Client 1); times = 3 } ∷ record { actor = Op; times = 1 } ∷ record { actor = (Client 2); times = 1 } ∷ record { actor = (Client 3); times = 1 } ∷ record { actor = Lock; times = 3 } ∷ record { actor = Lock; times = 1 } ∷ record { actor = Ren; times = 1 } ∷ record { actor = (Client 3); times = 1 } ∷ record { actor = Ren; times = 1 } ∷ record { actor = Ren; times = 2 } ∷ record { actor = (Client 2); times = 5 } ∷ record { actor = Ren; times = 2 } ∷ record { actor = (Client 1); times = 1 } ∷ record { actor = Copy; times = 3 } ∷ record { actor = Apply; times = 1 } ∷ record { actor = Ren; times = 2 } ∷ record { actor = Op; times = 1 } ∷ record { actor = Lock; times = 1 } ∷ record { actor = Lock; times = 5 } ∷ record { actor = Lock; times = 5 } ∷ record { actor = (Client 1); times = 2 } ∷ record { actor = (Client 3); times = 1 } ∷ record { actor = Apply; times = 1 } ∷ record { actor = (Client 2); times = 3 } ∷ record { actor = Insp; times = 1 } ∷ record { actor = (Client 2); times = 1 } ∷ record { actor = Copy; times = 1 } ∷ record { actor = (Client 1); times = 1 } ∷ record { actor = Lock; times = 1 } ∷ record { actor = Lock; times = 1 } ∷ []); options = record { chunk_size = 3; dml_batch_size = 3; default_retries = 9; max_backlog = 100; drain_limit = 2000; client_wait = 9; tool_wait = 30; max_load = 64; turn_limit = 200000; notes = 0; note_every = 100; replica_step = 0; replica_pause = 1; max_lag = 10; approve_renamed_columns = true; initially_drop_ghost_table = false; initially_drop_old_table = false; ok_to_drop_table = true; postpone = true; show_history = true; show_turns = true; show_tables = true; show_replies = true } }
+plan_187 = record { table = codes "t"; alter = (clauses.Change (codes "v") (record { name = codes "v"; kind = VarChar 9; nullable = (Some false); default = None; auto = false }) Unsaid ∷ []); tables = (record { schema = record { name = codes "t"; columns = (record { name = codes "a"; kind = Int 4 false; nullable = false; default = None; auto = false } ∷ record { name = codes "c"; kind = Int 4 false; nullable = false; default = None; auto = false } ∷ record { name = codes "m0"; kind = Int 4 false; nullable = true; default = (Some Null); auto = false } ∷ record { name = codes "m1"; kind = Int 1 false; nullable = true; default = (Some Null); auto = false } ∷ record { name = codes "v"; kind = VarChar 6; nullable = true; default = (Some Null); auto = false } ∷ []); uniques = (record { name = None; places = (0 ∷ 1 ∷ []) } ∷ record { name = (Some (codes "u0")); places = (2 ∷ []) } ∷ record { name = (Some (codes "u1")); places = (3 ∷ []) } ∷ []); indexes = []; comment = []; start = None }; rows = (((Num (pos 3)) ∷ (Num (pos 3)) ∷ (Num (pos 7)) ∷ (Num (pos 1)) ∷ (Text (codes "6")) ∷ []) ∷ []) } ∷ []); clients = ((record { line = 1; word = (words.Do (statements.Delete (codes "t") (conditions.Equal (record { column = codes "a"; value = (Num (pos 3)) } ∷ record { column = codes "c"; value = (Num (pos 3)) } ∷ [])))) } ∷ []) ∷ (record { line = 1; word = (words.Do (statements.Update (codes "t") (record { column = codes "c"; value = (Num (pos 1)) } ∷ record { column = codes "m0"; value = (Num (pos 7)) } ∷ record { column = codes "v"; value = (Text (codes "e")) } ∷ []) (conditions.Equal (record { column = codes "c"; value = (Num (pos 3)) } ∷ record { column = codes "a"; value = (Text (codes "2")) } ∷ [])))) } ∷ record { line = 2; word = (words.Do (statements.Replace (codes "t") (Some (codes "a" ∷ codes "c" ∷ codes "m1" ∷ codes "v" ∷ [])) ((Num (pos 7)) ∷ (Num (pos 2)) ∷ (Num (pos 6)) ∷ (Text (codes "c")) ∷ []) None)) } ∷ record { line = 3; word = words.Begin } ∷ record { line = 4; word = (words.Do (statements.Delete (codes "t") (conditions.Equal (record { column = codes "m1"; value = (Num (pos 4)) } ∷ [])))) } ∷ record { line = 5; word = words.Rollback } ∷ record { line = 6; word = words.Begin } ∷ record { line = 7; word = (words.Do (statements.Update (codes "t") (record { column = codes "a"; value = (Num (pos 4)) } ∷ record { column = codes "c"; value = (Text (codes "7")) } ∷ record { column = codes "m0"; value = (Num (pos 7)) } ∷ record { column = codes "m1"; value = (Num (pos 6)) } ∷ record { column = codes "v"; value = (Text (codes "e")) } ∷ []) (conditions.Equal (record { column = codes "m0"; value = (Num (pos 4)) } ∷ [])))) } ∷ record { line = 8; word = (words.Do (statements.Update (codes "t") (record { column = codes "a"; value = (Num (pos 4)) } ∷ record { column = codes "c"; value = (Num (pos 7)) } ∷ record { column = codes "m1"; value = (Num (pos 2)) } ∷ []) (conditions.Equal (record { column = codes "a"; value = (Num (pos 1)) } ∷ record { column = codes "c"; value = (Num (pos 7)) } ∷ [])))) } ∷ record { line = 9; word = words.Commit } ∷ []) ∷ (record { line = 1; word = (words.Do (statements.Replace (codes "t") (Some (codes "a" ∷ codes "c" ∷ codes "m0" ∷ codes "m1" ∷ codes "v" ∷ [])) ((Num (pos 6)) ∷ (Num (pos 2)) ∷ (Num (pos 2)) ∷ Null ∷ Null ∷ []) None)) } ∷ []) ∷ []); operator = (record { word = commanded.Unpostpone; units = 1 } ∷ record { word = commanded.Throttle; units = 1 } ∷ record { word = commanded.Panic; units = 1 } ∷ []); faults = []; turns = (record { actor = Lock; times = 2 } ∷ record { actor = Op; times = 1 } ∷ record { actor = Op; times = 1 } ∷ record { actor = Ren; times = 2 } ∷ record { actor = Op; times = 1 } ∷ record { actor = Lock; times = 1 } ∷ record { actor = Insp; times = 1 } ∷ record { actor = (Client 2); times = 1 } ∷ record { actor = Copy; times = 5 } ∷ record { actor = Ren; times = 1 } ∷ record { actor = Apply; times = 1 } ∷ record { actor = (Client 2); times = 1 } ∷ record { actor = (Client 1); times = 1 } ∷ record { actor = (Client 2); times = 1 } ∷ record { actor = Apply; times = 1 } ∷ record { actor = Ren; times = 3 } ∷ record { actor = (Client 2); times = 5 } ∷ record { actor = (Client 3); times = 1 } ∷ record { actor = Apply; times = 1 } ∷ record { actor = Ren; times = 1 } ∷ record { actor = (Client 3); times = 1 } ∷ record { actor = Insp; times = 1 } ∷ record { actor = Op; times = 1 } ∷ record { actor = Copy; times = 2 } ∷ record { actor = Apply; times = 3 } ∷ record { actor = (Client 2); times = 3 } ∷ record { actor = Copy; times = 5 } ∷ record { actor = Op; times = 5 } ∷ record { actor = (Client 2); times = 1 } ∷ record { actor = (Client 1); times = 3 } ∷ record { actor = Op; times = 1 } ∷ record { actor = (Client 2); times = 1 } ∷ record { actor = (Client 3); times = 1 } ∷ record { actor = Lock; times = 3 } ∷ record { actor = Lock; times = 1 } ∷ record { actor = Ren; times = 1 } ∷ record { actor = (Client 3); times = 1 } ∷ record { actor = Ren; times = 1 } ∷ record { actor = Ren; times = 2 } ∷ record { actor = (Client 2); times = 5 } ∷ record { actor = Ren; times = 2 } ∷ record { actor = (Client 1); times = 1 } ∷ record { actor = Copy; times = 3 } ∷ record { actor = Apply; times = 1 } ∷ record { actor = Ren; times = 2 } ∷ record { actor = Op; times = 1 } ∷ record { actor = Lock; times = 1 } ∷ record { actor = Lock; times = 5 } ∷ record { actor = Lock; times = 5 } ∷ record { actor = (Client 1); times = 2 } ∷ record { actor = (Client 3); times = 1 } ∷ record { actor = Apply; times = 1 } ∷ record { actor = (Client 2); times = 3 } ∷ record { actor = Insp; times = 1 } ∷ record { actor = (Client 2); times = 1 } ∷ record { actor = Copy; times = 1 } ∷ record { actor = (Client 1); times = 1 } ∷ record { actor = Lock; times = 1 } ∷ record { actor = Lock; times = 1 } ∷ []); options = record { chunk_size = 3; dml_batch_size = 3; default_retries = 9; max_backlog = 100; drain_limit = 2000; client_wait = 9; tool_wait = 30; max_load = 64; turn_limit = 200000; notes = 0; note_every = 100; replica_step = 0; replica_pause = 1; max_lag = 10; resume = false; approve_renamed_columns = true; initially_drop_ghost_table = false; initially_drop_old_table = false; ok_to_drop_table = true; postpone = true; show_history = true; show_turns = true; show_tables = true; show_replies = true } }
 
 abbrev journal_187 : List Entry
 journal_187 =
@@ -75,7 +75,7 @@ abbrev map_189 : List MapColumn
 map_189 = (record { kind = VarBinary 3; nullable = false; origin = from.Old 0 } ∷ record { kind = Int 4 false; nullable = false; origin = from.Old 1 } ∷ record { kind = VarBinary 9; nullable = false; origin = from.Old 2 } ∷ [])
 
 abbrev plan_189 : PlanData
-plan_189 = record { table = codes "t"; alter = (clauses.Change (codes "v") (record { name = codes "v"; kind = VarBinary 9; nullable = (Some false); default = None; auto = false }) Unsaid ∷ []); tables = (record { schema = record { name = codes "t"; columns = (record { name = codes "id"; kind = VarBinary 3; nullable = false; default = None; auto = false } ∷ record { name = codes "m0"; kind = Int 4 false; nullable = false; default = None; auto = false } ∷ record { name = codes "v"; kind = Int 4 false; nullable = true; default = (Some (Num (pos 5))); auto = false } ∷ []); uniques = (record { name = None; places = (0 ∷ []) } ∷ record { name = (Some (codes "u0")); places = (1 ∷ []) } ∷ []); indexes = []; comment = []; start = None }; rows = (((Blob (49 ∷ [])) ∷ (Num (pos 1)) ∷ (Num (pos 7)) ∷ []) ∷ ((Blob (54 ∷ [])) ∷ (Num (pos 2)) ∷ (Num (pos 1)) ∷ []) ∷ ((Blob (97 ∷ [])) ∷ (Num (pos 7)) ∷ (Num (pos 6)) ∷ []) ∷ ((Blob (101 ∷ [])) ∷ (Num (pos 5)) ∷ (Num (pos 2)) ∷ []) ∷ ((Blob (102 ∷ [])) ∷ (Num (pos 4)) ∷ (Num (pos 3)) ∷ []) ∷ []) } ∷ []); clients = ((record { line = 1; word = (words.Do (statements.Select (codes "t") shown.Count (conditions.Equal (record { column = codes "id"; value = (Num (pos 3)) } ∷ [])))) } ∷ record { line = 2; word = (words.Do (statements.Insert (codes "t") (Some (codes "id" ∷ codes "m0" ∷ codes "v" ∷ [])) ((Blob (4 ∷ [])) ∷ (Num (pos 4)) ∷ (Num (pos 3)) ∷ []) None)) } ∷ record { line = 3; word = (words.Do (statements.Update (codes "t") (record { column = codes "id"; value = (Blob (3 ∷ [])) } ∷ []) (conditions.Equal (record { column = codes "id"; value = (Blob (2 ∷ [])) } ∷ [])))) } ∷ record { line = 4; word = (words.Do (statements.Replace (codes "t") None ((Text (codes "b")) ∷ (Num (pos 5)) ∷ Null ∷ []) None)) } ∷ record { line = 5; word = (words.Do (statements.Insert (codes "t") None ((Text (codes "c")) ∷ (Num (pos 4)) ∷ (Num (pos 5)) ∷ []) None)) } ∷ record { line = 6; word = (words.Do (statements.Insert (codes "t") (Some (codes "id" ∷ codes "m0" ∷ codes "v" ∷ [])) ((Blob (255 ∷ [])) ∷ (Num (pos 2)) ∷ (Num (pos 7)) ∷ []) None)) } ∷ record { line = 7; word = words.Begin } ∷ record { line = 8; word = (words.Do (statements.Insert (codes "t") None ((Text (codes "d")) ∷ (Text (codes "6")) ∷ (Num (pos 1000)) ∷ []) None)) } ∷ record { line = 9; word = (words.Do (statements.Delete (codes "t") (conditions.Equal (record { column = codes "id"; value = (Num (pos 2)) } ∷ [])))) } ∷ record { line = 10; word = words.Commit } ∷ []) ∷ []); operator = []; faults = (losses.Nth Copy 4 sides_at.Before ∷ []); turns = (record { actor = Insp; times = 5 } ∷ record { actor = Ren; times = 3 } ∷ []); options = record { chunk_size = 1; dml_batch_size = 1; default_retries = 2; max_backlog = 100; drain_limit = 2000; client_wait = 5; tool_wait = 1; max_load = 64; turn_limit = 200000; notes = 0; note_every = 100; replica_step = 0; replica_pause = 1; max_lag = 10; approve_renamed_columns = true; initially_drop_ghost_table = false; initially_drop_old_table = false; ok_to_drop_table = false; postpone = false; show_history = true; show_turns = true; show_tables = true; show_replies = true } }
+plan_189 = record { table = codes "t"; alter = (clauses.Change (codes "v") (record { name = codes "v"; kind = VarBinary 9; nullable = (Some false); default = None; auto = false }) Unsaid ∷ []); tables = (record { schema = record { name = codes "t"; columns = (record { name = codes "id"; kind = VarBinary 3; nullable = false; default = None; auto = false } ∷ record { name = codes "m0"; kind = Int 4 false; nullable = false; default = None; auto = false } ∷ record { name = codes "v"; kind = Int 4 false; nullable = true; default = (Some (Num (pos 5))); auto = false } ∷ []); uniques = (record { name = None; places = (0 ∷ []) } ∷ record { name = (Some (codes "u0")); places = (1 ∷ []) } ∷ []); indexes = []; comment = []; start = None }; rows = (((Blob (49 ∷ [])) ∷ (Num (pos 1)) ∷ (Num (pos 7)) ∷ []) ∷ ((Blob (54 ∷ [])) ∷ (Num (pos 2)) ∷ (Num (pos 1)) ∷ []) ∷ ((Blob (97 ∷ [])) ∷ (Num (pos 7)) ∷ (Num (pos 6)) ∷ []) ∷ ((Blob (101 ∷ [])) ∷ (Num (pos 5)) ∷ (Num (pos 2)) ∷ []) ∷ ((Blob (102 ∷ [])) ∷ (Num (pos 4)) ∷ (Num (pos 3)) ∷ []) ∷ []) } ∷ []); clients = ((record { line = 1; word = (words.Do (statements.Select (codes "t") shown.Count (conditions.Equal (record { column = codes "id"; value = (Num (pos 3)) } ∷ [])))) } ∷ record { line = 2; word = (words.Do (statements.Insert (codes "t") (Some (codes "id" ∷ codes "m0" ∷ codes "v" ∷ [])) ((Blob (4 ∷ [])) ∷ (Num (pos 4)) ∷ (Num (pos 3)) ∷ []) None)) } ∷ record { line = 3; word = (words.Do (statements.Update (codes "t") (record { column = codes "id"; value = (Blob (3 ∷ [])) } ∷ []) (conditions.Equal (record { column = codes "id"; value = (Blob (2 ∷ [])) } ∷ [])))) } ∷ record { line = 4; word = (words.Do (statements.Replace (codes "t") None ((Text (codes "b")) ∷ (Num (pos 5)) ∷ Null ∷ []) None)) } ∷ record { line = 5; word = (words.Do (statements.Insert (codes "t") None ((Text (codes "c")) ∷ (Num (pos 4)) ∷ (Num (pos 5)) ∷ []) None)) } ∷ record { line = 6; word = (words.Do (statements.Insert (codes "t") (Some (codes "id" ∷ codes "m0" ∷ codes "v" ∷ [])) ((Blob (255 ∷ [])) ∷ (Num (pos 2)) ∷ (Num (pos 7)) ∷ []) None)) } ∷ record { line = 7; word = words.Begin } ∷ record { line = 8; word = (words.Do (statements.Insert (codes "t") None ((Text (codes "d")) ∷ (Text (codes "6")) ∷ (Num (pos 1000)) ∷ []) None)) } ∷ record { line = 9; word = (words.Do (statements.Delete (codes "t") (conditions.Equal (record { column = codes "id"; value = (Num (pos 2)) } ∷ [])))) } ∷ record { line = 10; word = words.Commit } ∷ []) ∷ []); operator = []; faults = (losses.Nth Copy 4 sides_at.Before ∷ []); turns = (record { actor = Insp; times = 5 } ∷ record { actor = Ren; times = 3 } ∷ []); options = record { chunk_size = 1; dml_batch_size = 1; default_retries = 2; max_backlog = 100; drain_limit = 2000; client_wait = 5; tool_wait = 1; max_load = 64; turn_limit = 200000; notes = 0; note_every = 100; replica_step = 0; replica_pause = 1; max_lag = 10; resume = false; approve_renamed_columns = true; initially_drop_ghost_table = false; initially_drop_old_table = false; ok_to_drop_table = false; postpone = false; show_history = true; show_turns = true; show_tables = true; show_replies = true } }
 
 abbrev journal_189 : List Entry
 journal_189 =
@@ -137,7 +137,7 @@ abbrev map_191 : List MapColumn
 map_191 = (record { kind = Int 1 false; nullable = true; origin = from.Old 0 } ∷ record { kind = Int 4 false; nullable = false; origin = from.Old 1 } ∷ record { kind = Int 8 false; nullable = false; origin = from.Old 2 } ∷ [])
 
 abbrev plan_191 : PlanData
-plan_191 = record { table = codes "t"; alter = (clauses.Change (codes "id") (record { name = codes "id"; kind = Int 8 false; nullable = None; default = None; auto = false }) Unsaid ∷ []); tables = (record { schema = record { name = codes "t"; columns = (record { name = codes "m0"; kind = Int 1 false; nullable = true; default = (Some (Num (pos 1))); auto = false } ∷ record { name = codes "v"; kind = Int 4 false; nullable = false; default = None; auto = false } ∷ record { name = codes "id"; kind = Int 4 false; nullable = false; default = None; auto = false } ∷ []); uniques = (record { name = None; places = (2 ∷ []) } ∷ record { name = (Some (codes "u0")); places = (0 ∷ []) } ∷ []); indexes = []; comment = codes "ghost-cut-over-sentry"; start = None }; rows = (((Num (pos 7)) ∷ (Num (pos 1)) ∷ (Num (pos 2)) ∷ []) ∷ ((Num (pos 2)) ∷ (Num (pos 7)) ∷ (Num (pos 3)) ∷ []) ∷ ((Num (pos 4)) ∷ (Num (pos 3)) ∷ (Num (pos 7)) ∷ []) ∷ []) } ∷ []); clients = ((record { line = 1; word = (words.Do (statements.Insert (codes "t") (Some (codes "m0" ∷ codes "v" ∷ codes "id" ∷ [])) (Null ∷ (Num (pos 1)) ∷ (Num (pos 7)) ∷ []) None)) } ∷ record { line = 2; word = (words.Do (statements.Update (codes "t") (record { column = codes "v"; value = (Num (pos 4)) } ∷ []) (conditions.Equal (record { column = codes "id"; value = (Num (pos 2)) } ∷ [])))) } ∷ record { line = 3; word = words.Begin } ∷ record { line = 4; word = words.Rollback } ∷ record { line = 5; word = (words.Do (statements.Replace (codes "t") None ((Num (pos 5)) ∷ (Num (pos 3)) ∷ (Text (codes "3")) ∷ []) None)) } ∷ record { line = 6; word = (words.Do (statements.Select (codes "t") (shown.Columns (codes "m0" ∷ [])) (conditions.Equal (record { column = codes "id"; value = (Num (pos 5)) } ∷ [])))) } ∷ record { line = 7; word = (words.Do (statements.Select (codes "t") (shown.Columns (codes "m0" ∷ [])) (conditions.Range (record { column = codes "id"; sign = signs.Less; value = (Num (pos 2)) } ∷ [])))) } ∷ []) ∷ (record { line = 1; word = (words.Do (statements.Insert (codes "t") (Some (codes "m0" ∷ codes "v" ∷ codes "id" ∷ [])) ((Num (pos 1)) ∷ (Num (pos 7)) ∷ (Num (pos 3)) ∷ []) None)) } ∷ record { line = 2; word = (words.Do (statements.Delete (codes "t") (conditions.Equal (record { column = codes "id"; value = (Num (pos 2)) } ∷ [])))) } ∷ []) ∷ []); operator = []; faults = (losses.Nth Lock 4 sides_at.After ∷ losses.Nth Lock 2 sides_at.Before ∷ losses.Nth Op 3 sides_at.After ∷ losses.Turn 34 (Client 2) ∷ losses.Nth Insp 8 sides_at.After ∷ losses.Turn 4 (Client 2) ∷ losses.Turn 46 (Client 2) ∷ losses.Nth Insp 5 sides_at.Before ∷ losses.Nth Lock 2 sides_at.Before ∷ losses.Nth (Client 2) 3 sides_at.After ∷ losses.Turn 14 Insp ∷ losses.Nth Ren 5 sides_at.Before ∷ []); turns = (record { actor = Insp; times = 3 } ∷ record { actor = (Client 1); times = 3 } ∷ record { actor = Op; times = 1 } ∷ record { actor = Apply; times = 5 } ∷ record { actor = Op; times = 1 } ∷ record { actor = Copy; times = 1 } ∷ record { actor = Lock; times = 2 } ∷ record { actor = (Client 1); times = 1 } ∷ record { actor = (Client 2); times = 1 } ∷ record { actor = Ren; times = 1 } ∷ record { actor = (Client 2); times = 1 } ∷ record { actor = Insp; times = 1 } ∷ record { actor = Lock; times = 5 } ∷ record { actor = Apply; times = 2 } ∷ record { actor = Copy; times = 3 } ∷ record { actor = Apply; times = 2 } ∷ record { actor = Lock; times = 1 } ∷ record { actor = (Client 1); times = 1 } ∷ record { actor = Insp; times = 1 } ∷ []); options = record { chunk_size = 2; dml_batch_size = 10; default_retries = 3; max_backlog = 100; drain_limit = 2000; client_wait = 30; tool_wait = 30; max_load = 64; turn_limit = 200000; notes = 0; note_every = 100; replica_step = 0; replica_pause = 1; max_lag = 10; approve_renamed_columns = true; initially_drop_ghost_table = false; initially_drop_old_table = false; ok_to_drop_table = true; postpone = false; show_history = true; show_turns = true; show_tables = true; show_replies = true } }
+plan_191 = record { table = codes "t"; alter = (clauses.Change (codes "id") (record { name = codes "id"; kind = Int 8 false; nullable = None; default = None; auto = false }) Unsaid ∷ []); tables = (record { schema = record { name = codes "t"; columns = (record { name = codes "m0"; kind = Int 1 false; nullable = true; default = (Some (Num (pos 1))); auto = false } ∷ record { name = codes "v"; kind = Int 4 false; nullable = false; default = None; auto = false } ∷ record { name = codes "id"; kind = Int 4 false; nullable = false; default = None; auto = false } ∷ []); uniques = (record { name = None; places = (2 ∷ []) } ∷ record { name = (Some (codes "u0")); places = (0 ∷ []) } ∷ []); indexes = []; comment = codes "ghost-cut-over-sentry"; start = None }; rows = (((Num (pos 7)) ∷ (Num (pos 1)) ∷ (Num (pos 2)) ∷ []) ∷ ((Num (pos 2)) ∷ (Num (pos 7)) ∷ (Num (pos 3)) ∷ []) ∷ ((Num (pos 4)) ∷ (Num (pos 3)) ∷ (Num (pos 7)) ∷ []) ∷ []) } ∷ []); clients = ((record { line = 1; word = (words.Do (statements.Insert (codes "t") (Some (codes "m0" ∷ codes "v" ∷ codes "id" ∷ [])) (Null ∷ (Num (pos 1)) ∷ (Num (pos 7)) ∷ []) None)) } ∷ record { line = 2; word = (words.Do (statements.Update (codes "t") (record { column = codes "v"; value = (Num (pos 4)) } ∷ []) (conditions.Equal (record { column = codes "id"; value = (Num (pos 2)) } ∷ [])))) } ∷ record { line = 3; word = words.Begin } ∷ record { line = 4; word = words.Rollback } ∷ record { line = 5; word = (words.Do (statements.Replace (codes "t") None ((Num (pos 5)) ∷ (Num (pos 3)) ∷ (Text (codes "3")) ∷ []) None)) } ∷ record { line = 6; word = (words.Do (statements.Select (codes "t") (shown.Columns (codes "m0" ∷ [])) (conditions.Equal (record { column = codes "id"; value = (Num (pos 5)) } ∷ [])))) } ∷ record { line = 7; word = (words.Do (statements.Select (codes "t") (shown.Columns (codes "m0" ∷ [])) (conditions.Range (record { column = codes "id"; sign = signs.Less; value = (Num (pos 2)) } ∷ [])))) } ∷ []) ∷ (record { line = 1; word = (words.Do (statements.Insert (codes "t") (Some (codes "m0" ∷ codes "v" ∷ codes "id" ∷ [])) ((Num (pos 1)) ∷ (Num (pos 7)) ∷ (Num (pos 3)) ∷ []) None)) } ∷ record { line = 2; word = (words.Do (statements.Delete (codes "t") (conditions.Equal (record { column = codes "id"; value = (Num (pos 2)) } ∷ [])))) } ∷ []) ∷ []); operator = []; faults = (losses.Nth Lock 4 sides_at.After ∷ losses.Nth Lock 2 sides_at.Before ∷ losses.Nth Op 3 sides_at.After ∷ losses.Turn 34 (Client 2) ∷ losses.Nth Insp 8 sides_at.After ∷ losses.Turn 4 (Client 2) ∷ losses.Turn 46 (Client 2) ∷ losses.Nth Insp 5 sides_at.Before ∷ losses.Nth Lock 2 sides_at.Before ∷ losses.Nth (Client 2) 3 sides_at.After ∷ losses.Turn 14 Insp ∷ losses.Nth Ren 5 sides_at.Before ∷ []); turns = (record { actor = Insp; times = 3 } ∷ record { actor = (Client 1); times = 3 } ∷ record { actor = Op; times = 1 } ∷ record { actor = Apply; times = 5 } ∷ record { actor = Op; times = 1 } ∷ record { actor = Copy; times = 1 } ∷ record { actor = Lock; times = 2 } ∷ record { actor = (Client 1); times = 1 } ∷ record { actor = (Client 2); times = 1 } ∷ record { actor = Ren; times = 1 } ∷ record { actor = (Client 2); times = 1 } ∷ record { actor = Insp; times = 1 } ∷ record { actor = Lock; times = 5 } ∷ record { actor = Apply; times = 2 } ∷ record { actor = Copy; times = 3 } ∷ record { actor = Apply; times = 2 } ∷ record { actor = Lock; times = 1 } ∷ record { actor = (Client 1); times = 1 } ∷ record { actor = Insp; times = 1 } ∷ []); options = record { chunk_size = 2; dml_batch_size = 10; default_retries = 3; max_backlog = 100; drain_limit = 2000; client_wait = 30; tool_wait = 30; max_load = 64; turn_limit = 200000; notes = 0; note_every = 100; replica_step = 0; replica_pause = 1; max_lag = 10; resume = false; approve_renamed_columns = true; initially_drop_ghost_table = false; initially_drop_old_table = false; ok_to_drop_table = true; postpone = false; show_history = true; show_turns = true; show_tables = true; show_replies = true } }
 
 abbrev journal_191 : List Entry
 journal_191 =
@@ -214,7 +214,7 @@ abbrev map_193 : List MapColumn
 map_193 = (record { kind = VarChar 9; nullable = true; origin = from.Old 0 } ∷ record { kind = VarChar 6; nullable = false; origin = from.Old 1 } ∷ record { kind = Int 4 false; nullable = false; origin = from.Old 2 } ∷ [])
 
 abbrev plan_193 : PlanData
-plan_193 = record { table = codes "t"; alter = (clauses.Change (codes "m0") (record { name = codes "m0"; kind = VarChar 9; nullable = None; default = None; auto = false }) Unsaid ∷ []); tables = (record { schema = record { name = codes "t"; columns = (record { name = codes "m0"; kind = VarChar 3; nullable = true; default = (Some Null); auto = false } ∷ record { name = codes "v"; kind = VarChar 6; nullable = false; default = (Some (Text (codes "5"))); auto = false } ∷ record { name = codes "id"; kind = Int 4 false; nullable = false; default = None; auto = false } ∷ []); uniques = (record { name = None; places = (2 ∷ []) } ∷ record { name = (Some (codes "u0")); places = (0 ∷ []) } ∷ []); indexes = []; comment = []; start = None }; rows = [] } ∷ []); clients = ((record { line = 1; word = (words.Do (statements.Select (codes "t") shown.All (conditions.Range (record { column = codes "id"; sign = signs.Less; value = (Num (pos 3)) } ∷ record { column = codes "id"; sign = signs.More; value = (Num (pos 4)) } ∷ [])))) } ∷ record { line = 2; word = (words.Do (statements.Select (codes "t") (shown.Columns (codes "m0" ∷ [])) conditions.All)) } ∷ record { line = 3; word = (words.Do (statements.Delete (codes "t") (conditions.Range (record { column = codes "id"; sign = signs.AtMost; value = (Num (pos 3)) } ∷ record { column = codes "id"; sign = signs.Less; value = (Num (pos 4)) } ∷ [])))) } ∷ []) ∷ (record { line = 1; word = (words.Do (statements.Insert (codes "t") (Some (codes "v" ∷ codes "id" ∷ [])) ((Text (codes "g")) ∷ (Num (pos 5)) ∷ []) None)) } ∷ record { line = 2; word = words.Begin } ∷ record { line = 3; word = (words.Do (statements.Update (codes "t") (record { column = codes "v"; value = (Text (codes "g")) } ∷ record { column = codes "id"; value = (Num (pos 1)) } ∷ []) (conditions.Equal (record { column = codes "id"; value = (Num (pos 1)) } ∷ [])))) } ∷ record { line = 4; word = (words.Do (statements.Update (codes "t") (record { column = codes "v"; value = (Num (pos 5)) } ∷ []) (conditions.Equal (record { column = codes "id"; value = (Num (pos 7)) } ∷ [])))) } ∷ record { line = 5; word = words.Commit } ∷ []) ∷ (record { line = 1; word = words.Begin } ∷ record { line = 2; word = (words.Do (statements.Delete (codes "t") (conditions.Equal (record { column = codes "id"; value = (Num (pos 4)) } ∷ [])))) } ∷ record { line = 3; word = words.Rollback } ∷ []) ∷ []); operator = (record { word = commanded.Unpostpone; units = 1 } ∷ record { word = commanded.Wait; units = 3 } ∷ record { word = commanded.Panic; units = 1 } ∷ record { word = commanded.Wait; units = 22 } ∷ record { word = (commanded.ChunkSize 3); units = 1 } ∷ []); faults = (losses.Nth Copy 2 sides_at.Before ∷ losses.Nth (Client 1) 5 sides_at.Before ∷ losses.Nth Copy 5 sides_at.After ∷ []); turns = (record { actor = Insp; times = 5 } ∷ record { actor = Apply; times = 1 } ∷ record { actor = (Client 3); times = 1 } ∷ record { actor = Apply; times = 1 } ∷ record { actor = (Client 2); times = 2 } ∷ record { actor = Lock; times = 3 } ∷ record { actor = Lock; times = 1 } ∷ record { actor = Insp; times = 1 } ∷ record { actor = Insp; times = 3 } ∷ record { actor = (Client 3); times = 2 } ∷ record { actor = Apply; times = 1 } ∷ record { actor = (Client 3); times = 5 } ∷ record { actor = (Client 1); times = 2 } ∷ record { actor = (Client 3); times = 1 } ∷ record { actor = Op; times = 1 } ∷ record { actor = Op; times = 1 } ∷ record { actor = (Client 2); times = 1 } ∷ record { actor = Apply; times = 3 } ∷ record { actor = Copy; times = 5 } ∷ record { actor = (Client 3); times = 1 } ∷ record { actor = (Client 3); times = 3 } ∷ record { actor = Insp; times = 1 } ∷ record { actor = Ren; times = 1 } ∷ record { actor = (Client 1); times = 2 } ∷ record { actor = Ren; times = 5 } ∷ record { actor = (Client 2); times = 1 } ∷ record { actor = Apply; times = 2 } ∷ record { actor = Op; times = 1 } ∷ record { actor = Lock; times = 1 } ∷ record { actor = (Client 1); times = 3 } ∷ record { actor = Lock; times = 1 } ∷ record { actor = (Client 1); times = 1 } ∷ record { actor = Insp; times = 3 } ∷ record { actor = (Client 3); times = 5 } ∷ record { actor = (Client 1); times = 1 } ∷ record { actor = (Client 2); times = 1 } ∷ record { actor = Apply; times = 2 } ∷ record { actor = (Client 1); times = 1 } ∷ record { actor = (Client 2); times = 3 } ∷ record { actor = (Client 3); times = 3 } ∷ record { actor = (Client 3); times = 2 } ∷ record { actor = Apply; times = 5 } ∷ record { actor = Apply; times = 1 } ∷ []); options = record { chunk_size = 2; dml_batch_size = 4; default_retries = 2; max_backlog = 0; drain_limit = 5; client_wait = 30; tool_wait = 3; max_load = 64; turn_limit = 200000; notes = 0; note_every = 100; replica_step = 0; replica_pause = 1; max_lag = 10; approve_renamed_columns = true; initially_drop_ghost_table = false; initially_drop_old_table = false; ok_to_drop_table = false; postpone = false; show_history = true; show_turns = true; show_tables = true; show_replies = true } }
+plan_193 = record { table = codes "t"; alter = (clauses.Change (codes "m0") (record { name = codes "m0"; kind = VarChar 9; nullable = None; default = None; auto = false }) Unsaid ∷ []); tables = (record { schema = record { name = codes "t"; columns = (record { name = codes "m0"; kind = VarChar 3; nullable = true; default = (Some Null); auto = false } ∷ record { name = codes "v"; kind = VarChar 6; nullable = false; default = (Some (Text (codes "5"))); auto = false } ∷ record { name = codes "id"; kind = Int 4 false; nullable = false; default = None; auto = false } ∷ []); uniques = (record { name = None; places = (2 ∷ []) } ∷ record { name = (Some (codes "u0")); places = (0 ∷ []) } ∷ []); indexes = []; comment = []; start = None }; rows = [] } ∷ []); clients = ((record { line = 1; word = (words.Do (statements.Select (codes "t") shown.All (conditions.Range (record { column = codes "id"; sign = signs.Less; value = (Num (pos 3)) } ∷ record { column = codes "id"; sign = signs.More; value = (Num (pos 4)) } ∷ [])))) } ∷ record { line = 2; word = (words.Do (statements.Select (codes "t") (shown.Columns (codes "m0" ∷ [])) conditions.All)) } ∷ record { line = 3; word = (words.Do (statements.Delete (codes "t") (conditions.Range (record { column = codes "id"; sign = signs.AtMost; value = (Num (pos 3)) } ∷ record { column = codes "id"; sign = signs.Less; value = (Num (pos 4)) } ∷ [])))) } ∷ []) ∷ (record { line = 1; word = (words.Do (statements.Insert (codes "t") (Some (codes "v" ∷ codes "id" ∷ [])) ((Text (codes "g")) ∷ (Num (pos 5)) ∷ []) None)) } ∷ record { line = 2; word = words.Begin } ∷ record { line = 3; word = (words.Do (statements.Update (codes "t") (record { column = codes "v"; value = (Text (codes "g")) } ∷ record { column = codes "id"; value = (Num (pos 1)) } ∷ []) (conditions.Equal (record { column = codes "id"; value = (Num (pos 1)) } ∷ [])))) } ∷ record { line = 4; word = (words.Do (statements.Update (codes "t") (record { column = codes "v"; value = (Num (pos 5)) } ∷ []) (conditions.Equal (record { column = codes "id"; value = (Num (pos 7)) } ∷ [])))) } ∷ record { line = 5; word = words.Commit } ∷ []) ∷ (record { line = 1; word = words.Begin } ∷ record { line = 2; word = (words.Do (statements.Delete (codes "t") (conditions.Equal (record { column = codes "id"; value = (Num (pos 4)) } ∷ [])))) } ∷ record { line = 3; word = words.Rollback } ∷ []) ∷ []); operator = (record { word = commanded.Unpostpone; units = 1 } ∷ record { word = commanded.Wait; units = 3 } ∷ record { word = commanded.Panic; units = 1 } ∷ record { word = commanded.Wait; units = 22 } ∷ record { word = (commanded.ChunkSize 3); units = 1 } ∷ []); faults = (losses.Nth Copy 2 sides_at.Before ∷ losses.Nth (Client 1) 5 sides_at.Before ∷ losses.Nth Copy 5 sides_at.After ∷ []); turns = (record { actor = Insp; times = 5 } ∷ record { actor = Apply; times = 1 } ∷ record { actor = (Client 3); times = 1 } ∷ record { actor = Apply; times = 1 } ∷ record { actor = (Client 2); times = 2 } ∷ record { actor = Lock; times = 3 } ∷ record { actor = Lock; times = 1 } ∷ record { actor = Insp; times = 1 } ∷ record { actor = Insp; times = 3 } ∷ record { actor = (Client 3); times = 2 } ∷ record { actor = Apply; times = 1 } ∷ record { actor = (Client 3); times = 5 } ∷ record { actor = (Client 1); times = 2 } ∷ record { actor = (Client 3); times = 1 } ∷ record { actor = Op; times = 1 } ∷ record { actor = Op; times = 1 } ∷ record { actor = (Client 2); times = 1 } ∷ record { actor = Apply; times = 3 } ∷ record { actor = Copy; times = 5 } ∷ record { actor = (Client 3); times = 1 } ∷ record { actor = (Client 3); times = 3 } ∷ record { actor = Insp; times = 1 } ∷ record { actor = Ren; times = 1 } ∷ record { actor = (Client 1); times = 2 } ∷ record { actor = Ren; times = 5 } ∷ record { actor = (Client 2); times = 1 } ∷ record { actor = Apply; times = 2 } ∷ record { actor = Op; times = 1 } ∷ record { actor = Lock; times = 1 } ∷ record { actor = (Client 1); times = 3 } ∷ record { actor = Lock; times = 1 } ∷ record { actor = (Client 1); times = 1 } ∷ record { actor = Insp; times = 3 } ∷ record { actor = (Client 3); times = 5 } ∷ record { actor = (Client 1); times = 1 } ∷ record { actor = (Client 2); times = 1 } ∷ record { actor = Apply; times = 2 } ∷ record { actor = (Client 1); times = 1 } ∷ record { actor = (Client 2); times = 3 } ∷ record { actor = (Client 3); times = 3 } ∷ record { actor = (Client 3); times = 2 } ∷ record { actor = Apply; times = 5 } ∷ record { actor = Apply; times = 1 } ∷ []); options = record { chunk_size = 2; dml_batch_size = 4; default_retries = 2; max_backlog = 0; drain_limit = 5; client_wait = 30; tool_wait = 3; max_load = 64; turn_limit = 200000; notes = 0; note_every = 100; replica_step = 0; replica_pause = 1; max_lag = 10; resume = false; approve_renamed_columns = true; initially_drop_ghost_table = false; initially_drop_old_table = false; ok_to_drop_table = false; postpone = false; show_history = true; show_turns = true; show_tables = true; show_replies = true } }
 
 abbrev journal_193 : List Entry
 journal_193 =
@@ -276,7 +276,7 @@ abbrev map_204 : List MapColumn
 map_204 = (record { kind = Int 1 false; nullable = true; origin = from.Old 0 } ∷ record { kind = Int 4 false; nullable = false; origin = from.Old 1 } ∷ [])
 
 abbrev plan_204 : PlanData
-plan_204 = record { table = codes "t"; alter = (clauses.DropIndex (codes "u0") ∷ []); tables = (record { schema = record { name = codes "t"; columns = (record { name = codes "m0"; kind = Int 1 false; nullable = true; default = (Some Null); auto = false } ∷ record { name = codes "id"; kind = Int 4 false; nullable = false; default = None; auto = false } ∷ []); uniques = (record { name = None; places = (1 ∷ []) } ∷ record { name = (Some (codes "u0")); places = (0 ∷ []) } ∷ []); indexes = []; comment = []; start = None }; rows = ((Null ∷ (Num (pos 5)) ∷ []) ∷ []) } ∷ []); clients = ((record { line = 1; word = (words.Do (statements.Update (codes "t") (record { column = codes "m0"; value = (Blob (255 ∷ [])) } ∷ record { column = codes "id"; value = (Num (pos 7)) } ∷ []) (conditions.Equal (record { column = codes "id"; value = (Text (codes "7")) } ∷ [])))) } ∷ record { line = 2; word = (words.Do (statements.Delete (codes "t") (conditions.Equal (record { column = codes "id"; value = (Num (pos 3)) } ∷ [])))) } ∷ record { line = 3; word = (words.Do (statements.Update (codes "t") (record { column = codes "id"; value = (Num (pos 4)) } ∷ []) (conditions.Equal (record { column = codes "m0"; value = (Num (pos 6)) } ∷ [])))) } ∷ record { line = 4; word = words.Begin } ∷ record { line = 5; word = (words.Do (statements.Replace (codes "t") (Some (codes "m0" ∷ codes "id" ∷ [])) ((Num (pos 2)) ∷ (Num (pos 2)) ∷ []) None)) } ∷ record { line = 6; word = (words.Do (statements.Replace (codes "t") (Some (codes "m0" ∷ codes "id" ∷ [])) ((Num (pos 3)) ∷ (Text (codes "7")) ∷ []) None)) } ∷ record { line = 7; word = (words.Do (statements.Delete (codes "t") conditions.All)) } ∷ record { line = 8; word = words.Rollback } ∷ []) ∷ (record { line = 1; word = words.Begin } ∷ record { line = 2; word = (words.Do (statements.Insert (codes "t") None ((Text (codes "zzzzzzzzz")) ∷ (Num (pos 3)) ∷ []) None)) } ∷ record { line = 3; word = (words.Do (statements.Select (codes "t") (shown.Columns (codes "m0" ∷ [])) (conditions.Equal (record { column = codes "id"; value = (Num (pos 5)) } ∷ [])))) } ∷ record { line = 4; word = (words.Do (statements.Insert (codes "t") None (Null ∷ (Num (pos 4)) ∷ []) None)) } ∷ record { line = 5; word = words.Rollback } ∷ []) ∷ (record { line = 1; word = (words.Do (statements.Replace (codes "t") (Some (codes "m0" ∷ codes "id" ∷ [])) (Null ∷ (Num (pos 5)) ∷ []) None)) } ∷ record { line = 2; word = (words.Do (statements.Update (codes "t") (record { column = codes "m0"; value = (Num (pos 2)) } ∷ []) (conditions.Equal (record { column = codes "id"; value = (Num (pos 4)) } ∷ [])))) } ∷ []) ∷ []); operator = []; faults = (losses.Turn 25 Op ∷ losses.Nth (Client 2) 3 sides_at.After ∷ losses.Nth Lock 5 sides_at.After ∷ []); turns = (record { actor = Insp; times = 7 } ∷ record { actor = Insp; times = 1 } ∷ record { actor = Ren; times = 3 } ∷ record { actor = Apply; times = 3 } ∷ record { actor = Lock; times = 5 } ∷ record { actor = (Client 1); times = 1 } ∷ record { actor = Apply; times = 3 } ∷ record { actor = Lock; times = 1 } ∷ record { actor = Lock; times = 1 } ∷ record { actor = Insp; times = 5 } ∷ record { actor = (Client 1); times = 2 } ∷ record { actor = Copy; times = 1 } ∷ record { actor = Copy; times = 1 } ∷ record { actor = Copy; times = 5 } ∷ record { actor = Copy; times = 2 } ∷ record { actor = (Client 1); times = 3 } ∷ record { actor = (Client 3); times = 1 } ∷ record { actor = Ren; times = 2 } ∷ record { actor = Lock; times = 3 } ∷ record { actor = Op; times = 3 } ∷ record { actor = Lock; times = 3 } ∷ record { actor = Ren; times = 3 } ∷ record { actor = Lock; times = 5 } ∷ record { actor = (Client 1); times = 3 } ∷ record { actor = (Client 2); times = 2 } ∷ record { actor = Lock; times = 2 } ∷ record { actor = Op; times = 1 } ∷ record { actor = Ren; times = 1 } ∷ record { actor = (Client 1); times = 1 } ∷ record { actor = (Client 1); times = 1 } ∷ record { actor = Apply; times = 5 } ∷ record { actor = Ren; times = 3 } ∷ record { actor = Lock; times = 2 } ∷ record { actor = Copy; times = 2 } ∷ record { actor = (Client 2); times = 1 } ∷ record { actor = (Client 3); times = 5 } ∷ record { actor = (Client 3); times = 5 } ∷ record { actor = Copy; times = 1 } ∷ record { actor = Lock; times = 5 } ∷ record { actor = Insp; times = 2 } ∷ record { actor = Op; times = 2 } ∷ record { actor = (Client 2); times = 1 } ∷ record { actor = (Client 1); times = 1 } ∷ record { actor = Lock; times = 1 } ∷ record { actor = (Client 3); times = 1 } ∷ record { actor = Apply; times = 5 } ∷ record { actor = (Client 3); times = 1 } ∷ record { actor = Lock; times = 3 } ∷ record { actor = (Client 3); times = 3 } ∷ []); options = record { chunk_size = 2; dml_batch_size = 10; default_retries = 2; max_backlog = 0; drain_limit = 3; client_wait = 5; tool_wait = 5; max_load = 1; turn_limit = 200000; notes = 0; note_every = 100; replica_step = 0; replica_pause = 1; max_lag = 10; approve_renamed_columns = true; initially_drop_ghost_table = false; initially_drop_old_table = false; ok_to_drop_table = true; postpone = false; show_history = true; show_turns = true; show_tables = true; show_replies = true } }
+plan_204 = record { table = codes "t"; alter = (clauses.DropIndex (codes "u0") ∷ []); tables = (record { schema = record { name = codes "t"; columns = (record { name = codes "m0"; kind = Int 1 false; nullable = true; default = (Some Null); auto = false } ∷ record { name = codes "id"; kind = Int 4 false; nullable = false; default = None; auto = false } ∷ []); uniques = (record { name = None; places = (1 ∷ []) } ∷ record { name = (Some (codes "u0")); places = (0 ∷ []) } ∷ []); indexes = []; comment = []; start = None }; rows = ((Null ∷ (Num (pos 5)) ∷ []) ∷ []) } ∷ []); clients = ((record { line = 1; word = (words.Do (statements.Update (codes "t") (record { column = codes "m0"; value = (Blob (255 ∷ [])) } ∷ record { column = codes "id"; value = (Num (pos 7)) } ∷ []) (conditions.Equal (record { column = codes "id"; value = (Text (codes "7")) } ∷ [])))) } ∷ record { line = 2; word = (words.Do (statements.Delete (codes "t") (conditions.Equal (record { column = codes "id"; value = (Num (pos 3)) } ∷ [])))) } ∷ record { line = 3; word = (words.Do (statements.Update (codes "t") (record { column = codes "id"; value = (Num (pos 4)) } ∷ []) (conditions.Equal (record { column = codes "m0"; value = (Num (pos 6)) } ∷ [])))) } ∷ record { line = 4; word = words.Begin } ∷ record { line = 5; word = (words.Do (statements.Replace (codes "t") (Some (codes "m0" ∷ codes "id" ∷ [])) ((Num (pos 2)) ∷ (Num (pos 2)) ∷ []) None)) } ∷ record { line = 6; word = (words.Do (statements.Replace (codes "t") (Some (codes "m0" ∷ codes "id" ∷ [])) ((Num (pos 3)) ∷ (Text (codes "7")) ∷ []) None)) } ∷ record { line = 7; word = (words.Do (statements.Delete (codes "t") conditions.All)) } ∷ record { line = 8; word = words.Rollback } ∷ []) ∷ (record { line = 1; word = words.Begin } ∷ record { line = 2; word = (words.Do (statements.Insert (codes "t") None ((Text (codes "zzzzzzzzz")) ∷ (Num (pos 3)) ∷ []) None)) } ∷ record { line = 3; word = (words.Do (statements.Select (codes "t") (shown.Columns (codes "m0" ∷ [])) (conditions.Equal (record { column = codes "id"; value = (Num (pos 5)) } ∷ [])))) } ∷ record { line = 4; word = (words.Do (statements.Insert (codes "t") None (Null ∷ (Num (pos 4)) ∷ []) None)) } ∷ record { line = 5; word = words.Rollback } ∷ []) ∷ (record { line = 1; word = (words.Do (statements.Replace (codes "t") (Some (codes "m0" ∷ codes "id" ∷ [])) (Null ∷ (Num (pos 5)) ∷ []) None)) } ∷ record { line = 2; word = (words.Do (statements.Update (codes "t") (record { column = codes "m0"; value = (Num (pos 2)) } ∷ []) (conditions.Equal (record { column = codes "id"; value = (Num (pos 4)) } ∷ [])))) } ∷ []) ∷ []); operator = []; faults = (losses.Turn 25 Op ∷ losses.Nth (Client 2) 3 sides_at.After ∷ losses.Nth Lock 5 sides_at.After ∷ []); turns = (record { actor = Insp; times = 7 } ∷ record { actor = Insp; times = 1 } ∷ record { actor = Ren; times = 3 } ∷ record { actor = Apply; times = 3 } ∷ record { actor = Lock; times = 5 } ∷ record { actor = (Client 1); times = 1 } ∷ record { actor = Apply; times = 3 } ∷ record { actor = Lock; times = 1 } ∷ record { actor = Lock; times = 1 } ∷ record { actor = Insp; times = 5 } ∷ record { actor = (Client 1); times = 2 } ∷ record { actor = Copy; times = 1 } ∷ record { actor = Copy; times = 1 } ∷ record { actor = Copy; times = 5 } ∷ record { actor = Copy; times = 2 } ∷ record { actor = (Client 1); times = 3 } ∷ record { actor = (Client 3); times = 1 } ∷ record { actor = Ren; times = 2 } ∷ record { actor = Lock; times = 3 } ∷ record { actor = Op; times = 3 } ∷ record { actor = Lock; times = 3 } ∷ record { actor = Ren; times = 3 } ∷ record { actor = Lock; times = 5 } ∷ record { actor = (Client 1); times = 3 } ∷ record { actor = (Client 2); times = 2 } ∷ record { actor = Lock; times = 2 } ∷ record { actor = Op; times = 1 } ∷ record { actor = Ren; times = 1 } ∷ record { actor = (Client 1); times = 1 } ∷ record { actor = (Client 1); times = 1 } ∷ record { actor = Apply; times = 5 } ∷ record { actor = Ren; times = 3 } ∷ record { actor = Lock; times = 2 } ∷ record { actor = Copy; times = 2 } ∷ record { actor = (Client 2); times = 1 } ∷ record { actor = (Client 3); times = 5 } ∷ record { actor = (Client 3); times = 5 } ∷ record { actor = Copy; times = 1 } ∷ record { actor = Lock; times = 5 } ∷ record { actor = Insp; times = 2 } ∷ record { actor = Op; times = 2 } ∷ record { actor = (Client 2); times = 1 } ∷ record { actor = (Client 1); times = 1 } ∷ record { actor = Lock; times = 1 } ∷ record { actor = (Client 3); times = 1 } ∷ record { actor = Apply; times = 5 } ∷ record { actor = (Client 3); times = 1 } ∷ record { actor = Lock; times = 3 } ∷ record { actor = (Client 3); times = 3 } ∷ []); options = record { chunk_size = 2; dml_batch_size = 10; default_retries = 2; max_backlog = 0; drain_limit = 3; client_wait = 5; tool_wait = 5; max_load = 1; turn_limit = 200000; notes = 0; note_every = 100; replica_step = 0; replica_pause = 1; max_lag = 10; resume = false; approve_renamed_columns = true; initially_drop_ghost_table = false; initially_drop_old_table = false; ok_to_drop_table = true; postpone = false; show_history = true; show_turns = true; show_tables = true; show_replies = true } }
 
 abbrev journal_204 : List Entry
 journal_204 =
@@ -349,7 +349,7 @@ abbrev map_207 : List MapColumn
 map_207 = (record { kind = VarChar 3; nullable = false; origin = from.Old 0 } ∷ record { kind = Int 4 false; nullable = false; origin = from.Old 1 } ∷ record { kind = Int 2 false; nullable = true; origin = from.Old 2 } ∷ record { kind = Int 4 false; nullable = false; origin = from.Added (Num (pos 7)) } ∷ [])
 
 abbrev plan_207 : PlanData
-plan_207 = record { table = codes "t"; alter = (clauses.Add (record { name = codes "b"; kind = Int 4 false; nullable = (Some false); default = (Some (Num (pos 7))); auto = false }) Unsaid ∷ clauses.Change (codes "m0") (record { name = codes "m0"; kind = Int 4 false; nullable = (Some false); default = None; auto = false }) Unsaid ∷ []); tables = (record { schema = record { name = codes "t"; columns = (record { name = codes "id"; kind = VarChar 3; nullable = false; default = None; auto = false } ∷ record { name = codes "m0"; kind = Int 4 false; nullable = true; default = (Some Null); auto = false } ∷ record { name = codes "v"; kind = Int 2 false; nullable = true; default = (Some (Num (pos 5))); auto = false } ∷ []); uniques = (record { name = None; places = (0 ∷ []) } ∷ record { name = (Some (codes "u0")); places = (1 ∷ []) } ∷ []); indexes = []; comment = []; start = None }; rows = [] } ∷ []); clients = ((record { line = 1; word = (words.Do (statements.Delete (codes "t") (conditions.Equal (record { column = codes "id"; value = (Num (pos 2)) } ∷ [])))) } ∷ record { line = 2; word = (words.Do (statements.Delete (codes "t") (conditions.Equal (record { column = codes "id"; value = (Text (codes "b")) } ∷ [])))) } ∷ record { line = 3; word = (words.Do (statements.Delete (codes "t") (conditions.Equal (record { column = codes "id"; value = (Text (codes "d")) } ∷ [])))) } ∷ record { line = 4; word = (words.Do (statements.Insert (codes "t") (Some (codes "id" ∷ codes "m0" ∷ codes "v" ∷ [])) ((Num (pos 5)) ∷ Null ∷ (Num (pos 3)) ∷ []) None)) } ∷ record { line = 5; word = (words.Do (statements.Insert (codes "t") (Some (codes "id" ∷ codes "v" ∷ [])) ((Num (pos 7)) ∷ Null ∷ []) None)) } ∷ []) ∷ (record { line = 1; word = (words.Do (statements.Replace (codes "t") (Some (codes "id" ∷ codes "m0" ∷ codes "v" ∷ [])) ((Text (codes "a")) ∷ (Text (codes "3")) ∷ (Num (pos 7)) ∷ []) None)) } ∷ []) ∷ (record { line = 1; word = (words.Do (statements.Select (codes "t") shown.Count (conditions.Equal (record { column = codes "id"; value = (Text (codes "c")) } ∷ [])))) } ∷ []) ∷ []); operator = []; faults = (losses.Nth Copy 1 sides_at.Before ∷ []); turns = (record { actor = Apply; times = 3 } ∷ record { actor = Insp; times = 5 } ∷ record { actor = (Client 3); times = 1 } ∷ record { actor = Ren; times = 3 } ∷ record { actor = (Client 3); times = 5 } ∷ record { actor = Copy; times = 3 } ∷ record { actor = Apply; times = 5 } ∷ record { actor = Ren; times = 1 } ∷ record { actor = Ren; times = 3 } ∷ record { actor = (Client 3); times = 1 } ∷ record { actor = Insp; times = 1 } ∷ record { actor = (Client 1); times = 1 } ∷ record { actor = Apply; times = 2 } ∷ record { actor = (Client 1); times = 1 } ∷ record { actor = (Client 1); times = 2 } ∷ record { actor = Ren; times = 5 } ∷ record { actor = Insp; times = 5 } ∷ record { actor = (Client 2); times = 1 } ∷ record { actor = (Client 3); times = 2 } ∷ record { actor = Apply; times = 2 } ∷ record { actor = Apply; times = 1 } ∷ record { actor = Ren; times = 1 } ∷ record { actor = Op; times = 5 } ∷ record { actor = Insp; times = 1 } ∷ record { actor = (Client 1); times = 2 } ∷ record { actor = Apply; times = 2 } ∷ record { actor = (Client 2); times = 1 } ∷ record { actor = Ren; times = 1 } ∷ record { actor = (Client 2); times = 5 } ∷ record { actor = (Client 2); times = 1 } ∷ record { actor = (Client 3); times = 1 } ∷ record { actor = Lock; times = 1 } ∷ record { actor = Op; times = 1 } ∷ record { actor = Insp; times = 1 } ∷ record { actor = Insp; times = 2 } ∷ record { actor = Op; times = 1 } ∷ record { actor = (Client 3); times = 2 } ∷ record { actor = Insp; times = 1 } ∷ record { actor = Op; times = 2 } ∷ []); options = record { chunk_size = 1; dml_batch_size = 4; default_retries = 60; max_backlog = 100; drain_limit = 2000; client_wait = 30; tool_wait = 3; max_load = 64; turn_limit = 200000; notes = 0; note_every = 100; replica_step = 0; replica_pause = 1; max_lag = 10; approve_renamed_columns = true; initially_drop_ghost_table = false; initially_drop_old_table = false; ok_to_drop_table = false; postpone = false; show_history = true; show_turns = true; show_tables = true; show_replies = true } }
+plan_207 = record { table = codes "t"; alter = (clauses.Add (record { name = codes "b"; kind = Int 4 false; nullable = (Some false); default = (Some (Num (pos 7))); auto = false }) Unsaid ∷ clauses.Change (codes "m0") (record { name = codes "m0"; kind = Int 4 false; nullable = (Some false); default = None; auto = false }) Unsaid ∷ []); tables = (record { schema = record { name = codes "t"; columns = (record { name = codes "id"; kind = VarChar 3; nullable = false; default = None; auto = false } ∷ record { name = codes "m0"; kind = Int 4 false; nullable = true; default = (Some Null); auto = false } ∷ record { name = codes "v"; kind = Int 2 false; nullable = true; default = (Some (Num (pos 5))); auto = false } ∷ []); uniques = (record { name = None; places = (0 ∷ []) } ∷ record { name = (Some (codes "u0")); places = (1 ∷ []) } ∷ []); indexes = []; comment = []; start = None }; rows = [] } ∷ []); clients = ((record { line = 1; word = (words.Do (statements.Delete (codes "t") (conditions.Equal (record { column = codes "id"; value = (Num (pos 2)) } ∷ [])))) } ∷ record { line = 2; word = (words.Do (statements.Delete (codes "t") (conditions.Equal (record { column = codes "id"; value = (Text (codes "b")) } ∷ [])))) } ∷ record { line = 3; word = (words.Do (statements.Delete (codes "t") (conditions.Equal (record { column = codes "id"; value = (Text (codes "d")) } ∷ [])))) } ∷ record { line = 4; word = (words.Do (statements.Insert (codes "t") (Some (codes "id" ∷ codes "m0" ∷ codes "v" ∷ [])) ((Num (pos 5)) ∷ Null ∷ (Num (pos 3)) ∷ []) None)) } ∷ record { line = 5; word = (words.Do (statements.Insert (codes "t") (Some (codes "id" ∷ codes "v" ∷ [])) ((Num (pos 7)) ∷ Null ∷ []) None)) } ∷ []) ∷ (record { line = 1; word = (words.Do (statements.Replace (codes "t") (Some (codes "id" ∷ codes "m0" ∷ codes "v" ∷ [])) ((Text (codes "a")) ∷ (Text (codes "3")) ∷ (Num (pos 7)) ∷ []) None)) } ∷ []) ∷ (record { line = 1; word = (words.Do (statements.Select (codes "t") shown.Count (conditions.Equal (record { column = codes "id"; value = (Text (codes "c")) } ∷ [])))) } ∷ []) ∷ []); operator = []; faults = (losses.Nth Copy 1 sides_at.Before ∷ []); turns = (record { actor = Apply; times = 3 } ∷ record { actor = Insp; times = 5 } ∷ record { actor = (Client 3); times = 1 } ∷ record { actor = Ren; times = 3 } ∷ record { actor = (Client 3); times = 5 } ∷ record { actor = Copy; times = 3 } ∷ record { actor = Apply; times = 5 } ∷ record { actor = Ren; times = 1 } ∷ record { actor = Ren; times = 3 } ∷ record { actor = (Client 3); times = 1 } ∷ record { actor = Insp; times = 1 } ∷ record { actor = (Client 1); times = 1 } ∷ record { actor = Apply; times = 2 } ∷ record { actor = (Client 1); times = 1 } ∷ record { actor = (Client 1); times = 2 } ∷ record { actor = Ren; times = 5 } ∷ record { actor = Insp; times = 5 } ∷ record { actor = (Client 2); times = 1 } ∷ record { actor = (Client 3); times = 2 } ∷ record { actor = Apply; times = 2 } ∷ record { actor = Apply; times = 1 } ∷ record { actor = Ren; times = 1 } ∷ record { actor = Op; times = 5 } ∷ record { actor = Insp; times = 1 } ∷ record { actor = (Client 1); times = 2 } ∷ record { actor = Apply; times = 2 } ∷ record { actor = (Client 2); times = 1 } ∷ record { actor = Ren; times = 1 } ∷ record { actor = (Client 2); times = 5 } ∷ record { actor = (Client 2); times = 1 } ∷ record { actor = (Client 3); times = 1 } ∷ record { actor = Lock; times = 1 } ∷ record { actor = Op; times = 1 } ∷ record { actor = Insp; times = 1 } ∷ record { actor = Insp; times = 2 } ∷ record { actor = Op; times = 1 } ∷ record { actor = (Client 3); times = 2 } ∷ record { actor = Insp; times = 1 } ∷ record { actor = Op; times = 2 } ∷ []); options = record { chunk_size = 1; dml_batch_size = 4; default_retries = 60; max_backlog = 100; drain_limit = 2000; client_wait = 30; tool_wait = 3; max_load = 64; turn_limit = 200000; notes = 0; note_every = 100; replica_step = 0; replica_pause = 1; max_lag = 10; resume = false; approve_renamed_columns = true; initially_drop_ghost_table = false; initially_drop_old_table = false; ok_to_drop_table = false; postpone = false; show_history = true; show_turns = true; show_tables = true; show_replies = true } }
 
 abbrev journal_207 : List Entry
 journal_207 =
@@ -392,7 +392,7 @@ abbrev map_209 : List MapColumn
 map_209 = (record { kind = VarChar 4; nullable = true; origin = from.Added (Text (codes "n")) } ∷ record { kind = Int 4 false; nullable = false; origin = from.Old 0 } ∷ record { kind = VarChar 3; nullable = true; origin = from.Old 1 } ∷ record { kind = Int 4 false; nullable = false; origin = from.Old 2 } ∷ record { kind = Int 1 false; nullable = true; origin = from.Old 3 } ∷ [])
 
 abbrev plan_209 : PlanData
-plan_209 = record { table = codes "t"; alter = (clauses.Add (record { name = codes "b"; kind = VarChar 4; nullable = None; default = (Some (Text (codes "n"))); auto = false }) First ∷ clauses.Change (codes "v") (record { name = codes "v"; kind = Int 1 false; nullable = None; default = None; auto = false }) Unsaid ∷ []); tables = (record { schema = record { name = codes "t"; columns = (record { name = codes "id"; kind = Int 4 false; nullable = false; default = None; auto = false } ∷ record { name = codes "m0"; kind = VarChar 3; nullable = true; default = (Some Null); auto = false } ∷ record { name = codes "m1"; kind = Int 4 false; nullable = false; default = None; auto = false } ∷ record { name = codes "v"; kind = Int 2 false; nullable = true; default = (Some Null); auto = false } ∷ []); uniques = (record { name = None; places = (0 ∷ []) } ∷ record { name = (Some (codes "u0")); places = (1 ∷ []) } ∷ record { name = (Some (codes "u1")); places = (0 ∷ 2 ∷ []) } ∷ []); indexes = []; comment = []; start = None }; rows = (((Num (pos 1)) ∷ (Text (codes "b")) ∷ (Num (pos 2)) ∷ Null ∷ []) ∷ ((Num (pos 3)) ∷ (Text (codes "c")) ∷ (Num (pos 6)) ∷ (Num (pos 1000)) ∷ []) ∷ ((Num (pos 4)) ∷ (Text (codes "f")) ∷ (Num (pos 2)) ∷ (Num (pos 7)) ∷ []) ∷ ((Num (pos 5)) ∷ Null ∷ (Num (pos 2)) ∷ (Num (pos 3)) ∷ []) ∷ []) } ∷ record { schema = record { name = codes "u"; columns = (record { name = codes "id"; kind = VarBinary 3; nullable = false; default = None; auto = false } ∷ record { name = codes "m0"; kind = Int 4 false; nullable = true; default = (Some Null); auto = false } ∷ record { name = codes "v"; kind = Int 2 false; nullable = true; default = (Some Null); auto = false } ∷ []); uniques = (record { name = None; places = (0 ∷ []) } ∷ record { name = (Some (codes "u0")); places = (1 ∷ []) } ∷ []); indexes = (record { name = (Some (codes "v")); places = (2 ∷ []) } ∷ []); comment = []; start = None }; rows = (((Blob (1 ∷ [])) ∷ (Num (pos 3)) ∷ (Num (pos 3)) ∷ []) ∷ ((Blob (2 ∷ [])) ∷ (Num (pos 7)) ∷ Null ∷ []) ∷ ((Blob (102 ∷ [])) ∷ (Num (pos 4)) ∷ (Num (pos 7)) ∷ []) ∷ []) } ∷ []); clients = ([] ∷ (record { line = 1; word = words.Begin } ∷ record { line = 2; word = words.Rollback } ∷ record { line = 3; word = (words.Do (statements.Replace (codes "t") None ((Num (pos 2)) ∷ Null ∷ (Num (pos 1)) ∷ (Num (pos 1)) ∷ []) None)) } ∷ record { line = 4; word = words.Begin } ∷ record { line = 5; word = (words.Do (statements.Update (codes "t") (record { column = codes "m0"; value = (Text (codes "g")) } ∷ record { column = codes "v"; value = (Text (codes "3")) } ∷ []) (conditions.Range (record { column = codes "id"; sign = signs.AtLeast; value = (Num (pos 4)) } ∷ record { column = codes "id"; sign = signs.AtMost; value = (Num (pos 1)) } ∷ [])))) } ∷ record { line = 6; word = (words.Do (statements.Update (codes "t") (record { column = codes "id"; value = (Text (codes "7")) } ∷ record { column = codes "m0"; value = Null } ∷ record { column = codes "m1"; value = (Num (pos 1)) } ∷ []) (conditions.Equal (record { column = codes "id"; value = (Num (pos 1)) } ∷ [])))) } ∷ record { line = 7; word = words.Commit } ∷ record { line = 8; word = (words.Do (statements.Insert (codes "t") None ((Num (pos 3)) ∷ (Text (codes "e")) ∷ (Num (pos 6)) ∷ (Num (pos 1)) ∷ []) None)) } ∷ []) ∷ (record { line = 1; word = (words.Do (statements.Select (codes "t") shown.All (conditions.Equal (record { column = codes "m1"; value = (Num (pos 6)) } ∷ record { column = codes "id"; value = (Num (pos 2)) } ∷ [])))) } ∷ []) ∷ []); operator = []; faults = (losses.Turn 51 Op ∷ losses.Turn 52 Ren ∷ losses.Nth Copy 5 sides_at.After ∷ losses.Nth (Client 3) 1 sides_at.After ∷ losses.Turn 6 Copy ∷ losses.Nth (Client 2) 4 sides_at.Before ∷ losses.Nth Apply 3 sides_at.Before ∷ losses.Turn 27 (Client 3) ∷ losses.Nth (Client 3) 6 sides_at.Before ∷ losses.Nth (Client 3) 3 sides_at.Before ∷ losses.Nth Apply 3 sides_at.After ∷ losses.Nth (Client 3) 2 sides_at.Before ∷ []); turns = (record { actor = Insp; times = 3 } ∷ record { actor = Insp; times = 1 } ∷ record { actor = Lock; times = 1 } ∷ record { actor = (Client 2); times = 2 } ∷ record { actor = Insp; times = 5 } ∷ record { actor = Insp; times = 2 } ∷ record { actor = Apply; times = 1 } ∷ record { actor = Lock; times = 1 } ∷ record { actor = Insp; times = 3 } ∷ record { actor = Apply; times = 5 } ∷ record { actor = Apply; times = 1 } ∷ record { actor = Op; times = 1 } ∷ record { actor = Lock; times = 5 } ∷ record { actor = Op; times = 3 } ∷ record { actor = Copy; times = 5 } ∷ record { actor = Lock; times = 3 } ∷ record { actor = (Client 1); times = 5 } ∷ record { actor = (Client 1); times = 5 } ∷ record { actor = Lock; times = 1 } ∷ record { actor = Insp; times = 3 } ∷ record { actor = (Client 3); times = 3 } ∷ record { actor = Ren; times = 2 } ∷ record { actor = (Client 2); times = 1 } ∷ record { actor = Copy; times = 1 } ∷ record { actor = (Client 1); times = 1 } ∷ record { actor = Ren; times = 5 } ∷ record { actor = Copy; times = 2 } ∷ record { actor = Lock; times = 1 } ∷ record { actor = Ren; times = 3 } ∷ record { actor = Lock; times = 1 } ∷ record { actor = Apply; times = 5 } ∷ record { actor = Insp; times = 3 } ∷ record { actor = Lock; times = 1 } ∷ record { actor = (Client 3); times = 5 } ∷ record { actor = Ren; times = 1 } ∷ record { actor = Insp; times = 3 } ∷ record { actor = Insp; times = 1 } ∷ record { actor = (Client 3); times = 5 } ∷ record { actor = Ren; times = 1 } ∷ record { actor = (Client 2); times = 1 } ∷ record { actor = Op; times = 1 } ∷ []); options = record { chunk_size = 2; dml_batch_size = 2; default_retries = 3; max_backlog = 100; drain_limit = 1; client_wait = 9; tool_wait = 5; max_load = 64; turn_limit = 200000; notes = 0; note_every = 100; replica_step = 0; replica_pause = 1; max_lag = 10; approve_renamed_columns = true; initially_drop_ghost_table = false; initially_drop_old_table = false; ok_to_drop_table = false; postpone = false; show_history = true; show_turns = true; show_tables = true; show_replies = true } }
+plan_209 = record { table = codes "t"; alter = (clauses.Add (record { name = codes "b"; kind = VarChar 4; nullable = None; default = (Some (Text (codes "n"))); auto = false }) First ∷ clauses.Change (codes "v") (record { name = codes "v"; kind = Int 1 false; nullable = None; default = None; auto = false }) Unsaid ∷ []); tables = (record { schema = record { name = codes "t"; columns = (record { name = codes "id"; kind = Int 4 false; nullable = false; default = None; auto = false } ∷ record { name = codes "m0"; kind = VarChar 3; nullable = true; default = (Some Null); auto = false } ∷ record { name = codes "m1"; kind = Int 4 false; nullable = false; default = None; auto = false } ∷ record { name = codes "v"; kind = Int 2 false; nullable = true; default = (Some Null); auto = false } ∷ []); uniques = (record { name = None; places = (0 ∷ []) } ∷ record { name = (Some (codes "u0")); places = (1 ∷ []) } ∷ record { name = (Some (codes "u1")); places = (0 ∷ 2 ∷ []) } ∷ []); indexes = []; comment = []; start = None }; rows = (((Num (pos 1)) ∷ (Text (codes "b")) ∷ (Num (pos 2)) ∷ Null ∷ []) ∷ ((Num (pos 3)) ∷ (Text (codes "c")) ∷ (Num (pos 6)) ∷ (Num (pos 1000)) ∷ []) ∷ ((Num (pos 4)) ∷ (Text (codes "f")) ∷ (Num (pos 2)) ∷ (Num (pos 7)) ∷ []) ∷ ((Num (pos 5)) ∷ Null ∷ (Num (pos 2)) ∷ (Num (pos 3)) ∷ []) ∷ []) } ∷ record { schema = record { name = codes "u"; columns = (record { name = codes "id"; kind = VarBinary 3; nullable = false; default = None; auto = false } ∷ record { name = codes "m0"; kind = Int 4 false; nullable = true; default = (Some Null); auto = false } ∷ record { name = codes "v"; kind = Int 2 false; nullable = true; default = (Some Null); auto = false } ∷ []); uniques = (record { name = None; places = (0 ∷ []) } ∷ record { name = (Some (codes "u0")); places = (1 ∷ []) } ∷ []); indexes = (record { name = (Some (codes "v")); places = (2 ∷ []) } ∷ []); comment = []; start = None }; rows = (((Blob (1 ∷ [])) ∷ (Num (pos 3)) ∷ (Num (pos 3)) ∷ []) ∷ ((Blob (2 ∷ [])) ∷ (Num (pos 7)) ∷ Null ∷ []) ∷ ((Blob (102 ∷ [])) ∷ (Num (pos 4)) ∷ (Num (pos 7)) ∷ []) ∷ []) } ∷ []); clients = ([] ∷ (record { line = 1; word = words.Begin } ∷ record { line = 2; word = words.Rollback } ∷ record { line = 3; word = (words.Do (statements.Replace (codes "t") None ((Num (pos 2)) ∷ Null ∷ (Num (pos 1)) ∷ (Num (pos 1)) ∷ []) None)) } ∷ record { line = 4; word = words.Begin } ∷ record { line = 5; word = (words.Do (statements.Update (codes "t") (record { column = codes "m0"; value = (Text (codes "g")) } ∷ record { column = codes "v"; value = (Text (codes "3")) } ∷ []) (conditions.Range (record { column = codes "id"; sign = signs.AtLeast; value = (Num (pos 4)) } ∷ record { column = codes "id"; sign = signs.AtMost; value = (Num (pos 1)) } ∷ [])))) } ∷ record { line = 6; word = (words.Do (statements.Update (codes "t") (record { column = codes "id"; value = (Text (codes "7")) } ∷ record { column = codes "m0"; value = Null } ∷ record { column = codes "m1"; value = (Num (pos 1)) } ∷ []) (conditions.Equal (record { column = codes "id"; value = (Num (pos 1)) } ∷ [])))) } ∷ record { line = 7; word = words.Commit } ∷ record { line = 8; word = (words.Do (statements.Insert (codes "t") None ((Num (pos 3)) ∷ (Text (codes "e")) ∷ (Num (pos 6)) ∷ (Num (pos 1)) ∷ []) None)) } ∷ []) ∷ (record { line = 1; word = (words.Do (statements.Select (codes "t") shown.All (conditions.Equal (record { column = codes "m1"; value = (Num (pos 6)) } ∷ record { column = codes "id"; value = (Num (pos 2)) } ∷ [])))) } ∷ []) ∷ []); operator = []; faults = (losses.Turn 51 Op ∷ losses.Turn 52 Ren ∷ losses.Nth Copy 5 sides_at.After ∷ losses.Nth (Client 3) 1 sides_at.After ∷ losses.Turn 6 Copy ∷ losses.Nth (Client 2) 4 sides_at.Before ∷ losses.Nth Apply 3 sides_at.Before ∷ losses.Turn 27 (Client 3) ∷ losses.Nth (Client 3) 6 sides_at.Before ∷ losses.Nth (Client 3) 3 sides_at.Before ∷ losses.Nth Apply 3 sides_at.After ∷ losses.Nth (Client 3) 2 sides_at.Before ∷ []); turns = (record { actor = Insp; times = 3 } ∷ record { actor = Insp; times = 1 } ∷ record { actor = Lock; times = 1 } ∷ record { actor = (Client 2); times = 2 } ∷ record { actor = Insp; times = 5 } ∷ record { actor = Insp; times = 2 } ∷ record { actor = Apply; times = 1 } ∷ record { actor = Lock; times = 1 } ∷ record { actor = Insp; times = 3 } ∷ record { actor = Apply; times = 5 } ∷ record { actor = Apply; times = 1 } ∷ record { actor = Op; times = 1 } ∷ record { actor = Lock; times = 5 } ∷ record { actor = Op; times = 3 } ∷ record { actor = Copy; times = 5 } ∷ record { actor = Lock; times = 3 } ∷ record { actor = (Client 1); times = 5 } ∷ record { actor = (Client 1); times = 5 } ∷ record { actor = Lock; times = 1 } ∷ record { actor = Insp; times = 3 } ∷ record { actor = (Client 3); times = 3 } ∷ record { actor = Ren; times = 2 } ∷ record { actor = (Client 2); times = 1 } ∷ record { actor = Copy; times = 1 } ∷ record { actor = (Client 1); times = 1 } ∷ record { actor = Ren; times = 5 } ∷ record { actor = Copy; times = 2 } ∷ record { actor = Lock; times = 1 } ∷ record { actor = Ren; times = 3 } ∷ record { actor = Lock; times = 1 } ∷ record { actor = Apply; times = 5 } ∷ record { actor = Insp; times = 3 } ∷ record { actor = Lock; times = 1 } ∷ record { actor = (Client 3); times = 5 } ∷ record { actor = Ren; times = 1 } ∷ record { actor = Insp; times = 3 } ∷ record { actor = Insp; times = 1 } ∷ record { actor = (Client 3); times = 5 } ∷ record { actor = Ren; times = 1 } ∷ record { actor = (Client 2); times = 1 } ∷ record { actor = Op; times = 1 } ∷ []); options = record { chunk_size = 2; dml_batch_size = 2; default_retries = 3; max_backlog = 100; drain_limit = 1; client_wait = 9; tool_wait = 5; max_load = 64; turn_limit = 200000; notes = 0; note_every = 100; replica_step = 0; replica_pause = 1; max_lag = 10; resume = false; approve_renamed_columns = true; initially_drop_ghost_table = false; initially_drop_old_table = false; ok_to_drop_table = false; postpone = false; show_history = true; show_turns = true; show_tables = true; show_replies = true } }
 
 abbrev journal_209 : List Entry
 journal_209 =
@@ -434,7 +434,7 @@ abbrev map_222 : List MapColumn
 map_222 = (record { kind = Int 8 false; nullable = false; origin = from.Old 0 } ∷ record { kind = Int 4 false; nullable = true; origin = from.Old 1 } ∷ record { kind = Int 4 false; nullable = true; origin = from.Old 2 } ∷ [])
 
 abbrev plan_222 : PlanData
-plan_222 = record { table = codes "t"; alter = (clauses.Change (codes "id") (record { name = codes "id"; kind = Int 8 false; nullable = None; default = None; auto = false }) Unsaid ∷ []); tables = (record { schema = record { name = codes "t"; columns = (record { name = codes "id"; kind = Int 1 false; nullable = false; default = None; auto = false } ∷ record { name = codes "m0"; kind = Int 4 false; nullable = true; default = (Some Null); auto = false } ∷ record { name = codes "v"; kind = Int 4 false; nullable = true; default = (Some Null); auto = false } ∷ []); uniques = (record { name = None; places = (0 ∷ []) } ∷ record { name = (Some (codes "u0")); places = (1 ∷ []) } ∷ []); indexes = []; comment = []; start = None }; rows = (((Num (pos 4)) ∷ (Num (pos 7)) ∷ (Num (pos 4)) ∷ []) ∷ ((Num (pos 7)) ∷ (Num (pos 1)) ∷ (Num (pos 6)) ∷ []) ∷ []) } ∷ record { schema = record { name = codes "_t_del"; columns = (record { name = codes "id"; kind = Int 4 false; nullable = false; default = None; auto = false } ∷ []); uniques = (record { name = None; places = (0 ∷ []) } ∷ []); indexes = []; comment = codes "ghost-cut-over-sentry"; start = None }; rows = [] } ∷ []); clients = ((record { line = 1; word = (words.Do (statements.Insert (codes "t") None ((Num (pos 3)) ∷ (Num (pos 5)) ∷ Null ∷ []) None)) } ∷ []) ∷ [] ∷ []); operator = []; faults = []; turns = (record { actor = (Client 1); times = 1 } ∷ record { actor = Apply; times = 3 } ∷ record { actor = Apply; times = 2 } ∷ record { actor = Lock; times = 5 } ∷ record { actor = (Client 1); times = 1 } ∷ record { actor = Op; times = 5 } ∷ record { actor = (Client 1); times = 2 } ∷ record { actor = Op; times = 3 } ∷ record { actor = (Client 2); times = 1 } ∷ record { actor = Insp; times = 3 } ∷ record { actor = (Client 1); times = 2 } ∷ record { actor = Insp; times = 3 } ∷ record { actor = Lock; times = 3 } ∷ record { actor = Insp; times = 3 } ∷ record { actor = Copy; times = 5 } ∷ record { actor = (Client 2); times = 3 } ∷ record { actor = Insp; times = 5 } ∷ record { actor = Apply; times = 5 } ∷ record { actor = Insp; times = 3 } ∷ record { actor = Lock; times = 3 } ∷ record { actor = Insp; times = 3 } ∷ record { actor = Ren; times = 1 } ∷ record { actor = (Client 1); times = 5 } ∷ record { actor = Lock; times = 5 } ∷ record { actor = Copy; times = 5 } ∷ record { actor = Copy; times = 3 } ∷ record { actor = Insp; times = 1 } ∷ record { actor = Insp; times = 2 } ∷ record { actor = Apply; times = 1 } ∷ record { actor = Op; times = 2 } ∷ record { actor = (Client 2); times = 1 } ∷ []); options = record { chunk_size = 2; dml_batch_size = 10; default_retries = 2; max_backlog = 100; drain_limit = 3; client_wait = 5; tool_wait = 1; max_load = 2; turn_limit = 200000; notes = 0; note_every = 100; replica_step = 0; replica_pause = 1; max_lag = 10; approve_renamed_columns = true; initially_drop_ghost_table = false; initially_drop_old_table = false; ok_to_drop_table = false; postpone = false; show_history = true; show_turns = true; show_tables = true; show_replies = true } }
+plan_222 = record { table = codes "t"; alter = (clauses.Change (codes "id") (record { name = codes "id"; kind = Int 8 false; nullable = None; default = None; auto = false }) Unsaid ∷ []); tables = (record { schema = record { name = codes "t"; columns = (record { name = codes "id"; kind = Int 1 false; nullable = false; default = None; auto = false } ∷ record { name = codes "m0"; kind = Int 4 false; nullable = true; default = (Some Null); auto = false } ∷ record { name = codes "v"; kind = Int 4 false; nullable = true; default = (Some Null); auto = false } ∷ []); uniques = (record { name = None; places = (0 ∷ []) } ∷ record { name = (Some (codes "u0")); places = (1 ∷ []) } ∷ []); indexes = []; comment = []; start = None }; rows = (((Num (pos 4)) ∷ (Num (pos 7)) ∷ (Num (pos 4)) ∷ []) ∷ ((Num (pos 7)) ∷ (Num (pos 1)) ∷ (Num (pos 6)) ∷ []) ∷ []) } ∷ record { schema = record { name = codes "_t_del"; columns = (record { name = codes "id"; kind = Int 4 false; nullable = false; default = None; auto = false } ∷ []); uniques = (record { name = None; places = (0 ∷ []) } ∷ []); indexes = []; comment = codes "ghost-cut-over-sentry"; start = None }; rows = [] } ∷ []); clients = ((record { line = 1; word = (words.Do (statements.Insert (codes "t") None ((Num (pos 3)) ∷ (Num (pos 5)) ∷ Null ∷ []) None)) } ∷ []) ∷ [] ∷ []); operator = []; faults = []; turns = (record { actor = (Client 1); times = 1 } ∷ record { actor = Apply; times = 3 } ∷ record { actor = Apply; times = 2 } ∷ record { actor = Lock; times = 5 } ∷ record { actor = (Client 1); times = 1 } ∷ record { actor = Op; times = 5 } ∷ record { actor = (Client 1); times = 2 } ∷ record { actor = Op; times = 3 } ∷ record { actor = (Client 2); times = 1 } ∷ record { actor = Insp; times = 3 } ∷ record { actor = (Client 1); times = 2 } ∷ record { actor = Insp; times = 3 } ∷ record { actor = Lock; times = 3 } ∷ record { actor = Insp; times = 3 } ∷ record { actor = Copy; times = 5 } ∷ record { actor = (Client 2); times = 3 } ∷ record { actor = Insp; times = 5 } ∷ record { actor = Apply; times = 5 } ∷ record { actor = Insp; times = 3 } ∷ record { actor = Lock; times = 3 } ∷ record { actor = Insp; times = 3 } ∷ record { actor = Ren; times = 1 } ∷ record { actor = (Client 1); times = 5 } ∷ record { actor = Lock; times = 5 } ∷ record { actor = Copy; times = 5 } ∷ record { actor = Copy; times = 3 } ∷ record { actor = Insp; times = 1 } ∷ record { actor = Insp; times = 2 } ∷ record { actor = Apply; times = 1 } ∷ record { actor = Op; times = 2 } ∷ record { actor = (Client 2); times = 1 } ∷ []); options = record { chunk_size = 2; dml_batch_size = 10; default_retries = 2; max_backlog = 100; drain_limit = 3; client_wait = 5; tool_wait = 1; max_load = 2; turn_limit = 200000; notes = 0; note_every = 100; replica_step = 0; replica_pause = 1; max_lag = 10; resume = false; approve_renamed_columns = true; initially_drop_ghost_table = false; initially_drop_old_table = false; ok_to_drop_table = false; postpone = false; show_history = true; show_turns = true; show_tables = true; show_replies = true } }
 
 abbrev journal_222 : List Entry
 journal_222 =

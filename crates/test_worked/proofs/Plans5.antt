@@ -34,7 +34,7 @@ abbrev map_236 : List MapColumn
 map_236 = (record { kind = Int 2 true; nullable = false; origin = from.Old 0 } ∷ record { kind = VarChar 4; nullable = false; origin = from.Old 1 } ∷ record { kind = Int 4 false; nullable = false; origin = from.Old 2 } ∷ [])
 
 abbrev plan_236 : PlanData
-plan_236 = record { table = codes "t"; alter = (clauses.Change (codes "a") (record { name = codes "a"; kind = Int 2 true; nullable = (Some false); default = None; auto = false }) Unsaid ∷ []); tables = (record { schema = record { name = codes "t"; columns = (record { name = codes "a"; kind = Int 4 false; nullable = false; default = None; auto = false } ∷ record { name = codes "c"; kind = VarChar 4; nullable = false; default = None; auto = false } ∷ record { name = codes "m0"; kind = Int 4 false; nullable = false; default = None; auto = false } ∷ []); uniques = (record { name = None; places = (0 ∷ 1 ∷ []) } ∷ record { name = (Some (codes "u0")); places = (2 ∷ []) } ∷ []); indexes = []; comment = []; start = None }; rows = [] } ∷ []); clients = ((record { line = 1; word = (words.Do (statements.Insert (codes "t") None ((Num (pos 5)) ∷ (Text (codes "g")) ∷ (Num (pos 6)) ∷ []) None)) } ∷ record { line = 2; word = words.Begin } ∷ record { line = 3; word = (words.Do (statements.Select (codes "t") shown.Count (conditions.Equal (record { column = codes "a"; value = (Num (pos 6)) } ∷ record { column = codes "c"; value = (Num (pos 6)) } ∷ [])))) } ∷ record { line = 4; word = words.Commit } ∷ []) ∷ (record { line = 1; word = (words.Do (statements.Update (codes "t") (record { column = codes "a"; value = (Num (pos 4)) } ∷ record { column = codes "m0"; value = (Num (pos 5)) } ∷ []) (conditions.Equal (record { column = codes "a"; value = (Num (pos 6)) } ∷ record { column = codes "c"; value = (Text (codes "c")) } ∷ [])))) } ∷ []) ∷ []); operator = []; faults = (losses.Nth Insp 3 sides_at.After ∷ losses.Turn 55 Apply ∷ []); turns = (record { actor = Lock; times = 1 } ∷ record { actor = Copy; times = 1 } ∷ record { actor = (Client 2); times = 5 } ∷ record { actor = Apply; times = 3 } ∷ record { actor = Apply; times = 5 } ∷ record { actor = Ren; times = 1 } ∷ record { actor = Op; times = 1 } ∷ record { actor = Lock; times = 1 } ∷ record { actor = Lock; times = 1 } ∷ record { actor = Lock; times = 3 } ∷ record { actor = Apply; times = 1 } ∷ record { actor = Lock; times = 1 } ∷ record { actor = Insp; times = 1 } ∷ record { actor = Insp; times = 5 } ∷ record { actor = Op; times = 1 } ∷ record { actor = Apply; times = 1 } ∷ record { actor = Ren; times = 2 } ∷ record { actor = Ren; times = 5 } ∷ record { actor = Op; times = 3 } ∷ record { actor = Ren; times = 1 } ∷ record { actor = (Client 2); times = 1 } ∷ record { actor = Copy; times = 1 } ∷ record { actor = Ren; times = 1 } ∷ record { actor = Copy; times = 1 } ∷ record { actor = Apply; times = 3 } ∷ record { actor = Ren; times = 1 } ∷ record { actor = Copy; times = 1 } ∷ record { actor = Ren; times = 1 } ∷ record { actor = Ren; times = 1 } ∷ record { actor = Apply; times = 1 } ∷ record { actor = Insp; times = 1 } ∷ record { actor = Op; times = 5 } ∷ record { actor = (Client 2); times = 1 } ∷ record { actor = Insp; times = 2 } ∷ record { actor = (Client 2); times = 1 } ∷ record { actor = Op; times = 1 } ∷ []); options = record { chunk_size = 1; dml_batch_size = 10; default_retries = 1; max_backlog = 0; drain_limit = 3; client_wait = 1; tool_wait = 2; max_load = 64; turn_limit = 200000; notes = 0; note_every = 100; replica_step = 0; replica_pause = 1; max_lag = 10; approve_renamed_columns = true; initially_drop_ghost_table = false; initially_drop_old_table = false; ok_to_drop_table = false; postpone = false; show_history = true; show_turns = true; show_tables = true; show_replies = true } }
+plan_236 = record { table = codes "t"; alter = (clauses.Change (codes "a") (record { name = codes "a"; kind = Int 2 true; nullable = (Some false); default = None; auto = false }) Unsaid ∷ []); tables = (record { schema = record { name = codes "t"; columns = (record { name = codes "a"; kind = Int 4 false; nullable = false; default = None; auto = false } ∷ record { name = codes "c"; kind = VarChar 4; nullable = false; default = None; auto = false } ∷ record { name = codes "m0"; kind = Int 4 false; nullable = false; default = None; auto = false } ∷ []); uniques = (record { name = None; places = (0 ∷ 1 ∷ []) } ∷ record { name = (Some (codes "u0")); places = (2 ∷ []) } ∷ []); indexes = []; comment = []; start = None }; rows = [] } ∷ []); clients = ((record { line = 1; word = (words.Do (statements.Insert (codes "t") None ((Num (pos 5)) ∷ (Text (codes "g")) ∷ (Num (pos 6)) ∷ []) None)) } ∷ record { line = 2; word = words.Begin } ∷ record { line = 3; word = (words.Do (statements.Select (codes "t") shown.Count (conditions.Equal (record { column = codes "a"; value = (Num (pos 6)) } ∷ record { column = codes "c"; value = (Num (pos 6)) } ∷ [])))) } ∷ record { line = 4; word = words.Commit } ∷ []) ∷ (record { line = 1; word = (words.Do (statements.Update (codes "t") (record { column = codes "a"; value = (Num (pos 4)) } ∷ record { column = codes "m0"; value = (Num (pos 5)) } ∷ []) (conditions.Equal (record { column = codes "a"; value = (Num (pos 6)) } ∷ record { column = codes "c"; value = (Text (codes "c")) } ∷ [])))) } ∷ []) ∷ []); operator = []; faults = (losses.Nth Insp 3 sides_at.After ∷ losses.Turn 55 Apply ∷ []); turns = (record { actor = Lock; times = 1 } ∷ record { actor = Copy; times = 1 } ∷ record { actor = (Client 2); times = 5 } ∷ record { actor = Apply; times = 3 } ∷ record { actor = Apply; times = 5 } ∷ record { actor = Ren; times = 1 } ∷ record { actor = Op; times = 1 } ∷ record { actor = Lock; times = 1 } ∷ record { actor = Lock; times = 1 } ∷ record { actor = Lock; times = 3 } ∷ record { actor = Apply; times = 1 } ∷ record { actor = Lock; times = 1 } ∷ record { actor = Insp; times = 1 } ∷ record { actor = Insp; times = 5 } ∷ record { actor = Op; times = 1 } ∷ record { actor = Apply; times = 1 } ∷ record { actor = Ren; times = 2 } ∷ record { actor = Ren; times = 5 } ∷ record { actor = Op; times = 3 } ∷ record { actor = Ren; times = 1 } ∷ record { actor = (Client 2); times = 1 } ∷ record { actor = Copy; times = 1 } ∷ record { actor = Ren; times = 1 } ∷ record { actor = Copy; times = 1 } ∷ record { actor = Apply; times = 3 } ∷ record { actor = Ren; times = 1 } ∷ record { actor = Copy; times = 1 } ∷ record { actor = Ren; times = 1 } ∷ record { actor = Ren; times = 1 } ∷ record { actor = Apply; times = 1 } ∷ record { actor = Insp; times = 1 } ∷ record { actor = Op; times = 5 } ∷ record { actor = (Client 2); times = 1 } ∷ record { actor = Insp; times = 2 } ∷ record { actor = (Client 2); times = 1 } ∷ record { actor = Op; times = 1 } ∷ []); options = record { chunk_size = 1; dml_batch_size = 10; default_retries = 1; max_backlog = 0; drain_limit = 3; client_wait = 1; tool_wait = 2; max_load = 64; turn_limit = 200000; notes = 0; note_every = 100; replica_step = 0; replica_pause = 1; max_lag = 10; resume = false; approve_renamed_columns = true; initially_drop_ghost_table = false; initially_drop_old_table = false; ok_to_drop_table = false; postpone = false; show_history = true; show_turns = true; show_tables = true; show_replies = true } }
 
 abbrev journal_236 : List Entry
 journal_236 =
@@ -69,7 +69,7 @@ abbrev map_256 : List MapColumn
 map_256 = (record { kind = Int 4 false; nullable = false; origin = from.Old 0 } ∷ record { kind = VarChar 4; nullable = false; origin = from.Old 1 } ∷ record { kind = Int 8 false; nullable = false; origin = from.Old 2 } ∷ [])
 
 abbrev plan_256 : PlanData
-plan_256 = record { table = codes "t"; alter = (clauses.Change (codes "v") (record { name = codes "v"; kind = Int 8 false; nullable = (Some false); default = None; auto = false }) Unsaid ∷ []); tables = (record { schema = record { name = codes "t"; columns = (record { name = codes "a"; kind = Int 4 false; nullable = false; default = None; auto = false } ∷ record { name = codes "c"; kind = VarChar 4; nullable = false; default = None; auto = false } ∷ record { name = codes "v"; kind = Int 2 false; nullable = true; default = (Some Null); auto = false } ∷ []); uniques = (record { name = None; places = (1 ∷ 0 ∷ []) } ∷ []); indexes = []; comment = []; start = None }; rows = (((Num (pos 1)) ∷ (Text (codes "b")) ∷ (Num (pos 6)) ∷ []) ∷ ((Num (pos 7)) ∷ (Text (codes "d")) ∷ (Num (pos 2)) ∷ []) ∷ ((Num (pos 5)) ∷ (Text (codes "e")) ∷ Null ∷ []) ∷ []) } ∷ record { schema = record { name = codes "_t_del"; columns = (record { name = codes "id"; kind = Int 4 false; nullable = false; default = None; auto = false } ∷ []); uniques = (record { name = None; places = (0 ∷ []) } ∷ []); indexes = []; comment = codes "ghost-cut-over-sentry"; start = None }; rows = [] } ∷ []); clients = ([] ∷ (record { line = 1; word = (words.Do (statements.Update (codes "t") (record { column = codes "a"; value = (Num (pos 3)) } ∷ []) (conditions.Equal (record { column = codes "a"; value = (Num (pos 1)) } ∷ record { column = codes "c"; value = (Text (codes "g")) } ∷ [])))) } ∷ []) ∷ (record { line = 1; word = (words.Do (statements.Replace (codes "t") None ((Num (pos 2)) ∷ (Text (codes "g")) ∷ (Num (pos 1)) ∷ []) None)) } ∷ record { line = 2; word = (words.Do (statements.Update (codes "t") (record { column = codes "v"; value = (Num (pos 1)) } ∷ []) (conditions.Equal (record { column = codes "a"; value = (Num (pos 5)) } ∷ record { column = codes "c"; value = (Num (pos 99999999999)) } ∷ [])))) } ∷ []) ∷ (record { line = 1; word = (words.Do (statements.Insert (codes "t") (Some (codes "a" ∷ codes "c" ∷ codes "v" ∷ [])) ((Num (pos 2)) ∷ (Num (pos 6)) ∷ (Num (pos 5)) ∷ []) None)) } ∷ []) ∷ []); operator = (record { word = (commanded.ChunkSize 1); units = 1 } ∷ []); faults = []; turns = (record { actor = Insp; times = 3 } ∷ record { actor = (Client 2); times = 3 } ∷ record { actor = (Client 2); times = 1 } ∷ record { actor = Copy; times = 1 } ∷ record { actor = Lock; times = 1 } ∷ record { actor = Lock; times = 1 } ∷ record { actor = Insp; times = 5 } ∷ record { actor = (Client 1); times = 1 } ∷ record { actor = Ren; times = 1 } ∷ record { actor = (Client 2); times = 1 } ∷ record { actor = (Client 2); times = 5 } ∷ record { actor = Ren; times = 1 } ∷ record { actor = Insp; times = 5 } ∷ record { actor = (Client 2); times = 1 } ∷ record { actor = Insp; times = 5 } ∷ record { actor = Op; times = 5 } ∷ record { actor = (Client 4); times = 2 } ∷ record { actor = Apply; times = 1 } ∷ record { actor = (Client 1); times = 5 } ∷ record { actor = Op; times = 2 } ∷ record { actor = (Client 2); times = 3 } ∷ record { actor = Insp; times = 1 } ∷ record { actor = Lock; times = 2 } ∷ record { actor = (Client 1); times = 2 } ∷ record { actor = (Client 4); times = 3 } ∷ record { actor = Insp; times = 1 } ∷ record { actor = (Client 1); times = 2 } ∷ record { actor = Apply; times = 3 } ∷ record { actor = (Client 4); times = 1 } ∷ record { actor = Copy; times = 1 } ∷ record { actor = (Client 3); times = 1 } ∷ record { actor = Insp; times = 1 } ∷ record { actor = (Client 1); times = 5 } ∷ record { actor = Ren; times = 1 } ∷ record { actor = Apply; times = 2 } ∷ record { actor = (Client 4); times = 3 } ∷ []); options = record { chunk_size = 3; dml_batch_size = 1; default_retries = 60; max_backlog = 2; drain_limit = 2000; client_wait = 30; tool_wait = 5; max_load = 64; turn_limit = 200000; notes = 0; note_every = 100; replica_step = 0; replica_pause = 1; max_lag = 10; approve_renamed_columns = true; initially_drop_ghost_table = false; initially_drop_old_table = false; ok_to_drop_table = true; postpone = true; show_history = true; show_turns = true; show_tables = true; show_replies = true } }
+plan_256 = record { table = codes "t"; alter = (clauses.Change (codes "v") (record { name = codes "v"; kind = Int 8 false; nullable = (Some false); default = None; auto = false }) Unsaid ∷ []); tables = (record { schema = record { name = codes "t"; columns = (record { name = codes "a"; kind = Int 4 false; nullable = false; default = None; auto = false } ∷ record { name = codes "c"; kind = VarChar 4; nullable = false; default = None; auto = false } ∷ record { name = codes "v"; kind = Int 2 false; nullable = true; default = (Some Null); auto = false } ∷ []); uniques = (record { name = None; places = (1 ∷ 0 ∷ []) } ∷ []); indexes = []; comment = []; start = None }; rows = (((Num (pos 1)) ∷ (Text (codes "b")) ∷ (Num (pos 6)) ∷ []) ∷ ((Num (pos 7)) ∷ (Text (codes "d")) ∷ (Num (pos 2)) ∷ []) ∷ ((Num (pos 5)) ∷ (Text (codes "e")) ∷ Null ∷ []) ∷ []) } ∷ record { schema = record { name = codes "_t_del"; columns = (record { name = codes "id"; kind = Int 4 false; nullable = false; default = None; auto = false } ∷ []); uniques = (record { name = None; places = (0 ∷ []) } ∷ []); indexes = []; comment = codes "ghost-cut-over-sentry"; start = None }; rows = [] } ∷ []); clients = ([] ∷ (record { line = 1; word = (words.Do (statements.Update (codes "t") (record { column = codes "a"; value = (Num (pos 3)) } ∷ []) (conditions.Equal (record { column = codes "a"; value = (Num (pos 1)) } ∷ record { column = codes "c"; value = (Text (codes "g")) } ∷ [])))) } ∷ []) ∷ (record { line = 1; word = (words.Do (statements.Replace (codes "t") None ((Num (pos 2)) ∷ (Text (codes "g")) ∷ (Num (pos 1)) ∷ []) None)) } ∷ record { line = 2; word = (words.Do (statements.Update (codes "t") (record { column = codes "v"; value = (Num (pos 1)) } ∷ []) (conditions.Equal (record { column = codes "a"; value = (Num (pos 5)) } ∷ record { column = codes "c"; value = (Num (pos 99999999999)) } ∷ [])))) } ∷ []) ∷ (record { line = 1; word = (words.Do (statements.Insert (codes "t") (Some (codes "a" ∷ codes "c" ∷ codes "v" ∷ [])) ((Num (pos 2)) ∷ (Num (pos 6)) ∷ (Num (pos 5)) ∷ []) None)) } ∷ []) ∷ []); operator = (record { word = (commanded.ChunkSize 1); units = 1 } ∷ []); faults = []; turns = (record { actor = Insp; times = 3 } ∷ record { actor = (Client 2); times = 3 } ∷ record { actor = (Client 2); times = 1 } ∷ record { actor = Copy; times = 1 } ∷ record { actor = Lock; times = 1 } ∷ record { actor = Lock; times = 1 } ∷ record { actor = Insp; times = 5 } ∷ record { actor = (Client 1); times = 1 } ∷ record { actor = Ren; times = 1 } ∷ record { actor = (Client 2); times = 1 } ∷ record { actor = (Client 2); times = 5 } ∷ record { actor = Ren; times = 1 } ∷ record { actor = Insp; times = 5 } ∷ record { actor = (Client 2); times = 1 } ∷ record { actor = Insp; times = 5 } ∷ record { actor = Op; times = 5 } ∷ record { actor = (Client 4); times = 2 } ∷ record { actor = Apply; times = 1 } ∷ record { actor = (Client 1); times = 5 } ∷ record { actor = Op; times = 2 } ∷ record { actor = (Client 2); times = 3 } ∷ record { actor = Insp; times = 1 } ∷ record { actor = Lock; times = 2 } ∷ record { actor = (Client 1); times = 2 } ∷ record { actor = (Client 4); times = 3 } ∷ record { actor = Insp; times = 1 } ∷ record { actor = (Client 1); times = 2 } ∷ record { actor = Apply; times = 3 } ∷ record { actor = (Client 4); times = 1 } ∷ record { actor = Copy; times = 1 } ∷ record { actor = (Client 3); times = 1 } ∷ record { actor = Insp; times = 1 } ∷ record { actor = (Client 1); times = 5 } ∷ record { actor = Ren; times = 1 } ∷ record { actor = Apply; times = 2 } ∷ record { actor = (Client 4); times = 3 } ∷ []); options = record { chunk_size = 3; dml_batch_size = 1; default_retries = 60; max_backlog = 2; drain_limit = 2000; client_wait = 30; tool_wait = 5; max_load = 64; turn_limit = 200000; notes = 0; note_every = 100; replica_step = 0; replica_pause = 1; max_lag = 10; resume = false; approve_renamed_columns = true; initially_drop_ghost_table = false; initially_drop_old_table = false; ok_to_drop_table = true; postpone = true; show_history = true; show_turns = true; show_tables = true; show_replies = true } }
 
 abbrev journal_256 : List Entry
 journal_256 =
@@ -127,7 +127,7 @@ abbrev map_263 : List MapColumn
 map_263 = (record { kind = Int 1 false; nullable = false; origin = from.Old 0 } ∷ record { kind = VarChar 2; nullable = false; origin = from.Old 1 } ∷ record { kind = Int 8 false; nullable = false; origin = from.Old 2 } ∷ [])
 
 abbrev plan_263 : PlanData
-plan_263 = record { table = codes "t"; alter = (clauses.Change (codes "v") (record { name = codes "v"; kind = VarChar 2; nullable = (Some false); default = None; auto = false }) Unsaid ∷ []); tables = (record { schema = record { name = codes "t"; columns = (record { name = codes "m0"; kind = Int 1 false; nullable = false; default = (Some (Num (pos 1))); auto = false } ∷ record { name = codes "v"; kind = VarChar 6; nullable = true; default = (Some Null); auto = false } ∷ record { name = codes "id"; kind = Int 8 false; nullable = false; default = None; auto = false } ∷ []); uniques = (record { name = None; places = (2 ∷ []) } ∷ record { name = (Some (codes "u0")); places = (0 ∷ []) } ∷ []); indexes = []; comment = []; start = None }; rows = (((Num (pos 6)) ∷ (Text (codes "4")) ∷ (Num (pos 5)) ∷ []) ∷ []) } ∷ []); clients = ((record { line = 1; word = (words.Do (statements.Replace (codes "t") None ((Num (pos 2)) ∷ Null ∷ (Num (pos 4)) ∷ (Num (pos 1)) ∷ []) None)) } ∷ record { line = 2; word = (words.Do (statements.Replace (codes "t") None ((Num (pos 7)) ∷ (Text (codes "a")) ∷ (Num (pos 7)) ∷ []) None)) } ∷ []) ∷ []); operator = (record { word = commanded.Wait; units = 19 } ∷ record { word = commanded.Panic; units = 1 } ∷ record { word = commanded.Wait; units = 14 } ∷ record { word = commanded.Wait; units = 2 } ∷ record { word = commanded.NoThrottle; units = 1 } ∷ []); faults = (losses.Nth Ren 5 sides_at.Before ∷ losses.Nth Copy 2 sides_at.Before ∷ losses.Nth (Client 1) 5 sides_at.Before ∷ losses.Turn 8 Apply ∷ losses.Nth Copy 2 sides_at.Before ∷ losses.Turn 32 Insp ∷ losses.Turn 46 Copy ∷ losses.Turn 58 Ren ∷ losses.Turn 51 Insp ∷ losses.Turn 55 Apply ∷ losses.Turn 51 Apply ∷ losses.Turn 49 Insp ∷ []); turns = (record { actor = Insp; times = 5 } ∷ record { actor = Apply; times = 1 } ∷ record { actor = Op; times = 1 } ∷ record { actor = (Client 1); times = 5 } ∷ record { actor = Insp; times = 3 } ∷ record { actor = Lock; times = 2 } ∷ record { actor = Op; times = 2 } ∷ record { actor = Lock; times = 3 } ∷ record { actor = (Client 1); times = 3 } ∷ record { actor = Op; times = 5 } ∷ record { actor = Copy; times = 1 } ∷ record { actor = Ren; times = 1 } ∷ record { actor = Insp; times = 1 } ∷ record { actor = Lock; times = 1 } ∷ record { actor = Insp; times = 2 } ∷ record { actor = Insp; times = 3 } ∷ record { actor = (Client 1); times = 1 } ∷ record { actor = Lock; times = 1 } ∷ record { actor = Op; times = 1 } ∷ record { actor = Insp; times = 1 } ∷ record { actor = Insp; times = 1 } ∷ record { actor = Ren; times = 5 } ∷ record { actor = Ren; times = 2 } ∷ record { actor = Apply; times = 5 } ∷ record { actor = Copy; times = 2 } ∷ record { actor = Copy; times = 1 } ∷ record { actor = Insp; times = 1 } ∷ record { actor = Op; times = 3 } ∷ record { actor = Op; times = 1 } ∷ record { actor = Insp; times = 1 } ∷ record { actor = Apply; times = 1 } ∷ record { actor = Insp; times = 5 } ∷ record { actor = Op; times = 1 } ∷ record { actor = Copy; times = 1 } ∷ record { actor = (Client 1); times = 1 } ∷ record { actor = Op; times = 5 } ∷ record { actor = Insp; times = 1 } ∷ record { actor = Insp; times = 1 } ∷ []); options = record { chunk_size = 5; dml_batch_size = 10; default_retries = 60; max_backlog = 100; drain_limit = 3; client_wait = 30; tool_wait = 2; max_load = 1; turn_limit = 200000; notes = 0; note_every = 100; replica_step = 0; replica_pause = 1; max_lag = 10; approve_renamed_columns = true; initially_drop_ghost_table = false; initially_drop_old_table = false; ok_to_drop_table = false; postpone = false; show_history = true; show_turns = true; show_tables = true; show_replies = true } }
+plan_263 = record { table = codes "t"; alter = (clauses.Change (codes "v") (record { name = codes "v"; kind = VarChar 2; nullable = (Some false); default = None; auto = false }) Unsaid ∷ []); tables = (record { schema = record { name = codes "t"; columns = (record { name = codes "m0"; kind = Int 1 false; nullable = false; default = (Some (Num (pos 1))); auto = false } ∷ record { name = codes "v"; kind = VarChar 6; nullable = true; default = (Some Null); auto = false } ∷ record { name = codes "id"; kind = Int 8 false; nullable = false; default = None; auto = false } ∷ []); uniques = (record { name = None; places = (2 ∷ []) } ∷ record { name = (Some (codes "u0")); places = (0 ∷ []) } ∷ []); indexes = []; comment = []; start = None }; rows = (((Num (pos 6)) ∷ (Text (codes "4")) ∷ (Num (pos 5)) ∷ []) ∷ []) } ∷ []); clients = ((record { line = 1; word = (words.Do (statements.Replace (codes "t") None ((Num (pos 2)) ∷ Null ∷ (Num (pos 4)) ∷ (Num (pos 1)) ∷ []) None)) } ∷ record { line = 2; word = (words.Do (statements.Replace (codes "t") None ((Num (pos 7)) ∷ (Text (codes "a")) ∷ (Num (pos 7)) ∷ []) None)) } ∷ []) ∷ []); operator = (record { word = commanded.Wait; units = 19 } ∷ record { word = commanded.Panic; units = 1 } ∷ record { word = commanded.Wait; units = 14 } ∷ record { word = commanded.Wait; units = 2 } ∷ record { word = commanded.NoThrottle; units = 1 } ∷ []); faults = (losses.Nth Ren 5 sides_at.Before ∷ losses.Nth Copy 2 sides_at.Before ∷ losses.Nth (Client 1) 5 sides_at.Before ∷ losses.Turn 8 Apply ∷ losses.Nth Copy 2 sides_at.Before ∷ losses.Turn 32 Insp ∷ losses.Turn 46 Copy ∷ losses.Turn 58 Ren ∷ losses.Turn 51 Insp ∷ losses.Turn 55 Apply ∷ losses.Turn 51 Apply ∷ losses.Turn 49 Insp ∷ []); turns = (record { actor = Insp; times = 5 } ∷ record { actor = Apply; times = 1 } ∷ record { actor = Op; times = 1 } ∷ record { actor = (Client 1); times = 5 } ∷ record { actor = Insp; times = 3 } ∷ record { actor = Lock; times = 2 } ∷ record { actor = Op; times = 2 } ∷ record { actor = Lock; times = 3 } ∷ record { actor = (Client 1); times = 3 } ∷ record { actor = Op; times = 5 } ∷ record { actor = Copy; times = 1 } ∷ record { actor = Ren; times = 1 } ∷ record { actor = Insp; times = 1 } ∷ record { actor = Lock; times = 1 } ∷ record { actor = Insp; times = 2 } ∷ record { actor = Insp; times = 3 } ∷ record { actor = (Client 1); times = 1 } ∷ record { actor = Lock; times = 1 } ∷ record { actor = Op; times = 1 } ∷ record { actor = Insp; times = 1 } ∷ record { actor = Insp; times = 1 } ∷ record { actor = Ren; times = 5 } ∷ record { actor = Ren; times = 2 } ∷ record { actor = Apply; times = 5 } ∷ record { actor = Copy; times = 2 } ∷ record { actor = Copy; times = 1 } ∷ record { actor = Insp; times = 1 } ∷ record { actor = Op; times = 3 } ∷ record { actor = Op; times = 1 } ∷ record { actor = Insp; times = 1 } ∷ record { actor = Apply; times = 1 } ∷ record { actor = Insp; times = 5 } ∷ record { actor = Op; times = 1 } ∷ record { actor = Copy; times = 1 } ∷ record { actor = (Client 1); times = 1 } ∷ record { actor = Op; times = 5 } ∷ record { actor = Insp; times = 1 } ∷ record { actor = Insp; times = 1 } ∷ []); options = record { chunk_size = 5; dml_batch_size = 10; default_retries = 60; max_backlog = 100; drain_limit = 3; client_wait = 30; tool_wait = 2; max_load = 1; turn_limit = 200000; notes = 0; note_every = 100; replica_step = 0; replica_pause = 1; max_lag = 10; resume = false; approve_renamed_columns = true; initially_drop_ghost_table = false; initially_drop_old_table = false; ok_to_drop_table = false; postpone = false; show_history = true; show_turns = true; show_tables = true; show_replies = true } }
 
 abbrev journal_263 : List Entry
 journal_263 =
@@ -192,7 +192,7 @@ abbrev map_289 : List MapColumn
 map_289 = (record { kind = Int 4 false; nullable = false; origin = from.Old 0 } ∷ record { kind = Int 4 false; nullable = true; origin = from.Old 1 } ∷ record { kind = Int 4 false; nullable = true; origin = from.Added Null } ∷ [])
 
 abbrev plan_289 : PlanData
-plan_289 = record { table = codes "t"; alter = (clauses.Change (codes "id") (record { name = codes "id"; kind = Int 4 false; nullable = (Some false); default = None; auto = false }) Unsaid ∷ clauses.Add (record { name = codes "b"; kind = Int 4 false; nullable = None; default = None; auto = false }) Unsaid ∷ []); tables = (record { schema = record { name = codes "t"; columns = (record { name = codes "id"; kind = Int 4 false; nullable = false; default = None; auto = false } ∷ record { name = codes "v"; kind = Int 4 false; nullable = true; default = (Some Null); auto = false } ∷ []); uniques = (record { name = None; places = (0 ∷ []) } ∷ []); indexes = (record { name = (Some (codes "v")); places = (1 ∷ []) } ∷ []); comment = []; start = None }; rows = [] } ∷ record { schema = record { name = codes "u"; columns = (record { name = codes "m0"; kind = Int 4 false; nullable = false; default = (Some (Num (pos 1))); auto = false } ∷ record { name = codes "id"; kind = Int 8 false; nullable = false; default = None; auto = false } ∷ []); uniques = (record { name = None; places = (1 ∷ []) } ∷ record { name = (Some (codes "u0")); places = (0 ∷ []) } ∷ []); indexes = []; comment = []; start = None }; rows = (((Num (pos 4)) ∷ (Num (pos 3)) ∷ []) ∷ []) } ∷ []); clients = ((record { line = 1; word = words.Begin } ∷ record { line = 2; word = (words.Do (statements.Delete (codes "t") (conditions.Equal (record { column = codes "id"; value = (Num (pos 7)) } ∷ [])))) } ∷ record { line = 3; word = words.Commit } ∷ []) ∷ []); operator = (record { word = commanded.NoThrottle; units = 1 } ∷ []); faults = []; turns = (record { actor = Insp; times = 3 } ∷ record { actor = Lock; times = 1 } ∷ record { actor = Ren; times = 2 } ∷ record { actor = Ren; times = 1 } ∷ record { actor = Lock; times = 2 } ∷ record { actor = (Client 1); times = 1 } ∷ record { actor = Lock; times = 5 } ∷ record { actor = Lock; times = 1 } ∷ record { actor = Lock; times = 5 } ∷ record { actor = Op; times = 1 } ∷ record { actor = (Client 1); times = 1 } ∷ record { actor = Op; times = 1 } ∷ record { actor = Ren; times = 2 } ∷ record { actor = Insp; times = 2 } ∷ record { actor = (Client 1); times = 5 } ∷ record { actor = Apply; times = 1 } ∷ record { actor = Ren; times = 3 } ∷ record { actor = Lock; times = 1 } ∷ record { actor = Op; times = 1 } ∷ record { actor = Op; times = 1 } ∷ record { actor = (Client 1); times = 5 } ∷ record { actor = Lock; times = 2 } ∷ record { actor = Ren; times = 1 } ∷ record { actor = Apply; times = 3 } ∷ record { actor = Ren; times = 3 } ∷ record { actor = Ren; times = 2 } ∷ record { actor = (Client 1); times = 5 } ∷ record { actor = Apply; times = 5 } ∷ record { actor = Insp; times = 1 } ∷ record { actor = Copy; times = 1 } ∷ record { actor = Apply; times = 1 } ∷ record { actor = Ren; times = 2 } ∷ record { actor = Ren; times = 5 } ∷ record { actor = Ren; times = 3 } ∷ record { actor = Ren; times = 3 } ∷ record { actor = Apply; times = 5 } ∷ record { actor = Lock; times = 1 } ∷ record { actor = (Client 1); times = 1 } ∷ record { actor = Lock; times = 2 } ∷ record { actor = Copy; times = 5 } ∷ record { actor = Ren; times = 5 } ∷ record { actor = Insp; times = 1 } ∷ record { actor = Apply; times = 1 } ∷ record { actor = Op; times = 5 } ∷ record { actor = Op; times = 2 } ∷ []); options = record { chunk_size = 2; dml_batch_size = 1; default_retries = 1; max_backlog = 0; drain_limit = 2000; client_wait = 3; tool_wait = 5; max_load = 0; turn_limit = 200000; notes = 0; note_every = 100; replica_step = 0; replica_pause = 1; max_lag = 10; approve_renamed_columns = true; initially_drop_ghost_table = false; initially_drop_old_table = false; ok_to_drop_table = false; postpone = true; show_history = true; show_turns = true; show_tables = true; show_replies = true } }
+plan_289 = record { table = codes "t"; alter = (clauses.Change (codes "id") (record { name = codes "id"; kind = Int 4 false; nullable = (Some false); default = None; auto = false }) Unsaid ∷ clauses.Add (record { name = codes "b"; kind = Int 4 false; nullable = None; default = None; auto = false }) Unsaid ∷ []); tables = (record { schema = record { name = codes "t"; columns = (record { name = codes "id"; kind = Int 4 false; nullable = false; default = None; auto = false } ∷ record { name = codes "v"; kind = Int 4 false; nullable = true; default = (Some Null); auto = false } ∷ []); uniques = (record { name = None; places = (0 ∷ []) } ∷ []); indexes = (record { name = (Some (codes "v")); places = (1 ∷ []) } ∷ []); comment = []; start = None }; rows = [] } ∷ record { schema = record { name = codes "u"; columns = (record { name = codes "m0"; kind = Int 4 false; nullable = false; default = (Some (Num (pos 1))); auto = false } ∷ record { name = codes "id"; kind = Int 8 false; nullable = false; default = None; auto = false } ∷ []); uniques = (record { name = None; places = (1 ∷ []) } ∷ record { name = (Some (codes "u0")); places = (0 ∷ []) } ∷ []); indexes = []; comment = []; start = None }; rows = (((Num (pos 4)) ∷ (Num (pos 3)) ∷ []) ∷ []) } ∷ []); clients = ((record { line = 1; word = words.Begin } ∷ record { line = 2; word = (words.Do (statements.Delete (codes "t") (conditions.Equal (record { column = codes "id"; value = (Num (pos 7)) } ∷ [])))) } ∷ record { line = 3; word = words.Commit } ∷ []) ∷ []); operator = (record { word = commanded.NoThrottle; units = 1 } ∷ []); faults = []; turns = (record { actor = Insp; times = 3 } ∷ record { actor = Lock; times = 1 } ∷ record { actor = Ren; times = 2 } ∷ record { actor = Ren; times = 1 } ∷ record { actor = Lock; times = 2 } ∷ record { actor = (Client 1); times = 1 } ∷ record { actor = Lock; times = 5 } ∷ record { actor = Lock; times = 1 } ∷ record { actor = Lock; times = 5 } ∷ record { actor = Op; times = 1 } ∷ record { actor = (Client 1); times = 1 } ∷ record { actor = Op; times = 1 } ∷ record { actor = Ren; times = 2 } ∷ record { actor = Insp; times = 2 } ∷ record { actor = (Client 1); times = 5 } ∷ record { actor = Apply; times = 1 } ∷ record { actor = Ren; times = 3 } ∷ record { actor = Lock; times = 1 } ∷ record { actor = Op; times = 1 } ∷ record { actor = Op; times = 1 } ∷ record { actor = (Client 1); times = 5 } ∷ record { actor = Lock; times = 2 } ∷ record { actor = Ren; times = 1 } ∷ record { actor = Apply; times = 3 } ∷ record { actor = Ren; times = 3 } ∷ record { actor = Ren; times = 2 } ∷ record { actor = (Client 1); times = 5 } ∷ record { actor = Apply; times = 5 } ∷ record { actor = Insp; times = 1 } ∷ record { actor = Copy; times = 1 } ∷ record { actor = Apply; times = 1 } ∷ record { actor = Ren; times = 2 } ∷ record { actor = Ren; times = 5 } ∷ record { actor = Ren; times = 3 } ∷ record { actor = Ren; times = 3 } ∷ record { actor = Apply; times = 5 } ∷ record { actor = Lock; times = 1 } ∷ record { actor = (Client 1); times = 1 } ∷ record { actor = Lock; times = 2 } ∷ record { actor = Copy; times = 5 } ∷ record { actor = Ren; times = 5 } ∷ record { actor = Insp; times = 1 } ∷ record { actor = Apply; times = 1 } ∷ record { actor = Op; times = 5 } ∷ record { actor = Op; times = 2 } ∷ []); options = record { chunk_size = 2; dml_batch_size = 1; default_retries = 1; max_backlog = 0; drain_limit = 2000; client_wait = 3; tool_wait = 5; max_load = 0; turn_limit = 200000; notes = 0; note_every = 100; replica_step = 0; replica_pause = 1; max_lag = 10; resume = false; approve_renamed_columns = true; initially_drop_ghost_table = false; initially_drop_old_table = false; ok_to_drop_table = false; postpone = true; show_history = true; show_turns = true; show_tables = true; show_replies = true } }
 
 abbrev journal_289 : List Entry
 journal_289 =
@@ -241,7 +241,7 @@ abbrev map_290 : List MapColumn
 map_290 = (record { kind = Int 8 false; nullable = false; origin = from.Old 0 } ∷ record { kind = Int 4 false; nullable = true; origin = from.Old 1 } ∷ record { kind = Int 1 false; nullable = true; origin = from.Old 2 } ∷ record { kind = Int 4 false; nullable = true; origin = from.Added Null } ∷ [])
 
 abbrev plan_290 : PlanData
-plan_290 = record { table = codes "t"; alter = (clauses.Add (record { name = codes "b"; kind = Int 4 false; nullable = None; default = None; auto = false }) Unsaid ∷ []); tables = (record { schema = record { name = codes "t"; columns = (record { name = codes "id"; kind = Int 8 false; nullable = false; default = None; auto = false } ∷ record { name = codes "m0"; kind = Int 4 false; nullable = true; default = (Some (Num (pos 1))); auto = false } ∷ record { name = codes "m1"; kind = Int 1 false; nullable = true; default = (Some Null); auto = false } ∷ []); uniques = (record { name = None; places = (0 ∷ []) } ∷ record { name = (Some (codes "u0")); places = (0 ∷ 1 ∷ []) } ∷ record { name = (Some (codes "u1")); places = (2 ∷ []) } ∷ []); indexes = []; comment = []; start = None }; rows = (((Num (pos 5)) ∷ (Num (pos 2)) ∷ (Num (pos 4)) ∷ []) ∷ ((Num (pos 7)) ∷ Null ∷ (Num (pos 7)) ∷ []) ∷ []) } ∷ []); clients = ([] ∷ (record { line = 1; word = (words.Do (statements.Insert (codes "t") (Some (codes "id" ∷ codes "m1" ∷ [])) ((Num (pos 3)) ∷ (Num (pos 2)) ∷ []) None)) } ∷ []) ∷ (record { line = 1; word = (words.Do (statements.Replace (codes "t") (Some (codes "id" ∷ codes "m0" ∷ codes "m1" ∷ [])) ((Blob (255 ∷ [])) ∷ (Num (pos 3)) ∷ (Num (pos 2)) ∷ []) None)) } ∷ []) ∷ (record { line = 1; word = (words.Do (statements.Update (codes "t") (record { column = codes "id"; value = (Num (pos 6)) } ∷ record { column = codes "m0"; value = (Num (pos 3)) } ∷ record { column = codes "m1"; value = (Num (pos 3)) } ∷ []) (conditions.Range (record { column = codes "id"; sign = signs.AtLeast; value = (Num (pos 5)) } ∷ record { column = codes "id"; sign = signs.AtMost; value = (Num (pos 5)) } ∷ [])))) } ∷ record { line = 2; word = words.Begin } ∷ record { line = 3; word = (words.Do (statements.Insert (codes "t") None ((Num (pos 7)) ∷ (Num (pos 2)) ∷ Null ∷ []) None)) } ∷ record { line = 4; word = (words.Do (statements.Delete (codes "t") (conditions.Equal (record { column = codes "id"; value = (Num (pos 5)) } ∷ [])))) } ∷ record { line = 5; word = words.Commit } ∷ record { line = 6; word = (words.Do (statements.Replace (codes "t") None ((Num (pos 3)) ∷ (Num (pos 4)) ∷ (Num (pos 7)) ∷ (Num (pos 1)) ∷ []) None)) } ∷ record { line = 7; word = (words.Do (statements.Select (codes "t") (shown.Columns (codes "id" ∷ [])) (conditions.Equal (record { column = codes "id"; value = (Num (pos 4)) } ∷ [])))) } ∷ record { line = 8; word = words.Begin } ∷ record { line = 9; word = (words.Do (statements.Delete (codes "t") (conditions.Equal (record { column = codes "id"; value = (Num (pos 6)) } ∷ [])))) } ∷ record { line = 10; word = (words.Do (statements.Replace (codes "t") None ((Num (pos 2)) ∷ (Num (pos 4)) ∷ (Num (pos 3)) ∷ (Num (pos 1)) ∷ []) None)) } ∷ record { line = 11; word = words.Commit } ∷ []) ∷ []); operator = []; faults = (losses.Turn 57 (Client 2) ∷ []); turns = (record { actor = Op; times = 2 } ∷ record { actor = (Client 4); times = 5 } ∷ record { actor = Lock; times = 1 } ∷ record { actor = (Client 2); times = 2 } ∷ record { actor = Insp; times = 2 } ∷ record { actor = (Client 2); times = 2 } ∷ record { actor = (Client 4); times = 1 } ∷ record { actor = (Client 2); times = 5 } ∷ record { actor = (Client 3); times = 2 } ∷ record { actor = (Client 2); times = 1 } ∷ record { actor = Copy; times = 1 } ∷ record { actor = Lock; times = 1 } ∷ record { actor = Op; times = 5 } ∷ record { actor = Lock; times = 1 } ∷ record { actor = (Client 2); times = 1 } ∷ record { actor = (Client 1); times = 5 } ∷ record { actor = Ren; times = 2 } ∷ record { actor = Ren; times = 1 } ∷ record { actor = (Client 3); times = 1 } ∷ record { actor = Ren; times = 2 } ∷ record { actor = Apply; times = 5 } ∷ record { actor = (Client 3); times = 1 } ∷ record { actor = Apply; times = 2 } ∷ record { actor = Apply; times = 1 } ∷ record { actor = Apply; times = 1 } ∷ record { actor = Op; times = 2 } ∷ record { actor = Lock; times = 5 } ∷ record { actor = Lock; times = 1 } ∷ record { actor = Copy; times = 1 } ∷ record { actor = Apply; times = 1 } ∷ record { actor = (Client 3); times = 1 } ∷ record { actor = Copy; times = 1 } ∷ record { actor = Copy; times = 2 } ∷ record { actor = Copy; times = 1 } ∷ record { actor = (Client 2); times = 1 } ∷ []); options = record { chunk_size = 3; dml_batch_size = 4; default_retries = 2; max_backlog = 2; drain_limit = 9; client_wait = 3; tool_wait = 1; max_load = 64; turn_limit = 200000; notes = 0; note_every = 100; replica_step = 0; replica_pause = 1; max_lag = 10; approve_renamed_columns = true; initially_drop_ghost_table = false; initially_drop_old_table = false; ok_to_drop_table = true; postpone = false; show_history = true; show_turns = true; show_tables = true; show_replies = true } }
+plan_290 = record { table = codes "t"; alter = (clauses.Add (record { name = codes "b"; kind = Int 4 false; nullable = None; default = None; auto = false }) Unsaid ∷ []); tables = (record { schema = record { name = codes "t"; columns = (record { name = codes "id"; kind = Int 8 false; nullable = false; default = None; auto = false } ∷ record { name = codes "m0"; kind = Int 4 false; nullable = true; default = (Some (Num (pos 1))); auto = false } ∷ record { name = codes "m1"; kind = Int 1 false; nullable = true; default = (Some Null); auto = false } ∷ []); uniques = (record { name = None; places = (0 ∷ []) } ∷ record { name = (Some (codes "u0")); places = (0 ∷ 1 ∷ []) } ∷ record { name = (Some (codes "u1")); places = (2 ∷ []) } ∷ []); indexes = []; comment = []; start = None }; rows = (((Num (pos 5)) ∷ (Num (pos 2)) ∷ (Num (pos 4)) ∷ []) ∷ ((Num (pos 7)) ∷ Null ∷ (Num (pos 7)) ∷ []) ∷ []) } ∷ []); clients = ([] ∷ (record { line = 1; word = (words.Do (statements.Insert (codes "t") (Some (codes "id" ∷ codes "m1" ∷ [])) ((Num (pos 3)) ∷ (Num (pos 2)) ∷ []) None)) } ∷ []) ∷ (record { line = 1; word = (words.Do (statements.Replace (codes "t") (Some (codes "id" ∷ codes "m0" ∷ codes "m1" ∷ [])) ((Blob (255 ∷ [])) ∷ (Num (pos 3)) ∷ (Num (pos 2)) ∷ []) None)) } ∷ []) ∷ (record { line = 1; word = (words.Do (statements.Update (codes "t") (record { column = codes "id"; value = (Num (pos 6)) } ∷ record { column = codes "m0"; value = (Num (pos 3)) } ∷ record { column = codes "m1"; value = (Num (pos 3)) } ∷ []) (conditions.Range (record { column = codes "id"; sign = signs.AtLeast; value = (Num (pos 5)) } ∷ record { column = codes "id"; sign = signs.AtMost; value = (Num (pos 5)) } ∷ [])))) } ∷ record { line = 2; word = words.Begin } ∷ record { line = 3; word = (words.Do (statements.Insert (codes "t") None ((Num (pos 7)) ∷ (Num (pos 2)) ∷ Null ∷ []) None)) } ∷ record { line = 4; word = (words.Do (statements.Delete (codes "t") (conditions.Equal (record { column = codes "id"; value = (Num (pos 5)) } ∷ [])))) } ∷ record { line = 5; word = words.Commit } ∷ record { line = 6; word = (words.Do (statements.Replace (codes "t") None ((Num (pos 3)) ∷ (Num (pos 4)) ∷ (Num (pos 7)) ∷ (Num (pos 1)) ∷ []) None)) } ∷ record { line = 7; word = (words.Do (statements.Select (codes "t") (shown.Columns (codes "id" ∷ [])) (conditions.Equal (record { column = codes "id"; value = (Num (pos 4)) } ∷ [])))) } ∷ record { line = 8; word = words.Begin } ∷ record { line = 9; word = (words.Do (statements.Delete (codes "t") (conditions.Equal (record { column = codes "id"; value = (Num (pos 6)) } ∷ [])))) } ∷ record { line = 10; word = (words.Do (statements.Replace (codes "t") None ((Num (pos 2)) ∷ (Num (pos 4)) ∷ (Num (pos 3)) ∷ (Num (pos 1)) ∷ []) None)) } ∷ record { line = 11; word = words.Commit } ∷ []) ∷ []); operator = []; faults = (losses.Turn 57 (Client 2) ∷ []); turns = (record { actor = Op; times = 2 } ∷ record { actor = (Client 4); times = 5 } ∷ record { actor = Lock; times = 1 } ∷ record { actor = (Client 2); times = 2 } ∷ record { actor = Insp; times = 2 } ∷ record { actor = (Client 2); times = 2 } ∷ record { actor = (Client 4); times = 1 } ∷ record { actor = (Client 2); times = 5 } ∷ record { actor = (Client 3); times = 2 } ∷ record { actor = (Client 2); times = 1 } ∷ record { actor = Copy; times = 1 } ∷ record { actor = Lock; times = 1 } ∷ record { actor = Op; times = 5 } ∷ record { actor = Lock; times = 1 } ∷ record { actor = (Client 2); times = 1 } ∷ record { actor = (Client 1); times = 5 } ∷ record { actor = Ren; times = 2 } ∷ record { actor = Ren; times = 1 } ∷ record { actor = (Client 3); times = 1 } ∷ record { actor = Ren; times = 2 } ∷ record { actor = Apply; times = 5 } ∷ record { actor = (Client 3); times = 1 } ∷ record { actor = Apply; times = 2 } ∷ record { actor = Apply; times = 1 } ∷ record { actor = Apply; times = 1 } ∷ record { actor = Op; times = 2 } ∷ record { actor = Lock; times = 5 } ∷ record { actor = Lock; times = 1 } ∷ record { actor = Copy; times = 1 } ∷ record { actor = Apply; times = 1 } ∷ record { actor = (Client 3); times = 1 } ∷ record { actor = Copy; times = 1 } ∷ record { actor = Copy; times = 2 } ∷ record { actor = Copy; times = 1 } ∷ record { actor = (Client 2); times = 1 } ∷ []); options = record { chunk_size = 3; dml_batch_size = 4; default_retries = 2; max_backlog = 2; drain_limit = 9; client_wait = 3; tool_wait = 1; max_load = 64; turn_limit = 200000; notes = 0; note_every = 100; replica_step = 0; replica_pause = 1; max_lag = 10; resume = false; approve_renamed_columns = true; initially_drop_ghost_table = false; initially_drop_old_table = false; ok_to_drop_table = true; postpone = false; show_history = true; show_turns = true; show_tables = true; show_replies = true } }
 
 abbrev journal_290 : List Entry
 journal_290 =
@@ -318,7 +318,7 @@ abbrev map_308 : List MapColumn
 map_308 = (record { kind = Int 4 false; nullable = false; origin = from.Old 0 } ∷ record { kind = VarChar 3; nullable = true; origin = from.Old 1 } ∷ record { kind = Int 4 false; nullable = true; origin = from.Old 2 } ∷ record { kind = Int 4 false; nullable = true; origin = from.Added Null } ∷ [])
 
 abbrev plan_308 : PlanData
-plan_308 = record { table = codes "t"; alter = (clauses.Add (record { name = codes "b"; kind = Int 4 false; nullable = None; default = None; auto = false }) Unsaid ∷ []); tables = (record { schema = record { name = codes "t"; columns = (record { name = codes "id"; kind = Int 4 false; nullable = false; default = None; auto = false } ∷ record { name = codes "m"; kind = VarChar 3; nullable = true; default = (Some Null); auto = false } ∷ record { name = codes "v"; kind = Int 4 false; nullable = true; default = (Some Null); auto = false } ∷ []); uniques = (record { name = None; places = (0 ∷ []) } ∷ record { name = (Some (codes "u0")); places = (1 ∷ []) } ∷ []); indexes = []; comment = []; start = None }; rows = (((Num (pos 2)) ∷ Null ∷ (Num (pos 5)) ∷ []) ∷ ((Num (pos 3)) ∷ Null ∷ (Num (pos 5)) ∷ []) ∷ []) } ∷ []); clients = ((record { line = 1; word = (words.Do (statements.Insert (codes "t") None ((Num (pos 1)) ∷ (Num (pos 1)) ∷ Null ∷ []) None)) } ∷ record { line = 2; word = (words.Do (statements.Update (codes "t") (record { column = codes "v"; value = (Num (pos 3)) } ∷ []) (conditions.Equal (record { column = codes "id"; value = (Num (pos 4)) } ∷ [])))) } ∷ record { line = 3; word = (words.Do (statements.Insert (codes "t") None ((Num (pos 4)) ∷ (Num (pos 3)) ∷ Null ∷ []) None)) } ∷ record { line = 4; word = (words.Do (statements.Update (codes "t") (record { column = codes "m"; value = (Num (pos 3)) } ∷ []) (conditions.Equal (record { column = codes "id"; value = (Num (pos 2)) } ∷ [])))) } ∷ record { line = 5; word = (words.Do (statements.Update (codes "t") (record { column = codes "v"; value = (Num (pos 1)) } ∷ []) (conditions.Equal (record { column = codes "id"; value = (Num (pos 4)) } ∷ [])))) } ∷ record { line = 6; word = (words.Do (statements.Update (codes "t") (record { column = codes "m"; value = (Num (pos 3)) } ∷ []) (conditions.Equal (record { column = codes "id"; value = (Num (pos 1)) } ∷ [])))) } ∷ record { line = 7; word = (words.Do (statements.Update (codes "t") (record { column = codes "m"; value = (Num (pos 3)) } ∷ []) (conditions.Equal (record { column = codes "id"; value = (Num (pos 4)) } ∷ [])))) } ∷ []) ∷ (record { line = 1; word = (words.Do (statements.Replace (codes "t") None ((Num (pos 3)) ∷ (Num (pos 3)) ∷ (Num (pos 1)) ∷ []) None)) } ∷ record { line = 2; word = (words.Do (statements.Update (codes "t") (record { column = codes "m"; value = (Num (pos 2)) } ∷ []) (conditions.Equal (record { column = codes "id"; value = (Num (pos 2)) } ∷ [])))) } ∷ record { line = 3; word = (words.Do (statements.Update (codes "t") (record { column = codes "m"; value = (Num (pos 3)) } ∷ []) (conditions.Equal (record { column = codes "id"; value = (Num (pos 1)) } ∷ [])))) } ∷ record { line = 4; word = (words.Do (statements.Delete (codes "t") (conditions.Equal (record { column = codes "id"; value = (Num (pos 3)) } ∷ [])))) } ∷ record { line = 5; word = (words.Do (statements.Insert (codes "t") None ((Num (pos 3)) ∷ Null ∷ (Num (pos 1)) ∷ []) None)) } ∷ record { line = 6; word = (words.Do (statements.Update (codes "t") (record { column = codes "m"; value = Null } ∷ []) (conditions.Equal (record { column = codes "m"; value = (Num (pos 1)) } ∷ [])))) } ∷ []) ∷ []); operator = []; faults = (losses.Turn 28 Copy ∷ []); turns = (record { actor = Insp; times = 4 } ∷ record { actor = Insp; times = 2 } ∷ record { actor = (Client 2); times = 3 } ∷ record { actor = (Client 1); times = 2 } ∷ record { actor = (Client 2); times = 1 } ∷ record { actor = (Client 2); times = 4 } ∷ record { actor = Apply; times = 1 } ∷ record { actor = Copy; times = 4 } ∷ record { actor = (Client 2); times = 6 } ∷ record { actor = (Client 1); times = 1 } ∷ record { actor = (Client 2); times = 2 } ∷ record { actor = (Client 1); times = 6 } ∷ record { actor = Copy; times = 1 } ∷ record { actor = (Client 1); times = 1 } ∷ record { actor = Apply; times = 2 } ∷ record { actor = (Client 1); times = 2 } ∷ record { actor = Apply; times = 1 } ∷ record { actor = Copy; times = 1 } ∷ record { actor = (Client 1); times = 1 } ∷ record { actor = (Client 2); times = 4 } ∷ record { actor = Copy; times = 2 } ∷ record { actor = Copy; times = 1 } ∷ record { actor = (Client 1); times = 2 } ∷ record { actor = Copy; times = 6 } ∷ record { actor = (Client 1); times = 4 } ∷ record { actor = (Client 1); times = 4 } ∷ record { actor = Copy; times = 9 } ∷ record { actor = (Client 2); times = 1 } ∷ record { actor = (Client 1); times = 2 } ∷ record { actor = (Client 2); times = 4 } ∷ record { actor = (Client 1); times = 3 } ∷ record { actor = (Client 1); times = 2 } ∷ record { actor = (Client 1); times = 3 } ∷ record { actor = (Client 2); times = 3 } ∷ record { actor = Apply; times = 1 } ∷ record { actor = (Client 1); times = 1 } ∷ record { actor = (Client 2); times = 1 } ∷ []); options = record { chunk_size = 9; dml_batch_size = 9; default_retries = 60; max_backlog = 100; drain_limit = 2000; client_wait = 5; tool_wait = 3; max_load = 64; turn_limit = 200000; notes = 0; note_every = 100; replica_step = 0; replica_pause = 1; max_lag = 10; approve_renamed_columns = false; initially_drop_ghost_table = false; initially_drop_old_table = false; ok_to_drop_table = false; postpone = false; show_history = true; show_turns = true; show_tables = true; show_replies = true } }
+plan_308 = record { table = codes "t"; alter = (clauses.Add (record { name = codes "b"; kind = Int 4 false; nullable = None; default = None; auto = false }) Unsaid ∷ []); tables = (record { schema = record { name = codes "t"; columns = (record { name = codes "id"; kind = Int 4 false; nullable = false; default = None; auto = false } ∷ record { name = codes "m"; kind = VarChar 3; nullable = true; default = (Some Null); auto = false } ∷ record { name = codes "v"; kind = Int 4 false; nullable = true; default = (Some Null); auto = false } ∷ []); uniques = (record { name = None; places = (0 ∷ []) } ∷ record { name = (Some (codes "u0")); places = (1 ∷ []) } ∷ []); indexes = []; comment = []; start = None }; rows = (((Num (pos 2)) ∷ Null ∷ (Num (pos 5)) ∷ []) ∷ ((Num (pos 3)) ∷ Null ∷ (Num (pos 5)) ∷ []) ∷ []) } ∷ []); clients = ((record { line = 1; word = (words.Do (statements.Insert (codes "t") None ((Num (pos 1)) ∷ (Num (pos 1)) ∷ Null ∷ []) None)) } ∷ record { line = 2; word = (words.Do (statements.Update (codes "t") (record { column = codes "v"; value = (Num (pos 3)) } ∷ []) (conditions.Equal (record { column = codes "id"; value = (Num (pos 4)) } ∷ [])))) } ∷ record { line = 3; word = (words.Do (statements.Insert (codes "t") None ((Num (pos 4)) ∷ (Num (pos 3)) ∷ Null ∷ []) None)) } ∷ record { line = 4; word = (words.Do (statements.Update (codes "t") (record { column = codes "m"; value = (Num (pos 3)) } ∷ []) (conditions.Equal (record { column = codes "id"; value = (Num (pos 2)) } ∷ [])))) } ∷ record { line = 5; word = (words.Do (statements.Update (codes "t") (record { column = codes "v"; value = (Num (pos 1)) } ∷ []) (conditions.Equal (record { column = codes "id"; value = (Num (pos 4)) } ∷ [])))) } ∷ record { line = 6; word = (words.Do (statements.Update (codes "t") (record { column = codes "m"; value = (Num (pos 3)) } ∷ []) (conditions.Equal (record { column = codes "id"; value = (Num (pos 1)) } ∷ [])))) } ∷ record { line = 7; word = (words.Do (statements.Update (codes "t") (record { column = codes "m"; value = (Num (pos 3)) } ∷ []) (conditions.Equal (record { column = codes "id"; value = (Num (pos 4)) } ∷ [])))) } ∷ []) ∷ (record { line = 1; word = (words.Do (statements.Replace (codes "t") None ((Num (pos 3)) ∷ (Num (pos 3)) ∷ (Num (pos 1)) ∷ []) None)) } ∷ record { line = 2; word = (words.Do (statements.Update (codes "t") (record { column = codes "m"; value = (Num (pos 2)) } ∷ []) (conditions.Equal (record { column = codes "id"; value = (Num (pos 2)) } ∷ [])))) } ∷ record { line = 3; word = (words.Do (statements.Update (codes "t") (record { column = codes "m"; value = (Num (pos 3)) } ∷ []) (conditions.Equal (record { column = codes "id"; value = (Num (pos 1)) } ∷ [])))) } ∷ record { line = 4; word = (words.Do (statements.Delete (codes "t") (conditions.Equal (record { column = codes "id"; value = (Num (pos 3)) } ∷ [])))) } ∷ record { line = 5; word = (words.Do (statements.Insert (codes "t") None ((Num (pos 3)) ∷ Null ∷ (Num (pos 1)) ∷ []) None)) } ∷ record { line = 6; word = (words.Do (statements.Update (codes "t") (record { column = codes "m"; value = Null } ∷ []) (conditions.Equal (record { column = codes "m"; value = (Num (pos 1)) } ∷ [])))) } ∷ []) ∷ []); operator = []; faults = (losses.Turn 28 Copy ∷ []); turns = (record { actor = Insp; times = 4 } ∷ record { actor = Insp; times = 2 } ∷ record { actor = (Client 2); times = 3 } ∷ record { actor = (Client 1); times = 2 } ∷ record { actor = (Client 2); times = 1 } ∷ record { actor = (Client 2); times = 4 } ∷ record { actor = Apply; times = 1 } ∷ record { actor = Copy; times = 4 } ∷ record { actor = (Client 2); times = 6 } ∷ record { actor = (Client 1); times = 1 } ∷ record { actor = (Client 2); times = 2 } ∷ record { actor = (Client 1); times = 6 } ∷ record { actor = Copy; times = 1 } ∷ record { actor = (Client 1); times = 1 } ∷ record { actor = Apply; times = 2 } ∷ record { actor = (Client 1); times = 2 } ∷ record { actor = Apply; times = 1 } ∷ record { actor = Copy; times = 1 } ∷ record { actor = (Client 1); times = 1 } ∷ record { actor = (Client 2); times = 4 } ∷ record { actor = Copy; times = 2 } ∷ record { actor = Copy; times = 1 } ∷ record { actor = (Client 1); times = 2 } ∷ record { actor = Copy; times = 6 } ∷ record { actor = (Client 1); times = 4 } ∷ record { actor = (Client 1); times = 4 } ∷ record { actor = Copy; times = 9 } ∷ record { actor = (Client 2); times = 1 } ∷ record { actor = (Client 1); times = 2 } ∷ record { actor = (Client 2); times = 4 } ∷ record { actor = (Client 1); times = 3 } ∷ record { actor = (Client 1); times = 2 } ∷ record { actor = (Client 1); times = 3 } ∷ record { actor = (Client 2); times = 3 } ∷ record { actor = Apply; times = 1 } ∷ record { actor = (Client 1); times = 1 } ∷ record { actor = (Client 2); times = 1 } ∷ []); options = record { chunk_size = 9; dml_batch_size = 9; default_retries = 60; max_backlog = 100; drain_limit = 2000; client_wait = 5; tool_wait = 3; max_load = 64; turn_limit = 200000; notes = 0; note_every = 100; replica_step = 0; replica_pause = 1; max_lag = 10; resume = false; approve_renamed_columns = false; initially_drop_ghost_table = false; initially_drop_old_table = false; ok_to_drop_table = false; postpone = false; show_history = true; show_turns = true; show_tables = true; show_replies = true } }
 
 abbrev journal_308 : List Entry
 journal_308 =
@@ -402,7 +402,7 @@ abbrev map_315 : List MapColumn
 map_315 = (record { kind = Int 4 false; nullable = false; origin = from.Old 0 } ∷ record { kind = VarChar 1; nullable = false; origin = from.Old 1 } ∷ record { kind = Int 4 false; nullable = true; origin = from.Old 2 } ∷ record { kind = Int 8 false; nullable = true; origin = from.Old 3 } ∷ [])
 
 abbrev plan_315 : PlanData
-plan_315 = record { table = codes "t"; alter = (clauses.Change (codes "v") (record { name = codes "v"; kind = Int 8 false; nullable = None; default = None; auto = false }) Unsaid ∷ clauses.Change (codes "c") (record { name = codes "c"; kind = VarChar 1; nullable = (Some false); default = None; auto = false }) Unsaid ∷ []); tables = (record { schema = record { name = codes "t"; columns = (record { name = codes "a"; kind = Int 4 false; nullable = false; default = None; auto = false } ∷ record { name = codes "c"; kind = VarChar 4; nullable = false; default = None; auto = false } ∷ record { name = codes "m0"; kind = Int 4 false; nullable = true; default = (Some Null); auto = false } ∷ record { name = codes "v"; kind = Int 4 false; nullable = true; default = (Some (Num (pos 5))); auto = false } ∷ []); uniques = (record { name = None; places = (0 ∷ 1 ∷ []) } ∷ record { name = (Some (codes "u0")); places = (2 ∷ []) } ∷ []); indexes = []; comment = []; start = None }; rows = (((Num (pos 1)) ∷ (Text (codes "1")) ∷ (Num (pos 3)) ∷ Null ∷ []) ∷ ((Num (pos 2)) ∷ (Text (codes "b")) ∷ Null ∷ Null ∷ []) ∷ ((Num (pos 3)) ∷ (Text (codes "g")) ∷ (Num (pos 1)) ∷ Null ∷ []) ∷ ((Num (pos 5)) ∷ (Text (codes "g")) ∷ Null ∷ (Num (pos 1)) ∷ []) ∷ []) } ∷ record { schema = record { name = codes "_t_gho"; columns = (record { name = codes "id"; kind = Int 4 false; nullable = false; default = None; auto = false } ∷ []); uniques = (record { name = None; places = (0 ∷ []) } ∷ []); indexes = []; comment = []; start = None }; rows = [] } ∷ []); clients = ((record { line = 1; word = words.Begin } ∷ record { line = 2; word = words.Commit } ∷ []) ∷ []); operator = (record { word = commanded.Wait; units = 4 } ∷ record { word = commanded.NoThrottle; units = 1 } ∷ record { word = commanded.NoThrottle; units = 1 } ∷ record { word = commanded.Throttle; units = 1 } ∷ record { word = commanded.NoThrottle; units = 1 } ∷ []); faults = (losses.Nth Ren 3 sides_at.Before ∷ losses.Nth Ren 5 sides_at.After ∷ losses.Nth Copy 4 sides_at.After ∷ []); turns = []; options = record { chunk_size = 1; dml_batch_size = 1; default_retries = 1; max_backlog = 100; drain_limit = 2000; client_wait = 1; tool_wait = 1; max_load = 64; turn_limit = 200000; notes = 0; note_every = 100; replica_step = 0; replica_pause = 1; max_lag = 10; approve_renamed_columns = true; initially_drop_ghost_table = true; initially_drop_old_table = false; ok_to_drop_table = false; postpone = false; show_history = true; show_turns = true; show_tables = true; show_replies = true } }
+plan_315 = record { table = codes "t"; alter = (clauses.Change (codes "v") (record { name = codes "v"; kind = Int 8 false; nullable = None; default = None; auto = false }) Unsaid ∷ clauses.Change (codes "c") (record { name = codes "c"; kind = VarChar 1; nullable = (Some false); default = None; auto = false }) Unsaid ∷ []); tables = (record { schema = record { name = codes "t"; columns = (record { name = codes "a"; kind = Int 4 false; nullable = false; default = None; auto = false } ∷ record { name = codes "c"; kind = VarChar 4; nullable = false; default = None; auto = false } ∷ record { name = codes "m0"; kind = Int 4 false; nullable = true; default = (Some Null); auto = false } ∷ record { name = codes "v"; kind = Int 4 false; nullable = true; default = (Some (Num (pos 5))); auto = false } ∷ []); uniques = (record { name = None; places = (0 ∷ 1 ∷ []) } ∷ record { name = (Some (codes "u0")); places = (2 ∷ []) } ∷ []); indexes = []; comment = []; start = None }; rows = (((Num (pos 1)) ∷ (Text (codes "1")) ∷ (Num (pos 3)) ∷ Null ∷ []) ∷ ((Num (pos 2)) ∷ (Text (codes "b")) ∷ Null ∷ Null ∷ []) ∷ ((Num (pos 3)) ∷ (Text (codes "g")) ∷ (Num (pos 1)) ∷ Null ∷ []) ∷ ((Num (pos 5)) ∷ (Text (codes "g")) ∷ Null ∷ (Num (pos 1)) ∷ []) ∷ []) } ∷ record { schema = record { name = codes "_t_gho"; columns = (record { name = codes "id"; kind = Int 4 false; nullable = false; default = None; auto = false } ∷ []); uniques = (record { name = None; places = (0 ∷ []) } ∷ []); indexes = []; comment = []; start = None }; rows = [] } ∷ []); clients = ((record { line = 1; word = words.Begin } ∷ record { line = 2; word = words.Commit } ∷ []) ∷ []); operator = (record { word = commanded.Wait; units = 4 } ∷ record { word = commanded.NoThrottle; units = 1 } ∷ record { word = commanded.NoThrottle; units = 1 } ∷ record { word = commanded.Throttle; units = 1 } ∷ record { word = commanded.NoThrottle; units = 1 } ∷ []); faults = (losses.Nth Ren 3 sides_at.Before ∷ losses.Nth Ren 5 sides_at.After ∷ losses.Nth Copy 4 sides_at.After ∷ []); turns = []; options = record { chunk_size = 1; dml_batch_size = 1; default_retries = 1; max_backlog = 100; drain_limit = 2000; client_wait = 1; tool_wait = 1; max_load = 64; turn_limit = 200000; notes = 0; note_every = 100; replica_step = 0; replica_pause = 1; max_lag = 10; resume = false; approve_renamed_columns = true; initially_drop_ghost_table = true; initially_drop_old_table = false; ok_to_drop_table = false; postpone = false; show_history = true; show_turns = true; show_tables = true; show_replies = true } }
 
 abbrev journal_315 : List Entry
 journal_315 =
@@ -449,7 +449,7 @@ abbrev map_320 : List MapColumn
 map_320 = (record { kind = VarChar 3; nullable = false; origin = from.Old 0 } ∷ record { kind = VarChar 3; nullable = true; origin = from.Old 1 } ∷ record { kind = Int 4 false; nullable = true; origin = from.Added Null } ∷ [])
 
 abbrev plan_320 : PlanData
-plan_320 = record { table = codes "t"; alter = (clauses.Add (record { name = codes "b"; kind = Int 4 false; nullable = None; default = None; auto = false }) Unsaid ∷ []); tables = (record { schema = record { name = codes "t"; columns = (record { name = codes "id"; kind = VarChar 3; nullable = false; default = None; auto = false } ∷ record { name = codes "m0"; kind = VarChar 3; nullable = true; default = (Some Null); auto = false } ∷ []); uniques = (record { name = None; places = (0 ∷ []) } ∷ record { name = (Some (codes "u0")); places = (1 ∷ []) } ∷ []); indexes = []; comment = []; start = None }; rows = (((Text (codes "5")) ∷ (Text (codes "f")) ∷ []) ∷ []) } ∷ []); clients = ((record { line = 1; word = (words.Do (statements.Select (codes "t") (shown.Columns (codes "id" ∷ [])) (conditions.Equal (record { column = codes "id"; value = (Num (pos 2)) } ∷ [])))) } ∷ record { line = 2; word = words.Begin } ∷ record { line = 3; word = words.Rollback } ∷ record { line = 4; word = (words.Do (statements.Update (codes "t") (record { column = codes "id"; value = (Text (codes "d")) } ∷ record { column = codes "m0"; value = Null } ∷ []) (conditions.Equal (record { column = codes "m0"; value = (Text (codes "f")) } ∷ [])))) } ∷ []) ∷ []); operator = []; faults = (losses.Nth Lock 1 sides_at.After ∷ losses.Turn 54 Op ∷ losses.Turn 30 Copy ∷ []); turns = (record { actor = Insp; times = 5 } ∷ record { actor = Lock; times = 3 } ∷ record { actor = Op; times = 1 } ∷ record { actor = Insp; times = 5 } ∷ record { actor = (Client 1); times = 3 } ∷ record { actor = Copy; times = 1 } ∷ record { actor = Lock; times = 3 } ∷ record { actor = Copy; times = 1 } ∷ record { actor = Lock; times = 5 } ∷ record { actor = Lock; times = 1 } ∷ record { actor = Op; times = 2 } ∷ record { actor = Lock; times = 1 } ∷ record { actor = Insp; times = 1 } ∷ record { actor = Ren; times = 1 } ∷ record { actor = Op; times = 2 } ∷ record { actor = Ren; times = 3 } ∷ record { actor = Insp; times = 5 } ∷ record { actor = Copy; times = 3 } ∷ record { actor = Insp; times = 1 } ∷ record { actor = Apply; times = 3 } ∷ record { actor = Apply; times = 2 } ∷ []); options = record { chunk_size = 1000; dml_batch_size = 1; default_retries = 1; max_backlog = 100; drain_limit = 2000; client_wait = 2; tool_wait = 30; max_load = 1; turn_limit = 200000; notes = 0; note_every = 100; replica_step = 0; replica_pause = 1; max_lag = 10; approve_renamed_columns = true; initially_drop_ghost_table = false; initially_drop_old_table = false; ok_to_drop_table = false; postpone = false; show_history = true; show_turns = true; show_tables = true; show_replies = true } }
+plan_320 = record { table = codes "t"; alter = (clauses.Add (record { name = codes "b"; kind = Int 4 false; nullable = None; default = None; auto = false }) Unsaid ∷ []); tables = (record { schema = record { name = codes "t"; columns = (record { name = codes "id"; kind = VarChar 3; nullable = false; default = None; auto = false } ∷ record { name = codes "m0"; kind = VarChar 3; nullable = true; default = (Some Null); auto = false } ∷ []); uniques = (record { name = None; places = (0 ∷ []) } ∷ record { name = (Some (codes "u0")); places = (1 ∷ []) } ∷ []); indexes = []; comment = []; start = None }; rows = (((Text (codes "5")) ∷ (Text (codes "f")) ∷ []) ∷ []) } ∷ []); clients = ((record { line = 1; word = (words.Do (statements.Select (codes "t") (shown.Columns (codes "id" ∷ [])) (conditions.Equal (record { column = codes "id"; value = (Num (pos 2)) } ∷ [])))) } ∷ record { line = 2; word = words.Begin } ∷ record { line = 3; word = words.Rollback } ∷ record { line = 4; word = (words.Do (statements.Update (codes "t") (record { column = codes "id"; value = (Text (codes "d")) } ∷ record { column = codes "m0"; value = Null } ∷ []) (conditions.Equal (record { column = codes "m0"; value = (Text (codes "f")) } ∷ [])))) } ∷ []) ∷ []); operator = []; faults = (losses.Nth Lock 1 sides_at.After ∷ losses.Turn 54 Op ∷ losses.Turn 30 Copy ∷ []); turns = (record { actor = Insp; times = 5 } ∷ record { actor = Lock; times = 3 } ∷ record { actor = Op; times = 1 } ∷ record { actor = Insp; times = 5 } ∷ record { actor = (Client 1); times = 3 } ∷ record { actor = Copy; times = 1 } ∷ record { actor = Lock; times = 3 } ∷ record { actor = Copy; times = 1 } ∷ record { actor = Lock; times = 5 } ∷ record { actor = Lock; times = 1 } ∷ record { actor = Op; times = 2 } ∷ record { actor = Lock; times = 1 } ∷ record { actor = Insp; times = 1 } ∷ record { actor = Ren; times = 1 } ∷ record { actor = Op; times = 2 } ∷ record { actor = Ren; times = 3 } ∷ record { actor = Insp; times = 5 } ∷ record { actor = Copy; times = 3 } ∷ record { actor = Insp; times = 1 } ∷ record { actor = Apply; times = 3 } ∷ record { actor = Apply; times = 2 } ∷ []); options = record { chunk_size = 1000; dml_batch_size = 1; default_retries = 1; max_backlog = 100; drain_limit = 2000; client_wait = 2; tool_wait = 30; max_load = 1; turn_limit = 200000; notes = 0; note_every = 100; replica_step = 0; replica_pause = 1; max_lag = 10; resume = false; approve_renamed_columns = true; initially_drop_ghost_table = false; initially_drop_old_table = false; ok_to_drop_table = false; postpone = false; show_history = true; show_turns = true; show_tables = true; show_replies = true } }
 
 abbrev journal_320 : List Entry
 journal_320 =

@@ -32,7 +32,7 @@ abbrev map_after_chunk : List MapColumn
 map_after_chunk = (record { kind = Int 4 false; nullable = false; origin = from.Old 0 } ∷ record { kind = Int 4 false; nullable = true; origin = from.Added Null } ∷ [])
 
 abbrev pub plan_after_chunk : PlanData
-plan_after_chunk = record { table = codes "t"; alter = (clauses.Add (record { name = codes "b"; kind = Int 4 false; nullable = None; default = None; auto = false }) Unsaid ∷ []); tables = (record { schema = record { name = codes "t"; columns = (record { name = codes "id"; kind = Int 4 false; nullable = false; default = None; auto = false } ∷ []); uniques = (record { name = None; places = (0 ∷ []) } ∷ []); indexes = []; comment = []; start = None }; rows = (((Num (pos 1)) ∷ []) ∷ ((Num (pos 2)) ∷ []) ∷ []) } ∷ []); clients = ((record { line = 1; word = (words.Do (statements.Delete (codes "t") (conditions.Equal (record { column = codes "id"; value = (Num (pos 1)) } ∷ [])))) } ∷ []) ∷ []); operator = []; faults = []; turns = (record { actor = Insp; times = 5 } ∷ record { actor = Copy; times = 3 } ∷ record { actor = (Client 1); times = 1 } ∷ record { actor = Copy; times = 2 } ∷ record { actor = (Client 1); times = 1 } ∷ record { actor = Apply; times = 4 } ∷ []); options = record { chunk_size = 1000; dml_batch_size = 10; default_retries = 60; max_backlog = 100; drain_limit = 2000; client_wait = 20000; tool_wait = 2000; max_load = 64; turn_limit = 200000; notes = 0; note_every = 100; replica_step = 0; replica_pause = 1; max_lag = 10; approve_renamed_columns = false; initially_drop_ghost_table = false; initially_drop_old_table = false; ok_to_drop_table = false; postpone = false; show_history = true; show_turns = true; show_tables = true; show_replies = true } }
+plan_after_chunk = record { table = codes "t"; alter = (clauses.Add (record { name = codes "b"; kind = Int 4 false; nullable = None; default = None; auto = false }) Unsaid ∷ []); tables = (record { schema = record { name = codes "t"; columns = (record { name = codes "id"; kind = Int 4 false; nullable = false; default = None; auto = false } ∷ []); uniques = (record { name = None; places = (0 ∷ []) } ∷ []); indexes = []; comment = []; start = None }; rows = (((Num (pos 1)) ∷ []) ∷ ((Num (pos 2)) ∷ []) ∷ []) } ∷ []); clients = ((record { line = 1; word = (words.Do (statements.Delete (codes "t") (conditions.Equal (record { column = codes "id"; value = (Num (pos 1)) } ∷ [])))) } ∷ []) ∷ []); operator = []; faults = []; turns = (record { actor = Insp; times = 5 } ∷ record { actor = Copy; times = 3 } ∷ record { actor = (Client 1); times = 1 } ∷ record { actor = Copy; times = 2 } ∷ record { actor = (Client 1); times = 1 } ∷ record { actor = Apply; times = 4 } ∷ []); options = record { chunk_size = 1000; dml_batch_size = 10; default_retries = 60; max_backlog = 100; drain_limit = 2000; client_wait = 20000; tool_wait = 2000; max_load = 64; turn_limit = 200000; notes = 0; note_every = 100; replica_step = 0; replica_pause = 1; max_lag = 10; resume = false; approve_renamed_columns = false; initially_drop_ghost_table = false; initially_drop_old_table = false; ok_to_drop_table = false; postpone = false; show_history = true; show_turns = true; show_tables = true; show_replies = true } }
 
 abbrev pub journal_after_chunk : List Entry
 journal_after_chunk =
@@ -87,7 +87,7 @@ abbrev map_displaced : List MapColumn
 map_displaced = (record { kind = Int 4 false; nullable = false; origin = from.Old 0 } ∷ record { kind = VarChar 5; nullable = true; origin = from.Old 1 } ∷ record { kind = Int 4 false; nullable = true; origin = from.Added Null } ∷ [])
 
 abbrev plan_displaced : PlanData
-plan_displaced = record { table = codes "t"; alter = (clauses.Add (record { name = codes "b"; kind = Int 4 false; nullable = None; default = None; auto = false }) Unsaid ∷ []); tables = (record { schema = record { name = codes "t"; columns = (record { name = codes "id"; kind = Int 4 false; nullable = false; default = None; auto = false } ∷ record { name = codes "m"; kind = VarChar 5; nullable = true; default = (Some Null); auto = false } ∷ []); uniques = (record { name = None; places = (0 ∷ []) } ∷ record { name = (Some (codes "m")); places = (1 ∷ []) } ∷ []); indexes = []; comment = []; start = None }; rows = (((Num (pos 2)) ∷ (Text (codes "y")) ∷ []) ∷ ((Num (pos 3)) ∷ Null ∷ []) ∷ ((Num (pos 4)) ∷ Null ∷ []) ∷ []) } ∷ []); clients = ((record { line = 1; word = (words.Do (statements.Insert (codes "t") None ((Num (pos 1)) ∷ (Text (codes "x")) ∷ []) None)) } ∷ record { line = 2; word = (words.Do (statements.Delete (codes "t") (conditions.Equal (record { column = codes "id"; value = (Num (pos 1)) } ∷ [])))) } ∷ record { line = 3; word = (words.Do (statements.Update (codes "t") (record { column = codes "m"; value = (Text (codes "x")) } ∷ []) (conditions.Equal (record { column = codes "id"; value = (Num (pos 2)) } ∷ [])))) } ∷ []) ∷ []); operator = []; faults = []; turns = (record { actor = Insp; times = 5 } ∷ record { actor = (Client 1); times = 3 } ∷ record { actor = Copy; times = 6 } ∷ record { actor = Apply; times = 7 } ∷ []); options = record { chunk_size = 1000; dml_batch_size = 10; default_retries = 60; max_backlog = 100; drain_limit = 2000; client_wait = 20000; tool_wait = 2000; max_load = 64; turn_limit = 200000; notes = 0; note_every = 100; replica_step = 0; replica_pause = 1; max_lag = 10; approve_renamed_columns = false; initially_drop_ghost_table = false; initially_drop_old_table = false; ok_to_drop_table = false; postpone = false; show_history = true; show_turns = true; show_tables = true; show_replies = true } }
+plan_displaced = record { table = codes "t"; alter = (clauses.Add (record { name = codes "b"; kind = Int 4 false; nullable = None; default = None; auto = false }) Unsaid ∷ []); tables = (record { schema = record { name = codes "t"; columns = (record { name = codes "id"; kind = Int 4 false; nullable = false; default = None; auto = false } ∷ record { name = codes "m"; kind = VarChar 5; nullable = true; default = (Some Null); auto = false } ∷ []); uniques = (record { name = None; places = (0 ∷ []) } ∷ record { name = (Some (codes "m")); places = (1 ∷ []) } ∷ []); indexes = []; comment = []; start = None }; rows = (((Num (pos 2)) ∷ (Text (codes "y")) ∷ []) ∷ ((Num (pos 3)) ∷ Null ∷ []) ∷ ((Num (pos 4)) ∷ Null ∷ []) ∷ []) } ∷ []); clients = ((record { line = 1; word = (words.Do (statements.Insert (codes "t") None ((Num (pos 1)) ∷ (Text (codes "x")) ∷ []) None)) } ∷ record { line = 2; word = (words.Do (statements.Delete (codes "t") (conditions.Equal (record { column = codes "id"; value = (Num (pos 1)) } ∷ [])))) } ∷ record { line = 3; word = (words.Do (statements.Update (codes "t") (record { column = codes "m"; value = (Text (codes "x")) } ∷ []) (conditions.Equal (record { column = codes "id"; value = (Num (pos 2)) } ∷ [])))) } ∷ []) ∷ []); operator = []; faults = []; turns = (record { actor = Insp; times = 5 } ∷ record { actor = (Client 1); times = 3 } ∷ record { actor = Copy; times = 6 } ∷ record { actor = Apply; times = 7 } ∷ []); options = record { chunk_size = 1000; dml_batch_size = 10; default_retries = 60; max_backlog = 100; drain_limit = 2000; client_wait = 20000; tool_wait = 2000; max_load = 64; turn_limit = 200000; notes = 0; note_every = 100; replica_step = 0; replica_pause = 1; max_lag = 10; resume = false; approve_renamed_columns = false; initially_drop_ghost_table = false; initially_drop_old_table = false; ok_to_drop_table = false; postpone = false; show_history = true; show_turns = true; show_tables = true; show_replies = true } }
 
 abbrev journal_displaced : List Entry
 journal_displaced =
@@ -147,7 +147,7 @@ abbrev map_after_lock : List MapColumn
 map_after_lock = (record { kind = Int 4 false; nullable = false; origin = from.Old 0 } ∷ record { kind = Int 4 false; nullable = false; origin = from.Added (Num (pos 7)) } ∷ [])
 
 abbrev pub plan_after_lock : PlanData
-plan_after_lock = record { table = codes "t"; alter = (clauses.Add (record { name = codes "b"; kind = Int 4 false; nullable = (Some false); default = (Some (Num (pos 7))); auto = false }) Unsaid ∷ []); tables = (record { schema = record { name = codes "t"; columns = (record { name = codes "id"; kind = Int 4 false; nullable = false; default = None; auto = false } ∷ []); uniques = (record { name = None; places = (0 ∷ []) } ∷ []); indexes = []; comment = []; start = None }; rows = (((Num (pos 1)) ∷ []) ∷ []) } ∷ []); clients = ((record { line = 1; word = words.Begin } ∷ record { line = 2; word = (words.Do (statements.Insert (codes "t") None ((Num (pos 2)) ∷ []) None)) } ∷ record { line = 3; word = words.Commit } ∷ []) ∷ (record { line = 1; word = (words.Do (statements.Insert (codes "t") None ((Num (pos 3)) ∷ []) None)) } ∷ []) ∷ []); operator = []; faults = []; turns = (record { actor = Insp; times = 5 } ∷ record { actor = Copy; times = 4 } ∷ record { actor = (Client 1); times = 2 } ∷ record { actor = Lock; times = 2 } ∷ record { actor = (Client 2); times = 1 } ∷ record { actor = (Client 1); times = 1 } ∷ record { actor = Lock; times = 1 } ∷ []); options = record { chunk_size = 1000; dml_batch_size = 10; default_retries = 60; max_backlog = 100; drain_limit = 2000; client_wait = 20000; tool_wait = 2000; max_load = 64; turn_limit = 200000; notes = 0; note_every = 100; replica_step = 0; replica_pause = 1; max_lag = 10; approve_renamed_columns = false; initially_drop_ghost_table = false; initially_drop_old_table = false; ok_to_drop_table = false; postpone = false; show_history = true; show_turns = true; show_tables = true; show_replies = true } }
+plan_after_lock = record { table = codes "t"; alter = (clauses.Add (record { name = codes "b"; kind = Int 4 false; nullable = (Some false); default = (Some (Num (pos 7))); auto = false }) Unsaid ∷ []); tables = (record { schema = record { name = codes "t"; columns = (record { name = codes "id"; kind = Int 4 false; nullable = false; default = None; auto = false } ∷ []); uniques = (record { name = None; places = (0 ∷ []) } ∷ []); indexes = []; comment = []; start = None }; rows = (((Num (pos 1)) ∷ []) ∷ []) } ∷ []); clients = ((record { line = 1; word = words.Begin } ∷ record { line = 2; word = (words.Do (statements.Insert (codes "t") None ((Num (pos 2)) ∷ []) None)) } ∷ record { line = 3; word = words.Commit } ∷ []) ∷ (record { line = 1; word = (words.Do (statements.Insert (codes "t") None ((Num (pos 3)) ∷ []) None)) } ∷ []) ∷ []); operator = []; faults = []; turns = (record { actor = Insp; times = 5 } ∷ record { actor = Copy; times = 4 } ∷ record { actor = (Client 1); times = 2 } ∷ record { actor = Lock; times = 2 } ∷ record { actor = (Client 2); times = 1 } ∷ record { actor = (Client 1); times = 1 } ∷ record { actor = Lock; times = 1 } ∷ []); options = record { chunk_size = 1000; dml_batch_size = 10; default_retries = 60; max_backlog = 100; drain_limit = 2000; client_wait = 20000; tool_wait = 2000; max_load = 64; turn_limit = 200000; notes = 0; note_every = 100; replica_step = 0; replica_pause = 1; max_lag = 10; resume = false; approve_renamed_columns = false; initially_drop_ghost_table = false; initially_drop_old_table = false; ok_to_drop_table = false; postpone = false; show_history = true; show_turns = true; show_tables = true; show_replies = true } }
 
 abbrev pub journal_after_lock : List Entry
 journal_after_lock =
@@ -209,7 +209,7 @@ abbrev map_lost_lock : List MapColumn
 map_lost_lock = (record { kind = Int 4 false; nullable = false; origin = from.Old 0 } ∷ record { kind = Int 4 false; nullable = false; origin = from.Added (Num (pos 7)) } ∷ [])
 
 abbrev pub plan_lost_lock : PlanData
-plan_lost_lock = record { table = codes "t"; alter = (clauses.Add (record { name = codes "b"; kind = Int 4 false; nullable = (Some false); default = (Some (Num (pos 7))); auto = false }) Unsaid ∷ []); tables = (record { schema = record { name = codes "t"; columns = (record { name = codes "id"; kind = Int 4 false; nullable = false; default = None; auto = false } ∷ []); uniques = (record { name = None; places = (0 ∷ []) } ∷ []); indexes = []; comment = []; start = None }; rows = [] } ∷ []); clients = []; operator = []; faults = (losses.Nth Lock 3 sides_at.Before ∷ []); turns = []; options = record { chunk_size = 1000; dml_batch_size = 10; default_retries = 60; max_backlog = 100; drain_limit = 2000; client_wait = 20000; tool_wait = 2000; max_load = 64; turn_limit = 200000; notes = 0; note_every = 100; replica_step = 0; replica_pause = 1; max_lag = 10; approve_renamed_columns = false; initially_drop_ghost_table = false; initially_drop_old_table = false; ok_to_drop_table = false; postpone = false; show_history = true; show_turns = true; show_tables = true; show_replies = true } }
+plan_lost_lock = record { table = codes "t"; alter = (clauses.Add (record { name = codes "b"; kind = Int 4 false; nullable = (Some false); default = (Some (Num (pos 7))); auto = false }) Unsaid ∷ []); tables = (record { schema = record { name = codes "t"; columns = (record { name = codes "id"; kind = Int 4 false; nullable = false; default = None; auto = false } ∷ []); uniques = (record { name = None; places = (0 ∷ []) } ∷ []); indexes = []; comment = []; start = None }; rows = [] } ∷ []); clients = []; operator = []; faults = (losses.Nth Lock 3 sides_at.Before ∷ []); turns = []; options = record { chunk_size = 1000; dml_batch_size = 10; default_retries = 60; max_backlog = 100; drain_limit = 2000; client_wait = 20000; tool_wait = 2000; max_load = 64; turn_limit = 200000; notes = 0; note_every = 100; replica_step = 0; replica_pause = 1; max_lag = 10; resume = false; approve_renamed_columns = false; initially_drop_ghost_table = false; initially_drop_old_table = false; ok_to_drop_table = false; postpone = false; show_history = true; show_turns = true; show_tables = true; show_replies = true } }
 
 abbrev pub journal_lost_lock : List Entry
 journal_lost_lock =
@@ -263,7 +263,7 @@ abbrev map_lost_drop : List MapColumn
 map_lost_drop = (record { kind = Int 4 false; nullable = false; origin = from.Old 0 } ∷ record { kind = Int 4 false; nullable = false; origin = from.Added (Num (pos 7)) } ∷ [])
 
 abbrev pub plan_lost_drop : PlanData
-plan_lost_drop = record { table = codes "t"; alter = (clauses.Add (record { name = codes "b"; kind = Int 4 false; nullable = (Some false); default = (Some (Num (pos 7))); auto = false }) Unsaid ∷ []); tables = (record { schema = record { name = codes "t"; columns = (record { name = codes "id"; kind = Int 4 false; nullable = false; default = None; auto = false } ∷ []); uniques = (record { name = None; places = (0 ∷ []) } ∷ []); indexes = []; comment = []; start = None }; rows = [] } ∷ []); clients = ((record { line = 1; word = (words.Do (statements.Insert (codes "t") (Some (codes "id" ∷ [])) ((Num (pos 4)) ∷ []) None)) } ∷ []) ∷ []); operator = []; faults = (losses.Nth Lock 3 sides_at.After ∷ []); turns = (record { actor = Insp; times = 5 } ∷ record { actor = Lock; times = 2 } ∷ record { actor = (Client 1); times = 1 } ∷ record { actor = Insp; times = 1 } ∷ record { actor = Apply; times = 1 } ∷ record { actor = Ren; times = 1 } ∷ record { actor = Insp; times = 1 } ∷ record { actor = Lock; times = 1 } ∷ record { actor = (Client 1); times = 1 } ∷ record { actor = Ren; times = 1 } ∷ []); options = record { chunk_size = 1000; dml_batch_size = 10; default_retries = 60; max_backlog = 100; drain_limit = 2000; client_wait = 20000; tool_wait = 2000; max_load = 64; turn_limit = 200000; notes = 0; note_every = 100; replica_step = 0; replica_pause = 1; max_lag = 10; approve_renamed_columns = false; initially_drop_ghost_table = false; initially_drop_old_table = false; ok_to_drop_table = false; postpone = false; show_history = true; show_turns = true; show_tables = true; show_replies = true } }
+plan_lost_drop = record { table = codes "t"; alter = (clauses.Add (record { name = codes "b"; kind = Int 4 false; nullable = (Some false); default = (Some (Num (pos 7))); auto = false }) Unsaid ∷ []); tables = (record { schema = record { name = codes "t"; columns = (record { name = codes "id"; kind = Int 4 false; nullable = false; default = None; auto = false } ∷ []); uniques = (record { name = None; places = (0 ∷ []) } ∷ []); indexes = []; comment = []; start = None }; rows = [] } ∷ []); clients = ((record { line = 1; word = (words.Do (statements.Insert (codes "t") (Some (codes "id" ∷ [])) ((Num (pos 4)) ∷ []) None)) } ∷ []) ∷ []); operator = []; faults = (losses.Nth Lock 3 sides_at.After ∷ []); turns = (record { actor = Insp; times = 5 } ∷ record { actor = Lock; times = 2 } ∷ record { actor = (Client 1); times = 1 } ∷ record { actor = Insp; times = 1 } ∷ record { actor = Apply; times = 1 } ∷ record { actor = Ren; times = 1 } ∷ record { actor = Insp; times = 1 } ∷ record { actor = Lock; times = 1 } ∷ record { actor = (Client 1); times = 1 } ∷ record { actor = Ren; times = 1 } ∷ []); options = record { chunk_size = 1000; dml_batch_size = 10; default_retries = 60; max_backlog = 100; drain_limit = 2000; client_wait = 20000; tool_wait = 2000; max_load = 64; turn_limit = 200000; notes = 0; note_every = 100; replica_step = 0; replica_pause = 1; max_lag = 10; resume = false; approve_renamed_columns = false; initially_drop_ghost_table = false; initially_drop_old_table = false; ok_to_drop_table = false; postpone = false; show_history = true; show_turns = true; show_tables = true; show_replies = true } }
 
 abbrev pub journal_lost_drop : List Entry
 journal_lost_drop =
@@ -308,7 +308,7 @@ abbrev map_one_try : List MapColumn
 map_one_try = (record { kind = Int 4 false; nullable = false; origin = from.Old 0 } ∷ record { kind = Int 4 false; nullable = false; origin = from.Added (Num (pos 7)) } ∷ [])
 
 abbrev pub plan_one_try : PlanData
-plan_one_try = record { table = codes "t"; alter = (clauses.Add (record { name = codes "b"; kind = Int 4 false; nullable = (Some false); default = (Some (Num (pos 7))); auto = false }) Unsaid ∷ []); tables = (record { schema = record { name = codes "t"; columns = (record { name = codes "id"; kind = Int 4 false; nullable = false; default = None; auto = false } ∷ []); uniques = (record { name = None; places = (0 ∷ []) } ∷ []); indexes = []; comment = []; start = None }; rows = [] } ∷ []); clients = ((record { line = 1; word = words.Begin } ∷ record { line = 2; word = (words.Do (statements.Select (codes "t") shown.All conditions.All)) } ∷ record { line = 3; word = words.Commit } ∷ []) ∷ []); operator = []; faults = []; turns = (record { actor = Insp; times = 5 } ∷ record { actor = (Client 1); times = 2 } ∷ record { actor = Lock; times = 4 } ∷ []); options = record { chunk_size = 1000; dml_batch_size = 10; default_retries = 1; max_backlog = 100; drain_limit = 2000; client_wait = 20000; tool_wait = 2; max_load = 64; turn_limit = 200000; notes = 0; note_every = 100; replica_step = 0; replica_pause = 1; max_lag = 10; approve_renamed_columns = false; initially_drop_ghost_table = false; initially_drop_old_table = false; ok_to_drop_table = false; postpone = false; show_history = true; show_turns = true; show_tables = true; show_replies = true } }
+plan_one_try = record { table = codes "t"; alter = (clauses.Add (record { name = codes "b"; kind = Int 4 false; nullable = (Some false); default = (Some (Num (pos 7))); auto = false }) Unsaid ∷ []); tables = (record { schema = record { name = codes "t"; columns = (record { name = codes "id"; kind = Int 4 false; nullable = false; default = None; auto = false } ∷ []); uniques = (record { name = None; places = (0 ∷ []) } ∷ []); indexes = []; comment = []; start = None }; rows = [] } ∷ []); clients = ((record { line = 1; word = words.Begin } ∷ record { line = 2; word = (words.Do (statements.Select (codes "t") shown.All conditions.All)) } ∷ record { line = 3; word = words.Commit } ∷ []) ∷ []); operator = []; faults = []; turns = (record { actor = Insp; times = 5 } ∷ record { actor = (Client 1); times = 2 } ∷ record { actor = Lock; times = 4 } ∷ []); options = record { chunk_size = 1000; dml_batch_size = 10; default_retries = 1; max_backlog = 100; drain_limit = 2000; client_wait = 20000; tool_wait = 2; max_load = 64; turn_limit = 200000; notes = 0; note_every = 100; replica_step = 0; replica_pause = 1; max_lag = 10; resume = false; approve_renamed_columns = false; initially_drop_ghost_table = false; initially_drop_old_table = false; ok_to_drop_table = false; postpone = false; show_history = true; show_turns = true; show_tables = true; show_replies = true } }
 
 abbrev pub journal_one_try : List Entry
 journal_one_try =

@@ -35,7 +35,7 @@ abbrev map_3004 : List MapColumn
 map_3004 = (record { kind = Int 4 false; nullable = false; origin = from.Old 0 } ∷ record { kind = Int 4 false; nullable = true; origin = from.Added Null } ∷ [])
 
 abbrev plan_3004 : PlanData
-plan_3004 = record { table = codes "t"; alter = (clauses.Add (record { name = codes "b"; kind = Int 4 false; nullable = None; default = None; auto = false }) Unsaid ∷ []); tables = (record { schema = record { name = codes "t"; columns = (record { name = codes "id"; kind = Int 4 false; nullable = false; default = None; auto = false } ∷ []); uniques = (record { name = None; places = (0 ∷ []) } ∷ []); indexes = []; comment = []; start = None }; rows = (((Num (pos 2)) ∷ []) ∷ ((Num (pos 4)) ∷ []) ∷ ((Num (pos 6)) ∷ []) ∷ []) } ∷ record { schema = record { name = codes "u"; columns = (record { name = codes "id"; kind = Int 8 false; nullable = false; default = None; auto = false } ∷ record { name = codes "m0"; kind = Int 4 false; nullable = true; default = (Some Null); auto = false } ∷ []); uniques = (record { name = None; places = (0 ∷ []) } ∷ record { name = (Some (codes "u0")); places = (0 ∷ 1 ∷ []) } ∷ []); indexes = []; comment = []; start = None }; rows = (((Num (pos 3)) ∷ (Num (pos 2)) ∷ []) ∷ []) } ∷ []); clients = ((record { line = 1; word = (words.Do (statements.Insert (codes "t") None ((Num (pos 3)) ∷ []) None)) } ∷ record { line = 2; word = (words.Do (statements.Select (codes "u") shown.Count (conditions.Equal (record { column = codes "id"; value = (Num (pos 6)) } ∷ [])))) } ∷ record { line = 3; word = (words.Do (statements.Update (codes "t") (record { column = codes "id"; value = (Num (pos 1)) } ∷ []) (conditions.Equal (record { column = codes "id"; value = (Num (pos 4)) } ∷ [])))) } ∷ record { line = 4; word = (words.Do (statements.Update (codes "t") (record { column = codes "id"; value = (Num (pos 4)) } ∷ []) (conditions.Equal (record { column = codes "id"; value = (Num (pos 3)) } ∷ [])))) } ∷ []) ∷ []); operator = []; faults = (losses.Nth Insp 5 sides_at.Before ∷ []); turns = []; options = record { chunk_size = 2; dml_batch_size = 2; default_retries = 60; max_backlog = 100; drain_limit = 2; client_wait = 3; tool_wait = 3; max_load = 0; turn_limit = 200000; notes = 0; note_every = 100; replica_step = 0; replica_pause = 1; max_lag = 10; approve_renamed_columns = true; initially_drop_ghost_table = false; initially_drop_old_table = false; ok_to_drop_table = false; postpone = false; show_history = true; show_turns = true; show_tables = true; show_replies = true } }
+plan_3004 = record { table = codes "t"; alter = (clauses.Add (record { name = codes "b"; kind = Int 4 false; nullable = None; default = None; auto = false }) Unsaid ∷ []); tables = (record { schema = record { name = codes "t"; columns = (record { name = codes "id"; kind = Int 4 false; nullable = false; default = None; auto = false } ∷ []); uniques = (record { name = None; places = (0 ∷ []) } ∷ []); indexes = []; comment = []; start = None }; rows = (((Num (pos 2)) ∷ []) ∷ ((Num (pos 4)) ∷ []) ∷ ((Num (pos 6)) ∷ []) ∷ []) } ∷ record { schema = record { name = codes "u"; columns = (record { name = codes "id"; kind = Int 8 false; nullable = false; default = None; auto = false } ∷ record { name = codes "m0"; kind = Int 4 false; nullable = true; default = (Some Null); auto = false } ∷ []); uniques = (record { name = None; places = (0 ∷ []) } ∷ record { name = (Some (codes "u0")); places = (0 ∷ 1 ∷ []) } ∷ []); indexes = []; comment = []; start = None }; rows = (((Num (pos 3)) ∷ (Num (pos 2)) ∷ []) ∷ []) } ∷ []); clients = ((record { line = 1; word = (words.Do (statements.Insert (codes "t") None ((Num (pos 3)) ∷ []) None)) } ∷ record { line = 2; word = (words.Do (statements.Select (codes "u") shown.Count (conditions.Equal (record { column = codes "id"; value = (Num (pos 6)) } ∷ [])))) } ∷ record { line = 3; word = (words.Do (statements.Update (codes "t") (record { column = codes "id"; value = (Num (pos 1)) } ∷ []) (conditions.Equal (record { column = codes "id"; value = (Num (pos 4)) } ∷ [])))) } ∷ record { line = 4; word = (words.Do (statements.Update (codes "t") (record { column = codes "id"; value = (Num (pos 4)) } ∷ []) (conditions.Equal (record { column = codes "id"; value = (Num (pos 3)) } ∷ [])))) } ∷ []) ∷ []); operator = []; faults = (losses.Nth Insp 5 sides_at.Before ∷ []); turns = []; options = record { chunk_size = 2; dml_batch_size = 2; default_retries = 60; max_backlog = 100; drain_limit = 2; client_wait = 3; tool_wait = 3; max_load = 0; turn_limit = 200000; notes = 0; note_every = 100; replica_step = 0; replica_pause = 1; max_lag = 10; resume = false; approve_renamed_columns = true; initially_drop_ghost_table = false; initially_drop_old_table = false; ok_to_drop_table = false; postpone = false; show_history = true; show_turns = true; show_tables = true; show_replies = true } }
 
 abbrev journal_3004 : List Entry
 journal_3004 =
@@ -100,7 +100,7 @@ abbrev map_3005 : List MapColumn
 map_3005 = (record { kind = Int 1 false; nullable = true; origin = from.Old 0 } ∷ record { kind = Int 1 false; nullable = false; origin = from.Old 1 } ∷ record { kind = Int 8 false; nullable = false; origin = from.Old 2 } ∷ [])
 
 abbrev plan_3005 : PlanData
-plan_3005 = record { table = codes "t"; alter = (clauses.Change (codes "v") (record { name = codes "v"; kind = Int 1 false; nullable = (Some false); default = None; auto = false }) Unsaid ∷ []); tables = (record { schema = record { name = codes "_t_gho"; columns = (record { name = codes "id"; kind = Int 4 false; nullable = false; default = None; auto = false } ∷ []); uniques = (record { name = None; places = (0 ∷ []) } ∷ []); indexes = []; comment = []; start = None }; rows = [] } ∷ record { schema = record { name = codes "t"; columns = (record { name = codes "m0"; kind = Int 1 false; nullable = true; default = (Some Null); auto = false } ∷ record { name = codes "v"; kind = Int 4 false; nullable = false; default = None; auto = false } ∷ record { name = codes "id"; kind = Int 8 false; nullable = false; default = None; auto = false } ∷ []); uniques = (record { name = None; places = (2 ∷ []) } ∷ record { name = (Some (codes "u0")); places = (0 ∷ []) } ∷ []); indexes = []; comment = []; start = None }; rows = (((Num (pos 5)) ∷ (Num (pos 7)) ∷ (Num (pos 1)) ∷ []) ∷ ((Num (pos 6)) ∷ (Num (pos 300)) ∷ (Num (pos 5)) ∷ []) ∷ ((Num (pos 3)) ∷ (Num (pos 4)) ∷ (Num (pos 7)) ∷ []) ∷ []) } ∷ []); clients = ((record { line = 1; word = (words.Do (statements.Select (codes "t") shown.Count (conditions.Range (record { column = codes "id"; sign = signs.AtMost; value = (Num (pos 6)) } ∷ [])))) } ∷ record { line = 2; word = words.Begin } ∷ record { line = 3; word = (words.Do (statements.Replace (codes "t") (Some (codes "m0" ∷ codes "v" ∷ codes "id" ∷ [])) (Null ∷ (Num (pos 2)) ∷ (Num (pos 6)) ∷ []) None)) } ∷ record { line = 4; word = (words.Do (statements.Delete (codes "t") (conditions.Equal (record { column = codes "id"; value = (Num (pos 4)) } ∷ [])))) } ∷ record { line = 5; word = words.Commit } ∷ []) ∷ (record { line = 1; word = (words.Do (statements.Insert (codes "t") (Some (codes "m0" ∷ codes "v" ∷ codes "id" ∷ [])) ((Num (pos 3)) ∷ (Num (pos 1)) ∷ (Num (pos 6)) ∷ []) None)) } ∷ record { line = 2; word = words.Begin } ∷ record { line = 3; word = words.Commit } ∷ record { line = 4; word = (words.Do (statements.Replace (codes "t") (Some (codes "v" ∷ codes "id" ∷ [])) ((Text (codes "3")) ∷ (Num (pos 2)) ∷ []) None)) } ∷ record { line = 5; word = (words.Do (statements.Replace (codes "t") None ((Num (pos 7)) ∷ (Num (pos 1)) ∷ (Num (pos 2)) ∷ []) None)) } ∷ record { line = 6; word = words.Begin } ∷ record { line = 7; word = (words.Do (statements.Insert (codes "t") (Some (codes "m0" ∷ codes "v" ∷ codes "id" ∷ [])) ((Num (pos 3)) ∷ (Num (pos 2)) ∷ (Num (pos 3)) ∷ []) None)) } ∷ record { line = 8; word = words.Commit } ∷ []) ∷ (record { line = 1; word = (words.Do (statements.Select (codes "t") (shown.Columns (codes "m0" ∷ [])) (conditions.Equal (record { column = codes "id"; value = (Num (pos 6)) } ∷ [])))) } ∷ record { line = 2; word = words.Begin } ∷ record { line = 3; word = (words.Do (statements.Select (codes "t") (shown.Columns (codes "m0" ∷ [])) (conditions.Equal (record { column = codes "m0"; value = (Num (pos 1)) } ∷ [])))) } ∷ record { line = 4; word = (words.Do (statements.Update (codes "t") (record { column = codes "m0"; value = Null } ∷ record { column = codes "v"; value = (Num (pos 300)) } ∷ []) (conditions.Equal (record { column = codes "m0"; value = (Num (pos 5)) } ∷ [])))) } ∷ record { line = 5; word = (words.Do (statements.Replace (codes "t") None ((Num (pos 3)) ∷ (Num (pos 7)) ∷ (Num (pos 1)) ∷ []) None)) } ∷ record { line = 6; word = words.Commit } ∷ []) ∷ []); operator = []; faults = (losses.Turn 23 Apply ∷ []); turns = []; options = record { chunk_size = 5; dml_batch_size = 3; default_retries = 5; max_backlog = 1; drain_limit = 2; client_wait = 1; tool_wait = 3; max_load = 64; turn_limit = 200000; notes = 0; note_every = 100; replica_step = 0; replica_pause = 1; max_lag = 10; approve_renamed_columns = true; initially_drop_ghost_table = true; initially_drop_old_table = false; ok_to_drop_table = false; postpone = false; show_history = true; show_turns = true; show_tables = true; show_replies = true } }
+plan_3005 = record { table = codes "t"; alter = (clauses.Change (codes "v") (record { name = codes "v"; kind = Int 1 false; nullable = (Some false); default = None; auto = false }) Unsaid ∷ []); tables = (record { schema = record { name = codes "_t_gho"; columns = (record { name = codes "id"; kind = Int 4 false; nullable = false; default = None; auto = false } ∷ []); uniques = (record { name = None; places = (0 ∷ []) } ∷ []); indexes = []; comment = []; start = None }; rows = [] } ∷ record { schema = record { name = codes "t"; columns = (record { name = codes "m0"; kind = Int 1 false; nullable = true; default = (Some Null); auto = false } ∷ record { name = codes "v"; kind = Int 4 false; nullable = false; default = None; auto = false } ∷ record { name = codes "id"; kind = Int 8 false; nullable = false; default = None; auto = false } ∷ []); uniques = (record { name = None; places = (2 ∷ []) } ∷ record { name = (Some (codes "u0")); places = (0 ∷ []) } ∷ []); indexes = []; comment = []; start = None }; rows = (((Num (pos 5)) ∷ (Num (pos 7)) ∷ (Num (pos 1)) ∷ []) ∷ ((Num (pos 6)) ∷ (Num (pos 300)) ∷ (Num (pos 5)) ∷ []) ∷ ((Num (pos 3)) ∷ (Num (pos 4)) ∷ (Num (pos 7)) ∷ []) ∷ []) } ∷ []); clients = ((record { line = 1; word = (words.Do (statements.Select (codes "t") shown.Count (conditions.Range (record { column = codes "id"; sign = signs.AtMost; value = (Num (pos 6)) } ∷ [])))) } ∷ record { line = 2; word = words.Begin } ∷ record { line = 3; word = (words.Do (statements.Replace (codes "t") (Some (codes "m0" ∷ codes "v" ∷ codes "id" ∷ [])) (Null ∷ (Num (pos 2)) ∷ (Num (pos 6)) ∷ []) None)) } ∷ record { line = 4; word = (words.Do (statements.Delete (codes "t") (conditions.Equal (record { column = codes "id"; value = (Num (pos 4)) } ∷ [])))) } ∷ record { line = 5; word = words.Commit } ∷ []) ∷ (record { line = 1; word = (words.Do (statements.Insert (codes "t") (Some (codes "m0" ∷ codes "v" ∷ codes "id" ∷ [])) ((Num (pos 3)) ∷ (Num (pos 1)) ∷ (Num (pos 6)) ∷ []) None)) } ∷ record { line = 2; word = words.Begin } ∷ record { line = 3; word = words.Commit } ∷ record { line = 4; word = (words.Do (statements.Replace (codes "t") (Some (codes "v" ∷ codes "id" ∷ [])) ((Text (codes "3")) ∷ (Num (pos 2)) ∷ []) None)) } ∷ record { line = 5; word = (words.Do (statements.Replace (codes "t") None ((Num (pos 7)) ∷ (Num (pos 1)) ∷ (Num (pos 2)) ∷ []) None)) } ∷ record { line = 6; word = words.Begin } ∷ record { line = 7; word = (words.Do (statements.Insert (codes "t") (Some (codes "m0" ∷ codes "v" ∷ codes "id" ∷ [])) ((Num (pos 3)) ∷ (Num (pos 2)) ∷ (Num (pos 3)) ∷ []) None)) } ∷ record { line = 8; word = words.Commit } ∷ []) ∷ (record { line = 1; word = (words.Do (statements.Select (codes "t") (shown.Columns (codes "m0" ∷ [])) (conditions.Equal (record { column = codes "id"; value = (Num (pos 6)) } ∷ [])))) } ∷ record { line = 2; word = words.Begin } ∷ record { line = 3; word = (words.Do (statements.Select (codes "t") (shown.Columns (codes "m0" ∷ [])) (conditions.Equal (record { column = codes "m0"; value = (Num (pos 1)) } ∷ [])))) } ∷ record { line = 4; word = (words.Do (statements.Update (codes "t") (record { column = codes "m0"; value = Null } ∷ record { column = codes "v"; value = (Num (pos 300)) } ∷ []) (conditions.Equal (record { column = codes "m0"; value = (Num (pos 5)) } ∷ [])))) } ∷ record { line = 5; word = (words.Do (statements.Replace (codes "t") None ((Num (pos 3)) ∷ (Num (pos 7)) ∷ (Num (pos 1)) ∷ []) None)) } ∷ record { line = 6; word = words.Commit } ∷ []) ∷ []); operator = []; faults = (losses.Turn 23 Apply ∷ []); turns = []; options = record { chunk_size = 5; dml_batch_size = 3; default_retries = 5; max_backlog = 1; drain_limit = 2; client_wait = 1; tool_wait = 3; max_load = 64; turn_limit = 200000; notes = 0; note_every = 100; replica_step = 0; replica_pause = 1; max_lag = 10; resume = false; approve_renamed_columns = true; initially_drop_ghost_table = true; initially_drop_old_table = false; ok_to_drop_table = false; postpone = false; show_history = true; show_turns = true; show_tables = true; show_replies = true } }
 
 abbrev journal_3005 : List Entry
 journal_3005 =
@@ -173,7 +173,7 @@ abbrev map_3006 : List MapColumn
 map_3006 = (record { kind = VarChar 4; nullable = true; origin = from.Added (Text (codes "n")) } ∷ record { kind = VarChar 9; nullable = false; origin = from.Old 0 } ∷ record { kind = VarChar 3; nullable = true; origin = from.Old 1 } ∷ record { kind = VarChar 3; nullable = true; origin = from.Old 2 } ∷ record { kind = Int 4 false; nullable = true; origin = from.Old 3 } ∷ [])
 
 abbrev plan_3006 : PlanData
-plan_3006 = record { table = codes "t"; alter = (clauses.Change (codes "id") (record { name = codes "id"; kind = VarChar 9; nullable = (Some false); default = None; auto = false }) Unsaid ∷ clauses.Add (record { name = codes "b"; kind = VarChar 4; nullable = None; default = (Some (Text (codes "n"))); auto = false }) First ∷ []); tables = (record { schema = record { name = codes "t"; columns = (record { name = codes "id"; kind = VarChar 3; nullable = false; default = None; auto = false } ∷ record { name = codes "m0"; kind = VarChar 3; nullable = true; default = (Some Null); auto = false } ∷ record { name = codes "m1"; kind = VarChar 3; nullable = true; default = (Some (Text (codes "1"))); auto = false } ∷ record { name = codes "v"; kind = Int 4 false; nullable = true; default = (Some (Num (pos 5))); auto = false } ∷ []); uniques = (record { name = None; places = (0 ∷ []) } ∷ record { name = (Some (codes "u0")); places = (1 ∷ []) } ∷ record { name = (Some (codes "u1")); places = (2 ∷ []) } ∷ []); indexes = []; comment = []; start = None }; rows = (((Text (codes "6")) ∷ (Text (codes "a")) ∷ (Text (codes "2")) ∷ (Num (pos 5)) ∷ []) ∷ ((Text (codes "b")) ∷ (Text (codes "g")) ∷ Null ∷ (Num (pos 6)) ∷ []) ∷ ((Text (codes "c")) ∷ Null ∷ Null ∷ (Num (pos 2)) ∷ []) ∷ ((Text (codes "d")) ∷ (Text (codes "b")) ∷ (Text (codes "a")) ∷ (Num (pos 1)) ∷ []) ∷ ((Text (codes "e")) ∷ (Text (codes "e")) ∷ (Text (codes "e")) ∷ (Num (pos 7)) ∷ []) ∷ []) } ∷ []); clients = ((record { line = 1; word = words.Begin } ∷ record { line = 2; word = (words.Do (statements.Replace (codes "t") (Some (codes "id" ∷ codes "m0" ∷ codes "m1" ∷ codes "v" ∷ [])) ((Text (codes "d")) ∷ (Num (pos 4)) ∷ (Text (codes "a")) ∷ (Num (pos 7)) ∷ []) None)) } ∷ record { line = 3; word = (words.Do (statements.Delete (codes "t") (conditions.Equal (record { column = codes "id"; value = (Text (codes "e")) } ∷ [])))) } ∷ record { line = 4; word = words.Commit } ∷ record { line = 5; word = (words.Do (statements.Insert (codes "t") (Some (codes "id" ∷ codes "m1" ∷ codes "v" ∷ [])) ((Text (codes "d")) ∷ (Num (pos 6)) ∷ (Num (pos 1)) ∷ []) None)) } ∷ []) ∷ []); operator = (record { word = commanded.NoThrottle; units = 1 } ∷ []); faults = (losses.Nth Op 17 sides_at.Before ∷ losses.Turn 44 (Client 1) ∷ losses.Nth Apply 1 sides_at.Before ∷ losses.Nth (Client 1) 2 sides_at.Before ∷ losses.Nth Lock 5 sides_at.Before ∷ losses.Nth Lock 4 sides_at.Before ∷ []); turns = (record { actor = Op; times = 5 } ∷ record { actor = Insp; times = 5 } ∷ record { actor = Apply; times = 5 } ∷ record { actor = Op; times = 1 } ∷ record { actor = Insp; times = 3 } ∷ record { actor = Copy; times = 5 } ∷ record { actor = Apply; times = 1 } ∷ record { actor = Insp; times = 1 } ∷ record { actor = Lock; times = 2 } ∷ record { actor = (Client 1); times = 5 } ∷ record { actor = Insp; times = 1 } ∷ record { actor = Op; times = 1 } ∷ record { actor = Ren; times = 1 } ∷ record { actor = Copy; times = 5 } ∷ record { actor = Apply; times = 1 } ∷ record { actor = (Client 1); times = 1 } ∷ record { actor = Copy; times = 1 } ∷ record { actor = Apply; times = 1 } ∷ record { actor = Insp; times = 1 } ∷ record { actor = Insp; times = 1 } ∷ record { actor = (Client 1); times = 1 } ∷ record { actor = Copy; times = 3 } ∷ record { actor = Ren; times = 1 } ∷ record { actor = Apply; times = 1 } ∷ record { actor = Copy; times = 1 } ∷ record { actor = Apply; times = 2 } ∷ record { actor = (Client 1); times = 2 } ∷ record { actor = Op; times = 5 } ∷ record { actor = Apply; times = 5 } ∷ record { actor = Ren; times = 3 } ∷ record { actor = Apply; times = 5 } ∷ record { actor = Ren; times = 5 } ∷ record { actor = Op; times = 1 } ∷ record { actor = Copy; times = 1 } ∷ record { actor = Op; times = 1 } ∷ record { actor = Op; times = 3 } ∷ record { actor = Lock; times = 1 } ∷ record { actor = Copy; times = 1 } ∷ record { actor = Lock; times = 1 } ∷ record { actor = Op; times = 3 } ∷ record { actor = Copy; times = 1 } ∷ record { actor = Apply; times = 1 } ∷ record { actor = Lock; times = 3 } ∷ record { actor = Op; times = 2 } ∷ []); options = record { chunk_size = 1000; dml_batch_size = 2; default_retries = 1; max_backlog = 100; drain_limit = 2000; client_wait = 30; tool_wait = 3; max_load = 64; turn_limit = 200000; notes = 0; note_every = 100; replica_step = 0; replica_pause = 1; max_lag = 10; approve_renamed_columns = true; initially_drop_ghost_table = false; initially_drop_old_table = false; ok_to_drop_table = false; postpone = false; show_history = true; show_turns = true; show_tables = true; show_replies = true } }
+plan_3006 = record { table = codes "t"; alter = (clauses.Change (codes "id") (record { name = codes "id"; kind = VarChar 9; nullable = (Some false); default = None; auto = false }) Unsaid ∷ clauses.Add (record { name = codes "b"; kind = VarChar 4; nullable = None; default = (Some (Text (codes "n"))); auto = false }) First ∷ []); tables = (record { schema = record { name = codes "t"; columns = (record { name = codes "id"; kind = VarChar 3; nullable = false; default = None; auto = false } ∷ record { name = codes "m0"; kind = VarChar 3; nullable = true; default = (Some Null); auto = false } ∷ record { name = codes "m1"; kind = VarChar 3; nullable = true; default = (Some (Text (codes "1"))); auto = false } ∷ record { name = codes "v"; kind = Int 4 false; nullable = true; default = (Some (Num (pos 5))); auto = false } ∷ []); uniques = (record { name = None; places = (0 ∷ []) } ∷ record { name = (Some (codes "u0")); places = (1 ∷ []) } ∷ record { name = (Some (codes "u1")); places = (2 ∷ []) } ∷ []); indexes = []; comment = []; start = None }; rows = (((Text (codes "6")) ∷ (Text (codes "a")) ∷ (Text (codes "2")) ∷ (Num (pos 5)) ∷ []) ∷ ((Text (codes "b")) ∷ (Text (codes "g")) ∷ Null ∷ (Num (pos 6)) ∷ []) ∷ ((Text (codes "c")) ∷ Null ∷ Null ∷ (Num (pos 2)) ∷ []) ∷ ((Text (codes "d")) ∷ (Text (codes "b")) ∷ (Text (codes "a")) ∷ (Num (pos 1)) ∷ []) ∷ ((Text (codes "e")) ∷ (Text (codes "e")) ∷ (Text (codes "e")) ∷ (Num (pos 7)) ∷ []) ∷ []) } ∷ []); clients = ((record { line = 1; word = words.Begin } ∷ record { line = 2; word = (words.Do (statements.Replace (codes "t") (Some (codes "id" ∷ codes "m0" ∷ codes "m1" ∷ codes "v" ∷ [])) ((Text (codes "d")) ∷ (Num (pos 4)) ∷ (Text (codes "a")) ∷ (Num (pos 7)) ∷ []) None)) } ∷ record { line = 3; word = (words.Do (statements.Delete (codes "t") (conditions.Equal (record { column = codes "id"; value = (Text (codes "e")) } ∷ [])))) } ∷ record { line = 4; word = words.Commit } ∷ record { line = 5; word = (words.Do (statements.Insert (codes "t") (Some (codes "id" ∷ codes "m1" ∷ codes "v" ∷ [])) ((Text (codes "d")) ∷ (Num (pos 6)) ∷ (Num (pos 1)) ∷ []) None)) } ∷ []) ∷ []); operator = (record { word = commanded.NoThrottle; units = 1 } ∷ []); faults = (losses.Nth Op 17 sides_at.Before ∷ losses.Turn 44 (Client 1) ∷ losses.Nth Apply 1 sides_at.Before ∷ losses.Nth (Client 1) 2 sides_at.Before ∷ losses.Nth Lock 5 sides_at.Before ∷ losses.Nth Lock 4 sides_at.Before ∷ []); turns = (record { actor = Op; times = 5 } ∷ record { actor = Insp; times = 5 } ∷ record { actor = Apply; times = 5 } ∷ record { actor = Op; times = 1 } ∷ record { actor = Insp; times = 3 } ∷ record { actor = Copy; times = 5 } ∷ record { actor = Apply; times = 1 } ∷ record { actor = Insp; times = 1 } ∷ record { actor = Lock; times = 2 } ∷ record { actor = (Client 1); times = 5 } ∷ record { actor = Insp; times = 1 } ∷ record { actor = Op; times = 1 } ∷ record { actor = Ren; times = 1 } ∷ record { actor = Copy; times = 5 } ∷ record { actor = Apply; times = 1 } ∷ record { actor = (Client 1); times = 1 } ∷ record { actor = Copy; times = 1 } ∷ record { actor = Apply; times = 1 } ∷ record { actor = Insp; times = 1 } ∷ record { actor = Insp; times = 1 } ∷ record { actor = (Client 1); times = 1 } ∷ record { actor = Copy; times = 3 } ∷ record { actor = Ren; times = 1 } ∷ record { actor = Apply; times = 1 } ∷ record { actor = Copy; times = 1 } ∷ record { actor = Apply; times = 2 } ∷ record { actor = (Client 1); times = 2 } ∷ record { actor = Op; times = 5 } ∷ record { actor = Apply; times = 5 } ∷ record { actor = Ren; times = 3 } ∷ record { actor = Apply; times = 5 } ∷ record { actor = Ren; times = 5 } ∷ record { actor = Op; times = 1 } ∷ record { actor = Copy; times = 1 } ∷ record { actor = Op; times = 1 } ∷ record { actor = Op; times = 3 } ∷ record { actor = Lock; times = 1 } ∷ record { actor = Copy; times = 1 } ∷ record { actor = Lock; times = 1 } ∷ record { actor = Op; times = 3 } ∷ record { actor = Copy; times = 1 } ∷ record { actor = Apply; times = 1 } ∷ record { actor = Lock; times = 3 } ∷ record { actor = Op; times = 2 } ∷ []); options = record { chunk_size = 1000; dml_batch_size = 2; default_retries = 1; max_backlog = 100; drain_limit = 2000; client_wait = 30; tool_wait = 3; max_load = 64; turn_limit = 200000; notes = 0; note_every = 100; replica_step = 0; replica_pause = 1; max_lag = 10; resume = false; approve_renamed_columns = true; initially_drop_ghost_table = false; initially_drop_old_table = false; ok_to_drop_table = false; postpone = false; show_history = true; show_turns = true; show_tables = true; show_replies = true } }
 
 abbrev journal_3006 : List Entry
 journal_3006 =
@@ -223,7 +223,7 @@ abbrev map_3012 : List MapColumn
 map_3012 = (record { kind = Int 4 false; nullable = false; origin = from.Old 0 } ∷ record { kind = Int 4 false; nullable = true; origin = from.Old 1 } ∷ record { kind = Int 4 false; nullable = true; origin = from.Old 2 } ∷ record { kind = Int 4 false; nullable = true; origin = from.Added Null } ∷ [])
 
 abbrev plan_3012 : PlanData
-plan_3012 = record { table = codes "t"; alter = (clauses.Add (record { name = codes "b"; kind = Int 4 false; nullable = None; default = None; auto = false }) Unsaid ∷ []); tables = (record { schema = record { name = codes "t"; columns = (record { name = codes "id"; kind = Int 4 false; nullable = false; default = None; auto = false } ∷ record { name = codes "m"; kind = Int 4 false; nullable = true; default = (Some Null); auto = false } ∷ record { name = codes "v"; kind = Int 4 false; nullable = true; default = (Some Null); auto = false } ∷ []); uniques = (record { name = None; places = (0 ∷ []) } ∷ record { name = (Some (codes "u0")); places = (1 ∷ []) } ∷ []); indexes = []; comment = []; start = None }; rows = (((Num (pos 1)) ∷ (Num (pos 1)) ∷ (Num (pos 5)) ∷ []) ∷ ((Num (pos 2)) ∷ (Num (pos 3)) ∷ (Num (pos 5)) ∷ []) ∷ []) } ∷ []); clients = ((record { line = 1; word = (words.Do (statements.Update (codes "t") (record { column = codes "m"; value = Null } ∷ []) (conditions.Equal (record { column = codes "id"; value = (Num (pos 3)) } ∷ [])))) } ∷ record { line = 2; word = (words.Do (statements.Update (codes "t") (record { column = codes "m"; value = (Num (pos 2)) } ∷ []) (conditions.Equal (record { column = codes "id"; value = (Num (pos 1)) } ∷ [])))) } ∷ record { line = 3; word = (words.Do (statements.Update (codes "t") (record { column = codes "id"; value = (Num (pos 4)) } ∷ []) (conditions.Equal (record { column = codes "id"; value = (Num (pos 3)) } ∷ [])))) } ∷ record { line = 4; word = (words.Do (statements.Update (codes "t") (record { column = codes "id"; value = (Num (pos 4)) } ∷ []) (conditions.Equal (record { column = codes "id"; value = (Num (pos 3)) } ∷ [])))) } ∷ record { line = 5; word = (words.Do (statements.Update (codes "t") (record { column = codes "id"; value = (Num (pos 6)) } ∷ []) (conditions.Equal (record { column = codes "m"; value = (Num (pos 2)) } ∷ [])))) } ∷ record { line = 6; word = (words.Do (statements.Update (codes "t") (record { column = codes "m"; value = (Num (pos 3)) } ∷ []) (conditions.Equal (record { column = codes "id"; value = (Num (pos 6)) } ∷ [])))) } ∷ []) ∷ []); operator = []; faults = []; turns = (record { actor = Insp; times = 4 } ∷ record { actor = Insp; times = 2 } ∷ record { actor = Copy; times = 9 } ∷ record { actor = (Client 1); times = 1 } ∷ record { actor = (Client 1); times = 1 } ∷ record { actor = Copy; times = 3 } ∷ record { actor = Apply; times = 4 } ∷ record { actor = Apply; times = 4 } ∷ record { actor = Copy; times = 9 } ∷ record { actor = (Client 1); times = 6 } ∷ record { actor = (Client 1); times = 1 } ∷ record { actor = (Client 1); times = 6 } ∷ record { actor = (Client 1); times = 3 } ∷ record { actor = Copy; times = 1 } ∷ record { actor = Apply; times = 3 } ∷ record { actor = (Client 1); times = 1 } ∷ record { actor = Apply; times = 3 } ∷ record { actor = (Client 1); times = 9 } ∷ record { actor = (Client 1); times = 3 } ∷ record { actor = (Client 1); times = 9 } ∷ record { actor = (Client 1); times = 9 } ∷ record { actor = (Client 1); times = 1 } ∷ record { actor = Apply; times = 3 } ∷ record { actor = (Client 1); times = 4 } ∷ record { actor = (Client 1); times = 2 } ∷ record { actor = (Client 1); times = 4 } ∷ record { actor = (Client 1); times = 2 } ∷ record { actor = (Client 1); times = 9 } ∷ record { actor = (Client 1); times = 1 } ∷ record { actor = (Client 1); times = 6 } ∷ record { actor = (Client 1); times = 2 } ∷ record { actor = Apply; times = 3 } ∷ record { actor = (Client 1); times = 1 } ∷ record { actor = (Client 1); times = 1 } ∷ record { actor = Copy; times = 1 } ∷ record { actor = (Client 1); times = 2 } ∷ record { actor = (Client 1); times = 9 } ∷ record { actor = Copy; times = 3 } ∷ record { actor = (Client 1); times = 1 } ∷ record { actor = (Client 1); times = 4 } ∷ record { actor = Apply; times = 6 } ∷ []); options = record { chunk_size = 3; dml_batch_size = 3; default_retries = 60; max_backlog = 100; drain_limit = 2000; client_wait = 20; tool_wait = 30; max_load = 64; turn_limit = 200000; notes = 0; note_every = 100; replica_step = 0; replica_pause = 1; max_lag = 10; approve_renamed_columns = false; initially_drop_ghost_table = false; initially_drop_old_table = false; ok_to_drop_table = false; postpone = false; show_history = true; show_turns = true; show_tables = true; show_replies = true } }
+plan_3012 = record { table = codes "t"; alter = (clauses.Add (record { name = codes "b"; kind = Int 4 false; nullable = None; default = None; auto = false }) Unsaid ∷ []); tables = (record { schema = record { name = codes "t"; columns = (record { name = codes "id"; kind = Int 4 false; nullable = false; default = None; auto = false } ∷ record { name = codes "m"; kind = Int 4 false; nullable = true; default = (Some Null); auto = false } ∷ record { name = codes "v"; kind = Int 4 false; nullable = true; default = (Some Null); auto = false } ∷ []); uniques = (record { name = None; places = (0 ∷ []) } ∷ record { name = (Some (codes "u0")); places = (1 ∷ []) } ∷ []); indexes = []; comment = []; start = None }; rows = (((Num (pos 1)) ∷ (Num (pos 1)) ∷ (Num (pos 5)) ∷ []) ∷ ((Num (pos 2)) ∷ (Num (pos 3)) ∷ (Num (pos 5)) ∷ []) ∷ []) } ∷ []); clients = ((record { line = 1; word = (words.Do (statements.Update (codes "t") (record { column = codes "m"; value = Null } ∷ []) (conditions.Equal (record { column = codes "id"; value = (Num (pos 3)) } ∷ [])))) } ∷ record { line = 2; word = (words.Do (statements.Update (codes "t") (record { column = codes "m"; value = (Num (pos 2)) } ∷ []) (conditions.Equal (record { column = codes "id"; value = (Num (pos 1)) } ∷ [])))) } ∷ record { line = 3; word = (words.Do (statements.Update (codes "t") (record { column = codes "id"; value = (Num (pos 4)) } ∷ []) (conditions.Equal (record { column = codes "id"; value = (Num (pos 3)) } ∷ [])))) } ∷ record { line = 4; word = (words.Do (statements.Update (codes "t") (record { column = codes "id"; value = (Num (pos 4)) } ∷ []) (conditions.Equal (record { column = codes "id"; value = (Num (pos 3)) } ∷ [])))) } ∷ record { line = 5; word = (words.Do (statements.Update (codes "t") (record { column = codes "id"; value = (Num (pos 6)) } ∷ []) (conditions.Equal (record { column = codes "m"; value = (Num (pos 2)) } ∷ [])))) } ∷ record { line = 6; word = (words.Do (statements.Update (codes "t") (record { column = codes "m"; value = (Num (pos 3)) } ∷ []) (conditions.Equal (record { column = codes "id"; value = (Num (pos 6)) } ∷ [])))) } ∷ []) ∷ []); operator = []; faults = []; turns = (record { actor = Insp; times = 4 } ∷ record { actor = Insp; times = 2 } ∷ record { actor = Copy; times = 9 } ∷ record { actor = (Client 1); times = 1 } ∷ record { actor = (Client 1); times = 1 } ∷ record { actor = Copy; times = 3 } ∷ record { actor = Apply; times = 4 } ∷ record { actor = Apply; times = 4 } ∷ record { actor = Copy; times = 9 } ∷ record { actor = (Client 1); times = 6 } ∷ record { actor = (Client 1); times = 1 } ∷ record { actor = (Client 1); times = 6 } ∷ record { actor = (Client 1); times = 3 } ∷ record { actor = Copy; times = 1 } ∷ record { actor = Apply; times = 3 } ∷ record { actor = (Client 1); times = 1 } ∷ record { actor = Apply; times = 3 } ∷ record { actor = (Client 1); times = 9 } ∷ record { actor = (Client 1); times = 3 } ∷ record { actor = (Client 1); times = 9 } ∷ record { actor = (Client 1); times = 9 } ∷ record { actor = (Client 1); times = 1 } ∷ record { actor = Apply; times = 3 } ∷ record { actor = (Client 1); times = 4 } ∷ record { actor = (Client 1); times = 2 } ∷ record { actor = (Client 1); times = 4 } ∷ record { actor = (Client 1); times = 2 } ∷ record { actor = (Client 1); times = 9 } ∷ record { actor = (Client 1); times = 1 } ∷ record { actor = (Client 1); times = 6 } ∷ record { actor = (Client 1); times = 2 } ∷ record { actor = Apply; times = 3 } ∷ record { actor = (Client 1); times = 1 } ∷ record { actor = (Client 1); times = 1 } ∷ record { actor = Copy; times = 1 } ∷ record { actor = (Client 1); times = 2 } ∷ record { actor = (Client 1); times = 9 } ∷ record { actor = Copy; times = 3 } ∷ record { actor = (Client 1); times = 1 } ∷ record { actor = (Client 1); times = 4 } ∷ record { actor = Apply; times = 6 } ∷ []); options = record { chunk_size = 3; dml_batch_size = 3; default_retries = 60; max_backlog = 100; drain_limit = 2000; client_wait = 20; tool_wait = 30; max_load = 64; turn_limit = 200000; notes = 0; note_every = 100; replica_step = 0; replica_pause = 1; max_lag = 10; resume = false; approve_renamed_columns = false; initially_drop_ghost_table = false; initially_drop_old_table = false; ok_to_drop_table = false; postpone = false; show_history = true; show_turns = true; show_tables = true; show_replies = true } }
 
 abbrev journal_3012 : List Entry
 journal_3012 =
@@ -286,7 +286,7 @@ abbrev map_3013 : List MapColumn
 map_3013 = (record { kind = Int 8 false; nullable = false; origin = from.Old 0 } ∷ record { kind = Int 4 false; nullable = false; origin = from.Added (Num (pos 7)) } ∷ [])
 
 abbrev plan_3013 : PlanData
-plan_3013 = record { table = codes "t"; alter = (clauses.Add (record { name = codes "b"; kind = Int 4 false; nullable = (Some false); default = (Some (Num (pos 7))); auto = false }) Unsaid ∷ []); tables = (record { schema = record { name = codes "t"; columns = (record { name = codes "id"; kind = Int 8 false; nullable = false; default = None; auto = false } ∷ []); uniques = (record { name = None; places = (0 ∷ []) } ∷ []); indexes = []; comment = []; start = None }; rows = (((Num (pos 1)) ∷ []) ∷ ((Num (pos 2)) ∷ []) ∷ ((Num (pos 3)) ∷ []) ∷ ((Num (pos 5)) ∷ []) ∷ []) } ∷ record { schema = record { name = codes "u"; columns = (record { name = codes "id"; kind = Int 4 false; nullable = false; default = None; auto = false } ∷ record { name = codes "m0"; kind = Int 4 false; nullable = true; default = (Some Null); auto = false } ∷ record { name = codes "m1"; kind = Int 4 false; nullable = false; default = None; auto = false } ∷ []); uniques = (record { name = None; places = (0 ∷ []) } ∷ record { name = (Some (codes "u0")); places = (1 ∷ []) } ∷ record { name = (Some (codes "u1")); places = (2 ∷ []) } ∷ []); indexes = []; comment = []; start = None }; rows = [] } ∷ []); clients = ((record { line = 1; word = (words.Do (statements.Insert (codes "t") (Some (codes "id" ∷ [])) ((Num (pos 1)) ∷ []) None)) } ∷ record { line = 2; word = (words.Do (statements.Update (codes "t") (record { column = codes "id"; value = (Num (pos 3)) } ∷ []) (conditions.Equal (record { column = codes "id"; value = (Num (pos 2)) } ∷ [])))) } ∷ record { line = 3; word = (words.Do (statements.Replace (codes "t") None ((Num (pos 5)) ∷ []) None)) } ∷ record { line = 4; word = (words.Do (statements.Replace (codes "t") (Some (codes "id" ∷ [])) ((Num (pos 2)) ∷ []) None)) } ∷ []) ∷ (record { line = 1; word = (words.Do (statements.Insert (codes "t") (Some (codes "id" ∷ [])) ((Text (codes "2")) ∷ []) None)) } ∷ []) ∷ []); operator = []; faults = (losses.Turn 26 Apply ∷ []); turns = (record { actor = (Client 1); times = 1 } ∷ record { actor = Ren; times = 1 } ∷ record { actor = Op; times = 1 } ∷ []); options = record { chunk_size = 2; dml_batch_size = 2; default_retries = 5; max_backlog = 1; drain_limit = 2000; client_wait = 5; tool_wait = 9; max_load = 0; turn_limit = 200000; notes = 0; note_every = 100; replica_step = 0; replica_pause = 1; max_lag = 10; approve_renamed_columns = true; initially_drop_ghost_table = false; initially_drop_old_table = false; ok_to_drop_table = false; postpone = false; show_history = true; show_turns = true; show_tables = true; show_replies = true } }
+plan_3013 = record { table = codes "t"; alter = (clauses.Add (record { name = codes "b"; kind = Int 4 false; nullable = (Some false); default = (Some (Num (pos 7))); auto = false }) Unsaid ∷ []); tables = (record { schema = record { name = codes "t"; columns = (record { name = codes "id"; kind = Int 8 false; nullable = false; default = None; auto = false } ∷ []); uniques = (record { name = None; places = (0 ∷ []) } ∷ []); indexes = []; comment = []; start = None }; rows = (((Num (pos 1)) ∷ []) ∷ ((Num (pos 2)) ∷ []) ∷ ((Num (pos 3)) ∷ []) ∷ ((Num (pos 5)) ∷ []) ∷ []) } ∷ record { schema = record { name = codes "u"; columns = (record { name = codes "id"; kind = Int 4 false; nullable = false; default = None; auto = false } ∷ record { name = codes "m0"; kind = Int 4 false; nullable = true; default = (Some Null); auto = false } ∷ record { name = codes "m1"; kind = Int 4 false; nullable = false; default = None; auto = false } ∷ []); uniques = (record { name = None; places = (0 ∷ []) } ∷ record { name = (Some (codes "u0")); places = (1 ∷ []) } ∷ record { name = (Some (codes "u1")); places = (2 ∷ []) } ∷ []); indexes = []; comment = []; start = None }; rows = [] } ∷ []); clients = ((record { line = 1; word = (words.Do (statements.Insert (codes "t") (Some (codes "id" ∷ [])) ((Num (pos 1)) ∷ []) None)) } ∷ record { line = 2; word = (words.Do (statements.Update (codes "t") (record { column = codes "id"; value = (Num (pos 3)) } ∷ []) (conditions.Equal (record { column = codes "id"; value = (Num (pos 2)) } ∷ [])))) } ∷ record { line = 3; word = (words.Do (statements.Replace (codes "t") None ((Num (pos 5)) ∷ []) None)) } ∷ record { line = 4; word = (words.Do (statements.Replace (codes "t") (Some (codes "id" ∷ [])) ((Num (pos 2)) ∷ []) None)) } ∷ []) ∷ (record { line = 1; word = (words.Do (statements.Insert (codes "t") (Some (codes "id" ∷ [])) ((Text (codes "2")) ∷ []) None)) } ∷ []) ∷ []); operator = []; faults = (losses.Turn 26 Apply ∷ []); turns = (record { actor = (Client 1); times = 1 } ∷ record { actor = Ren; times = 1 } ∷ record { actor = Op; times = 1 } ∷ []); options = record { chunk_size = 2; dml_batch_size = 2; default_retries = 5; max_backlog = 1; drain_limit = 2000; client_wait = 5; tool_wait = 9; max_load = 0; turn_limit = 200000; notes = 0; note_every = 100; replica_step = 0; replica_pause = 1; max_lag = 10; resume = false; approve_renamed_columns = true; initially_drop_ghost_table = false; initially_drop_old_table = false; ok_to_drop_table = false; postpone = false; show_history = true; show_turns = true; show_tables = true; show_replies = true } }
 
 abbrev journal_3013 : List Entry
 journal_3013 =
@@ -350,7 +350,7 @@ abbrev map_3014 : List MapColumn
 map_3014 = (record { kind = Int 4 false; nullable = false; origin = from.Old 0 } ∷ record { kind = Int 4 false; nullable = true; origin = from.Old 1 } ∷ record { kind = Int 4 false; nullable = true; origin = from.Old 2 } ∷ record { kind = Int 4 false; nullable = true; origin = from.Added Null } ∷ [])
 
 abbrev plan_3014 : PlanData
-plan_3014 = record { table = codes "t"; alter = (clauses.Add (record { name = codes "b"; kind = Int 4 false; nullable = None; default = None; auto = false }) Unsaid ∷ []); tables = (record { schema = record { name = codes "t"; columns = (record { name = codes "id"; kind = Int 4 false; nullable = false; default = None; auto = false } ∷ record { name = codes "m"; kind = Int 4 false; nullable = true; default = (Some Null); auto = false } ∷ record { name = codes "v"; kind = Int 4 false; nullable = true; default = (Some Null); auto = false } ∷ []); uniques = (record { name = None; places = (0 ∷ []) } ∷ record { name = (Some (codes "u0")); places = (1 ∷ []) } ∷ []); indexes = []; comment = []; start = None }; rows = (((Num (pos 2)) ∷ (Num (pos 1)) ∷ (Num (pos 5)) ∷ []) ∷ ((Num (pos 3)) ∷ (Num (pos 2)) ∷ (Num (pos 5)) ∷ []) ∷ []) } ∷ []); clients = ((record { line = 1; word = (words.Do (statements.Update (codes "t") (record { column = codes "v"; value = Null } ∷ []) (conditions.Equal (record { column = codes "id"; value = (Num (pos 2)) } ∷ [])))) } ∷ record { line = 2; word = (words.Do (statements.Replace (codes "t") None ((Num (pos 2)) ∷ (Num (pos 1)) ∷ Null ∷ []) None)) } ∷ record { line = 3; word = (words.Do (statements.Update (codes "t") (record { column = codes "id"; value = (Num (pos 3)) } ∷ []) (conditions.Equal (record { column = codes "m"; value = (Num (pos 1)) } ∷ [])))) } ∷ record { line = 4; word = (words.Do (statements.Update (codes "t") (record { column = codes "m"; value = (Num (pos 1)) } ∷ []) (conditions.Equal (record { column = codes "id"; value = (Num (pos 2)) } ∷ [])))) } ∷ record { line = 5; word = (words.Do (statements.Insert (codes "t") None ((Num (pos 2)) ∷ (Num (pos 1)) ∷ Null ∷ []) None)) } ∷ record { line = 6; word = (words.Do (statements.Update (codes "t") (record { column = codes "v"; value = Null } ∷ []) (conditions.Equal (record { column = codes "id"; value = (Num (pos 4)) } ∷ [])))) } ∷ []) ∷ []); operator = []; faults = []; turns = (record { actor = Insp; times = 4 } ∷ record { actor = Insp; times = 1 } ∷ record { actor = Copy; times = 4 } ∷ record { actor = (Client 1); times = 6 } ∷ record { actor = Copy; times = 6 } ∷ record { actor = (Client 1); times = 4 } ∷ record { actor = Apply; times = 3 } ∷ record { actor = (Client 1); times = 2 } ∷ record { actor = (Client 1); times = 6 } ∷ record { actor = Copy; times = 4 } ∷ record { actor = (Client 1); times = 4 } ∷ record { actor = Apply; times = 1 } ∷ record { actor = Copy; times = 2 } ∷ record { actor = (Client 1); times = 1 } ∷ record { actor = (Client 1); times = 6 } ∷ record { actor = (Client 1); times = 1 } ∷ record { actor = Copy; times = 3 } ∷ record { actor = (Client 1); times = 1 } ∷ record { actor = Copy; times = 1 } ∷ record { actor = (Client 1); times = 9 } ∷ record { actor = Copy; times = 6 } ∷ record { actor = Apply; times = 9 } ∷ record { actor = (Client 1); times = 6 } ∷ []); options = record { chunk_size = 2; dml_batch_size = 9; default_retries = 60; max_backlog = 100; drain_limit = 2000; client_wait = 5; tool_wait = 9; max_load = 64; turn_limit = 200000; notes = 0; note_every = 100; replica_step = 0; replica_pause = 1; max_lag = 10; approve_renamed_columns = false; initially_drop_ghost_table = false; initially_drop_old_table = false; ok_to_drop_table = false; postpone = false; show_history = true; show_turns = true; show_tables = true; show_replies = true } }
+plan_3014 = record { table = codes "t"; alter = (clauses.Add (record { name = codes "b"; kind = Int 4 false; nullable = None; default = None; auto = false }) Unsaid ∷ []); tables = (record { schema = record { name = codes "t"; columns = (record { name = codes "id"; kind = Int 4 false; nullable = false; default = None; auto = false } ∷ record { name = codes "m"; kind = Int 4 false; nullable = true; default = (Some Null); auto = false } ∷ record { name = codes "v"; kind = Int 4 false; nullable = true; default = (Some Null); auto = false } ∷ []); uniques = (record { name = None; places = (0 ∷ []) } ∷ record { name = (Some (codes "u0")); places = (1 ∷ []) } ∷ []); indexes = []; comment = []; start = None }; rows = (((Num (pos 2)) ∷ (Num (pos 1)) ∷ (Num (pos 5)) ∷ []) ∷ ((Num (pos 3)) ∷ (Num (pos 2)) ∷ (Num (pos 5)) ∷ []) ∷ []) } ∷ []); clients = ((record { line = 1; word = (words.Do (statements.Update (codes "t") (record { column = codes "v"; value = Null } ∷ []) (conditions.Equal (record { column = codes "id"; value = (Num (pos 2)) } ∷ [])))) } ∷ record { line = 2; word = (words.Do (statements.Replace (codes "t") None ((Num (pos 2)) ∷ (Num (pos 1)) ∷ Null ∷ []) None)) } ∷ record { line = 3; word = (words.Do (statements.Update (codes "t") (record { column = codes "id"; value = (Num (pos 3)) } ∷ []) (conditions.Equal (record { column = codes "m"; value = (Num (pos 1)) } ∷ [])))) } ∷ record { line = 4; word = (words.Do (statements.Update (codes "t") (record { column = codes "m"; value = (Num (pos 1)) } ∷ []) (conditions.Equal (record { column = codes "id"; value = (Num (pos 2)) } ∷ [])))) } ∷ record { line = 5; word = (words.Do (statements.Insert (codes "t") None ((Num (pos 2)) ∷ (Num (pos 1)) ∷ Null ∷ []) None)) } ∷ record { line = 6; word = (words.Do (statements.Update (codes "t") (record { column = codes "v"; value = Null } ∷ []) (conditions.Equal (record { column = codes "id"; value = (Num (pos 4)) } ∷ [])))) } ∷ []) ∷ []); operator = []; faults = []; turns = (record { actor = Insp; times = 4 } ∷ record { actor = Insp; times = 1 } ∷ record { actor = Copy; times = 4 } ∷ record { actor = (Client 1); times = 6 } ∷ record { actor = Copy; times = 6 } ∷ record { actor = (Client 1); times = 4 } ∷ record { actor = Apply; times = 3 } ∷ record { actor = (Client 1); times = 2 } ∷ record { actor = (Client 1); times = 6 } ∷ record { actor = Copy; times = 4 } ∷ record { actor = (Client 1); times = 4 } ∷ record { actor = Apply; times = 1 } ∷ record { actor = Copy; times = 2 } ∷ record { actor = (Client 1); times = 1 } ∷ record { actor = (Client 1); times = 6 } ∷ record { actor = (Client 1); times = 1 } ∷ record { actor = Copy; times = 3 } ∷ record { actor = (Client 1); times = 1 } ∷ record { actor = Copy; times = 1 } ∷ record { actor = (Client 1); times = 9 } ∷ record { actor = Copy; times = 6 } ∷ record { actor = Apply; times = 9 } ∷ record { actor = (Client 1); times = 6 } ∷ []); options = record { chunk_size = 2; dml_batch_size = 9; default_retries = 60; max_backlog = 100; drain_limit = 2000; client_wait = 5; tool_wait = 9; max_load = 64; turn_limit = 200000; notes = 0; note_every = 100; replica_step = 0; replica_pause = 1; max_lag = 10; resume = false; approve_renamed_columns = false; initially_drop_ghost_table = false; initially_drop_old_table = false; ok_to_drop_table = false; postpone = false; show_history = true; show_turns = true; show_tables = true; show_replies = true } }
 
 abbrev journal_3014 : List Entry
 journal_3014 =

@@ -139,8 +139,8 @@ typed_ranged : (typed : TypedData) (keys : KeyData) → in_range typed ≡ Ok ke
 unfolding in_range
 typed_ranged typed keys is =
     let version = bind_ok (within 1 2 typed.version) _ keys is in
-    let options = bind_ok (options_within typed.numbers typed.truths) (λ options. Ok (record { version = version.0; texts = typed.texts; options = options; later = typed.later })) keys version.2 in
-    let same = ok_is {C = KeyRefusal} (record { version = version.0; texts = typed.texts; options = options.0; later = typed.later }) keys options.2 in
+    let options = bind_ok (options_within typed.numbers typed.truths) (λ options. Ok (record { version = version.0; texts = typed.texts; options = options })) keys version.2 in
+    let same = ok_is {C = KeyRefusal} (record { version = version.0; texts = typed.texts; options = options.0 }) keys options.2 in
     subst (λ (k : KeyData). AreRanged k.options) same (ranged typed.numbers typed.truths options.0 options.1)
 
 -- *The options of read keys are in their ranges*

@@ -1,17 +1,17 @@
 -- A plan that is read, part by part.
-use Rattle.std.proofs.Common.{◌≡◌, ℕ, true, List, length, Ok, ap, ◌∙◌}
+use Rattle.std.proofs.Common.{◌≡◌, ℕ, List, length, Ok, ap, ◌∙◌}
 use Rattle.std.specs.Prelude.{nat_lt}
 use Rattle.toml.specs.Data.{Members}
-use Rattle.base_values.proofs.SchemaRules.Steps.{bind_ok, kept_out, let_through}
+use Rattle.base_values.proofs.SchemaRules.Steps.{bind_ok, ok_is, kept_out}
 use Rattle.base_script.specs.declared.script.ScriptLine.{ScriptLine}
 use Rattle.plan_data.specs.PlanData.{PlanData}
 use Rattle.plan_keys.specs.declared.fault.KeyRefusal.TheVariants.{TooMany}
 use Rattle.plan_keys.specs.PlanKeys.{KeyData, keys_of}
 use Rattle.plan_reader.specs.declared.limits.TheConstants.{PLAN_LIMIT}
-use Rattle.plan_reader.specs.declared.fault.PlanRefusal.TheVariants.{TooLong, NotToml, Keys, NotBuilt}
+use Rattle.plan_reader.specs.declared.fault.PlanRefusal.{PlanRefusal}
+use Rattle.plan_reader.specs.declared.fault.PlanRefusal.TheVariants.{TooLong, NotToml, Keys}
 use Rattle.plan_reader.specs.Refusals.{of_keys, or_refused}
 use Rattle.plan_reader.specs.Openings.{OpeningData, opening_of}
-use Rattle.plan_reader.specs.Built.{is_built, built}
 use Rattle.plan_reader.specs.Clients.{clients_of}
 use Rattle.plan_reader.specs.Orders.{OrderData, has_many_orders, few_orders, orders_of}
 use Rattle.plan_reader.specs.Plans.{plan_of, keys_in, plan_at, document, read}
@@ -29,7 +29,6 @@ pub record IsReadPlan (plan : PlanData) : Type 0 where
   pub orders : OrderData
   pub ordered : orders_of (length clients) keys.texts ≡ Ok orders
   pub same : plan_of keys opening clients orders ≡ plan
-  pub all_built : is_built keys ≡ true
 
 keys_are : (members : Members) (keys : KeyData) → keys_in members ≡ Ok keys → keys_of members ≡ Ok keys
 unfolding keys_in
@@ -44,8 +43,7 @@ document_is members plan is =
     let keys = bind_ok (keys_in members) _ plan is in
     let opening = bind_ok (opening_of keys.0) _ plan keys.2 in
     let clients = bind_ok (clients_of keys.0.texts.table keys.0.texts.clients) _ plan opening.2 in
-    let orders = bind_ok (orders_of (length clients.0) keys.0.texts) (λ orders. built keys.0 (plan_of keys.0 opening.0 clients.0 orders)) plan clients.2 in
-    let all = let_through (is_built keys.0) (plan_of keys.0 opening.0 clients.0 orders.0) plan NotBuilt orders.2 in
+    let orders = bind_ok (orders_of (length clients.0) keys.0.texts) (λ orders. Ok (plan_of keys.0 opening.0 clients.0 orders)) plan clients.2 in
     record {
       members = members;
       keys = keys.0;
@@ -56,8 +54,7 @@ document_is members plan is =
       scripts = clients.1;
       orders = orders.0;
       ordered = orders.1;
-      same = all.1;
-      all_built = all.0;
+      same = ok_is {C = PlanRefusal} (plan_of keys.0 opening.0 clients.0 orders.0) plan orders.2;
     }
 
 -- *Read plans, part by part*

@@ -5,7 +5,7 @@ use Rattle.std.proofs.lemmas.List.FromFn.{length-map-range_with_len}
 use Rattle.std.proofs.lemmas.List.Sums.{sum_by-cons}
 use Rattle.base_values.specs.SchemaRules.Results.{◌>>=◌}
 use Rattle.plan_keys.specs.Documents.{text_in}
-use Rattle.plan_keys.specs.Known.{is_plan_key, is_table_key, is_number_key, is_truth_key, is_later_key, is_first_version}
+use Rattle.plan_keys.specs.Known.{is_plan_key, is_table_key, is_number_key, is_truth_key, is_first_version}
 use Rattle.plan_keys.specs.Options.{numbers_in, truths_in, within, options_within, version_two_in, version_two_within}
 use Rattle.plan_keys.specs.PlanKeys.{KeyData, table_of, texts_of, typed_of, in_range, few, keys_of}
 use Rattle.plan_keys.specs.Limits.{has_too_many, row_count as count}
@@ -46,9 +46,9 @@ few_enough : (number : ℕ) → has_too_many (texts number) ≡ false
 few_enough number = none_many _ _ _ _ refl (few_rows number) (few_clients number) refl
 
 in_its_range : (number : ℕ) → (typed_of (document number) >>= in_range) ≡ Ok (keys number)
-unfolding is_later_key numbers_in truths_in version_two_in version_two_within within options_within each_item table_of texts_of typed_of in_range
+unfolding numbers_in truths_in version_two_in version_two_within within options_within each_item table_of texts_of typed_of in_range
 in_its_range number = rw (texts_read (row_texts number), texts_read (script_texts number)) refl
 
 pub keys_read : (number : ℕ) → keys_of (document number) ≡ Ok (keys number)
-unfolding is_plan_key is_table_key is_number_key is_truth_key is_later_key is_first_version keys_of
+unfolding is_plan_key is_table_key is_number_key is_truth_key is_first_version keys_of
 keys_read number = ap (λ (read : Result KeyData KeyRefusal). read >>= few) (in_its_range number) ∙ ap (λ (many : Bool). cond many (Err TooMany) (Ok (keys number))) (few_enough number)

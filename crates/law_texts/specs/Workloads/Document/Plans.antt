@@ -55,4 +55,4 @@ texts number = record {
 }
 
 abbrev pub keys : ℕ → KeyData
-keys number = record { version = 1; texts = texts number; options = options; later = false }
+keys number = record { version = 1; texts = texts number; options = options }

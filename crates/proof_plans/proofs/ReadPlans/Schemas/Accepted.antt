@@ -8,7 +8,7 @@ use Rattle.base_values.specs.declared.gho_schema.schema.Schema.{Schema}
 use Rattle.base_values.specs.declared.row_conversion.clause.Clause.{Clause}
 use Rattle.table_store.specs.Laws.{PutKeepsTables}
 use Rattle.base_script.specs.declared.script.ScriptLine.{ScriptLine}
-use Rattle.base_values.proofs.SchemaRules.Steps.{bind_ok, kept_out, let_through}
+use Rattle.base_values.proofs.SchemaRules.Steps.{bind_ok, ok_is, kept_out}
 use Rattle.base_values.specs.SchemaRules.Valid.{IsValid}
 use Rattle.base_values.specs.SchemaRules.Results.{◌>>=◌}
 use Rattle.sql_create.specs.Laws.{ReadSchemasAreValid}
@@ -24,10 +24,10 @@ use Rattle.plan_keys.specs.Limits.{row_count, has_too_many}
 use Rattle.plan_keys.specs.PlanKeys.{KeyData, typed_of, in_range, few, keys_of}
 use Rattle.plan_reader.proofs.PlanTables.Sound.{tables_are}
 use Rattle.plan_reader.specs.declared.limits.TheConstants.{PLAN_LIMIT}
-use Rattle.plan_reader.specs.declared.fault.PlanRefusal.TheVariants.{TooLong, NotToml, Keys, NotBuilt}
+use Rattle.plan_reader.specs.declared.fault.PlanRefusal.{PlanRefusal}
+use Rattle.plan_reader.specs.declared.fault.PlanRefusal.TheVariants.{TooLong, NotToml, Keys}
 use Rattle.plan_reader.specs.Refusals.{of_keys, or_refused}
 use Rattle.plan_reader.specs.Openings.{OpeningData, opening_of}
-use Rattle.plan_reader.specs.Built.{is_built, built}
 use Rattle.plan_reader.specs.Clients.{client_script, scripts_of, tool_names, has_many_statements, few_statements, clients_of}
 use Rattle.plan_reader.specs.Orders.{OrderData, has_many_orders, few_orders, orders_of}
 use Rattle.plan_reader.specs.Plans.{plan_of, keys_in, plan_at, document, read}
@@ -121,9 +121,8 @@ document_is laws members plan is =
     let keys = bind_ok (keys_in members) _ plan is in
     let opening = bind_ok (opening_of keys.0) _ plan keys.2 in
     let clients = bind_ok (clients_of keys.0.texts.table keys.0.texts.clients) _ plan opening.2 in
-    let orders = bind_ok (orders_of (length clients.0) keys.0.texts) (λ orders. built keys.0 (plan_of keys.0 opening.0 clients.0 orders)) plan clients.2 in
-    let all = let_through (is_built keys.0) (plan_of keys.0 opening.0 clients.0 orders.0) plan NotBuilt orders.2 in
-    subst IsAccepted all.1
+    let orders = bind_ok (orders_of (length clients.0) keys.0.texts) (λ orders. Ok (plan_of keys.0 opening.0 clients.0 orders)) plan clients.2 in
+    subst IsAccepted (ok_is {C = PlanRefusal} (plan_of keys.0 opening.0 clients.0 orders.0) plan orders.2)
     (parts_are laws keys.0 opening.0 clients.0 orders.0 (keys_few members keys.0 keys.1) opening.1 clients.1)
 
 pub plans_are : Laws → (bytes : List ℕ) (plan : PlanData) → read bytes ≡ Ok plan → IsAccepted plan
