@@ -6,7 +6,7 @@ ghost use Rattle.proof_bounds.specs.Clearings.{ClearingTurnsAreFew};
 ghost use Rattle.proof_bounds.specs.Guards.{SentriesAreMadeAtOnce};
 ghost use Rattle.proof_bounds.specs.Laws.{PartsMakeJournals, LossesStrikeOnce, OperatorTurnsAreFew, ClientTurnsAreFew, RollbacksAreFew};
 ghost use Rattle.proof_bounds.specs.Notes.{NotesAreFew, NotesGoOn};
-ghost use Rattle.proof_bounds.specs.Rows.{RowsAreFew, KeysAreThose};
+ghost use Rattle.proof_journals.specs.Ghost.Rows.Counts.{RowsAreFew, KeysAreThose};
 ghost use Rattle.proof_bounds.specs.Setups.{SetupTurnsAreFew};
 ghost use Rattle.proof_bounds.specs.Tries.{TriesAreFew};
 ghost use Rattle.proof_migration.specs.InspectorWaits.{InspectorsWaitToSet};

@@ -1,4 +1,3 @@
-pub mod LineEvents
 pub mod Transactions
 pub mod Lines
 pub mod Keys

@@ -46,8 +46,8 @@ use Rattle.tool_program.specs.Programs.{reach_in, tool_call, given}
 use Rattle.tool_program.specs.Setups.{Setup, Listing, Clearing, MakingLog, MakingGhost, Marking, Reaching, Ready, clearing, listed, setup_call, setup_after, setup_step}
 use Rattle.tool_program.specs.Tools.{Work, ToolPhase, SettingUp, Migrating, Tool, Moment, stopped, is_reverting, tool_phase_of, moment}
 use Rattle.tool_program.proofs.OnlineCalls.Machines.{ToolPhaseIsNamed, named}
-use Rattle.proof_journals.specs.Plans.{IsSerialPlan}
-use Rattle.proof_journals.specs.Turns.{about}
+use Rattle.proof_journals.specs.Plans.{IsSerialPlan, limits_of, scene_of}
+use Rattle.proof_journals.specs.Turns.{IsSceneRun, about}
 use Rattle.proof_journals.specs.Run.Kept.{IsKept}
 use Rattle.proof_journals.specs.Machine.Runnable.{IsRunnable}
 use Rattle.proof_journals.specs.Machine.Standings.{Standing, standing_of}
@@ -60,13 +60,14 @@ use Rattle.proof_migration.specs.Program.Hints.{IsBegun, is_unhinted}
 use Rattle.proof_migration.specs.ToolPhase.Unaltered.{IsUnaltered}
 use Rattle.proof_migration.proofs.Attempt.Leaving.{has_is}
 use Rattle.proof_migration.proofs.Migration.Leaves.{WritesAway}
-use Rattle.proof_migration.proofs.Program.Hints.Asked.{insp_from, known, setup_away}
+use Rattle.proof_migration.proofs.Program.Hints.Asked.{insp_from, known, scene_run, setup_away}
 use Rattle.proof_migration.proofs.Program.Hints.Known.{hints_go, hints_known}
 use Rattle.proof_migration.proofs.Program.Hints.Logging.{NoneWrote, watched}
 use Rattle.proof_migration.proofs.Program.Hints.Writes.{away_hint}
 use Rattle.proof_migration.proofs.Program.InspectorTurns.Hints.{hint_event, hint_insert}
 use Rattle.proof_migration.proofs.Program.InspectorTurns.Keeping.{past_log}
-use Rattle.proof_migration.proofs.Program.Turns.Asked.{waits_with}
+use Rattle.proof_migration.proofs.Program.Turns.Asked.{asked_as, waits_with}
+use Rattle.proof_migration.proofs.ToolPhase.Unaltered.Asking.{AskedAs}
 use Rattle.proof_migration.proofs.Program.Turns.Follows.{kept_front, kept_run}
 use Rattle.proof_migration.proofs.ToolPhase.ToolPhaseTurns.{Kept, SetupKeeps, AnswerKeeps, ResizeKeeps, turn_kept, gives_asked}
 use Rattle.proof_migration.proofs.ToolPhase.Unaltered.Away.{unaltered_front}
@@ -76,7 +77,7 @@ use Rattle.proof_bounds.proofs.Going.{IsGoing, ToolPhaseFits, all_going, waits_t
 use Rattle.proof_bounds.proofs.Inspecting.{setting_is}
 use Rattle.proof_bounds.proofs.Leftovers.{SetupFits}
 use Rattle.proof_bounds.specs.AttemptTurns.Attempts.{IsOk, MayTry, most_notes, most_tries}
-use Rattle.proof_bounds.proofs.AttemptTurns.ChangelogTurns.{others_away, rows_left, logs_left}
+use Rattle.proof_bounds.proofs.AttemptTurns.ChangelogTurns.{left_rows, log_left, logs_left, others_away}
 use Rattle.proof_bounds.proofs.AttemptTurns.HintInserts.{AllNumbered, hint_numbered, hint_result}
 use Rattle.proof_bounds.proofs.AttemptTurns.HintRows.{AllBelow, more_below}
 use Rattle.proof_bounds.proofs.AttemptTurns.LogWrites.{done_ok, leaves_so, log_found}
@@ -93,18 +94,18 @@ is_past (Migrating work) = true
 abbrev IsNumbered : PlanData → List Entry → Type 0
 IsNumbered plan journal = is_past (moment plan journal).tool.tool_phase ≡ true → AllNumbered plan.table (state_at plan journal).tables (state_at plan journal).log
 
-none_found : (found : Option TableRows) → is_some (option_map (λ (table : TableRows). table.schema) found) ≡ false → found ≡ None
+pub none_found : (found : Option TableRows) → is_some (option_map (λ (table : TableRows). table.schema) found) ≡ false → found ≡ None
 none_found None none = refl
 none_found (Some table) none = absurd (true≢false none)
 
 -- while the tables are cleared it isn't
-clearing_not : (left : Leftovers) → past_log (clearing left) ≡ true → ⊥
+pub clearing_not : (left : Leftovers) → past_log (clearing left) ≡ true → ⊥
 clearing_not left = by (is_clear left) where
   by : (b : Bool) → past_log (cond b MakingLog (Clearing left)) ≡ true → ⊥
   by true past = false≢true past
   by false past = false≢true past
 
-step_past : (table : List ℕ) (setup : Setup) (answer : Answer) → past_log (setup_step table setup answer) ≡ true → (past_log setup ≡ true) ⊎ (setup ≡ MakingLog)
+pub step_past : (table : List ℕ) (setup : Setup) (answer : Answer) → past_log (setup_step table setup answer) ≡ true → (past_log setup ≡ true) ⊎ (setup ≡ MakingLog)
 step_past table Listing (answers.Tables tables) past = absurd (clearing_not (listed table tables) past)
 step_past table Listing answer past = absurd (false≢true past)
 step_past table (Clearing left) (answers.Ok count) past = absurd (clearing_not (without_first left) past)
@@ -269,11 +270,17 @@ module _ (plan : PlanData) (runs : IsRunnable plan) (serial : IsSerialPlan plan)
     abbrev About : Request → Type 0
     About request = about open_now entry.session entry.asked ≡ Some request
 
+    asks_as : (request : Request) → About request → AskedAs plan entry.actor request
+    asks_as request is = asked_as plan serial runs.fitting journal entry (known plan runs serial journal entry kept_more off) run off request is
+
+    in_scene : IsSceneRun (limits_of plan) (scene_of plan more) more
+    in_scene = scene_run plan runs serial journal entry kept_more off
+
     quiet : ((request : Request) → About request → WritesAway (watched t) request) → IsNumbered plan more
-    quiet writes past table found = by (rows_left plan runs serial journal entry kept_more off none writes table found) where
+    quiet writes past table found = by (left_rows t (λ schema. About (requests.Create schema)) before.tables after.tables (log_left plan serial journal entry in_scene asks_as run.answered.sides none writes) table found) where
       same_hint : last_hint t 0 after.log ≡ last_hint t 0 before.log
       same_hint =
-          let logs = logs_left plan runs serial journal entry kept_more off none writes in
+          let logs = logs_left plan serial journal entry in_scene asks_as run.answered.sides none writes in
           ap (last_hint t 0) logs.log ∙ fold-append (λ (old : ℕ) (event : RowEvent). cond (bytes_eq event.table (log_name t)) (hint_in old event.change) old) 0 before.log logs.events ∙ away_hint t (last_hint t 0 before.log) logs.events logs.away
 
       old : find_table (log_name t) before.tables ≡ Some table → Was → AllBelow (last_hint t 0 after.log + 1) table.rows
@@ -432,7 +439,7 @@ module _ (plan : PlanData) (runs : IsRunnable plan) (serial : IsSerialPlan plan)
     own same (Command word) asks = quiet off is (λ request is_about. absurd (none-some request (subst (λ (a : Asked). about open_now entry.session a ≡ Some request) asks is_about)))
 
     by : (b : Bool) → same_actor entry.actor Insp ≡ b → IsNumbered plan more
-    by false differ = quiet off is (others_away plan runs serial journal entry kept_more off differ)
+    by false differ = quiet off is (others_away plan serial journal entry (in_scene off is) (asks_as off is) differ)
     by true same = own (same_actor_is entry.actor Insp same) entry.asked refl
 
 -- EVERY JOURNAL

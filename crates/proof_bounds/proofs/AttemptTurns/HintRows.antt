@@ -23,7 +23,7 @@ use Rattle.server_model.specs.Checks.{◌>>=◌, beside, new_row, row_from, valu
 use Rattle.server_model.specs.declared.answer.Answer.{Answer}
 use Rattle.tool_changelog.specs.Hints.{hint_row}
 use Rattle.tool_changelog.specs.ToolTables.{first_is_primary, log_schema}
-use Rattle.proof_bounds.specs.Rows.{all_keys}
+use Rattle.proof_journals.specs.Ghost.Rows.Counts.{all_keys}
 use Rattle.proof_bounds.specs.AttemptTurns.Attempts.{most_tries}
 use Rattle.table_store.proofs.Orders.{is_Equal}
 

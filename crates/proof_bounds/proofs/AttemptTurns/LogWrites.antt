@@ -96,7 +96,7 @@ statement_done : (state : State) (number : ℕ) (statement : Statement) (result 
 statement_done state number statement result tool inside idle none gives =
     subst (λ (r : Request). IsDoneAs state (did state number r) result) (sym (filled_so state number (requests.Do statement) tool)) (statement_did state number statement result inside idle none gives)
 
-found_some : (found : Option TableRows) (schema : Schema) → option_map (λ (table : TableRows). table.schema) found ≡ Some schema → (table : TableRows) × (found ≡ Some table) × (table.schema ≡ schema)
+pub found_some : (found : Option TableRows) (schema : Schema) → option_map (λ (table : TableRows). table.schema) found ≡ Some schema → (table : TableRows) × (found ≡ Some table) × (table.schema ≡ schema)
 found_some None schema none = absurd cc
 found_some (Some table) schema some = (table, refl, cc)
 

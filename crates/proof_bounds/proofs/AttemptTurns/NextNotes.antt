@@ -27,7 +27,7 @@ pub record NextRow (plan : PlanData) (now : Notes) (request : Request) : Type 0 
   pub comes : Comes plan now (is_checkpoint row)
   pub fits : plan.options.notes ≤ most_notes → IsFitNote row
 
-beat_is : (number : ℕ) → is_checkpoint (heartbeat_row number) ≡ false
+pub beat_is : (number : ℕ) → is_checkpoint (heartbeat_row number) ≡ false
 unfolding heartbeat_row
 beat_is number = grind (arith, nat_tests)
 

@@ -41,7 +41,7 @@ use Rattle.tool_changelog.specs.Hints.{hint_if, hint_of, last_hint, or_last}
 use Rattle.tool_changelog.specs.ToolTables.{first_is_primary, log_schema}
 use Rattle.tool_changelog.specs.declared.checkpoint.Reach.{Reach}
 use Rattle.proof_bounds.specs.AttemptTurns.Attempts.{most_notes}
-use Rattle.proof_bounds.proofs.Rows.{less_keys, with_keys}
+use Rattle.proof_journals.proofs.Ghost.Rows.Counts.{less_keys, with_keys}
 use Rattle.proof_bounds.proofs.AttemptTurns.HintInserts.{log_key}
 use Rattle.proof_bounds.proofs.AttemptTurns.HintRows.{AllBelow, is_below, joined, text_fits}
 

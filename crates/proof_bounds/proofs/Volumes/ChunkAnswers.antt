@@ -32,7 +32,7 @@ use Rattle.proof_journals.specs.Machine.Standings.{IsAbout, standing_of}
 use Rattle.proof_journals.proofs.Ghost.Ranges.{in_range}
 use Rattle.proof_journals.proofs.Machine.Seated.{IsKnown, IsServed}
 use Rattle.proof_migration.proofs.ToolPhase.Hearing.{IsFoundBy, opened_tables, own_answer}
-use Rattle.proof_bounds.specs.Rows.{all_keys}
+use Rattle.proof_journals.specs.Ghost.Rows.Counts.{all_keys}
 use Rattle.proof_bounds.proofs.Volumes.Keys.{EndsIn, chunk_ends, is_in, last_all, span_ends}
 
 -- what is told of a chunk's end, of its keys, and of the range

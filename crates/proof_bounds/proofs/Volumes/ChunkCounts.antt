@@ -68,14 +68,14 @@ use Rattle.proof_migration.proofs.ToolPhase.ToolPhaseTurns.{AnswerKeeps, ApplyKe
 use Rattle.proof_migration.proofs.ToolPhase.Unaltered.Away.{unaltered_front}
 use Rattle.proof_migration.proofs.ToolPhase.Unaltered.Runs.{unaltered_runs}
 use Rattle.proof_migration.proofs.Unfit.Known.{IsKnownTurn, known_turn}
-use Rattle.proof_bounds.specs.Rows.{all_keys}
+use Rattle.proof_journals.specs.Ghost.Rows.Counts.{all_keys}
 use Rattle.proof_migration.proofs.HeldNames.Holders.{all_held_well}
 use Rattle.proof_migration.proofs.Program.Hints.Courses.{IsWait, waits_wait, no_waits}
 use Rattle.proof_bounds.specs.Volumes.Laws.{ChunksAreFew}
 use Rattle.proof_bounds.proofs.Volumes.ChunkAnswers.{RangeSays, end_said, range_said, span_said}
 use Rattle.proof_bounds.proofs.Volumes.Chunks.{AsksSo, CopierCounted, RangeCounted, SaysAt, StepCounted, again, answered_so, asks_later, copier_later, few_chunks, next_asks, resized_counted, took_range, waits_going, waits_took}
 use Rattle.proof_bounds.proofs.Volumes.Keys.{all_ever, ever_more, ever_short, in_left, is_in, put_keys}
-use Rattle.proof_bounds.proofs.Volumes.LineEvents.{count_of}
+use Rattle.proof_journals.proofs.Ghost.Rows.LineEvents.{count_of}
 use Rattle.proof_bounds.proofs.Volumes.Volumes.{events_few, keys_known}
 
 -- WHAT IS KEPT

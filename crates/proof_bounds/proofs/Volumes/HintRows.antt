@@ -49,7 +49,7 @@ use Rattle.proof_migration.proofs.Migration.Copier.Served.Deeded.{outside_so, wi
 use Rattle.proof_migration.proofs.Program.Hints.Logging.{NoneWrote}
 use Rattle.proof_migration.proofs.Program.Hints.Writes.{hint_insert}
 use Rattle.proof_bounds.proofs.AttemptTurns.NoteRows.{log_uniques, note_write, one_gone}
-use Rattle.proof_bounds.proofs.Volumes.LineEvents.{count_both, count_of}
+use Rattle.proof_journals.proofs.Ghost.Rows.LineEvents.{count_both, count_of}
 
 -- COUNTING
 

@@ -86,7 +86,7 @@ use Rattle.proof_bounds.proofs.AttemptTurns.NoteTurns.{notes_go_along}
 use Rattle.proof_bounds.specs.Notes.{is_note, note_turns, replaces}
 use Rattle.proof_bounds.specs.Volumes.Laws.{HintsAreFew, ReadEventsAreFew}
 use Rattle.proof_bounds.proofs.Volumes.HintRows.{away_count, insert_few, replace_few, row_grows}
-use Rattle.proof_bounds.proofs.Volumes.LineEvents.{count_both, count_of}
+use Rattle.proof_journals.proofs.Ghost.Rows.LineEvents.{count_both, count_of}
 use Rattle.proof_bounds.proofs.Volumes.Volumes.{events_few, holds}
 
 -- WHAT IS COUNTED

@@ -27,8 +27,8 @@ use Rattle.server_model.specs.declared.answer.Answer.TheVariants as answers
 use Rattle.server_model.specs.Chunks.{chunk_end, keys_of, last_of, span_keys}
 use Rattle.server_model.specs.States.{is_of}
 use Rattle.proof_journals.specs.Ghost.Rows.Moments.{Row}
-use Rattle.proof_bounds.specs.Rows.{all_keys, all_put, puts_key}
-use Rattle.proof_bounds.proofs.Volumes.LineEvents.{count_of}
+use Rattle.proof_journals.specs.Ghost.Rows.Counts.{all_keys, all_put, puts_key}
+use Rattle.proof_journals.proofs.Ghost.Rows.LineEvents.{count_of}
 
 -- THE KEYS THAT EVENTS PUT
 

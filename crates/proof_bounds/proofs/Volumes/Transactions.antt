@@ -18,7 +18,7 @@ use Rattle.proof_journals.specs.Scenes.{PlainItem, Txn, Alter, Scene, Stored, Fo
 use Rattle.proof_journals.specs.Laws.{IsTxn}
 use Rattle.proof_journals.proofs.Bridges.{alike_events, lines_alike}
 use Rattle.proof_journals.proofs.Ghost.Fitting.{fit_more, well_formed_events}
-use Rattle.proof_bounds.proofs.Volumes.LineEvents.{WritesFew, count_both, count_of, line_rows, line_writes, row_count}
+use Rattle.proof_journals.proofs.Ghost.Rows.LineEvents.{WritesFew, count_both, count_of, line_rows, line_writes, row_count}
 
 -- LINES OF ONE TRANSACTION
 

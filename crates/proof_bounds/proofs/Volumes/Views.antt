@@ -38,7 +38,7 @@ use Rattle.proof_migration.specs.ToolPhase.Laws.{IsOwned}
 use Rattle.proof_migration.specs.ToolPhase.Unaltered.{IsUnaltered}
 use Rattle.proof_migration.proofs.ToolPhase.Owners.{all_owned}
 use Rattle.proof_bounds.specs.Volumes.Laws.{ViewsAreFew}
-use Rattle.proof_bounds.proofs.Volumes.LineEvents.{row_count}
+use Rattle.proof_journals.proofs.Ghost.Rows.LineEvents.{row_count}
 use Rattle.proof_bounds.proofs.Volumes.Lines.{open_lines}
 use Rattle.proof_bounds.proofs.Volumes.Transactions.{RunsFew, fresh_few}
 use Rattle.proof_bounds.proofs.Volumes.Volumes.{committed_few, committed_rows, holds}

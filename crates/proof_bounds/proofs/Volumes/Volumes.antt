@@ -28,11 +28,11 @@ use Rattle.proof_journals.proofs.PlanJournals.{PlanHolds, plan_goes}
 use Rattle.proof_journals.proofs.Progress.{plain}
 use Rattle.proof_migration.specs.ToolPhase.Unaltered.{IsUnaltered}
 use Rattle.proof_migration.proofs.ToolPhase.Unaltered.Runs.{unaltered_runs}
-use Rattle.proof_bounds.specs.Rows.{all_keys, all_put}
-use Rattle.proof_bounds.proofs.Rows.{keys_those}
+use Rattle.proof_journals.specs.Ghost.Rows.Counts.{all_keys, all_put}
+use Rattle.proof_journals.proofs.Ghost.Rows.Counts.{keys_those}
 use Rattle.proof_bounds.specs.Volumes.Laws.{CommittedRowsAreFew, EventsAreFew}
 use Rattle.proof_bounds.proofs.Volumes.Keys.{all_ever, ever_puts, ever_rows, is_in, puts_filtered}
-use Rattle.proof_bounds.proofs.Volumes.LineEvents.{count_of, row_count}
+use Rattle.proof_journals.proofs.Ghost.Rows.LineEvents.{count_of, row_count}
 use Rattle.proof_bounds.proofs.Volumes.Lines.{all_lines, open_lines}
 use Rattle.proof_bounds.proofs.Volumes.Transactions.{HasGrown, LeadsByEvents, ended_lines, logged_count, serial_few, serial_leads}
 

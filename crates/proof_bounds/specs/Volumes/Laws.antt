@@ -1,24 +1,19 @@
 -- How many rows the migrated table has, how many events it has in the log, and how many chunks are copied of it, until the
 -- RENAME is done.
-use Rattle.std.specs.Prelude.{◌≡◌, ◌≤◌, ◌+◌, ◌*◌, ℕ, if◌then◌else◌, List, [], ◌∷◌, length, count_by, option_map, unwrap_or}
-use Rattle.base_values.specs.declared.value.Value.{Value}
+use Rattle.std.specs.Prelude.{◌≡◌, ◌≤◌, ◌+◌, ◌*◌, ℕ, if◌then◌else◌, List, [], ◌∷◌, length, count_by}
 use Rattle.base_values.specs.ToolNames.{log_name}
-use Rattle.table_store.specs.Databases.{Database, find_table}
 use Rattle.server_model.specs.declared.entry.Entry.{Entry}
 use Rattle.server_model.specs.States.{view, is_of}
 use Rattle.plan_data.specs.PlanData.{PlanData}
 use Rattle.tool_program.specs.JournalWords.Bounds.{measures, keys, events}
 use Rattle.tool_program.specs.JournalWords.Journals.{state_at}
 use Rattle.tool_program.specs.Tools.{Work, Migrating, moment}
+use Rattle.proof_journals.specs.Ghost.Rows.Counts.{rows_of}
 use Rattle.proof_journals.specs.Machine.Runnable.{IsRunnable}
 use Rattle.proof_journals.specs.Plans.{IsSerialPlan}
 use Rattle.proof_journals.specs.Run.Kept.{IsKept}
 use Rattle.proof_migration.specs.ToolPhase.Unaltered.{IsUnaltered}
 use Rattle.proof_bounds.specs.AttemptTurns.Attempts.{most_notes}
-
--- the rows of the table of this name; none where it doesn't exist
-abbrev pub rows_of : List ℕ → Database → List (List Value)
-rows_of name tables = unwrap_or (option_map (λ table. table.rows) (find_table name tables)) []
 
 -- how many events of the log are of the table of this name
 abbrev pub events_in : List ℕ → PlanData → List Entry → ℕ

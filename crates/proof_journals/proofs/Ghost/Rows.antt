@@ -17,3 +17,5 @@ pub mod Committing
 pub mod Writing
 pub mod Resting
 pub mod Steps
+pub mod Counts
+pub mod LineEvents

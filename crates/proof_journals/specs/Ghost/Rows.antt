@@ -1,6 +1,7 @@
 -- The ghost relation on rows, events and converted rows: what every step of the copier, the applier and the clients keeps,
 -- whatever their order.
 pub mod Moments
+pub mod Counts
 pub mod Changes
 pub mod Timelines
 pub mod Views

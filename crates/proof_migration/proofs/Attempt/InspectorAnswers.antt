@@ -89,7 +89,7 @@ sentry_among table (first ∷ tables) some = at (is_named (old_name table) first
       ∙ ap (λ (b : Bool). b || list_any (λ listed. bytes_eq listed.name (old_name table) && bytes_eq listed.comment sentry_comment) (map shown_of tables)) (same_bytes sentry_comment)
   at false some rest = rest some
 
-sentry_listed : (table : List ℕ) (tables : Database) → schema_of (old_name table) tables ≡ Some (sentry_schema table) → has_sentry table (tables_shown tables) ≡ true
+pub sentry_listed : (table : List ℕ) (tables : Database) → schema_of (old_name table) tables ≡ Some (sentry_schema table) → has_sentry table (tables_shown tables) ≡ true
 sentry_listed table tables is = shown_any (λ listed. bytes_eq listed.name (old_name table) && bytes_eq listed.comment sentry_comment) tables ∙ sentry_among table tables is
 
 -- AN ANSWER

@@ -17,7 +17,7 @@ use Rattle.base_values.specs.declared.event.Change.{Change}
 use Rattle.base_values.specs.declared.event.Change.TheVariants.{Write, Update, Delete}
 use Rattle.table_store.specs.RowLists.{is_at, without_key}
 use Rattle.proof_journals.specs.Ghost.Rows.Moments.{Row, put_in, rows_after, rows_then, rows_at, Fits, LogFits}
-use Rattle.proof_bounds.specs.Rows.{is_write, writes_of, RowsAreFew, all_keys, puts_key, all_put, KeysAreThose}
+use Rattle.proof_journals.specs.Ghost.Rows.Counts.{is_write, writes_of, RowsAreFew, all_keys, puts_key, all_put, KeysAreThose}
 
 -- ONE ROW MORE, OR LESS
 

@@ -1,5 +1,5 @@
 -- How many rows a table has after events that fit it.
-use Rattle.std.specs.Prelude.{◌≡◌, ◌≤◌, ◌+◌, ℕ, Bool, true, false, if◌then◌else◌, List, length, count_by}
+use Rattle.std.specs.Prelude.{◌≡◌, ◌≤◌, ◌+◌, ℕ, Bool, true, false, if◌then◌else◌, List, [], length, count_by, option_map, unwrap_or}
 use Rattle.std.specs.List.{list_all}
 use Rattle.std.specs.Str.{bytes_eq}
 use Rattle.base_values.specs.declared.gho_schema.schema.Schema.{Schema}
@@ -8,7 +8,12 @@ use Rattle.base_values.specs.GhoSchema.Rows.{key_of, key_places}
 use Rattle.base_values.specs.declared.event.RowEvent.{RowEvent}
 use Rattle.base_values.specs.declared.event.Change.{Change}
 use Rattle.base_values.specs.declared.event.Change.TheVariants.{Write, Update, Delete}
+use Rattle.table_store.specs.Databases.{Database, find_table}
 use Rattle.proof_journals.specs.Ghost.Rows.Moments.{Row, rows_at, LogFits}
+
+-- the rows of the table of this name; none where it doesn't exist
+abbrev pub rows_of : List ℕ → Database → List (List Value)
+rows_of name tables = unwrap_or (option_map (λ table. table.rows) (find_table name tables)) []
 
 abbrev pub is_write : Change → Bool
 is_write (Write row) = true

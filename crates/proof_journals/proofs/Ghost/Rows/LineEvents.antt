@@ -37,9 +37,8 @@ use Rattle.server_model.proofs.LockedRows.Tests.{are_same}
 use Rattle.proof_journals.specs.Ghost.FittingEvents.{EventsFit}
 use Rattle.proof_journals.specs.Ghost.Rows.Moments.{Row, rows_at}
 use Rattle.proof_journals.proofs.Ghost.Fitting.{events_lead, found_behind, says_fit}
-use Rattle.proof_bounds.specs.Rows.{is_write, writes_of}
-use Rattle.proof_bounds.proofs.Rows.{rows_few}
-use Rattle.proof_bounds.specs.Volumes.Laws.{rows_of}
+use Rattle.proof_journals.specs.Ghost.Rows.Counts.{is_write, rows_of, writes_of}
+use Rattle.proof_journals.proofs.Ghost.Rows.Counts.{rows_few}
 
 -- THE CHANGES OF ONE TABLE
 
