@@ -43,8 +43,8 @@ use Rattle.proof_journals.proofs.ServerFacts.Calls.{ended_serves}
 use Rattle.proof_journals.proofs.Ghost.Fitting.{fit_more, fitting_end, says_fit, well_formed_events}
 use Rattle.proof_journals.proofs.Moves.{gone_none, drop_moves, renamed_new, renamed_old, renamed_other}
 use Rattle.proof_journals.proofs.Tooling.{copies_sound}
-use Rattle.proof_bounds.specs.Rows.{is_write, writes_of as puts_of}
-use Rattle.proof_bounds.proofs.Volumes.LineEvents.{row_count, rows_grow, AreFew, tells_few}
+use Rattle.proof_journals.specs.Ghost.Rows.Counts.{is_write, writes_of as puts_of}
+use Rattle.proof_journals.proofs.Ghost.Rows.LineEvents.{row_count, rows_grow, AreFew, tells_few}
 use Rattle.proof_plain.specs.Plain.{FewRows, HasFewRows}
 
 abbrev Row : Type 0

@@ -1,15 +1,10 @@
 pub mod Counts
-pub mod Finals
 pub mod Journals
 pub mod Machines
 pub mod Numbers
-pub mod ReadBytes
-pub mod ReadLimits
-pub mod ReadScripts
 pub mod Requests
 pub mod Serving
 pub mod Sessions
-pub mod Starts
 pub mod Statements
 pub mod UnfitKeys
 pub mod Values

@@ -243,21 +243,6 @@ reverted_small : (cutover : CutOver) → SmallPhase cutover.phase → SmallPhase
 unfolding cutovers.reverted
 reverted_small cutover small = ended_small cutover.phase small
 
--- the table's name stays
-role_named : (role : Role) (cutover : CutOver) (answer : Answer) → (cutovers.took role cutover answer).table ≡ cutover.table
-unfolding cutovers.took
-role_named Inspector cutover answer = refl
-role_named Locker cutover answer = refl
-role_named Renamer cutover answer = refl
-
-turned_named : (hint : ℕ) (cutover : CutOver) → (cutovers.applier_turn hint cutover).table ≡ cutover.table
-unfolding cutovers.applier_turn
-turned_named hint cutover = refl
-
-reverted_named : (cutover : CutOver) → (cutovers.reverted cutover).table ≡ cutover.table
-unfolding cutovers.reverted
-reverted_named cutover = refl
-
 -- ---- the tool
 
 module _ (plan : PlanData) where
@@ -266,11 +251,11 @@ module _ (plan : PlanData) where
 
   later : (turns : ℕ) (phase : ToolPhase) → PlainPhase plan turns phase → PlainPhase plan (turns + 1) phase
   later turns (SettingUp setup tries) is = is
-  later turns (Migrating work) is = record { table = is.table; map = is.map; number = let less = is.number in omega (arith, less); range = is.range; applier = is.applier; phase = is.phase }
+  later turns (Migrating work) is = record { map = is.map; number = let less = is.number in omega (arith, less); range = is.range; applier = is.applier; phase = is.phase }
 
   stopped_plain : (turns : ℕ) (phase : ToolPhase) → PlainPhase plan turns phase → PlainPhase plan turns (stopped phase)
   stopped_plain turns (SettingUp setup tries) is = is
-  stopped_plain turns (Migrating work) is = record { table = reverted_named work.cutover ∙ is.table; map = is.map; number = is.number; range = is.range; applier = is.applier; phase = reverted_small work.cutover is.phase }
+  stopped_plain turns (Migrating work) is = record { map = is.map; number = is.number; range = is.range; applier = is.applier; phase = reverted_small work.cutover is.phase }
 
   first_small : (old : Option Reason) (reason : Reason) → SmallReason old → SmallReason (Some reason) → SmallReason (first_reason old reason)
   first_small None reason old new = new
@@ -296,7 +281,7 @@ module _ (plan : PlanData) where
     more = let less = is.number in omega (arith, less, some)
 
     copied : (copier : Copier) (tries : List ℕ) → CopyKeeps work.copier copier → PlainWork plan tool.turns (record work { copier = copier; chunk_tries = tries })
-    copied copier tries keeps = record { table = is.table; map = keeps.map ∙ is.map; number = let a = keeps.number in let b = more in omega (arith, a, b); range = subst BytesCopyRange (sym keeps.range) is.range; applier = is.applier; phase = is.phase }
+    copied copier tries keeps = record { map = keeps.map ∙ is.map; number = let a = keeps.number in let b = more in omega (arith, a, b); range = subst BytesCopyRange (sym keeps.range) is.range; applier = is.applier; phase = is.phase }
 
     copied_plain : (said : Progress) (copier : Copier) → IsTool tool → CopyKeeps work.copier copier → IsTool (copy_after plan work said copier tool)
     copied_plain progress.Going copier old keeps = working_plain (record work { copier = copier }) tool reason (copied copier work.chunk_tries keeps)
@@ -307,7 +292,7 @@ module _ (plan : PlanData) where
     copied_plain (progress.Unfit place number) copier old keeps = reverts_plain (CopyUnfit tool.turns place number) tool tt old
 
     applied : (applier : Applier) (tries : List ℕ) → PlainApplier plan applier → PlainWork plan tool.turns (record work { applier = applier; batch_tries = tries })
-    applied applier tries plain = record { table = is.table; map = is.map; number = let b = more in omega (arith, b); range = is.range; applier = plain; phase = is.phase }
+    applied applier tries plain = record { map = is.map; number = let b = more in omega (arith, b); range = is.range; applier = plain; phase = is.phase }
 
     applied_plain : (said : Progress) (applier : Applier) → IsTool tool → PlainApplier plan applier → IsTool (apply_after plan work said applier tool)
     applied_plain progress.Going applier old plain = working_plain (record work { applier = applier }) tool reason (applied applier work.batch_tries plain)
@@ -318,21 +303,21 @@ module _ (plan : PlanData) where
     applied_plain (progress.Unfit place number) applier old plain = reverts_plain (ApplyUnfit tool.turns place number) tool tt old
 
   -- the cut-over became this one
-  cut_plain : (work : Work) (tool : Tool) (cutover : CutOver) → SmallReason tool.reason → PlainWork plan tool.turns work → cutover.table ≡ plan.table → SmallPhase cutover.phase → IsTool (cutover_after plan cutover work tool)
-  cut_plain work tool cutover reason is named small = by (is_failure work.cutover.phase cutover.phase) where
+  cut_plain : (work : Work) (tool : Tool) (cutover : CutOver) → SmallReason tool.reason → PlainWork plan tool.turns work → SmallPhase cutover.phase → IsTool (cutover_after plan cutover work tool)
+  cut_plain work tool cutover reason is small = by (is_failure work.cutover.phase cutover.phase) where
     changed : (tries : List ℕ) → PlainWork plan tool.turns (record work { cutover = cutover; attempt_tries = tries })
-    changed tries = record { table = named; map = is.map; number = is.number; range = is.range; applier = is.applier; phase = small }
+    changed tries = record { map = is.map; number = is.number; range = is.range; applier = is.applier; phase = small }
 
     by : (b : Bool) → IsTool (attempt_after plan b work cutover tool)
     by true = spends_plain tasks.CutOver (work.attempt_tries ++ tool.turns ∷ []) _ tt (working_plain (record work { cutover = cutover; attempt_tries = work.attempt_tries ++ tool.turns ∷ [] }) tool reason (changed (work.attempt_tries ++ tool.turns ∷ [])))
     by false = working_plain (record work { cutover = cutover }) tool reason (changed work.attempt_tries)
 
   role_plain : (role : Role) (answer : Answer) (work : Work) (tool : Tool) → SmallReason tool.reason → PlainWork plan tool.turns work → PlainAnswer answer → IsTool (cutover_took plan role answer work tool)
-  role_plain role answer work tool reason is plain = cut_plain work tool (cutovers.took role work.cutover answer) reason is (role_named role work.cutover answer ∙ is.table) (role_small role work.cutover answer is.phase plain)
+  role_plain role answer work tool reason is plain = cut_plain work tool (cutovers.took role work.cutover answer) reason is (role_small role work.cutover answer is.phase plain)
 
   drains_plain : (phase : ToolPhase) (tool : Tool) → SmallReason tool.reason → PlainPhase plan tool.turns phase → IsTool tool → IsTool (drains plan phase tool)
   drains_plain (SettingUp setup tries) tool reason is old = old
-  drains_plain (Migrating work) tool reason is old = cut_plain work tool (cutovers.applier_turn work.applier.hint work.cutover) reason is (turned_named work.applier.hint work.cutover ∙ is.table) (turned_small work.applier.hint work.cutover is.phase)
+  drains_plain (Migrating work) tool reason is old = cut_plain work tool (cutovers.applier_turn work.applier.hint work.cutover) reason is (turned_small work.applier.hint work.cutover is.phase)
 
   counts_plain : (actor : Actor) (tool : Tool) → IsTool tool → IsTool (turn_counts plan actor tool)
   counts_plain Apply tool is = drains_plain tool.tool_phase tool is.reason is.phase is
@@ -370,7 +355,7 @@ module _ (plan : PlanData) where
   ranged (Some range) have = have
 
   phase_plain : (turns size : ℕ) (setup : Setup) (tries : List ℕ) → SmallSetup setup → PlainPhase plan turns (tool_phase_of plan size setup tries)
-  phase_plain turns size (Ready position range) tries small = record { table = refl; map = refl; number = omega arith; range = ranged range small.1; applier = record { map = refl; position = small.0; step = tt }; phase = tt }
+  phase_plain turns size (Ready position range) tries small = record { map = refl; number = omega arith; range = ranged range small.1; applier = record { map = refl; position = small.0; step = tt }; phase = tt }
   phase_plain turns size Listing tries small = small
   phase_plain turns size (ClearingSetup left) tries small = small
   phase_plain turns size MakingLog tries small = small
@@ -394,7 +379,7 @@ module _ (plan : PlanData) where
   actor_plain Insp answer (SettingUp setup tries) tool reason some few is old plain = unless_plain (is_reverting tool.reason) tool (setup_took plan setup tries answer tool) old (set_plain setup tries answer tool reason is plain)
   actor_plain Insp answer (Migrating work) tool reason some few is old plain = role_plain Inspector answer work tool reason (now work tool some is) plain where
     now : (work : Work) (tool : Tool) → 0 < tool.turns → PlainWork plan (tool.turns - 1) work → PlainWork plan tool.turns work
-    now work tool some is = record { table = is.table; map = is.map; number = let less = is.number in omega (arith, less, some); range = is.range; applier = is.applier; phase = is.phase }
+    now work tool some is = record { map = is.map; number = let less = is.number in omega (arith, less, some); range = is.range; applier = is.applier; phase = is.phase }
   actor_plain Copy answer (Migrating work) tool reason some few is old plain =
       unless_plain (is_reverting tool.reason) tool (copy_took plan answer work tool) old (copied_plain work tool reason some few is (copiers.progress work.copier answer) (copiers.took tool.turns work.copier answer) old (copy_keeps tool.turns work.copier answer))
   actor_plain Apply answer (Migrating work) tool reason some few is old plain =
@@ -402,15 +387,15 @@ module _ (plan : PlanData) where
       (applied_plain work tool reason some few is (appliers.progress work.applier answer) (appliers.took tool.turns work.applier answer) old (apply_plain plan tool.turns work.applier answer is.applier plain))
   actor_plain Lock answer (Migrating work) tool reason some few is old plain = role_plain Locker answer work tool reason (now work tool some is) plain where
     now : (work : Work) (tool : Tool) → 0 < tool.turns → PlainWork plan (tool.turns - 1) work → PlainWork plan tool.turns work
-    now work tool some is = record { table = is.table; map = is.map; number = let less = is.number in omega (arith, less, some); range = is.range; applier = is.applier; phase = is.phase }
+    now work tool some is = record { map = is.map; number = let less = is.number in omega (arith, less, some); range = is.range; applier = is.applier; phase = is.phase }
   actor_plain Ren answer (Migrating work) tool reason some few is old plain = role_plain Renamer answer work tool reason (now work tool some is) plain where
     now : (work : Work) (tool : Tool) → 0 < tool.turns → PlainWork plan (tool.turns - 1) work → PlainWork plan tool.turns work
-    now work tool some is = record { table = is.table; map = is.map; number = let less = is.number in omega (arith, less, some); range = is.range; applier = is.applier; phase = is.phase }
+    now work tool some is = record { map = is.map; number = let less = is.number in omega (arith, less, some); range = is.range; applier = is.applier; phase = is.phase }
   actor_plain actor answer phase tool reason some few is old plain = old
 
   -- a command
   resized_plain : (word : OperatorWord) (turns : ℕ) (phase : ToolPhase) → PlainPhase plan turns phase → PlainPhase plan turns (resizes word phase)
-  resized_plain (ChunkSize size) turns (Migrating work) is = record { table = is.table; map = is.map; number = is.number; range = is.range; applier = is.applier; phase = is.phase }
+  resized_plain (ChunkSize size) turns (Migrating work) is = record { map = is.map; number = is.number; range = is.range; applier = is.applier; phase = is.phase }
   resized_plain word turns phase is = is
 
   panics_plain : (word : OperatorWord) (tool : Tool) → IsTool tool → IsTool (panics word tool)

@@ -289,7 +289,7 @@ counted_small state number (Some (requests.Do statement)) answer all have =
     counts_small (find_table (table_of statement) state.tables) (drawn_by state number (Some (requests.Do statement)) answer) statement answer state.counters all
 counted_small state number (Some (requests.Create schema)) answer all have =
     let new : TableRows = record { schema = schema; rows = [] } in
-    if_small answer (λ counters. counters ++ counter_of new) state.counters all (All-append (λ (counter : Counter). counter.next < 2 ^ 64) state.counters (counter_of new) all (counter_small new have.2))
+    if_small answer (λ counters. counters ++ counter_of new) state.counters all (All-append (λ (counter : Counter). counter.next < 2 ^ 64) state.counters (counter_of new) all (counter_small new have.1))
 counted_small state number (Some (requests.Drop name)) answer all have = if_small answer (counters_without name) state.counters all (without_small name state.counters all)
 counted_small state number (Some (requests.Rename pairs)) answer all have = if_small answer (counters_renamed pairs) state.counters all (renamed_small pairs state.counters all)
 counted_small state number (Some (requests.SetCounter table least)) answer all have = if_small answer (counters_from table least) state.counters all (from_small table least state.counters have all)

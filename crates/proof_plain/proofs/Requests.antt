@@ -16,7 +16,6 @@ use Rattle.base_values.specs.declared.value.Value.{Value}
 use Rattle.base_values.specs.declared.value.Value.TheVariants.{Null, Num, Text, Blob}
 use Rattle.base_values.specs.Literals.{escaped, hexadecimal, listed, printed, printed_row}
 use Rattle.base_values.specs.StoredValues.{bytes_within, character_count, stores}
-use Rattle.base_values.specs.ToolNames.{ghost_name, log_name, old_name}
 use Rattle.base_values.proofs.SchemaRules.Lists.{All-append}
 use Rattle.base_script.specs.declared.actor.Actor.{Actor}
 use Rattle.base_script.specs.declared.actor.Actor.TheVariants.{Insp, Copy, Apply, Lock, Ren}
@@ -72,27 +71,12 @@ use Rattle.tool_program.specs.NoteWriter.Notes as notes
 use Rattle.tool_program.specs.Programs.{apply_call, checkpoint_in, copy_call, in_transaction, lock_call, may_begin, may_read, note_call, reach_after, reach_in, rolls_back, tool_call}
 use Rattle.tool_program.specs.Setups.{Setup, Listing, Clearing as ClearingSetup, MakingLog, MakingGhost, Marking, Reaching, Ready, setup_call}
 use Rattle.tool_program.specs.Tools.{Tool, ToolPhase, SettingUp, Migrating, Work, is_reverting}
-use Rattle.proof_plain.specs.Plain.{AreBytes, BytesAsked, BytesKey, BytesMap, BytesRequest, HasBytes, OneLine, PlainAnswer, PlainChange, PlainEvents, PlainRow}
+use Rattle.proof_plain.specs.Plain.{AreBytes, BytesAsked, BytesKey, BytesMap, BytesRequest, HasBytes, PlainAnswer, PlainChange, PlainEvents, PlainRow}
 use Rattle.proof_plain.specs.Plans.{BytesCopyRange, BytesWord, PlainPhase, PlainPlan, PlainWork, SmallPhase, SmallStage}
 use Rattle.proof_plain.proofs.Statements.{source_bytes}
 use Rattle.proof_plain.proofs.Values.{stored_plain}
 
 -- ---- texts of the tool
-
-one_name : (table suffix : List ℕ) → OneLine table → OneLine suffix → OneLine (codes "_" ++ table ++ suffix)
-one_name table suffix one two = All-append (λ (byte : ℕ). (byte == 10) ≡ false) (codes "_" ++ table) suffix (All-append (λ (byte : ℕ). (byte == 10) ≡ false) (codes "_") table (refl, tt) one) two
-
-ghost_line : (table : List ℕ) → OneLine table → OneLine (ghost_name table)
-unfolding ghost_name
-ghost_line table one = one_name table (codes "_gho") one (refl, (refl, (refl, (refl, tt))))
-
-log_line : (table : List ℕ) → OneLine table → OneLine (log_name table)
-unfolding log_name
-log_line table one = one_name table (codes "_ghc") one (refl, (refl, (refl, (refl, tt))))
-
-old_line : (table : List ℕ) → OneLine table → OneLine (old_name table)
-unfolding old_name
-old_line table one = one_name table (codes "_del") one (refl, (refl, (refl, (refl, tt))))
 
 -- a number's digits are bytes, as those that are stored of it
 stored_digits : (n : ℤ) → stores (Num n) (VarBinary (length (signed_decimal n))) true ≡ Ok (Blob (signed_decimal n))
@@ -197,13 +181,13 @@ checkpoint_bytes position reach have = by (nat_le (character_count (checkpoint_t
   by true = (tt, ((omega arith, (omega arith, (omega arith, (omega arith, (omega arith, (omega arith, (omega arith, (omega arith, (omega arith, (omega arith, tt)))))))))), (text, tt)))
   by false = tt
 
-log_bytes : (table : List ℕ) → OneLine table → BytesRequest (requests.Create (log_schema table))
+log_bytes : (table : List ℕ) → BytesRequest (requests.Create (log_schema table))
 unfolding log_schema
-log_bytes table one = (log_line table one, (((refl, (refl, tt)), tt), (((refl, (refl, (refl, (refl, tt)))), tt), (((refl, (refl, (refl, (refl, (refl, tt))))), tt), tt))), tt)
+log_bytes table = ((tt, (tt, (tt, tt))), tt)
 
-sentry_bytes : (table : List ℕ) → OneLine table → BytesRequest (requests.Create (sentry_schema table))
+sentry_bytes : (table : List ℕ) → BytesRequest (requests.Create (sentry_schema table))
 unfolding sentry_schema
-sentry_bytes table one = (old_line table one, (((refl, (refl, tt)), tt), tt), tt)
+sentry_bytes table = ((tt, tt), tt)
 
 -- ---- what was answered
 
@@ -362,28 +346,28 @@ unlock_bytes : (hold : Hold) → BytesAsked (attempts.unlocks hold)
 unlock_bytes holds.Locks = tt
 unlock_bytes hold = tt
 
-locker_bytes : (cutover : CutOver) (phase : Phase) → OneLine cutover.table → BytesAsked (attempts.locker_call cutover phase)
-locker_bytes cutover Resting one = unless_bytes cutover.is_stopped None (Some (requests.Create (sentry_schema cutover.table))) tt (sentry_bytes cutover.table one)
-locker_bytes cutover (Attempting stage) one = lock_bytes cutover.table stage
-locker_bytes cutover (Ending clearing) one = unlock_bytes cutover.hold
-locker_bytes cutover (Finishing clearing) one = tt
-locker_bytes cutover Finished one = tt
+locker_bytes : (cutover : CutOver) (phase : Phase) → BytesAsked (attempts.locker_call cutover phase)
+locker_bytes cutover Resting = unless_bytes cutover.is_stopped None (Some (requests.Create (sentry_schema cutover.table))) tt (sentry_bytes cutover.table)
+locker_bytes cutover (Attempting stage) = lock_bytes cutover.table stage
+locker_bytes cutover (Ending clearing) = unlock_bytes cutover.hold
+locker_bytes cutover (Finishing clearing) = tt
+locker_bytes cutover Finished = tt
 
-renamer_bytes : (cutover : CutOver) (phase : Phase) → OneLine cutover.table → BytesAsked (attempts.renamer_call cutover phase)
-renamer_bytes cutover (Attempting Drained) one = (old_line cutover.table one, (one, tt))
-renamer_bytes cutover phase one = tt
+renamer_bytes : (cutover : CutOver) (phase : Phase) → BytesAsked (attempts.renamer_call cutover phase)
+renamer_bytes cutover (Attempting Drained) = tt
+renamer_bytes cutover phase = tt
 
 next_inspector : (cutover : CutOver) → SmallPhase cutover.phase → BytesAsked (attempts.next Inspector cutover)
 unfolding attempts.next
 next_inspector cutover small = inspector_bytes cutover cutover.phase small
 
-next_locker : (cutover : CutOver) → OneLine cutover.table → BytesAsked (attempts.next Locker cutover)
+next_locker : (cutover : CutOver) → BytesAsked (attempts.next Locker cutover)
 unfolding attempts.next
-next_locker cutover one = locker_bytes cutover cutover.phase one
+next_locker cutover = locker_bytes cutover cutover.phase
 
-next_renamer : (cutover : CutOver) → OneLine cutover.table → BytesAsked (attempts.next Renamer cutover)
+next_renamer : (cutover : CutOver) → BytesAsked (attempts.next Renamer cutover)
 unfolding attempts.next
-next_renamer cutover one = renamer_bytes cutover cutover.phase one
+next_renamer cutover = renamer_bytes cutover cutover.phase
 
 -- ---- the tool
 
@@ -391,8 +375,8 @@ module _ (plan : PlanData) (plain : PlainPlan plan) where
   setup_bytes : (setup : Setup) → BytesAsked (setup_call plan setup)
   setup_bytes Listing = tt
   setup_bytes (ClearingSetup left) = tt
-  setup_bytes MakingLog = log_bytes plan.table plain.name
-  setup_bytes MakingGhost = (ghost_line plan.table plain.name, plain.columns, plain.start)
+  setup_bytes MakingLog = log_bytes plan.table
+  setup_bytes MakingGhost = (plain.columns, plain.start)
   setup_bytes Marking = tt
   setup_bytes (Reaching position) = tt
   setup_bytes (Ready position range) = tt
@@ -438,9 +422,9 @@ module _ (plan : PlanData) (plain : PlainPlan plan) where
         unless_bytes (is_reverting tool.reason) None (notes.next plan (checkpoint_in journal work) (notes.notes_of journal)) tt
         (next_bytes (checkpoint_in journal work) (notes.notes_of journal) (checkpoint_bytes work.applier.position (reach_in journal work.copier) (reach_so work.copier)))
 
-    lock_asks : (turns : ℕ) (work : Work) → PlainWork plan turns work → BytesAsked (lock_call plan state tool work)
-    lock_asks turns work is =
-        unless_bytes (is_resting work.cutover.phase && not (may_begin plan state tool work)) None (attempts.next Locker work.cutover) tt (next_locker work.cutover (subst OneLine (sym is.table) plain.name))
+    lock_asks : (work : Work) → BytesAsked (lock_call plan state tool work)
+    lock_asks work =
+        unless_bytes (is_resting work.cutover.phase && not (may_begin plan state tool work)) None (attempts.next Locker work.cutover) tt (next_locker work.cutover)
 
     -- *What the tool asks is plain*
     pub tool_bytes : (turns : ℕ) (phase : ToolPhase) (actor : Actor) → PlainPhase plan turns phase → BytesAsked (tool_call plan state journal tool phase actor)
@@ -448,8 +432,8 @@ module _ (plan : PlanData) (plain : PlainPlan plan) where
     tool_bytes turns (Migrating work) Insp is = unless_bytes (is_resting work.cutover.phase) (note_call plan journal tool work) (attempts.next Inspector work.cutover) (note_asks work) (next_inspector work.cutover is.phase)
     tool_bytes turns (Migrating work) Copy is = unless_bytes (is_reverting tool.reason) (rolls_back state (live_session journal Copy)) (copy_call plan state journal tool work) (rolls_bytes state (live_session journal Copy)) (copy_asks turns work is)
     tool_bytes turns (Migrating work) Apply is = unless_bytes (is_reverting tool.reason) (rolls_back state (live_session journal Apply)) (apply_call plan state journal tool work) (rolls_bytes state (live_session journal Apply)) (apply_asks turns work is)
-    tool_bytes turns (Migrating work) Lock is = lock_asks turns work is
-    tool_bytes turns (Migrating work) Ren is = next_renamer work.cutover (subst OneLine (sym is.table) plain.name)
+    tool_bytes turns (Migrating work) Lock is = lock_asks work
+    tool_bytes turns (Migrating work) Ren is = next_renamer work.cutover
     tool_bytes turns phase actor is = tt
 
 -- ---- clients

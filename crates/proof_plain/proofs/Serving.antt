@@ -46,7 +46,7 @@ use Rattle.server_model.specs.PlainServer.{Served, asks_for, at_rest, called_unl
 use Rattle.server_model.specs.Rows.{change_rows}
 use Rattle.server_model.specs.States.{State, connected, is_in_transaction, is_of, is_of_tool, next_of, polls_of, session_of, view, waiting_of, with_session, writes_of}
 use Rattle.server_model.specs.LockedRows.Databases.{IsWellFormedDatabase, WhereFound}
-use Rattle.proof_plain.specs.Plain.{BytesAsked, BytesKey, BytesRequest, BytesStatement, HasBytes, HasFewRows, IsWrite, NoRows, OneLine, PlainAnswer, PlainChange, PlainDatabase, PlainEvents, PlainRow, PlainRows, PlainSession, PlainState, PlainTable, PlainWaiting, SmallCounters, SmallIf}
+use Rattle.proof_plain.specs.Plain.{BytesAsked, BytesKey, BytesRequest, BytesStatement, HasBytes, HasFewRows, IsWrite, NoRows, PlainAnswer, PlainChange, PlainDatabase, PlainEvents, PlainRow, PlainRows, PlainSession, PlainState, PlainTable, PlainWaiting, SmallCounters, SmallIf}
 use Rattle.proof_plain.proofs.Numbers.{blocker_small, counted_small, next_small, place_small, places_within, shown_small}
 use Rattle.proof_plain.proofs.Values.{rows_bytes}
 use Rattle.proof_plain.proofs.Statements.{PlainSaid, copy_plain, found_plain, found_seen, said_bare, said_plain, work_plain}
@@ -74,9 +74,9 @@ taken_all P (suc n) (x ∷ xs) all = (all.0, taken_all P n xs all.1)
 
 change_plain : (change : Change) (table : TableRows) → PlainChange change → PlainTable table → PlainTable (change_table change table)
 unfolding change_rows
-change_plain (changes.Write row) table is plain = record { name = plain.name; columns = plain.columns; rows = all-with_row PlainRow (key_places table.schema) row table.rows is plain.rows }
-change_plain (changes.Update before after) table is plain = record { name = plain.name; columns = plain.columns; rows = all-with_row PlainRow (key_places table.schema) after _ is.1 (all-filter PlainRow _ table.rows plain.rows) }
-change_plain (changes.Delete row) table is plain = record { name = plain.name; columns = plain.columns; rows = all-filter PlainRow _ table.rows plain.rows }
+change_plain (changes.Write row) table is plain = record { columns = plain.columns; rows = all-with_row PlainRow (key_places table.schema) row table.rows is plain.rows }
+change_plain (changes.Update before after) table is plain = record { columns = plain.columns; rows = all-with_row PlainRow (key_places table.schema) after _ is.1 (all-filter PlainRow _ table.rows plain.rows) }
+change_plain (changes.Delete row) table is plain = record { columns = plain.columns; rows = all-filter PlainRow _ table.rows plain.rows }
 
 changed_plain : (name : List ℕ) (change : TableRows → TableRows) (tables : Database) → ((table : TableRows) → PlainTable table → PlainTable (change table)) → PlainDatabase tables → PlainDatabase (with_change name change tables)
 changed_plain name change [] goes plain = tt
@@ -247,12 +247,12 @@ abbrev PlainRenamed : Result Database NotRenamed → Type 0
 PlainRenamed (Ok tables) = PlainDatabase tables
 PlainRenamed (Err reason) = Unit {0}
 
-renamed_plain : (pairs : List Pair) (tables : Database) → AllByRecursion (λ (pair : Pair). OneLine pair.new) pairs → PlainDatabase tables → PlainRenamed (rename_tables pairs tables)
+renamed_plain : (pairs : List Pair) (tables : Database) → PlainDatabase tables → PlainRenamed (rename_tables pairs tables)
 unfolding rename_tables
-renamed_plain [] tables named plain = plain
-renamed_plain (pair ∷ pairs) tables named plain =
+renamed_plain [] tables plain = plain
+renamed_plain (pair ∷ pairs) tables plain =
     by (has_table pair.new tables) (has_table pair.old tables)
-    (renamed_plain pairs (with_name pair.old pair.new tables) named.1 (changed_plain pair.old (name_table pair.new) tables (λ table is. record { name = named.0; columns = is.columns; rows = is.rows }) plain)) where
+    (renamed_plain pairs (with_name pair.old pair.new tables) (changed_plain pair.old (name_table pair.new) tables (λ table is. record { columns = is.columns; rows = is.rows }) plain)) where
       by : (exists stands : Bool) → PlainRenamed (rename_tables pairs (with_name pair.old pair.new tables)) → PlainRenamed (cond exists (Err Exists) (cond stands (rename_tables pairs (with_name pair.old pair.new tables)) (Err Missing)))
       by true stands rest = tt
       by false true rest = rest
@@ -312,12 +312,12 @@ module _ (number : ℕ) (state : State) (plain : PlainState state) (sees : SeesF
   within_plain busy (requests.Create schema) have = defined_plain (created (has_table schema.name state.tables) schema state.tables) (at (has_table schema.name state.tables)) where
     at : (b : Bool) → PlainMoved (created b schema state.tables)
     at true = omega arith
-    at false = All-append PlainTable state.tables (record { schema = schema; rows = [] } ∷ []) plain.tables (record { name = have.0; columns = have.1; rows = tt }, tt)
+    at false = All-append PlainTable state.tables (record { schema = schema; rows = [] } ∷ []) plain.tables (record { columns = have.0; rows = tt }, tt)
   within_plain busy (requests.Drop name) have = defined_plain (dropped (has_table name state.tables) name state.tables) (at (has_table name state.tables)) where
     at : (b : Bool) → PlainMoved (dropped b name state.tables)
     at true = kept PlainTable (λ table. not (is_named name table)) state.tables plain.tables
     at false = omega arith
-  within_plain busy (requests.Rename pairs) have = defined_plain (renamed_or (rename_tables pairs state.tables)) (renamed_moved (rename_tables pairs state.tables) (renamed_plain pairs state.tables have plain.tables))
+  within_plain busy (requests.Rename pairs) have = defined_plain (renamed_or (rename_tables pairs state.tables)) (renamed_moved (rename_tables pairs state.tables) (renamed_plain pairs state.tables plain.tables))
   within_plain busy requests.LogEnd have = sees.short
   within_plain busy (requests.ReadLog position limit tables) have = log_plain position limit tables state.log plain.log sees.short
   within_plain busy requests.ShowTables have = tt
@@ -355,7 +355,7 @@ module _ (number : ℕ) (state : State) (plain : PlainState state) (sees : SeesF
   filled_bytes requests.Unlock have = tt
   filled_bytes (requests.Create schema) have = have
   filled_bytes (requests.Drop name) have = tt
-  filled_bytes (requests.Rename pairs) have = have
+  filled_bytes (requests.Rename pairs) have = tt
   filled_bytes requests.LogEnd have = tt
   filled_bytes (requests.ReadLog position limit tables) have = tt
   filled_bytes requests.ShowTables have = tt

@@ -54,7 +54,7 @@ use Rattle.server_model.specs.LockedRows.Coverage.{IsWellFormedTable}
 use Rattle.server_model.specs.LockedRows.Databases.{IsWellFormedDatabase, WhereFound}
 use Rattle.proof_plain.specs.Plain.{BytesMap, BytesOrigin, BytesStatement, FewRows, HasBytes, HasFewRows, IfThere, IsDone, IsPlain, IsWrite, NoRows, PlainAnswer, PlainChange, PlainColumns, PlainDatabase, PlainEvents, PlainRow, PlainRows, PlainTable, ShownRow, ShowsSome}
 use Rattle.proof_plain.proofs.Values.{rows_bytes, stored_plain}
-use Rattle.proof_bounds.proofs.Volumes.LineEvents.{filter_short}
+use Rattle.proof_journals.proofs.Ghost.Rows.LineEvents.{filter_short}
 
 abbrev Row : Type 0
 Row = List Value
@@ -181,7 +181,7 @@ unfolding row_from
 row_fine place [] places values plain have = tt
 row_fine place (column ∷ columns) places values plain have =
     then_fine IsPlain PlainRow (given_or place column (beside place places values) column.default) (λ value. row_from (place + 1) columns places values >>= (λ row. Ok (value ∷ row)))
-    (given_fine place column (beside place places values) column.default (beside_bytes place places values have) plain.0.1)
+    (given_fine place column (beside place places values) column.default (beside_bytes place places values have) plain.0)
     (λ value here. then_fine PlainRow PlainRow (row_from (place + 1) columns places values) (λ row. Ok (value ∷ row)) (row_fine (place + 1) columns places values plain.1 have) (λ row others. (here, others)))
 
 listed_fine : (schema : Schema) (names : Option (List (List ℕ))) → Fine (λ (places : List ℕ). Unit {0}) (places_listed schema names)

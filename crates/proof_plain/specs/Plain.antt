@@ -1,6 +1,6 @@
 -- *Plain values*: those that can be printed and read back: a number has at most 38 digits, and bytes are bytes. So of the rows of
 -- tables, of what is written and asked, and of what the server answers. (This project's rule.)
-use Rattle.std.specs.Prelude.{ℕ, ◌<◌, ◌≡◌, ◌==◌, ◌^◌, false, length, unsigned_abs, List, Option, Some, None}
+use Rattle.std.specs.Prelude.{ℕ, ◌<◌, ◌^◌, length, unsigned_abs, List, Option, Some, None}
 use Rattle.std.specs.List.{AllByRecursion}
 use Rattle.base_values.specs.declared.event.Change.{Change}
 use Rattle.base_values.specs.declared.event.Change.TheVariants.{Write, Update, Delete}
@@ -71,19 +71,11 @@ PlainChange (Delete row) = PlainRow row
 abbrev pub PlainEvents : List RowEvent → Type 0
 PlainEvents events = AllByRecursion (λ event. PlainChange event.change) events
 
--- a text without a line feed
-abbrev pub OneLine : List ℕ → Type 0
-OneLine text = AllByRecursion (λ byte. (byte == 10) ≡ false) text
-
--- names without a line feed, and plain defaults
-abbrev pub PlainColumn : Column → Type 0
-PlainColumn column = OneLine column.name × IfThere IsPlain column.default
-
+-- plain defaults
 abbrev pub PlainColumns : List Column → Type 0
-PlainColumns columns = AllByRecursion PlainColumn columns
+PlainColumns columns = AllByRecursion (λ column. IfThere IsPlain column.default) columns
 
 pub record PlainTable (table : TableRows) : Type 0 where
-  pub name : OneLine table.schema.name
   pub columns : PlainColumns table.schema.columns
   pub rows : PlainRows table.rows
 
@@ -135,8 +127,7 @@ SmallIf (Some number) = number < 2 ^ 64
 abbrev pub BytesRequest : Request → Type 0
 BytesRequest (requests.Do statement) = BytesStatement statement
 BytesRequest (requests.CopyRow from into columns key) = BytesMap columns
-BytesRequest (requests.Create schema) = OneLine schema.name × PlainColumns schema.columns × SmallIf schema.start
-BytesRequest (requests.Rename pairs) = AllByRecursion (λ pair. OneLine pair.new) pairs
+BytesRequest (requests.Create schema) = PlainColumns schema.columns × SmallIf schema.start
 BytesRequest (requests.SetCounter table number) = number < 2 ^ 64
 BytesRequest (requests.ChunkEnd table low top size) = BytesKey top
 BytesRequest (requests.BeginSpan table span size) = BytesKey (end_key span.high)

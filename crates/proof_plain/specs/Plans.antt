@@ -20,7 +20,7 @@ use Rattle.tool_program.specs.declared.event_applier.applier.ApplyStep.{ApplySte
 use Rattle.tool_program.specs.declared.event_applier.applier.ApplyStep.TheVariants.{Beginning, Applying, Committing}
 use Rattle.tool_program.specs.Setups.{Setup, Reaching, Ready}
 use Rattle.tool_program.specs.Tools.{Reason, Spent, Tool, ToolPhase, SettingUp, Migrating, Work}
-use Rattle.proof_plain.specs.Plain.{BytesKey, BytesMap, BytesRange, BytesStatement, HasBytes, IfThere, OneLine, PlainColumns, PlainDatabase, SmallIf}
+use Rattle.proof_plain.specs.Plain.{BytesKey, BytesMap, BytesRange, BytesStatement, HasBytes, IfThere, PlainColumns, PlainDatabase, SmallIf}
 
 abbrev pub BytesWord : ScriptWord → Type 0
 BytesWord (words.Do statement) = BytesStatement statement
@@ -28,7 +28,6 @@ BytesWord word = Unit {0}
 
 -- *Plain plan*: so are the rows and the defaults of its tables, the literals of its scripts, and what its ALTER adds
 pub record PlainPlan (plan : PlanData) : Type 0 where
-  pub name : OneLine plan.table
   pub tables : PlainDatabase plan.tables
   pub starts : AllByRecursion (λ table. SmallIf table.schema.start) plan.tables
   pub rows : AllByRecursion (λ table. length table.rows ≤ 2 ^ 31) plan.tables
@@ -38,11 +37,6 @@ pub record PlainPlan (plan : PlanData) : Type 0 where
   pub start : SmallIf (new_schema plan).start
   pub client : plan.options.client_wait < 2 ^ 64
   pub tool : plan.options.tool_wait < 2 ^ 64
-
--- *Plain names*: no name of a table or a column of the plan, or of a column that its ALTER makes, has a line feed
-pub record HasPlainNames (plan : PlanData) : Type 0 where
-  pub tables : AllByRecursion (λ table. OneLine table.schema.name × AllByRecursion (λ column. OneLine column.name) table.schema.columns) plan.tables
-  pub columns : AllByRecursion (λ column. OneLine column.name) (new_schema plan).columns
 
 -- the literals that a statement stores have bytes
 abbrev pub HasByteLiterals : ScriptWord → Type 0
@@ -101,7 +95,6 @@ BytesCopyRange (Some range) = BytesKey range.top
 
 -- the copier has at most one chunk a turn
 pub record PlainWork (plan : PlanData) (turns : ℕ) (work : Work) : Type 0 where
-  pub table : work.cutover.table ≡ plan.table
   pub map : work.copier.map ≡ new_map plan
   pub number : work.copier.number ≤ turns + 1
   pub range : BytesCopyRange work.copier.range

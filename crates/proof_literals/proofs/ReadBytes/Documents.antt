@@ -15,7 +15,7 @@ use Rattle.toml_parser.specs.Lexical.{Read, comma, equals, first, left_brace, le
 use Rattle.toml_parser.specs.Numbers.{unquoted, word_len, word_value}
 use Rattle.toml_parser.specs.Strings.{Key, key, quoted, recursion_limit, starts_string}
 use Rattle.proof_plain.specs.Plain.{AreBytes}
-use Rattle.proof_plain.proofs.ReadBytes.Strings.{Anything, Leaves, after_key, blank_bytes, bytes_drop, leaves_if, leaves_map, leaves_then, quoted_leaves, ws_bytes}
+use Rattle.proof_literals.proofs.ReadBytes.Strings.{Anything, Leaves, after_key, blank_bytes, bytes_drop, leaves_if, leaves_map, leaves_then, quoted_leaves, ws_bytes}
 
 -- ---- values
 

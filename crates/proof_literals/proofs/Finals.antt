@@ -1,5 +1,4 @@
--- A plan that was read is plain, where its names are; and what is so of each turn, of the tables that are left and of the reason of a
--- revert.
+-- A plan that was read is plain; and what is so of each turn, of the tables that are left and of the reason of a revert.
 use Rattle.std.proofs.Common.{◌≡◌, ◌≤◌, ◌<◌, ℕ, ◌+◌, ◌^◌, true, List, [], ◌∷◌, ◌++◌, length, append_assoc, Option, Some, None, Ok, sym, subst, arith}
 use Rattle.std.specs.Prelude.{is_some}
 use Rattle.std.specs.List.{AllByRecursion}
@@ -29,15 +28,14 @@ use Rattle.proof_journals.specs.Run.Kept.{IsKept}
 use Rattle.proof_migration.proofs.Program.Turns.Follows.{kept_front}
 use Rattle.proof_migration.proofs.HeldNames.Holders.{all_held_well}
 use Rattle.proof_plans.specs.ReadPlans.Schemas.{IsAccepted}
-use Rattle.proof_plans.proofs.ReadPlans.Tables.{found_is}
-use Rattle.proof_plain.specs.Plain.{HasBytes, IfThere, IsPlain, OneLine, PlainAnswer, PlainColumns, PlainDatabase, PlainRow, PlainRows, PlainTable, ShownRow, SmallIf}
-use Rattle.proof_plain.specs.Plans.{BytesWord, HasByteDefaults, HasByteLiterals, HasByteTexts, HasPlainNames, IsShort, PlainPlan}
+use Rattle.proof_plain.specs.Plain.{HasBytes, IfThere, IsPlain, PlainAnswer, PlainColumns, PlainDatabase, PlainRow, PlainRows, PlainTable, ShownRow, SmallIf}
+use Rattle.proof_plain.specs.Plans.{BytesWord, HasByteDefaults, HasByteLiterals, HasByteTexts, IsShort, PlainPlan}
 use Rattle.proof_plain.proofs.Journals.{DrawnAnswer, PlainRun, all_plain, answer_plain, draw_answers, draw_small}
-use Rattle.proof_plain.proofs.ReadBytes.Plans.{plan_bytes}
-use Rattle.proof_plain.proofs.ReadLimits.{IsSmallPlan}
-use Rattle.proof_plain.proofs.ReadScripts.{ShowsWord}
+use Rattle.proof_literals.proofs.ReadBytes.Plans.{plan_bytes}
+use Rattle.proof_literals.proofs.ReadLimits.{IsSmallPlan, small_plan}
+use Rattle.proof_literals.proofs.ReadScripts.{ShowsWord, scripts_shown}
 use Rattle.proof_plain.proofs.Sessions.{few_sessions}
-use Rattle.proof_plain.proofs.Starts.{new_start_small, starts_small}
+use Rattle.proof_literals.proofs.Starts.{new_start_small, starts_small}
 use Rattle.proof_plain.proofs.Statements.{columns_some, found_plain, rows_length, whole_rows}
 use Rattle.proof_plain.proofs.Values.{stored_plain}
 
@@ -57,16 +55,15 @@ default_plain : (column : Column) (default : Option Value) → StoresDefault col
 default_plain column None is have = tt
 default_plain column (Some value) is have = stored_plain value column.kind column.nullable value have is
 
-columns_plain : (columns : List Column) → AllByRecursion IsColumn columns → AllByRecursion (λ column. OneLine column.name) columns → HasByteDefaults columns → PlainColumns columns
-columns_plain [] are named have = tt
-columns_plain (column ∷ columns) are named have = ((named.0, default_plain column column.default are.0.default have.0), columns_plain columns are.1 named.1 have.1)
+columns_plain : (columns : List Column) → AllByRecursion IsColumn columns → HasByteDefaults columns → PlainColumns columns
+columns_plain [] are have = tt
+columns_plain (column ∷ columns) are have = (default_plain column column.default are.0.default have.0, columns_plain columns are.1 have.1)
 
-tables_plain : (tables : Database) → AllByRecursion IsSound tables → AllByRecursion (λ table. OneLine table.schema.name × AllByRecursion (λ column. OneLine column.name) table.schema.columns) tables
-    → AllByRecursion (λ table. AllByRecursion (λ row. AllByRecursion HasBytes row) table.rows) tables → AllByRecursion (λ table. HasByteDefaults table.schema.columns) tables → PlainDatabase tables
-tables_plain [] are named rows defaults = tt
-tables_plain (table ∷ tables) are named rows defaults = (
-  record { name = named.0.0; columns = columns_plain table.schema.columns are.0.valid.columns named.0.1 defaults.0; rows = rows_plain table.schema.columns table.rows are.0.is_table.rows_fit rows.0 },
-  tables_plain tables are.1 named.1 rows.1 defaults.1,
+tables_plain : (tables : Database) → AllByRecursion IsSound tables → AllByRecursion (λ table. AllByRecursion (λ row. AllByRecursion HasBytes row) table.rows) tables → AllByRecursion (λ table. HasByteDefaults table.schema.columns) tables → PlainDatabase tables
+tables_plain [] are rows defaults = tt
+tables_plain (table ∷ tables) are rows defaults = (
+  record { columns = columns_plain table.schema.columns are.0.valid.columns defaults.0; rows = rows_plain table.schema.columns table.rows are.0.is_table.rows_fit rows.0 },
+  tables_plain tables are.1 rows.1 defaults.1,
 )
 
 few_plain : (tables : Database) → AllByRecursion (λ table. length table.rows ≤ ROW_LIMIT) tables → AllByRecursion (λ table. length table.rows ≤ 2 ^ 31) tables
@@ -93,17 +90,17 @@ scripts_plain [] have shows = tt
 scripts_plain (script ∷ scripts) have shows = (lines_plain script have.0 shows.0, scripts_plain scripts have.1 shows.1)
 
 -- *A plan that was read is plain*
-pub plan_plain : (bytes : List ℕ) (plan : PlanData) → read bytes ≡ Ok plan → IsAccepted plan → IsRunnable plan → IsSmallPlan plan → AllByRecursion (λ script. AllByRecursion (λ line. ShowsWord line.word) script) plan.clients → HasPlainNames plan → PlainPlan plan
-plan_plain bytes plan is accepted runs limits shows names =
+pub plan_plain : (bytes : List ℕ) (plan : PlanData) → read bytes ≡ Ok plan → IsAccepted plan → IsRunnable plan → PlainPlan plan
+plan_plain bytes plan is accepted runs =
     let texts : HasByteTexts plan = plan_bytes bytes plan is in
+    let limits : IsSmallPlan plan = small_plan bytes plan is in
     record {
-      name = let found = found_is (λ table. OneLine table.schema.name × AllByRecursion (λ column. OneLine column.name) table.schema.columns) plan.table plan.tables accepted.table names.tables accepted.found in subst OneLine found.named found.is.0;
-      tables = tables_plain plan.tables accepted.sound names.tables texts.rows texts.defaults;
+      tables = tables_plain plan.tables accepted.sound texts.rows texts.defaults;
       starts = starts_small bytes plan is accepted;
       rows = few_plain plan.tables limits.rows;
-      scripts = scripts_plain plan.clients texts.literals shows;
+      scripts = scripts_plain plan.clients texts.literals (scripts_shown bytes plan is);
       map = texts.added;
-      columns = columns_plain (new_schema plan).columns runs.fitting.valid.columns names.columns texts.altered;
+      columns = columns_plain (new_schema plan).columns runs.fitting.valid.columns texts.altered;
       start = new_start_small bytes plan is accepted;
       client = let a = limits.options.client.1 in omega (arith, a);
       tool = let a = limits.options.tool.1 in omega (arith, a);
@@ -153,11 +150,11 @@ module _ (plan : PlanData) (plain : PlainPlan plan) (runs : IsRunnable plan) (se
   -- ---- the tables
 
   abbrev pub ShownTable : TableRows → Type 0
-  ShownTable table = PlainTable table × AllByRecursion ShownRow table.rows
+  ShownTable table = AllByRecursion ShownRow table.rows
 
   shown_found : (found : Option TableRows) → WhereFound PlainTable found → WhereFound IsWellFormedTable found → WhereFound ShownTable found
   shown_found None plain is = tt
-  shown_found (Some table) plain is = (plain, whole_rows (length table.schema.columns) table.rows (columns_some table is, rows_length table.schema.columns table.rows is.is_table.rows_fit) plain.rows)
+  shown_found (Some table) plain is = whole_rows (length table.schema.columns) table.rows (columns_some table is, rows_length table.schema.columns table.rows is.is_table.rows_fit) plain.rows
 
   pub table_shown : (journal : List Entry) (name : List ℕ) → IsKept plan journal → PlainRun plan journal → WhereFound ShownTable (find_table name (state_at plan journal).tables)
   table_shown journal name kept now =

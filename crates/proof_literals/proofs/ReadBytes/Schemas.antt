@@ -50,7 +50,7 @@ use Rattle.proof_schemas.proofs.ReadAgain.SoundTables.{SoundColumn, SoundDefault
 use Rattle.proof_plain.specs.Plain.{AreBytes, BytesMap, BytesOrigin, HasBytes, IfThere}
 use Rattle.proof_plain.specs.Plans.{HasByteDefaults}
 use Rattle.proof_plain.proofs.Values.{sound_bytes}
-use Rattle.proof_plain.proofs.ReadBytes.Steps.{ok_if, ok_then, ok_unless, then_ok}
+use Rattle.proof_literals.proofs.ReadBytes.Steps.{ok_if, ok_then, ok_unless, then_ok}
 
 -- ---- values
 

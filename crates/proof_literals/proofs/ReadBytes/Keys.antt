@@ -17,8 +17,8 @@ use Rattle.plan_keys.specs.Options.{numbers_in, options_within, truths_in, withi
 use Rattle.plan_keys.specs.PlanKeys.{KeyData, TypedData, few, in_range, keys_of, needed_tables, table_in, table_of, texts_of, typed_of}
 use Rattle.plan_keys.specs.Walks.{each_item}
 use Rattle.proof_plain.specs.Plain.{AreBytes}
-use Rattle.proof_plain.proofs.ReadBytes.Documents.{BytesData, BytesItems, BytesMembers}
-use Rattle.proof_plain.proofs.ReadBytes.Steps.{ok_if, ok_then, then_ok}
+use Rattle.proof_literals.proofs.ReadBytes.Documents.{BytesData, BytesItems, BytesMembers}
+use Rattle.proof_literals.proofs.ReadBytes.Steps.{ok_if, ok_then, then_ok}
 
 -- ---- what is at a key
 

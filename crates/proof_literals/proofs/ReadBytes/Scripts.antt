@@ -39,7 +39,7 @@ use Rattle.proof_schemas.proofs.ReadAgain.SoundValues.{SoundValue, literal-sound
 use Rattle.proof_plain.specs.Plain.{AreBytes, HasBytes}
 use Rattle.proof_plain.specs.Plans.{HasByteLiterals}
 use Rattle.proof_plain.proofs.Values.{sound_bytes}
-use Rattle.proof_plain.proofs.ReadBytes.Steps.{ok_if, ok_then, then_ok}
+use Rattle.proof_literals.proofs.ReadBytes.Steps.{ok_if, ok_then, then_ok}
 
 -- ---- single words
 

@@ -17,14 +17,13 @@ use Rattle.plan_keys.specs.declared.fault.KeyRefusal.{KeyRefusal}
 use Rattle.plan_keys.specs.declared.fault.KeyRefusal.TheVariants.{TooMany}
 use Rattle.plan_keys.specs.PlanKeys.{KeyData, keys_of}
 use Rattle.plan_reader.specs.declared.fault.PlanRefusal.{PlanRefusal}
-use Rattle.plan_reader.specs.declared.fault.PlanRefusal.TheVariants.{Keys, Leftover, NotBuilt, NotToml, TooLong}
+use Rattle.plan_reader.specs.declared.fault.PlanRefusal.TheVariants.{Keys, Leftover, NotToml, TooLong}
 use Rattle.plan_reader.specs.declared.limits.TheConstants.{PLAN_LIMIT}
 use Rattle.plan_reader.specs.declared.plan_tables.fault.TableRefusal.{TableRefusal}
-use Rattle.plan_reader.specs.Built.{is_built}
 use Rattle.plan_reader.specs.Clients.{client_script, clients_of, few_statements, has_many_statements, scripts_of, tool_names}
 use Rattle.plan_reader.specs.Openings.{OpeningData, has_left_ghost, has_left_old, migrated_in, opening_of, without_leftovers}
 use Rattle.plan_reader.specs.Orders.{few_orders, has_many_orders, orders_of}
-use Rattle.plan_reader.specs.Plans.{document, keys_in, plan_at, plan_of, read}
+use Rattle.plan_reader.specs.Plans.{document, keys_in, plan_at, read}
 use Rattle.plan_reader.specs.PlanTables.Rows.{next_number}
 use Rattle.plan_reader.specs.PlanTables.Tables.{tables_of}
 use Rattle.plan_reader.specs.Refusals.{of_alter, of_keys, of_script, of_tables, or_refused}
@@ -38,13 +37,13 @@ use Rattle.proof_schemas.proofs.Alters.ReadAgain.Clauses.{SoundClause, read-soun
 use Rattle.proof_plans.proofs.ReadPlans.Tables.{found_is}
 use Rattle.proof_plain.specs.Plain.{AreBytes, BytesMap}
 use Rattle.proof_plain.specs.Plans.{HasByteDefaults, HasByteTexts}
-use Rattle.proof_plain.proofs.ReadBytes.Rows.{TableHas, tables_have}
-use Rattle.proof_plain.proofs.ReadBytes.Schemas.{altered_bytes}
-use Rattle.proof_plain.proofs.ReadBytes.Scripts.{ScriptHas, script_bytes}
-use Rattle.proof_plain.proofs.ReadBytes.Documents.{BytesMembers, document_bytes}
-use Rattle.proof_plain.proofs.ReadBytes.Strings.{utf8_bytes}
-use Rattle.proof_plain.proofs.ReadBytes.Keys.{BytesTexts, keys_bytes}
-use Rattle.proof_plain.proofs.ReadBytes.Steps.{ok_if, ok_then, then_ok}
+use Rattle.proof_literals.proofs.ReadBytes.Rows.{TableHas, tables_have}
+use Rattle.proof_literals.proofs.ReadBytes.Schemas.{altered_bytes}
+use Rattle.proof_literals.proofs.ReadBytes.Scripts.{ScriptHas, script_bytes}
+use Rattle.proof_literals.proofs.ReadBytes.Documents.{BytesMembers, document_bytes}
+use Rattle.proof_literals.proofs.ReadBytes.Strings.{utf8_bytes}
+use Rattle.proof_literals.proofs.ReadBytes.Keys.{BytesTexts, keys_bytes}
+use Rattle.proof_literals.proofs.ReadBytes.Steps.{ok_if, ok_then, then_ok}
 
 -- ---- the opening
 
@@ -128,7 +127,7 @@ plan_has members are =
     (λ keys have. ok_then OpeningHas PlanHas (opening_of keys) _ (opening_has keys have)
     (λ opening opened. ok_then ScriptsHave PlanHas (clients_of keys.texts.table keys.texts.clients) _ (clients_have keys.texts.table keys.texts.clients have.clients)
     (λ clients own. then_ok PlanHas (orders_of (length clients) keys.texts) _
-    (λ orders. ok_if PlanHas (is_built keys) (Ok (plan_of keys opening clients orders)) (Err NotBuilt) (record { tables = opened.tables; alter = opened.alter; clients = own }) tt))))
+    (λ orders. record { tables = opened.tables; alter = opened.alter; clients = own }))))
 
 document_said : (found : Option Members) → IfSome found BytesMembers → IfOk (or_refused NotToml found) BytesMembers
 document_said None are = tt

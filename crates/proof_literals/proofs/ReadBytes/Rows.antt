@@ -37,10 +37,10 @@ use Rattle.proof_schemas.proofs.ReadAgain.SoundValues.{SoundValue}
 use Rattle.proof_plain.specs.Plain.{AreBytes, HasBytes}
 use Rattle.proof_plain.specs.Plans.{HasByteDefaults}
 use Rattle.proof_plain.proofs.Values.{sound_bytes}
-use Rattle.proof_plain.proofs.ReadBytes.Schemas.{schema_bytes}
-use Rattle.proof_plain.proofs.ReadBytes.Scripts.{Reads, literal_reads}
-use Rattle.proof_plain.proofs.ReadBytes.Keys.{BytesTable}
-use Rattle.proof_plain.proofs.ReadBytes.Steps.{ok_if, ok_then}
+use Rattle.proof_literals.proofs.ReadBytes.Schemas.{schema_bytes}
+use Rattle.proof_literals.proofs.ReadBytes.Scripts.{Reads, literal_reads}
+use Rattle.proof_literals.proofs.ReadBytes.Keys.{BytesTable}
+use Rattle.proof_literals.proofs.ReadBytes.Steps.{ok_if, ok_then}
 
 -- ---- a row
 

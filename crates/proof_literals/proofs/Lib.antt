@@ -1,0 +1,5 @@
+pub mod Finals
+pub mod ReadBytes
+pub mod ReadLimits
+pub mod ReadScripts
+pub mod Starts
