@@ -1,6 +1,6 @@
 //! A run that is finished.
 
-ghost use Rattle.std.specs.Prelude.{◌≡◌, [], ◌++◌, length, true, false, OnOk, OnErr};
+ghost use Rattle.std.specs.Prelude.{◌≡◌, ◌≤◌, [], ◌++◌, length, true, false, OnOk, OnErr};
 ghost use Rattle.tool_finish.specs.Callable.{IsFinishable};
 ghost use Rattle.tool_finish.specs.Checkpoints.{has_checkpoint};
 ghost use Rattle.tool_finish.specs.Finishes.{finish_verdict, IsFinish};
@@ -136,6 +136,13 @@ impl<'a, V: Serve> Finish<'a, V> {
         ensures following { IsAfter (state_at self.now.plan (self.now.run ++ self.now.turns)) self.now.server }
     {
         &self.server
+    }
+
+    /// How many sessions the server made at most.
+    pub fn sessions(&self) -> u32
+        ensures { self.now.server.made ≤ result }
+    {
+        self.state.made
     }
 
     /// The server and the journal.

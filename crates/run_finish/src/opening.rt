@@ -8,7 +8,6 @@ ghost use Rattle.run_finish.specs.Sessions.{first_stage, sessions_at};
 use crate::finish_state::FinishState;
 use crate::sessions::{LiveSession, first_actor, sessions_of};
 use base_values::Name;
-use extra_notes::checkpoint_of;
 use run_state::RunState;
 use run_turns::Run;
 use run_turns::due_turns::migration_run::Counts;
@@ -16,6 +15,7 @@ use server_api::Serve;
 use std::alloc::{AllocError, Global};
 use table_store::paged_tables::Tables;
 use tool_finish::{Stage, has_written};
+use tool_notes::checkpoint_of;
 
 /// The changelog's name.
 fn log_name<'a>(run_state: &'a RunState<'_>) -> &'a Name

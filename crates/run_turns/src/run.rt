@@ -249,6 +249,13 @@ impl<'a, V: Serve> Run<'a, V> {
         &self.run_state
     }
 
+    /// How many sessions the server made at most.
+    pub fn sessions(&self) -> u32
+        ensures { self.now.server.made ≤ result }
+    {
+        self.sessions
+    }
+
     /// Makes room for so many turns more than the run has. Where there is no memory, the run is as before.
     pub fn reserve(&mut self, turns: usize) -> Result<(), AllocError>
         ensures { self.new ≡ self.old }

@@ -16,7 +16,7 @@ use Rattle.base_values.specs.ToolNames.{log_name}
 use Rattle.plan_data.specs.PlanData.{PlanData, has_counter}
 use Rattle.server_model.specs.declared.outcome.Verdict.TheVariants as verdicts
 use Rattle.tool_changelog.specs.declared.checkpoint.Reach.{Reach}
-use Rattle.extra_notes.specs.declared.checkpoint.Checkpoint.{Checkpoint}
+use Rattle.tool_notes.specs.declared.checkpoint.Checkpoint.{Checkpoint}
 use Rattle.tool_program.specs.declared.chunk_copier.copier.Copier.{Copier}
 use Rattle.tool_program.specs.declared.chunk_copier.copier.CopyRange.{CopyRange}
 use Rattle.tool_program.specs.ChunkCopier.Copiers.{is_empty_range}

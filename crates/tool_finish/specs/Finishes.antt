@@ -35,8 +35,8 @@ use Rattle.server_model.specs.States.{State, unread}
 use Rattle.plan_data.specs.PlanData.{PlanData, has_counter, new_map, new_schema, old_schema}
 use Rattle.tool_changelog.specs.declared.checkpoint.Reach.{Reach}
 use Rattle.tool_changelog.specs.declared.checkpoint.Reach.TheVariants as reaches
-use Rattle.extra_notes.specs.declared.checkpoint.Checkpoint.{Checkpoint}
-use Rattle.extra_notes.specs.Readings.{checkpoint_of}
+use Rattle.tool_notes.specs.declared.checkpoint.Checkpoint.{Checkpoint}
+use Rattle.tool_notes.specs.Readings.{checkpoint_of}
 use Rattle.tool_program.specs.JournalWords.Journals.{state_at}
 use Rattle.tool_program.specs.JournalWords.Sessions.{IsInSession, live_session}
 use Rattle.tool_program.specs.declared.chunk_copier.copier.Copier.{Copier}

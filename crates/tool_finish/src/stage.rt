@@ -1,6 +1,6 @@
 //! How far the new tool is.
 
-use extra_notes::Checkpoint;
+use tool_notes::Checkpoint;
 use tool_program::chunk_copier::Copier;
 use tool_program::event_applier::Applier;
 

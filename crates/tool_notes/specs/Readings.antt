@@ -11,7 +11,7 @@ use Rattle.sql_words.specs.Readings.{Reading, words_of}
 use Rattle.sql_grammar.specs.WordValues.ReadBack.{word_value}
 use Rattle.tool_changelog.specs.declared.checkpoint.Reach.{Reach}
 use Rattle.tool_changelog.specs.declared.checkpoint.Reach.TheVariants.{Nothing, To, All}
-use Rattle.extra_notes.specs.declared.checkpoint.Checkpoint.{Checkpoint}
+use Rattle.tool_notes.specs.declared.checkpoint.Checkpoint.{Checkpoint}
 use Rattle.tool_changelog.specs.Checkpoints.{checkpoint_value}
 
 -- the literals among the words

@@ -1,7 +1,7 @@
 //! The reader of heartbeat rows.
 
 ghost use Rattle.std.specs.Prelude.{◌≡◌};
-ghost use Rattle.extra_notes.specs.Heartbeats.{heartbeat_of};
+ghost use Rattle.tool_notes.specs.Heartbeats.{heartbeat_of};
 
 use base_values::Value;
 use itoa::Buffer;

@@ -3,7 +3,7 @@
 ghost use Rattle.std.specs.Prelude.{◌≡◌, IfOk, MatchOption, length};
 ghost use Rattle.std.specs.List.{before_first, after_first, position_or_len};
 ghost use Rattle.sql_words.specs.Readings.{views};
-ghost use Rattle.extra_notes.specs.Readings.{is_blank, literals_among, literals, position_of, reach_of, note_of, has_text, checked, checkpoint_of};
+ghost use Rattle.tool_notes.specs.Readings.{is_blank, literals_among, literals, position_of, reach_of, note_of, has_text, checked, checkpoint_of};
 
 use crate::checkpoint::Checkpoint;
 use base_values::{Row, Sequence, Value};

@@ -11,8 +11,8 @@ use Rattle.tool_changelog.specs.declared.checkpoint.Reach.TheVariants.{Nothing, 
 use Rattle.tool_changelog.specs.Checkpoints.{checkpoint_row}
 use Rattle.sql_words.specs.Front.{front_at}
 use Rattle.sql_words.specs.Readings.{words_after}
-use Rattle.extra_notes.specs.Readings.{checkpoint_of}
-use Rattle.extra_notes.specs.Heartbeats.{heartbeat_of}
+use Rattle.tool_notes.specs.Readings.{checkpoint_of}
+use Rattle.tool_notes.specs.Heartbeats.{heartbeat_of}
 
 -- the checkpoint behind the key (2), with no event applied
 row_after_two : checkpoint_row 0 (To (Num (pos 2) ∷ [])) ≡ Some (Num (pos 0) ∷ Text (codes "checkpoint") ∷ Text (codes "0 (2)") ∷ [])

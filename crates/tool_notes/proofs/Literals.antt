@@ -8,7 +8,7 @@ use Rattle.base_values.specs.declared.value.Value.{Value}
 use Rattle.sql_words.specs.declared.word.Word.{Word}
 use Rattle.sql_words.specs.Readings.{view, views}
 use Rattle.sql_grammar.specs.WordValues.ReadBack.{word_value}
-use Rattle.extra_notes.specs.Readings.{literals_among}
+use Rattle.tool_notes.specs.Readings.{literals_among}
 
 pub viewed : (words : List Word) → literals_among (views words) ≡ flat_map (λ (word : Word). option_to_list (word_value word.class word.text.now)) words
 viewed words = flat_map-map (λ word. option_to_list (word_value word.class word.text)) view words

@@ -5,9 +5,9 @@ use Rattle.base_values.specs.declared.value.Value.{Value}
 use Rattle.sql_grammar.specs.WordValues.ReadBack.{IsLiteral}
 use Rattle.tool_changelog.specs.declared.checkpoint.Reach.{Reach}
 use Rattle.tool_changelog.specs.declared.checkpoint.Reach.TheVariants.{Nothing, To, All}
-use Rattle.extra_notes.specs.declared.checkpoint.Checkpoint.{Checkpoint}
+use Rattle.tool_notes.specs.declared.checkpoint.Checkpoint.{Checkpoint}
 use Rattle.tool_changelog.specs.Checkpoints.{checkpoint_row}
-use Rattle.extra_notes.specs.Readings.{checkpoint_of}
+use Rattle.tool_notes.specs.Readings.{checkpoint_of}
 
 -- the key, where there is one, has only texts, bytes and numbers of at most 38 digits; a key of a clustered index has no null
 abbrev pub IsWritten : Reach → Type 0

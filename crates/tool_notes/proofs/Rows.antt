@@ -19,11 +19,11 @@ use Rattle.base_values.specs.StoredValues.{character_count}
 use Rattle.sql_grammar.proofs.WordValues.ReadBack.{decimal_digits}
 use Rattle.tool_changelog.specs.declared.checkpoint.Reach.{Reach}
 use Rattle.tool_changelog.specs.declared.checkpoint.Reach.TheVariants.{Nothing, To, All}
-use Rattle.extra_notes.specs.declared.checkpoint.Checkpoint.{Checkpoint}
+use Rattle.tool_notes.specs.declared.checkpoint.Checkpoint.{Checkpoint}
 use Rattle.tool_changelog.specs.Checkpoints.{reach_text, checkpoint_text, checkpoint_value, checkpoint_row}
-use Rattle.extra_notes.specs.Laws.{IsWritten, ReadHasRow, RowsAreRead}
-use Rattle.extra_notes.specs.Readings.{literals, position_of, reach_of, is_blank, note_at, note_of, has_text, checked, checkpoint_of}
-use Rattle.extra_notes.proofs.Lexing.{tells_number, tells_row}
+use Rattle.tool_notes.specs.Laws.{IsWritten, ReadHasRow, RowsAreRead}
+use Rattle.tool_notes.specs.Readings.{literals, position_of, reach_of, is_blank, note_at, note_of, has_text, checked, checkpoint_of}
+use Rattle.tool_notes.proofs.Lexing.{tells_number, tells_row}
 
 -- ---- what is read has this row
 

@@ -20,7 +20,7 @@ use Rattle.sql_words.proofs.NumberWords.{front_at-number_value, number_value-uns
 use Rattle.sql_words.proofs.Reprinted.{words_after-append, front_at-printed_text, text_value-printed_text, front_at-printed_bytes, bytes_value-printed_bytes}
 use Rattle.sql_grammar.proofs.WordValues.ReadBack.{decimal_digits, decimal_value}
 use Rattle.sql_grammar.specs.WordValues.ReadBack.{word_value, IsLiteral}
-use Rattle.extra_notes.specs.Readings.{literals_among, literals_read, literals}
+use Rattle.tool_notes.specs.Readings.{literals_among, literals_read, literals}
 
 -- the literals of these bytes, wherever they stand
 abbrev pub Tells : List ℕ → List Value → Type 0

@@ -1,5 +1,5 @@
-use Rattle.extra_notes.proofs.Literals.{viewed_all}
-use Rattle.extra_notes.proofs.reader.literals_among.Goals as goal
+use Rattle.tool_notes.proofs.Literals.{viewed_all}
+use Rattle.tool_notes.proofs.reader.literals_among.Goals as goal
 
 -- no word is left
 pub returns : goal.returns

@@ -1,5 +1,0 @@
-use Rattle.extra_notes.proofs.Rows.{read_has_row}
-use Rattle.extra_notes.proofs.laws.read_checkpoints_have_their_row.Goals as goal
-
-pub returns : goal.returns
-returns c = read_has_row
