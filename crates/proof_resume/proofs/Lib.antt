@@ -1,2 +1,4 @@
 pub mod Reached
 pub mod Settled
+pub mod Finish
+pub mod Starts

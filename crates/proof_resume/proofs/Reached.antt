@@ -2,12 +2,12 @@ pub mod Shrinking
 pub mod ChunkEnds
 pub mod Rising
 pub mod Recalling
+pub mod CopierTurns
 pub mod Copying
 pub mod Coverage
 pub mod Noting
 pub mod Written
 pub mod LastCheckpoints
-pub mod ChangelogTurns
 pub mod StoredRows
 pub mod Statements
 pub mod Existing

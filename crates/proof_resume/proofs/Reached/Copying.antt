@@ -1,23 +1,15 @@
 -- After each turn of a run each key that was copied is copied.
-use Rattle.std.proofs.Common.{◌≡◌, ℕ, ◌+◌, ◌<◌, Bool, true, false, cond, List, [], ◌∷◌, ◌++◌, length, Option, Some, None, refl, sym, ap, ◌∙◌, subst, arith}
-use Rattle.std.specs.Prelude.{◌&&◌}
-use Rattle.base_values.specs.ToolNames.{ghost_name}
+use Rattle.std.proofs.Common.{◌≡◌, ℕ, ◌+◌, ◌<◌, Bool, true, false, List, [], ◌∷◌, ◌++◌, length, Option, Some, None, refl, sym, ap, ◌∙◌, subst, arith}
 use Rattle.base_values.specs.declared.span.Bound.{Bound}
 use Rattle.base_values.specs.declared.span.Bound.TheVariants.{Closed}
 use Rattle.base_values.specs.declared.span.Span.{Span}
-use Rattle.base_script.specs.declared.actor.Actor.{Actor}
-use Rattle.base_script.specs.declared.actor.Actor.TheVariants.{Op, Insp, Copy, Apply, Lock, Ren, Client}
 use Rattle.server_model.specs.declared.answer.Answer.{Answer}
 use Rattle.server_model.specs.declared.answer.Answer.TheVariants as answers
-use Rattle.server_model.specs.declared.entry.Asked.{Asked}
-use Rattle.server_model.specs.declared.entry.Asked.TheVariants.{Call, Poll, Command, Cut}
 use Rattle.server_model.specs.declared.entry.Entry.{Entry}
-use Rattle.server_model.specs.declared.outcome.Progress.TheVariants.{Unfit}
 use Rattle.server_model.specs.declared.request.Request.{Request}
 use Rattle.server_model.specs.EarlierAnswers.{end_in}
-use Rattle.server_model.specs.Entries.{answer_at, is_client, is_cut}
+use Rattle.server_model.specs.Entries.{answer_at}
 use Rattle.plan_data.specs.PlanData.{PlanData}
-use Rattle.tool_program.specs.JournalWords.Sessions.{live_session}
 use Rattle.tool_program.proofs.JournalWords.Answers.{answer_more}
 use Rattle.tool_program.specs.declared.chunk_copier.copier.Copier.{Copier}
 use Rattle.tool_program.specs.declared.chunk_copier.copier.CopyRange.{CopyRange}
@@ -25,42 +17,26 @@ use Rattle.tool_program.specs.declared.chunk_copier.copier.CopyStep.{CopyStep}
 use Rattle.tool_program.specs.declared.chunk_copier.copier.CopyStep.TheVariants.{Choosing, Spanning, Copying, Committing}
 use Rattle.tool_program.specs.ChunkCopier.Copiers as copiers
 use Rattle.tool_program.specs.ChunkCopier.Copiers.{low_end, resized}
-use Rattle.tool_program.specs.Operators.{is_throttled}
-use Rattle.tool_program.specs.Programs.{copy_call, given, rolls_back, tool_call}
-use Rattle.tool_program.specs.Tools.{ToolPhase, SettingUp, Migrating, Tool, Work, is_reverting, moment, stopped}
-use Rattle.tool_program.proofs.OnlineCalls.Machines.{ToolPhaseIsNamed, named}
+use Rattle.tool_program.specs.Tools.{Migrating, Work, is_reverting, moment}
 use Rattle.proof_journals.specs.Plans.{limits_of, scene_of}
-use Rattle.proof_journals.specs.Turns.{IsReported, IsSceneRun}
 use Rattle.proof_journals.specs.Run.Kept.{IsKept}
-use Rattle.proof_journals.specs.Machine.Standings.{IsAbout, is_called, is_polled, standing_of}
 use Rattle.proof_journals.specs.Ghost.HeldKeys.{Clustered}
 use Rattle.proof_journals.specs.Ghost.Rows.Moments.{Row}
 use Rattle.proof_journals.specs.Ghost.Rows.Timelines.{Migration}
 use Rattle.proof_journals.specs.Ghost.Rows.Views.{is_done}
 use Rattle.proof_journals.specs.Ghost.Tool.{CopyState}
 use Rattle.proof_journals.specs.Ghost.Tool.CopyState.{Waiting}
-use Rattle.proof_journals.proofs.Machine.Asking.{unless_called}
-use Rattle.proof_journals.proofs.Machine.Journals.{Asking, IsRun, IsTogether, asking, calls_so, polls_so}
-use Rattle.proof_journals.proofs.Ghost.Turns.{along_next, run_front}
 use Rattle.proof_migration.specs.ToolPhase.Unaltered.{IsUnaltered}
 use Rattle.proof_migration.specs.Migration.Copier.CopierPlace.{AfterReported, CopierKnows, StepKnows, copy_state, state_at_step}
 use Rattle.proof_migration.specs.Migration.Copier.Laws.{IsCopierTurn}
-use Rattle.proof_migration.specs.Program.Turns.Goes.{CopyWaits}
 use Rattle.proof_migration.specs.Program.Turns.Laws.{GoesSomehow, IsMigrationOf}
-use Rattle.proof_migration.proofs.ToolServes.{about_uncommanded, tool_serves}
-use Rattle.proof_migration.proofs.ToolPhase.ToolPhaseTurns.{AnswerKeeps, CopyKeeps, DrainKeeps, Kept, ResizeKeeps, TurnKeeps, UnfitKeeps, turn_kept}
-use Rattle.proof_migration.proofs.ToolPhase.Unaltered.Away.{IsKnownAsked, all_asked}
 use Rattle.proof_migration.proofs.Migration.Copier.Chunks.{same_answer, state_more, taking_state}
 use Rattle.proof_migration.proofs.Migration.Copier.Knowing.{Asks, after_more, asks_at, low_more, step_more}
-use Rattle.proof_migration.proofs.Program.Turns.ActorStates.{SomeActorStates, some_actor_states}
-use Rattle.proof_migration.proofs.Program.Turns.Asked.{about_called, gave}
-use Rattle.proof_migration.proofs.Program.Turns.Follows.{kept_front, kept_run, kept_scene}
-use Rattle.proof_migration.proofs.Program.Turns.Others.{ghost_named}
-use Rattle.proof_migration.proofs.Program.Turns.Sizes.{Sized, same_so, sized_took, spans_so}
 use Rattle.proof_resume.specs.Reached.Coverage.{left_in}
 use Rattle.proof_resume.specs.Reached.ChunkEnds.{CopierRecalls, EndIsAbove, StepEnds}
 use Rattle.proof_resume.specs.Reached.Laws.{ComesFurther, ReachesRise}
 use Rattle.proof_resume.proofs.Reached.ChunkEnds.{ends_stay_above, left_shrinks}
+use Rattle.proof_resume.proofs.Reached.CopierTurns.{copier_keeps}
 use Rattle.proof_resume.proofs.Reached.Recalling.{took_known}
 
 -- no answer changes the range
@@ -74,7 +50,7 @@ range_after turn copier (Copying chunk copied) answer = refl
 range_after turn copier (Committing chunk) (answers.Ok count) = refl
 range_after turn copier (Committing chunk) answer = refl
 
-range_took : (turn : ℕ) (copier : Copier) (answer : Answer) → (copiers.took turn copier answer).range ≡ copier.range
+pub range_took : (turn : ℕ) (copier : Copier) (answer : Answer) → (copiers.took turn copier answer).range ≡ copier.range
 unfolding copiers.took
 range_took turn copier answers.Lost = refl
 range_took turn copier (answers.TimedOut waited) = refl
@@ -111,28 +87,25 @@ further_sized : (journal more : List Entry) (old one : Copier) (size : ℕ) → 
 further_sized journal more old one size further =
     record { recalls = recalls_sized more one size further.recalls; shrinks = λ key done. ap (λ (s : CopyState). is_done (left_in s) key) (state_sized more one size) ∙ further.shrinks key done }
 
-spans_sized : (more : List Entry) (one : Copier) (size reported other : ℕ) → one.step ≡ Spanning reported other → copy_state more (record (resized size one) { step = Spanning reported size }) ≡ copy_state more one
-spans_sized more one size reported other here = by one.is_copied refl where
-  ranged : (range : Option CopyRange) → one.range ≡ range → one.is_copied ≡ false → copy_state more (record (resized size one) { step = Spanning reported size }) ≡ copy_state more one
+spans_sized : (more : List Entry) (one : Copier) (reported other size : ℕ) → one.step ≡ Spanning reported other → copy_state more (record one { step = Spanning reported size }) ≡ copy_state more one
+spans_sized more one reported other size here = by one.is_copied refl where
+  ranged : (range : Option CopyRange) → one.range ≡ range → one.is_copied ≡ false → copy_state more (record one { step = Spanning reported size }) ≡ copy_state more one
   ranged None is going = rw (going, is) refl
-  ranged (Some range) is going = taking_state more (record (resized size one) { step = Spanning reported size }) range (Spanning reported size) is going refl ∙ sym (taking_state more one range (Spanning reported other) is going here)
+  ranged (Some range) is going = taking_state more (record one { step = Spanning reported size }) range (Spanning reported size) is going refl ∙ sym (taking_state more one range (Spanning reported other) is going here)
 
-  by : (b : Bool) → one.is_copied ≡ b → copy_state more (record (resized size one) { step = Spanning reported size }) ≡ copy_state more one
+  by : (b : Bool) → one.is_copied ≡ b → copy_state more (record one { step = Spanning reported size }) ≡ copy_state more one
   by true is = rw is refl
   by false is = ranged one.range refl is
 
-further_from : (journal more : List Entry) (old new one : Copier) (size : ℕ) → 0 < size → Sized (resized size one) new → ComesFurther journal more old one → ComesFurther journal more old new
-further_from journal more old new one size some (same_so same) further = subst (ComesFurther journal more old) same (further_sized journal more old one size further)
-further_from journal more old new one size some (spans_so reported other here is) further =
-    subst (ComesFurther journal more old) (sym is)
-    (record {
-      recalls = record {
-        following = further.recalls.following;
-        step = ((subst (StepKnows more one.range) here further.recalls.step).0, some);
-        ends = λ range at. subst (StepEnds more one range) here (further.recalls.ends range at);
-      };
-      shrinks = λ key done. ap (λ (s : CopyState). is_done (left_in s) key) (spans_sized more one size reported other here) ∙ further.shrinks key done;
-    })
+further_spans : (journal more : List Entry) (old one : Copier) (reported other size : ℕ) → 0 < size → one.step ≡ Spanning reported other → ComesFurther journal more old one → ComesFurther journal more old (record one { step = Spanning reported size })
+further_spans journal more old one reported other size some here further = record {
+  recalls = record {
+    following = further.recalls.following;
+    step = ((subst (StepKnows more one.range) here further.recalls.step).0, some);
+    ends = λ range at. subst (StepEnds more one range) here (further.recalls.ends range at);
+  };
+  shrinks = λ key done. ap (λ (s : CopyState). is_done (left_in s) key) (spans_sized more one reported other size here) ∙ further.shrinks key done;
+}
 
 -- A COPIER THAT STAYS, OR BEGINS ITS CHUNK AGAIN
 
@@ -210,176 +183,44 @@ module _ (plan : PlanData) (m : Migration) (at : Clustered m.schema) (rows : Lis
   abbrev more : List Entry
   more = journal ++ entry ∷ []
 
-  abbrev Rose : Kept
-  Rose b (SettingUp setup tries) = Unit {0}
-  Rose b (Migrating later_work) = ComesFurther journal more work.copier later_work.copier
+  -- a turn of the copier, with chunks of any size
+  module _ (size : ℕ) (request : Request) (turn : IsCopierTurn m (limits_of plan) (scene_of plan more) journal entry (resized size work.copier) request) (some : 0 < size) where
+    abbrev one : Copier
+    one = resized size work.copier
 
-  before : IsKept plan journal
-  before = kept_front plan journal (entry ∷ []) kept
+    abbrev after : Copier
+    after = copiers.took (length journal + 1) one entry.answer
 
-  known : IsKnownAsked plan journal
-  known = all_asked plan journal of.runs before.faithful before.follows
-
-  together : IsTogether plan journal
-  together = known.marking.tabled.all.tool
-
-  run : IsRun plan journal entry
-  run = kept_run plan journal entry kept
-
-  still : ComesFurther journal more work.copier work.copier
-  still = further_same journal entry work.copier was
-
-  here : (b : Bool) → Rose b (moment plan journal).tool.tool_phase
-  here b = subst (Rose b) (sym tool_phase) still
-
-  rose_back : (b : Bool) (one : ToolPhase) → Rose b one → Rose true (stopped one)
-  rose_back b (SettingUp setup tries) rose = tt
-  rose_back b (Migrating one) rose = rose
-
-  unfit_so : UnfitKeeps Rose work
-  unfit_so = record { renamed = λ is. still; reverts = still }
-
-  scene_run : IsSceneRun (limits_of plan) (scene_of plan more) more
-  scene_run = kept_scene plan m rows of more kept off
-
-  -- where nothing is reverted its chunks have rows
-  sized : (it : GoesSomehow plan m at rows journal) → it.work ≡ work → 0 < work.copier.size
-  sized it same =
-      let some : SomeActorStates journal = some_actor_states journal together.known.sessions in
-      subst (λ (w : Work). 0 < w.copier.size) same (it.goes.stands some.copier some.applier some.actor_states).copier_knows.sized
-
-  record CopyAsks : Type 0 where
-    request : Request
-    is_about : IsAbout request (standing_of plan journal Copy) entry.asked
-    waits : CopyWaits journal work.copier request
-
-  copy_asks : entry.actor ≡ Copy → is_cut entry.asked ≡ false → is_reverting (moment plan journal).tool.reason ≡ false → CopyAsks
-  unfolding given
-  copy_asks same uncut going = by (asking plan journal Copy entry.asked together.server (gave plan of.serial of.runs.fitting journal entry known run off Copy same uncut)) where
-    it : GoesSomehow plan m at rows journal
-    it = goes going
-
-    same_work : it.work ≡ work
-    same_work = let both : Migrating it.work ≡ Migrating work = sym it.tool_phase ∙ tool_phase in cc
-
-    by : Asking plan journal Copy entry.asked → CopyAsks
-    by (calls_so request asks idle call) =
-        record {
-          request = request;
-          is_about = is_called asks idle;
-          waits = record {
-            size = work.copier.size;
-            some = sized it same_work;
-            next =
-                unless_called (copiers.starts work.copier && is_throttled plan (moment plan journal).server (moment plan journal).tool.operator) (copiers.next journal work.copier) request
-                (ap (λ (b : Bool). cond b (rolls_back (moment plan journal).server (live_session journal Copy)) (copy_call plan (moment plan journal).server journal (moment plan journal).tool work)) (sym going)
-                ∙ ap (λ (c : ToolPhase). tool_call plan (moment plan journal).server journal (moment plan journal).tool c Copy) (sym tool_phase) ∙ call);
-          };
-        }
-    by (polls_so request asks some) = record { request = request; is_about = is_polled asks some; waits = subst (λ (w : Work). CopyWaits journal w.copier request) same_work (it.goes.copy_waits request some) }
-
-  copy_turns : entry.actor ≡ Copy → is_cut entry.asked ≡ false → is_reverting (moment plan journal).tool.reason ≡ false → ((place number : ℕ) → copiers.progress work.copier entry.answer ≡ Unfit place number → ⊥) → ComesFurther journal more work.copier (copiers.took (length journal + 1) work.copier entry.answer)
-  unfolding copiers.progress
-  copy_turns same uncut going fits = further_from journal more work.copier (copiers.took (length journal + 1) work.copier entry.answer) (copiers.took (length journal + 1) one entry.answer) work.copier.size (sized it same_work) (sized_took (length journal + 1) (asks.waits).size work.copier entry.answer) further_one where
-    asks : CopyAsks
-    asks = copy_asks same uncut going
-
-    one : Copier
-    one = resized (asks.waits).size work.copier
-
-    asked : Asks journal one asks.request
-    asked = asks_at journal one asks.request (asks.waits).next
-
-    it : GoesSomehow plan m at rows journal
-    it = goes going
-
-    same_work : it.work ≡ work
-    same_work = let both : Migrating it.work ≡ Migrating work = sym it.tool_phase ∙ tool_phase in cc
-
-    turn : IsCopierTurn m (limits_of plan) (scene_of plan more) journal entry one asks.request
-    turn = record {
-      run = run_front (limits_of plan) (scene_of plan more) journal (entry ∷ []) scene_run;
-      more = scene_run;
-      reported = along_next (IsReported (limits_of plan) (scene_of plan more)) [] journal entry [] scene_run.reported;
-      table = (subst (ToolPhaseIsNamed plan) tool_phase (named plan journal)).copier ∙ sym of.of.name;
-      new_name = ghost_named plan m of.of ∙ ap ghost_name (sym of.of.name);
-      map = subst (λ (w : Work). w.copier.map ≡ m.columns) same_work it.goes.map;
-      asked = about_called plan of.serial of.runs.fitting journal entry known run off Copy asks.request same asks.is_about;
-      tool = tool_serves plan journal entry before together run (about_uncommanded asks.request (standing_of plan journal Copy) entry.asked asks.is_about) (ap is_client same);
-      given = (asks.waits).next;
-      uncut = uncut;
-      fits = fits;
-    }
+    asked : Asks journal one request
+    asked = asks_at journal one request turn.given
 
     known_one : CopierKnows journal one
-    known_one = record { following = was.following; step = was.step; sized = (asks.waits).some }
+    known_one = record { following = was.following; step = was.step; sized = some }
 
     ends_one : StepEnds journal one asked.range one.step
-    ends_one = ends_sized journal work.copier (asks.waits).size asked.range work.copier.step (was.ends asked.range asked.is)
+    ends_one = ends_sized journal work.copier size asked.range work.copier.step (was.ends asked.range asked.is)
 
     same_range : (range : CopyRange) → work.copier.range ≡ Some range → asked.range ≡ range
     same_range range is = let both : Some asked.range ≡ Some range = sym asked.is ∙ is in cc
 
-    known_then : AfterReported more (copiers.took (length journal + 1) one entry.answer).following × StepKnows more (copiers.took (length journal + 1) one entry.answer).range (copiers.took (length journal + 1) one entry.answer).step
-    known_then = took_known journal entry one was.following was.step (asks.waits).some
+    known_then : AfterReported more after.following × StepKnows more after.range after.step
+    known_then = took_known journal entry one was.following was.step some
 
-    ends_then : (range : CopyRange) → (copiers.took (length journal + 1) one entry.answer).range ≡ Some range → StepEnds more (copiers.took (length journal + 1) one entry.answer) range (copiers.took (length journal + 1) one entry.answer).step
+    ends_then : (range : CopyRange) → after.range ≡ Some range → StepEnds more after range after.step
     ends_then range is =
-        subst (λ (r : CopyRange). StepEnds more (copiers.took (length journal + 1) one entry.answer) r (copiers.took (length journal + 1) one entry.answer).step) (same_range range (sym (range_took (length journal + 1) one entry.answer) ∙ is))
-        (ends_stay_above m (limits_of plan) (scene_of plan more) journal entry one asked.range asks.request turn asked.is known_one ends_one)
+        subst (λ (r : CopyRange). StepEnds more after r after.step) (same_range range (sym (range_took (length journal + 1) one entry.answer) ∙ is))
+        (ends_stay_above m (limits_of plan) (scene_of plan more) journal entry one asked.range request turn asked.is known_one ends_one)
 
-    further_one : ComesFurther journal more work.copier (copiers.took (length journal + 1) one entry.answer)
+    further_one : ComesFurther journal more work.copier after
     further_one = record {
       recalls = record { following = known_then.0; step = known_then.1; ends = ends_then };
-      shrinks = λ key done. left_shrinks m (limits_of plan) (scene_of plan more) journal entry one asked.range asks.request turn asked.is asked.going known_one ends_one key (ap (λ (s : CopyState). is_done (left_in s) key) (state_sized journal work.copier (asks.waits).size) ∙ done);
+      shrinks = λ key done. left_shrinks m (limits_of plan) (scene_of plan more) journal entry one asked.range request turn asked.is asked.going known_one ends_one key (ap (λ (s : CopyState). is_done (left_in s) key) (state_sized journal work.copier size) ∙ done);
     }
 
-  abbrev counted : Tool
-  counted = record (moment plan journal).tool { turns = (moment plan journal).tool.turns + 1 }
-
-  turns_are : counted.turns ≡ length journal + 1
-  turns_are = ap (λ (n : ℕ). n + 1) together.turns
-
-  lost_took : (n : ℕ) → ComesFurther journal more work.copier (copiers.took n work.copier answers.Lost)
-  unfolding copiers.took
-  lost_took n = further_again journal entry work.copier was
-
-  by_actor : (answer : Answer) (actor : Actor) → (actor ≡ Copy → CopyKeeps Rose answer counted work) → AnswerKeeps plan Rose answer counted actor (Migrating work)
-  by_actor answer Insp copies = λ tries. still
-  by_actor answer Copy copies = copies refl
-  by_actor answer Apply copies = record { reverting = λ is. still; unfit = λ going place number is. unfit_so; took = λ going fits tries. still }
-  by_actor answer Lock copies = λ tries. still
-  by_actor answer Ren copies = λ tries. still
-  by_actor answer Op copies = still
-  by_actor answer (Client client) copies = still
-
-  no_cut : (asked : Asked) → (asked ≡ Cut → ⊥) → is_cut asked ≡ false
-  no_cut Cut uncut = absurd (uncut refl)
-  no_cut (Call request) uncut = refl
-  no_cut Poll uncut = refl
-  no_cut (Command word) uncut = refl
-
-  turned : TurnKeeps plan Rose (moment plan journal).server entry counted
-  turned =
-      record {
-        commanded = λ word asks unsized. here (is_reverting (moment plan journal).tool.reason);
-        resized = λ size asks. subst (ResizeKeeps Rose counted size) (sym tool_phase) (further_sized journal more work.copier work.copier size still);
-        idle = λ asks rests. here (is_reverting (moment plan journal).tool.reason);
-        lost = λ asks worked. subst (AnswerKeeps plan Rose answers.Lost counted entry.actor) (sym tool_phase)
-            (by_actor answers.Lost entry.actor (λ same. record { reverting = λ is. still; unfit = λ going place number is. unfit_so; took = λ going fits tries. lost_took counted.turns }));
-        heard = λ uncut uncommanded. subst (AnswerKeeps plan Rose entry.answer counted entry.actor) (sym tool_phase)
-            (by_actor entry.answer entry.actor (λ same. record {
-              reverting = λ is. still;
-              unfit = λ going place number is. unfit_so;
-              took = λ going fits tries. subst (λ (n : ℕ). ComesFurther journal more work.copier (copiers.took n work.copier entry.answer)) (sym turns_are) (copy_turns same (no_cut entry.asked uncut) going fits);
-            }));
-      }
-
-  drained : DrainKeeps Rose
-  drained b one tries rose = rose
-
-  pub reaches_by : (then_work : Work) → (moment plan (journal ++ entry ∷ [])).tool.tool_phase ≡ Migrating then_work → ComesFurther journal (journal ++ entry ∷ []) work.copier then_work.copier
-  reaches_by then_work then_tool_phase = subst (Rose (is_reverting (moment plan (journal ++ entry ∷ [])).tool.reason)) then_tool_phase (turn_kept plan Rose rose_back journal entry drained turned)
+  reaches_by : (then_work : Work) → (moment plan (journal ++ entry ∷ [])).tool.tool_phase ≡ Migrating then_work → ComesFurther journal (journal ++ entry ∷ []) work.copier then_work.copier
+  reaches_by =
+      copier_keeps plan m at rows of journal entry work kept off tool_phase goes (ComesFurther journal more work.copier) (further_same journal entry work.copier was) (further_again journal entry work.copier was)
+      (further_sized journal more work.copier) (further_spans journal more work.copier) further_one
 
 -- *Reaches rise.*
 pub reaches_rise : ReachesRise

@@ -1,6 +1,6 @@
 -- The changelog has the last checkpoint that was written, after every kept journal until the RENAME is done.
 use Rattle.std.proofs.Common.{◌≡◌, ◌⊎◌, ◌≤◌, ◌<◌, ◌+◌, ℕ, pos, codes, Bool, true, false, cond, List, [], ◌∷◌, ◌++◌, take, length, Option, Some, None, refl, sym, ap, ◌∙◌, subst, inl, inr, arith}
-use Rattle.std.specs.Prelude.{◌==◌, is_some}
+use Rattle.std.specs.Prelude.{◌==◌}
 use Rattle.std.specs.Fmt.{signed_decimal}
 use Rattle.std.specs.List.{list_any}
 use Rattle.std.specs.Option.{option_map}
@@ -38,11 +38,10 @@ use Rattle.tool_program.specs.declared.cutover_core.cutover.Phase.{Phase}
 use Rattle.tool_program.specs.declared.cutover_core.cutover.Phase.TheVariants.{Resting, Attempting, Ending, Finishing, Finished}
 use Rattle.tool_program.specs.declared.cutover_core.cutover.Role.TheVariants.{Inspector}
 use Rattle.tool_program.specs.declared.cutover_core.cutover.Stage.TheVariants.{Hinting, ReadingCounter, SettingCounter, Showing}
-use Rattle.tool_program.specs.declared.cutover_core.cutover.Leftovers.{Leftovers}
 use Rattle.tool_program.specs.CutoverCore.Attempts as attempts
-use Rattle.tool_program.specs.CutoverCore.Attempts.{clears, is_clear, is_free, without_first, writes_hint}
+use Rattle.tool_program.specs.CutoverCore.Attempts.{clears, is_free, writes_hint}
 use Rattle.tool_program.specs.Programs.{given, reach_in, tool_call}
-use Rattle.tool_program.specs.Setups.{Setup, Listing, Clearing, MakingLog, MakingGhost, Marking, Reaching, Ready, clearing, listed, setup_after, setup_call, setup_step}
+use Rattle.tool_program.specs.Setups.{Setup, Listing, Clearing, MakingLog, MakingGhost, Marking, Reaching, Ready, setup_after, setup_call, setup_step}
 use Rattle.tool_program.specs.Tools.{ToolPhase, SettingUp, Migrating, Moment, Tool, Work, is_reverting, moment, stopped, tool_phase_of}
 use Rattle.tool_program.proofs.OnlineCalls.Machines.{ToolPhaseIsNamed, named}
 use Rattle.proof_journals.specs.Plans.{IsSerialPlan}
@@ -80,7 +79,8 @@ use Rattle.proof_bounds.proofs.AttemptTurns.NextNotes.{NextRow, next_row}
 use Rattle.proof_bounds.proofs.AttemptTurns.NoteRows.{IsFitNote, beat_fits, check_fits, note_result, note_said, note_write}
 use Rattle.proof_resume.specs.Reached.Checkpoints.{checkpoint_among, checkpoint_asked, checkpoint_stored, checkpoint_written, if_done, last_checkpoint, or_earlier}
 use Rattle.proof_resume.specs.Reached.Laws.{CheckpointsExist, StoredCheckpointsAreBehind}
-use Rattle.proof_resume.proofs.Reached.ChangelogTurns.{LogLeft, log_gone, log_left, log_new, log_stays, none_left, others_away}
+use Rattle.proof_bounds.proofs.AttemptTurns.Changelogs.{none_found, step_past}
+use Rattle.proof_bounds.proofs.AttemptTurns.ChangelogTurns.{LogLeft, log_gone, log_left, log_new, log_stays, others_away}
 use Rattle.proof_resume.proofs.Reached.LastCheckpoints.{Past, checkpoints_are_behind, setup_writes_none, stays_past}
 use Rattle.proof_resume.proofs.Reached.Statements.{IsUndone, StatementLeaves, is_done, statement_leaves, undone}
 use Rattle.proof_resume.proofs.Reached.StoredRows.{HasNumber, hint_given, hint_said, hint_stored, note_stored}
@@ -96,28 +96,15 @@ note_number row (check_fits position reach is) = by (checkpoint_value position r
   by None none = absurd cc
   by (Some value) some = record { number = 0; rest = Text (codes "checkpoint") ∷ value ∷ []; is = sym (same_Some (Num (pos 0) ∷ Text (codes "checkpoint") ∷ value ∷ []) row some) }
 
--- THE SETUP MAKES THE CHANGELOG
+-- where there was none, it has no checkpoint
+none_among : (found : Option TableRows) → ((table : TableRows) → found ≡ Some table → table.rows ≡ []) → checkpoint_among found ≡ None
+none_among None empty = refl
+none_among (Some table) empty = ap (λ (rows : List _). checkpoint_among (Some (record { schema = table.schema; rows = rows }))) (empty table refl)
 
-none_found : (found : Option TableRows) → is_some (option_map (λ (table : TableRows). table.schema) found) ≡ false → found ≡ None
-none_found None none = refl
-none_found (Some table) none = absurd (true≢false none)
-
-clearing_not : (left : Leftovers) → past_log (clearing left) ≡ true → ⊥
-clearing_not left = by (is_clear left) where
-  by : (b : Bool) → past_log (cond b MakingLog (Clearing left)) ≡ true → ⊥
-  by true past = false≢true past
-  by false past = false≢true past
-
-step_past : (table : List ℕ) (setup : Setup) (answer : Answer) → past_log (setup_step table setup answer) ≡ true → (past_log setup ≡ true) ⊎ (setup ≡ MakingLog)
-step_past table Listing (answers.Tables tables) past = absurd (clearing_not (listed table tables) past)
-step_past table Listing answer past = absurd (false≢true past)
-step_past table (Clearing left) (answers.Ok count) past = absurd (clearing_not (without_first left) past)
-step_past table (Clearing left) answer past = absurd (false≢true past)
-step_past table MakingLog answer past = inr refl
-step_past table MakingGhost answer past = inl refl
-step_past table Marking answer past = inl refl
-step_past table (Reaching position) answer past = inl refl
-step_past table (Ready position range) answer past = inl refl
+pub none_left : (t : List ℕ) (makes : Schema → Type 0) (before after : Database) → LogLeft t makes before after → checkpoint_stored t before ≡ None → checkpoint_stored t after ≡ None
+none_left t makes before after (log_stays same) none = ap checkpoint_among same ∙ none
+none_left t makes before after (log_gone gone) none = ap checkpoint_among gone
+none_left t makes before after (log_new schema made named was empty) none = none_among (find_table (log_name t) after) empty
 
 -- WHERE IT EXISTS BEFORE AND AFTER, IT STAYS
 

@@ -9,6 +9,8 @@ use Rattle.server_model.specs.declared.entry.Asked.TheVariants.{Call, Poll, Cut}
 use Rattle.server_model.specs.declared.entry.Entry.{Entry}
 use Rattle.server_model.specs.declared.request.Request.{Request}
 use Rattle.plan_data.specs.PlanData.{PlanData}
+use Rattle.tool_program.specs.declared.chunk_copier.copier.Copier.{Copier}
+use Rattle.tool_program.specs.declared.chunk_copier.copier.CopyStep.TheVariants.{Choosing}
 use Rattle.tool_program.specs.Programs.{given, reach_in, tool_call}
 use Rattle.tool_program.specs.Setups.{Setup, Listing, Clearing, MakingLog, MakingGhost, Marking, Reaching, Ready, setup_after, setup_call}
 use Rattle.tool_program.specs.Tools.{ToolPhase, SettingUp, Migrating, Moment, Tool, Work, is_reverting, moment, stopped, tool_phase_of}
@@ -19,7 +21,7 @@ use Rattle.proof_journals.specs.Ghost.Rows.Timelines.{Migration}
 use Rattle.proof_journals.proofs.Machine.Asking.{unless_called}
 use Rattle.proof_journals.proofs.Machine.Journals.{Asking, IsRun, IsTogether, asking, calls_so, polls_so}
 use Rattle.proof_migration.specs.ToolPhase.Unaltered.{IsUnaltered}
-use Rattle.proof_migration.specs.Migration.Copier.CopierPlace.{copy_state}
+use Rattle.proof_migration.specs.Migration.Copier.CopierPlace.{AfterReported, StepKnows, copy_state}
 use Rattle.proof_migration.specs.Program.Turns.Laws.{GoesSomehow, IsMigrationOf}
 use Rattle.proof_migration.proofs.KeptJournals.{each_kept}
 use Rattle.proof_migration.proofs.ToolPhase.ToolPhaseTurns.{AnswerKeeps, DrainKeeps, Kept, ResizeKeeps, gives_asked, turn_kept}
@@ -27,7 +29,7 @@ use Rattle.proof_migration.proofs.ToolPhase.Unaltered.Away.{all_asked, unaltered
 use Rattle.proof_migration.proofs.Program.Starts.{followers_go}
 use Rattle.proof_migration.proofs.Program.Turns.Follows.{kept_front, kept_run}
 use Rattle.proof_resume.specs.Reached.Coverage.{left_in}
-use Rattle.proof_resume.specs.Reached.ChunkEnds.{CopierRecalls}
+use Rattle.proof_resume.specs.Reached.ChunkEnds.{CopierRecalls, StepEnds}
 use Rattle.proof_resume.specs.Reached.Checkpoints.{IsOfCheckpoint, checkpoint_asked, checkpoint_written, last_checkpoint, or_earlier}
 use Rattle.proof_resume.specs.Reached.Laws.{CheckpointsAreBehind, ComesFurther}
 use Rattle.proof_resume.proofs.Reached.Copying.{reaches_rise}
@@ -49,6 +51,13 @@ PhaseStands journal (Migrating work) = Stands journal work
 
 -- FROM THE SETUP TO THE COPY
 
+pub new_recalls : (journal : List Entry) (copier : Copier) → copier.following ≡ None → copier.step ≡ Choosing → CopierRecalls journal copier
+new_recalls journal copier none choosing = record {
+  following = subst (AfterReported journal) (sym none) tt;
+  step = subst (StepKnows journal copier.range) (sym choosing) tt;
+  ends = λ range is. subst (StepEnds journal copier range) (sym choosing) tt;
+}
+
 module _ (plan : PlanData) (journal : List Entry) (entry : Entry) where
   abbrev more : List Entry
   more = journal ++ entry ∷ []
@@ -60,16 +69,16 @@ module _ (plan : PlanData) (journal : List Entry) (entry : Entry) where
   tool = record now.tool { turns = now.tool.turns + 1 }
 
   -- a new copier has read nothing
-  abbrev New : Kept
+  abbrev pub New : Kept
   New b (SettingUp setup tries) = Unit {0}
-  New b (Migrating work) = CopierRecalls more work.copier
+  New b (Migrating work) = (work.copier.following ≡ None) × (work.copier.step ≡ Choosing)
 
   back : (b : Bool) (tool_phase : ToolPhase) → New b tool_phase → New true (stopped tool_phase)
   back b (SettingUp setup tries) is = tt
   back b (Migrating work) is = is
 
   begins : (size : ℕ) (setup : Setup) (tries : List ℕ) → New false (tool_phase_of plan size setup tries)
-  begins size (Ready position range) tries = record { following = tt; step = tt; ends = λ range is. tt }
+  begins size (Ready position range) tries = (refl, refl)
   begins size Listing tries = tt
   begins size (Clearing left) tries = tt
   begins size MakingLog tries = tt
@@ -89,8 +98,8 @@ module _ (plan : PlanData) (journal : List Entry) (entry : Entry) where
   drained : DrainKeeps New
   drained b work tries is = is
 
-  pub begun : (setup : Setup) (tries : List ℕ) → now.tool.tool_phase ≡ SettingUp setup tries → New (is_reverting (moment plan more).tool.reason) (moment plan more).tool.tool_phase
-  begun setup tries eq =
+  pub new_copier : (setup : Setup) (tries : List ℕ) → now.tool.tool_phase ≡ SettingUp setup tries → New (is_reverting (moment plan more).tool.reason) (moment plan more).tool.tool_phase
+  new_copier setup tries eq =
       turn_kept plan New back journal entry drained
       (record {
         commanded = λ word asks unsized. subst (New (is_reverting tool.reason)) (sym eq) tt;
@@ -219,13 +228,13 @@ module _ (plan : PlanData) (m : Migration) (at : Clustered m.schema) (rows : Lis
 
   -- after the setup
   set_up : (setup : Setup) (tries : List ℕ) → (moment plan journal).tool.tool_phase ≡ SettingUp setup tries → last_checkpoint journal ≡ None → PhaseStands next (moment plan next).tool.tool_phase
-  set_up setup tries eq none = by (moment plan next).tool.tool_phase (begun plan journal entry setup tries eq) where
+  set_up setup tries eq none = by (moment plan next).tool.tool_phase (new_copier plan journal entry setup tries eq) where
     still : last_checkpoint next ≡ None
     still = last_more journal entry ∙ ap (λ (one : Option Row). or_earlier one (checkpoint_written entry)) none ∙ ap (or_earlier None) (setup_writes_none plan journal entry setup tries together run eq)
 
     by : (tool_phase : ToolPhase) → New plan journal entry (is_reverting (moment plan next).tool.reason) tool_phase → PhaseStands next tool_phase
     by (SettingUp setup tries) is = still
-    by (Migrating work) is = record { recalls = is; behind = λ row some. absurd (let no : None ≡ Some row = sym still ∙ some in cc) }
+    by (Migrating work) new = record { recalls = new_recalls next work.copier new.0 new.1; behind = λ row some. absurd (let no : None ≡ Some row = sym still ∙ some in cc) }
 
   pub stands_more : PhaseStands journal (moment plan journal).tool.tool_phase → PhaseStands next (moment plan next).tool.tool_phase
   stands_more was = by (moment plan journal).tool.tool_phase refl was where

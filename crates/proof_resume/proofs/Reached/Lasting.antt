@@ -6,7 +6,7 @@ use Rattle.std.proofs.lemmas.Bool.{true≢false, false≢true}
 use Rattle.base_script.specs.declared.actor.Actor.{Actor}
 use Rattle.base_script.specs.declared.actor.Actor.TheVariants.{Op, Insp, Copy, Apply, Lock, Ren, Client}
 use Rattle.base_values.specs.ToolNames.{log_name}
-use Rattle.table_store.specs.Databases.{find_table}
+use Rattle.table_store.specs.Databases.{TableRows, find_table}
 use Rattle.table_store.specs.declared.renames.Pair.{Pair}
 use Rattle.server_model.specs.declared.answer.Answer.{Answer}
 use Rattle.server_model.specs.declared.answer.Answer.TheVariants as answers
@@ -40,6 +40,7 @@ use Rattle.tool_program.specs.Programs.{IsGiven, given, may_begin, tool_call}
 use Rattle.tool_program.specs.Setups.{Setup, Listing, Clearing, MakingLog, MakingGhost, Marking, Reaching, Ready, setup_after}
 use Rattle.tool_program.specs.Tools.{ToolPhase, SettingUp, Migrating, Moment, Tool, Work, is_reverting, moment, stopped, tool_phase_of}
 use Rattle.tool_program.proofs.OnlineCalls.Machines.{ToolPhaseIsNamed, named}
+use Rattle.proof_journals.specs.Ghost.Rows.Moments.{Row}
 use Rattle.proof_journals.specs.Plans.{IsPlanRun, IsSerialPlan, limits_of, scene_of}
 use Rattle.proof_journals.specs.Turns.{IsSceneRun, about, request_of}
 use Rattle.proof_journals.specs.Run.Kept.{IsKept}
@@ -72,7 +73,7 @@ use Rattle.proof_bounds.proofs.Going.{waits_to_set}
 use Rattle.proof_bounds.proofs.Inspecting.{setting_is}
 use Rattle.proof_resume.specs.Reached.Checkpoints.{checkpoint_among, checkpoint_asked, checkpoint_stored, last_checkpoint, or_earlier}
 use Rattle.proof_resume.specs.Reached.Laws.{CheckpointsLast}
-use Rattle.proof_resume.proofs.Reached.ChangelogTurns.{LogLeft, log_gone, log_left, log_new, log_stays, none_written, others_away}
+use Rattle.proof_bounds.proofs.AttemptTurns.ChangelogTurns.{LogLeft, log_gone, log_left, log_new, log_stays, none_written, others_away}
 use Rattle.proof_resume.proofs.Reached.Existing.{call_away, checkpoints_exist, other_unasked}
 use Rattle.proof_resume.proofs.Reached.Written.{cutover_unasked, last_more, unasked}
 
@@ -180,7 +181,8 @@ no_alter plan asks reported never = refl
 
 -- ONE TURN
 
-module _ (plan : PlanData) (runs : IsRunnable plan) (serial : IsSerialPlan plan) (tries : MayTry plan) (are_runs : (journal : List Entry) → IsKept plan journal → IsPlanRun plan journal) (journal : List Entry) (entry : Entry) (kept_more : IsKept plan (journal ++ entry ∷ [])) where
+module _ (plan : PlanData) (runs : IsRunnable plan) (serial : IsSerialPlan plan) (tries : MayTry plan) (are_runs : (journal : List Entry) → IsKept plan journal → IsPlanRun plan journal) (journal : List Entry) (entry : Entry) (kept_more : IsKept plan (journal ++ entry ∷ []))
+    (Keeps : Option TableRows → Option Row → Type 0) (keeps_first : IsUnaltered plan journal → (work : Work) → (moment plan journal).tool.tool_phase ≡ Migrating work → Keeps (find_table (log_name plan.table) (state_at plan journal).tables) (last_checkpoint journal)) where
   abbrev t : List ℕ
   t = plan.table
 
@@ -244,8 +246,12 @@ module _ (plan : PlanData) (runs : IsRunnable plan) (serial : IsSerialPlan plan)
 
   -- WHAT A TURN LEAVES THAT ASKS FOR NO ROW, NOR MAKES THE CHANGELOG
 
+  -- the changelog has the last checkpoint, and both have what they had when the RENAME was done
+  abbrev Stored : State → List Entry → Type 0
+  Stored state turns = (checkpoint_stored t state.tables ≡ last_checkpoint turns) × Keeps (find_table (log_name t) state.tables) (last_checkpoint turns)
+
   abbrev Exists : State → List Entry → Type 0
-  Exists state turns = NoneWrote t state × ((find_table (log_name t) state.tables ≡ None) ⊎ (checkpoint_stored t state.tables ≡ last_checkpoint turns))
+  Exists state turns = NoneWrote t state × ((find_table (log_name t) state.tables ≡ None) ⊎ Stored state turns)
 
   quiet : Exists before journal → ((request : Request) → About request → WritesAway (watched t) request × NoLog t request) → checkpoint_asked entry.actor entry.asked ≡ None → Exists after more
   quiet was asks unasks = (none_written plan serial journal entry scene_run asks_as run.answered.sides was.0 writes, by (log_left plan serial journal entry scene_run asks_as run.answered.sides was.0 writes) was.1) where
@@ -255,9 +261,12 @@ module _ (plan : PlanData) (runs : IsRunnable plan) (serial : IsSerialPlan plan)
     same_last : last_checkpoint more ≡ last_checkpoint journal
     same_last = last_more journal entry ∙ ap (or_earlier (last_checkpoint journal)) (unasked entry unasks)
 
-    by : LogLeft t (λ schema. About (requests.Create schema)) before.tables after.tables → (find_table (log_name t) before.tables ≡ None) ⊎ (checkpoint_stored t before.tables ≡ last_checkpoint journal) → (find_table (log_name t) after.tables ≡ None) ⊎ (checkpoint_stored t after.tables ≡ last_checkpoint more)
+    by : LogLeft t (λ schema. About (requests.Create schema)) before.tables after.tables → (find_table (log_name t) before.tables ≡ None) ⊎ Stored before journal → (find_table (log_name t) after.tables ≡ None) ⊎ Stored after more
     by (log_stays same) (inl none) = inl (same ∙ none)
-    by (log_stays same) (inr stored) = inr (ap checkpoint_among same ∙ stored ∙ sym same_last)
+    by (log_stays same) (inr known_so) = inr (
+      ap checkpoint_among same ∙ known_so.0 ∙ sym same_last,
+      subst (λ (last : Option Row). Keeps (find_table (log_name t) after.tables) last) (sym same_last) (subst (λ (log : Option TableRows). Keeps log (last_checkpoint journal)) (sym same) known_so.1),
+    )
     by (log_gone gone) known_so = inl gone
     by (log_new schema made is_named none empty) known_so = absurd (true≢false (sym is_named ∙ (asks (requests.Create schema) made).1))
 
@@ -396,7 +405,7 @@ module _ (plan : PlanData) (runs : IsRunnable plan) (serial : IsSerialPlan plan)
       by : (entry.actor ≡ Insp) ⊎ (same_actor entry.actor Insp ≡ false) → (tool_phase : ToolPhase) → now.tool.tool_phase ≡ tool_phase → Exists after more
       by (inl same) tool_phase eq = absurd (true≢false (sym adds ∙ insp_alters_none same))
       by (inr other) (SettingUp setup old) eq = absurd (never_set_up setup old eq seen_then)
-      by (inr other) (Migrating work) eq = others_quiet other ((hints_go plan journal runs serial kept off).none, inr (checkpoints_exist plan journal work runs serial tries kept off eq))
+      by (inr other) (Migrating work) eq = others_quiet other ((hints_go plan journal runs serial kept off).none, inr (checkpoints_exist plan journal work runs serial tries kept off eq, keeps_first off work eq))
 
   -- and those after it
   later_marked : IsMarkedNow journal ≡ true → Exists before journal → Exists after more
@@ -414,22 +423,36 @@ module _ (plan : PlanData) (runs : IsRunnable plan) (serial : IsSerialPlan plan)
 
 -- EVERY JOURNAL
 
-abbrev Lasts : PlanData → List Entry → Type 0
-Lasts plan journal = list_any is_alter (histories.history plan journal) ≡ true → NoneWrote plan.table (state_at plan journal) × ((find_table (log_name plan.table) (state_at plan journal).tables ≡ None) ⊎ (checkpoint_stored plan.table (state_at plan journal).tables ≡ last_checkpoint journal))
+module _ (plan : PlanData) (runs : IsRunnable plan) (serial : IsSerialPlan plan) (tries : MayTry plan) (are_runs : (journal : List Entry) → IsKept plan journal → IsPlanRun plan journal) (Keeps : Option TableRows → Option Row → Type 0) (Short : List Entry → Type 0)
+    (shorter : (before : List Entry) (entry : Entry) → Short (before ++ entry ∷ []) → Short before)
+    (keeps_first : (journal : List Entry) → IsKept plan journal → Short journal → IsUnaltered plan journal → (work : Work) → (moment plan journal).tool.tool_phase ≡ Migrating work → Keeps (find_table (log_name plan.table) (state_at plan journal).tables) (last_checkpoint journal)) where
+  abbrev Left : List Entry → Type 0
+  Left journal = (checkpoint_stored plan.table (state_at plan journal).tables ≡ last_checkpoint journal) × Keeps (find_table (log_name plan.table) (state_at plan journal).tables) (last_checkpoint journal)
 
-lasts_begins : (plan : PlanData) → Lasts plan []
-unfolding histories.history
-lasts_begins plan marked = absurd (false≢true marked)
+  abbrev Lasts : List Entry → Type 0
+  Lasts journal = list_any is_alter (histories.history plan journal) ≡ true → NoneWrote plan.table (state_at plan journal) × ((find_table (log_name plan.table) (state_at plan journal).tables ≡ None) ⊎ Left journal)
 
-all_last : (plan : PlanData) → IsRunnable plan → IsSerialPlan plan → MayTry plan → ((journal : List Entry) → IsKept plan journal → IsPlanRun plan journal) → (journal : List Entry) → IsKept plan journal → Lasts plan journal
-all_last plan runs serial tries are_runs journal kept = each_kept plan (Lasts plan) (λ before entry one is. lasts_more plan runs serial tries are_runs before entry one is) journal kept (lasts_begins plan)
+  lasts_begin : Lasts []
+  unfolding histories.history
+  lasts_begin marked = absurd (false≢true marked)
+
+  all_last : (journal : List Entry) → IsKept plan journal → Short journal → Lasts journal
+  all_last journal kept =
+      each_kept plan (λ some. Short some → Lasts some)
+      (λ before entry one is short.
+      let front : Short before = shorter before entry short in
+      lasts_more plan runs serial tries are_runs before entry one Keeps (keeps_first before (kept_front plan before (entry ∷ []) one) front) (is front)) journal kept (λ short. lasts_begin)
+
+  -- *The changelog is as it was when the RENAME was done*, as long as it exists
+  pub log_lasts : (journal : List Entry) → IsKept plan journal → Short journal → list_any is_alter (histories.history plan journal) ≡ true → (find_table (log_name plan.table) (state_at plan journal).tables ≡ None → ⊥) → Left journal
+  log_lasts journal kept short marked exists = either (all_last journal kept short marked).1 where
+    either : (find_table (log_name plan.table) (state_at plan journal).tables ≡ None) ⊎ Left journal → Left journal
+    either (inl none) = absurd (exists none)
+    either (inr left) = left
 
 -- *Checkpoints last.*
 pub checkpoints_last : CheckpointsLast
 checkpoints_last plan journal work runs serial tries are_runs kept eq exists = by (list_any is_alter (histories.history plan journal)) refl where
   by : (b : Bool) → list_any is_alter (histories.history plan journal) ≡ b → checkpoint_stored plan.table (state_at plan journal).tables ≡ last_checkpoint journal
   by false off = checkpoints_exist plan journal work runs serial tries kept off eq
-  by true marked = either (all_last plan runs serial tries are_runs journal kept marked).1 where
-    either : (find_table (log_name plan.table) (state_at plan journal).tables ≡ None) ⊎ (checkpoint_stored plan.table (state_at plan journal).tables ≡ last_checkpoint journal) → checkpoint_stored plan.table (state_at plan journal).tables ≡ last_checkpoint journal
-    either (inl none) = absurd (exists none)
-    either (inr stored) = stored
+  by true marked = (log_lasts plan runs serial tries are_runs (λ log last. Unit {0}) (λ some. Unit {0}) (λ before entry short. tt) (λ some all short off one phase. tt) journal kept tt marked exists).0

@@ -1,7 +1,6 @@
 -- Who writes a checkpoint: the inspector alone, behind the setup, and the row is that of the tool as it is.
-use Rattle.std.proofs.Common.{◌≡◌, ℕ, ◌+◌, Bool, true, false, cond, List, [], ◌∷◌, ◌++◌, Option, Some, None, refl, sym, ap, ◌∙◌, arith}
+use Rattle.std.proofs.Common.{◌≡◌, ℕ, ◌+◌, Bool, true, false, cond, List, [], ◌∷◌, ◌++◌, Option, Some, None, refl, sym, ap, ◌∙◌}
 use Rattle.std.proofs.lemmas.Bool.{true≢false}
-use Rattle.std.proofs.lemmas.Bool.Decides.{nat_tests}
 use Rattle.std.proofs.lemmas.List.Sums.{fold-append}
 use Rattle.base_script.specs.declared.actor.Actor.{Actor}
 use Rattle.base_script.specs.declared.actor.Actor.TheVariants.{Op, Insp, Copy, Apply, Lock, Ren, Client}
@@ -37,6 +36,7 @@ use Rattle.proof_journals.specs.Ghost.Rows.Moments.{Row}
 use Rattle.proof_journals.specs.Turns.{reported_at}
 use Rattle.proof_journals.proofs.Machine.Asking.{some_request}
 use Rattle.proof_journals.proofs.Machine.Inspecting.{Inspects, inspects, notes_so, cuts_so}
+use Rattle.proof_bounds.proofs.AttemptTurns.NextNotes.{beat_is}
 use Rattle.proof_resume.specs.Reached.Checkpoints.{checkpoint_asked, checkpoint_written, if_done, last_checkpoint, or_earlier}
 
 -- ONE TURN MORE
@@ -138,11 +138,6 @@ cutover_unasked cutover request call = by cutover.phase call where
 
 -- THE ROW OF A NOTE
 
--- a heartbeat is no checkpoint
-pub beat_unchecked : (number : ℕ) → is_checkpoint (heartbeat_row number) ≡ false
-unfolding heartbeat_row
-beat_unchecked number = grind (arith, nat_tests)
-
 same_row : (table : List ℕ) (one other : Row) → writes table one ≡ writes table other → one ≡ other
 same_row table one other both = cc
 
@@ -156,7 +151,7 @@ note_row plan found now row next checks = by (checkpoint_next now.step found) re
   is_found Again one some = absurd cc
 
   beats : (b : Bool) → cond b (Some (writes plan.table (heartbeat_row (now.begun + 1)))) None ≡ Some (writes plan.table row) → found ≡ Some row
-  beats true some = absurd (true≢false (sym checks ∙ ap is_checkpoint (sym (same_row plan.table (heartbeat_row (now.begun + 1)) row (let same : writes plan.table (heartbeat_row (now.begun + 1)) ≡ writes plan.table row = cc in same))) ∙ beat_unchecked (now.begun + 1)))
+  beats true some = absurd (true≢false (sym checks ∙ ap is_checkpoint (sym (same_row plan.table (heartbeat_row (now.begun + 1)) row (let same : writes plan.table (heartbeat_row (now.begun + 1)) ≡ writes plan.table row = cc in same))) ∙ beat_is (now.begun + 1)))
   beats false some = absurd cc
 
   by : (one : Option Row) → checkpoint_next now.step found ≡ one → row_or_beat one plan now ≡ Some (writes plan.table row) → found ≡ Some row

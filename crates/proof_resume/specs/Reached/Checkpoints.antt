@@ -16,7 +16,7 @@ use Rattle.server_model.specs.declared.entry.Asked.TheVariants.{Call}
 use Rattle.server_model.specs.declared.entry.Entry.{Entry}
 use Rattle.server_model.specs.declared.request.Request.TheVariants as requests
 use Rattle.tool_changelog.specs.Checkpoints.{checkpoint_row}
-use Rattle.extra_notes.specs.declared.checkpoint.Checkpoint.{Checkpoint}
+use Rattle.tool_notes.specs.declared.checkpoint.Checkpoint.{Checkpoint}
 use Rattle.tool_program.specs.NoteWriter.Notes.{is_checkpoint}
 use Rattle.tool_program.specs.Tools.{Work}
 use Rattle.proof_journals.specs.Ghost.Rows.Moments.{Row}

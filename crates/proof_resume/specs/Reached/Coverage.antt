@@ -6,7 +6,7 @@ use Rattle.base_values.specs.declared.span.Bound.TheVariants.{Closed}
 use Rattle.base_values.specs.declared.span.Span.{Span}
 use Rattle.tool_changelog.specs.declared.checkpoint.Reach.{Reach}
 use Rattle.tool_changelog.specs.declared.checkpoint.Reach.TheVariants.{Nothing, To, All}
-use Rattle.extra_notes.specs.declared.checkpoint.Checkpoint.{Checkpoint}
+use Rattle.tool_notes.specs.declared.checkpoint.Checkpoint.{Checkpoint}
 use Rattle.proof_journals.specs.Ghost.Rows.Moments.{Row}
 use Rattle.proof_journals.specs.Ghost.Rows.Views.{is_done}
 use Rattle.proof_journals.specs.Ghost.Tool.{CopyState}

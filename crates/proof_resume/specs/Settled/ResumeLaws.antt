@@ -5,7 +5,7 @@ use Rattle.table_store.specs.Databases.{find_table}
 use Rattle.server_model.specs.declared.answer.KeyRange.{KeyRange}
 use Rattle.server_model.specs.declared.entry.Entry.{Entry}
 use Rattle.plan_data.specs.PlanData.{PlanData}
-use Rattle.extra_notes.specs.declared.checkpoint.Checkpoint.{Checkpoint}
+use Rattle.tool_notes.specs.declared.checkpoint.Checkpoint.{Checkpoint}
 use Rattle.tool_program.specs.JournalWords.Journals.{state_at}
 use Rattle.tool_program.specs.Tools.{Migrating, Work, moment}
 use Rattle.tool_finish.specs.Finishes.{applier_from, copier_from, range_from}

@@ -1,8 +1,0 @@
-use Rattle.proof_finish.proofs.Runs.{finishes_are_runs, finishes_are_serial}
-use Rattle.proof_finish.proofs.laws.finishes_are_runs.Goals as goal
-
-pub returns-clause-runs : goal.returns-clause-runs
-returns-clause-runs c = finishes_are_runs
-
-pub returns-clause-serial : goal.returns-clause-serial
-returns-clause-serial c = finishes_are_serial

@@ -1,9 +1,0 @@
-use Rattle.proof_finish.proofs.Callable.{finishes_may_call}
-use Rattle.proof_finish.proofs.Leaving.{runs_leave_tables}
-use Rattle.proof_finish.proofs.laws.finishes_may_call.Goals as goal
-
-pub returns-clause-calls : goal.returns-clause-calls
-returns-clause-calls c = finishes_may_call
-
-pub returns-clause-tables : goal.returns-clause-tables
-returns-clause-tables c = runs_leave_tables

@@ -1,9 +1,0 @@
-pub mod Prompt
-pub mod Runs
-pub mod Walks
-pub mod Marks
-pub mod Verdicts
-pub mod Counts
-pub mod Batches
-pub mod Starts
-pub mod Callable

@@ -1,0 +1,12 @@
+pub mod Owners
+pub mod Calls
+pub mod Checkpoints
+pub mod Exchanging
+pub mod Keys
+pub mod Losses
+pub mod Reading
+pub mod Stages
+pub mod Starting
+pub mod PrintedKeys
+pub mod StoredKeys
+pub mod Finishable

@@ -1,0 +1,12 @@
+pub mod Prompt
+pub mod Runs
+pub mod Walks
+pub mod Marks
+pub mod Verdicts
+pub mod Counts
+pub mod Readings
+pub mod Batches
+pub mod Starts
+pub mod Callable
+pub mod Chunks
+pub mod Bounds

@@ -1,5 +1,0 @@
-use Rattle.proof_starts.proofs.Starting.{finishes_start, ranges_start}
-use Rattle.proof_starts.proofs.laws.finishes_start.Goals as goal
-
-pub returns : goal.returns
-returns c = record { ranges = ranges_start; start = finishes_start }
