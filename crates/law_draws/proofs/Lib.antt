@@ -8,7 +8,7 @@ mod LockedCounters
 mod Migrated
 mod NewTable
 mod Numbers
-mod OtherTables
+pub mod OtherTables
 pub mod ReadPlans
 mod Renames
 mod Schemas

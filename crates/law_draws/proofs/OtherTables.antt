@@ -37,12 +37,14 @@ use Rattle.server_model.proofs.LockedRows.Tests.{are_same}
 use Rattle.plan_data.specs.PlanData.{PlanData}
 use Rattle.tool_program.specs.JournalWords.Draws.{asked_in, draws_on, drawn_from, IsAbove, IsDrawn}
 use Rattle.tool_program.specs.JournalWords.Journals.{IsAnswered, after_entry, opening, opens, state_after, state_at}
+use Rattle.tool_program.specs.JournalWords.Sessions.{IsSeated}
 use Rattle.tool_program.specs.Programs.{Follows, IsFollowed, IsGiven}
 use Rattle.proof_journals.specs.Machine.MigrationTables.{schema_of}
 use Rattle.proof_journals.specs.Rising.{LeavesName}
 use Rattle.proof_journals.specs.Run.Kept.{IsKept}
+use Rattle.proof_journals.specs.Run.Laws.{Living}
 use Rattle.proof_journals.specs.Turns.{drawn_side}
-use Rattle.proof_journals.proofs.Actors.{placed}
+use Rattle.proof_journals.proofs.Actors.{SessionsKnown, placed}
 use Rattle.proof_journals.proofs.Joined.{reported_draw}
 use Rattle.proof_journals.proofs.Journals.{state_more, opened_tables, opened_waits}
 use Rattle.proof_journals.proofs.Machine.Journals.{IsRun, all_runs, all_together}
@@ -376,6 +378,13 @@ drawn_in_side state entry statement number (Some After) asks drew =
 pub drawn_asks : (state : State) (entry : Entry) (number : ℕ) → IsAnswered state entry → entry.draw ≡ Some number → (statement : Statement) × (asked_in state entry ≡ Some (requests.Do statement))
 drawn_asks state entry number answered drew = let one = turn_draws entry.side (opens entry state) entry.session entry.asked number (sym (reported_draw state entry answered) ∙ drew) in (one.0, one.1)
 
+-- *What is drawn is a client's*: the tool's sessions draw nothing
+pub drawn_by_client : (journal : List Entry) (state : State) (entry : Entry) (number : ℕ) → Living journal state → SessionsKnown journal → IsSeated journal entry → IsAnswered state entry → entry.draw ≡ Some number → is_client entry.actor ≡ true
+drawn_by_client journal state entry number living known seated answered drew =
+    let drawn = drawn_asks state entry number answered drew in
+    client_of (is_client entry.actor) (session_of entry.session (opens entry state).sessions) (own_kind journal state entry living known (placed journal entry seated) answered (called_so state entry drawn.0 drawn.1))
+    (drawn_in_side state entry drawn.0 number entry.side drawn.1 (sym (reported_draw state entry answered) ∙ drew)).client
+
 -- *What a turn draws*: the table that it is of, and the counter
 module _ (plan : PlanData) (journal : List Entry) (entry : Entry) (number : ℕ) (statement : Statement) (kept : IsKept plan journal) (answered : IsAnswered (state_at plan journal) entry) (followed : IsFollowed plan journal entry) (drew : entry.draw ≡ Some number) (asks : asked_in (state_at plan journal) entry ≡ Some (requests.Do statement)) where
   abbrev drawn_state : State
@@ -413,9 +422,7 @@ module _ (plan : PlanData) (journal : List Entry) (entry : Entry) (number : ℕ)
   -- it is a client's
   pub drawn_client : is_client entry.actor ≡ true
   drawn_client =
-      client_of (is_client entry.actor) (session_of entry.session drawn_now.sessions)
-      (own_kind journal drawn_state entry (all_living plan journal kept.faithful kept.sessions) (all_together plan journal kept.faithful kept.follows).known.sessions (placed journal entry (record { session = followed.session })) answered (called_so drawn_state entry statement asks))
-      offers.client
+      drawn_by_client journal drawn_state entry number (all_living plan journal kept.faithful kept.sessions) (all_together plan journal kept.faithful kept.follows).known.sessions (record { session = followed.session }) answered drew
 
   -- *It is drawn so*, where so much is kept of its table
   pub keeps_drawn : length journal < 9223372036854775807 → (schema : Schema) (place : ℕ) → auto_place schema ≡ Some place → Keeps drawn_name schema place (length journal) drawn_state (draws_on plan journal drawn_name) → IsDrawn plan journal entry number

@@ -1,14 +1,11 @@
 -- Right after the RENAME the table under the migrated one's name is the rebuilt one.
-use Rattle.std.proofs.Common.{◌≡◌, ℕ, not, length, List, [], ◌∷◌, ◌++◌, Option, Some, None, Ok, refl, sym, ap, ◌∙◌, subst}
+use Rattle.std.proofs.Common.{◌≡◌, ℕ, not, length, List, [], ◌∷◌, ◌++◌, Option, Some, None, refl, sym, ap, ◌∙◌, subst}
 use Rattle.std.specs.Option.{option_map}
 use Rattle.base_script.specs.declared.actor.Side.{Side}
 use Rattle.base_script.specs.declared.actor.Side.TheVariants.{Before, After}
-use Rattle.base_values.specs.declared.event.Change.{Change}
 use Rattle.base_values.specs.declared.event.RowEvent.{RowEvent}
 use Rattle.base_values.specs.declared.gho_schema.schema.Schema.{Schema}
 use Rattle.base_values.specs.GhoSchema.Rows.{key_places}
-use Rattle.base_values.specs.RowConversion.ConvertedRows.{converted_rows}
-use Rattle.base_values.specs.SchemaRules.Valid.{IsValid}
 use Rattle.base_values.specs.ToolNames.{ghost_name}
 use Rattle.base_values.proofs.SchemaRules.Steps.{some_is}
 use Rattle.table_store.specs.Databases.{TableRows, find_table, name_table}
@@ -16,16 +13,12 @@ use Rattle.server_model.specs.declared.entry.Asked.TheVariants.{Call, Poll, Cut}
 use Rattle.server_model.specs.declared.entry.Entry.{Entry}
 use Rattle.server_model.specs.declared.session.Waiting.{Waiting}
 use Rattle.server_model.specs.Entries.{is_client, is_command}
-use Rattle.server_model.specs.LockedRows.Coverage.{IsWellFormedTable}
 use Rattle.server_model.specs.PlainServer.{leaves, serves}
-use Rattle.server_model.specs.Rows.{change_all}
 use Rattle.server_model.specs.States.{State, waiting_of}
-use Rattle.plan_data.specs.PlanData.{Altered, PlanData, altered_by, altered_in, plan_altered}
+use Rattle.plan_data.specs.PlanData.{PlanData, plan_altered}
 use Rattle.plan_data.specs.declared.plan.AlteredSchema.{AlteredSchema}
-use Rattle.sql_change.specs.AlteredSchema.{altered}
 use Rattle.tool_program.specs.CutoverCore.Attempts.{exchange}
 use Rattle.tool_program.specs.JournalWords.Journals.{opening, opens, state_at}
-use Rattle.proof_schemas.proofs.Alters.TableNames.{keep_names}
 use Rattle.proof_journals.specs.Ghost.Copies.{IsAltered}
 use Rattle.proof_journals.specs.Ghost.Rows.Moments.{rows_at}
 use Rattle.proof_journals.specs.Machine.Runnable.{IsRunnable}
@@ -36,25 +29,21 @@ use Rattle.proof_journals.specs.Turns.{about, request_of}
 use Rattle.proof_journals.proofs.Journals.{opened_waits, state_more}
 use Rattle.proof_journals.proofs.Machine.Journals.{IsRun, IsTogether}
 use Rattle.proof_journals.proofs.Machine.Seated.{IsServed, own_waiting}
-use Rattle.proof_journals.proofs.Results.{was_ok}
 use Rattle.proof_migration.specs.CutOver.{IsRename}
 use Rattle.proof_migration.specs.Migration.Planning.{migration_of}
 use Rattle.proof_migration.specs.ToolPhase.Runnable.{IsAlterable}
 use Rattle.proof_migration.proofs.Once.Past.{exchange_gives}
 use Rattle.proof_migration.proofs.Program.LockerTurns.Quiet.{Quiet, quiet_served}
 use Rattle.proof_migration.proofs.Program.Turns.Follows.{kept_front, kept_run}
-use Rattle.proof_migration.proofs.ToolPhase.Runnable.Plans.{named}
 use Rattle.proof_migration.proofs.ToolPhase.Unaltered.Away.{IsKnownAsked, all_asked}
 use Rattle.proof_plans.specs.Laws.{AcceptedRenamesFindTheAltered}
 use Rattle.proof_plans.specs.ReadPlans.Laws.{ReadPlansAreAlterable, ReadPlansAreRunnable, ReadPlansAreSerial, WasRead}
 use Rattle.proof_plans.proofs.Tables.Old.{RenameLaws, is_about, tables_renamed}
-use Rattle.proof_plans.proofs.ReadPlans.Tables.{found_is}
 use Rattle.law_rebuild.specs.Laws.{AcceptedMarksAreRebuilt, IsRebuiltOf}
 use Rattle.law_rebuild.specs.Marks.{changes_logged}
 use Rattle.law_rebuild.proofs.Growing.{lost_log, opened_log}
-use Rattle.law_rebuild.proofs.Leading.{Leads, log_leads}
+use Rattle.law_rebuild.proofs.Rebuilding.{by_schema, new_name, own_name, rebuilt_from}
 use Rattle.law_rebuild.proofs.Standing.{StandsSoFar, stands_so_far}
-use Rattle.law_rebuild.proofs.Together.{logs_go_together}
 
 -- the laws that this stands on
 pub record MarkLaws : Type 0 where
@@ -126,19 +115,12 @@ module _ (laws : RenameLaws) (plan : PlanData) (runs : IsRunnable plan) (serial 
 
 -- AN ACCEPTED PLAN
 
-by_found : (plan : PlanData) (table : TableRows) (new : Altered) → find_table plan.table plan.tables ≡ Some table → plan_altered plan ≡ Some new → altered_by plan table.schema ≡ Some new
-unfolding plan_altered
-by_found plan table new found is = ap (altered_in plan) (sym found) ∙ is
-
 module _ (laws : MarkLaws) (plan : PlanData) (table : TableRows) (new : AlteredSchema) (journal : List Entry) (entry : Entry) (was : WasRead plan) (found : find_table plan.table plan.tables ≡ Some table) (alters : plan_altered plan ≡ Some (new.schema, new.map)) (rename : IsRename plan journal entry) where
   abbrev before_it : State
   before_it = state_at plan journal
 
   abbrev after_it : State
   after_it = state_at plan (journal ++ entry ∷ [])
-
-  abbrev changes : List Change
-  changes = changes_logged plan.table after_it.log
 
   -- what is made under the new table's name
   abbrev made_schema : Schema
@@ -153,59 +135,37 @@ module _ (laws : MarkLaws) (plan : PlanData) (table : TableRows) (new : AlteredS
   is : IsAlterable plan
   is = laws.alterable was.bytes plan was.is
 
-  same : is.table ≡ table
-  same = some_is is.table table (sym is.found ∙ found)
-
-  own_name : table.schema.name ≡ plan.table
-  own_name = ap (λ (t : TableRows). t.schema.name) (sym same) ∙ named plan is
-
-  well_formed : IsWellFormedTable table
-  well_formed = (found_is IsWellFormedTable plan.table plan.tables table serial_it.tables found).is
-
-  valid : IsValid table.schema
-  valid = subst (λ (t : TableRows). IsValid t.schema) same is.valid
-
-  by_schema : altered_by plan table.schema ≡ Some (new.schema, new.map)
-  by_schema = by_found plan table (new.schema, new.map) found alters
-
-  taken : altered plan.options.approve_renamed_columns table.schema plan.alter ≡ Ok (new.schema, new.map)
-  taken = was_ok (altered plan.options.approve_renamed_columns table.schema plan.alter) (new.schema, new.map) by_schema
-
-  new_name : new.schema.name ≡ plan.table
-  new_name = keep_names plan.options.approve_renamed_columns table.schema plan.alter (new.schema, new.map) taken ∙ own_name
+  named_own : table.schema.name ≡ plan.table
+  named_own = own_name plan table new serial_it is found alters
 
   so_far : StandsSoFar plan table journal
   so_far = stands_so_far plan table runs_it serial_it found journal (kept_front plan journal (entry ∷ []) rename.kept) rename.unaltered
 
   altered_here : IsAltered (migration_of table.schema (new.schema, new.map)) before_it.tables
-  altered_here = laws.altered plan table (new.schema, new.map) journal entry was found by_schema rename
+  altered_here = laws.altered plan table (new.schema, new.map) journal entry was found (by_schema plan table new serial_it is found alters) rename
 
   log_is : after_it.log ≡ before_it.log
   log_is = log_stays laws.rename plan runs_it serial_it journal entry rename
 
-  leads : Leads plan.table table.schema table.rows after_it.log
-  leads = subst (Leads plan.table table.schema table.rows) (sym log_is) (log_leads plan.table table.schema well_formed.keyed before_it.log table.rows well_formed.is_table so_far.stood.log_fits)
-
   -- the rows that the log leads to are those that the RENAME finds
-  rows_are : change_all (key_places table.schema) changes table.rows ≡ altered_here.rows
+  rows_are : rows_at plan.table (key_places table.schema) table.rows before_it.log (length before_it.log) ≡ altered_here.rows
   rows_are =
-      leads.leads ∙ ap (λ (l : List RowEvent). rows_at plan.table (key_places table.schema) table.rows l (length l)) log_is
-      ∙ ap (λ (t : TableRows). t.rows)
+      ap (λ (t : TableRows). t.rows)
       (some_is (record { schema = table.schema; rows = rows_at plan.table (key_places table.schema) table.rows before_it.log (length before_it.log) }) (record { schema = table.schema; rows = altered_here.rows })
-      (sym so_far.stood.found ∙ ap (λ (n : List ℕ). find_table n before_it.tables) (sym own_name) ∙ altered_here.old))
+      (sym so_far.stood.found ∙ ap (λ (n : List ℕ). find_table n before_it.tables) (sym named_own) ∙ altered_here.old))
 
   new_found : find_table (ghost_name plan.table) before_it.tables ≡ Some (record { schema = made_schema; rows = altered_here.made })
-  new_found = ap (λ (n : List ℕ). find_table (ghost_name n) before_it.tables) (sym own_name) ∙ altered_here.new
+  new_found = ap (λ (n : List ℕ). find_table (ghost_name n) before_it.tables) (sym named_own) ∙ altered_here.new
 
-  rebuilt : IsRebuiltOf table new changes (find_table plan.table after_it.tables)
-  rebuilt = record {
-    together = logs_go_together plan.options.approve_renamed_columns table.schema plan.alter new table.rows changes valid well_formed.keyed taken well_formed.is_table leads.fits;
-    made = altered_here.made;
-    converted = ap (converted_rows new.map) rows_are ∙ altered_here.altered;
-    stands =
-        brings laws.rename plan runs_it serial_it journal entry rename (record { schema = made_schema; rows = altered_here.made }) new_found
-        ∙ ap (λ (n : List ℕ). Some (record { schema = record (new.schema) { name = n }; rows = altered_here.made })) (sym new_name);
-  }
+  renamed : find_table plan.table after_it.tables ≡ Some (record { schema = new.schema; rows = altered_here.made })
+  renamed =
+      brings laws.rename plan runs_it serial_it journal entry rename (record { schema = made_schema; rows = altered_here.made }) new_found
+      ∙ ap (λ (n : List ℕ). Some (record { schema = record (new.schema) { name = n }; rows = altered_here.made })) (sym (new_name plan table new serial_it is found alters))
+
+  rebuilt : IsRebuiltOf table new (changes_logged plan.table after_it.log) (find_table plan.table after_it.tables)
+  rebuilt =
+      subst (λ (log : List RowEvent). IsRebuiltOf table new (changes_logged plan.table log) (find_table plan.table after_it.tables)) (sym log_is)
+      (rebuilt_from plan table new serial_it is found alters before_it.log so_far.stood.log_fits altered_here.rows altered_here.made (find_table plan.table after_it.tables) rows_are altered_here.altered renamed)
 
 -- *Marks are rebuilt*
 pub marks_rebuilt : MarkLaws → AcceptedMarksAreRebuilt
