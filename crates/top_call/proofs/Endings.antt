@@ -1,6 +1,7 @@
 -- How a call ends, from what its words and its source come to and what was given of it.
 use Rattle.std.proofs.Common.{◌≡◌, ◌≢◌, ℕ, Bool, true, false, cond, List, Option, Some, None, Result, Ok, Err, inl, inr, refl, sym, ap, ◌∙◌, subst}
 use Rattle.std.specs.Io.KnownBytes.{Appends}
+use Rattle.std.specs.Str.{IsUtf8}
 use Rattle.base_edges.specs.Whole.{ReadsWhole}
 use Rattle.server_model.specs.declared.entry.Entry.{Entry}
 use Rattle.server_model.specs.declared.outcome.Verdict.{Verdict}
@@ -13,7 +14,6 @@ use Rattle.run_audit.specs.declared.trace.Audit as audits
 use Rattle.run_audit.specs.declared.trace.Audit.TheVariants as answers
 use Rattle.run_audit.specs.declared.trace.Trace as traces
 use Rattle.run_audit.specs.Audits.{audited}
-use Rattle.tool_program.specs.Verdicts.{verdict_of}
 use Rattle.top_trace_reader.specs.declared.fault.TraceRefusal.{TraceRefusal}
 use Rattle.top_trace_reader.specs.Traces.{read_trace}
 use Rattle.top_words.specs.Commands.{command}
@@ -37,9 +37,11 @@ use Rattle.top_call.specs.Audits.{IsAuditPrinted, IsTraceRead, TellsTrace}
 use Rattle.top_call.specs.Comings.{IsRead, TellsPlan, ComesTo, Does}
 use Rattle.top_call.specs.Outcomes.{IsTaken, RebuildComes, TakesNone, Comes, run_text, status_of}
 use Rattle.top_call.specs.Promises.{Ends, EndsUnder, PrintsAnswer, PrintsDone, PrintsReport, limit_of, plan_refusal, refusal_of, trace_refusal}
+use Rattle.top_call.specs.ResumedRuns.{Resumes, run_in, verdict_at}
 use Rattle.top_call.specs.TopLaws.{Laws}
 use Rattle.top_call.proofs.Headline.{runs_of}
-use Rattle.top_call.proofs.Taken.{sound_of, ends_as, is_taken, tells_alter}
+use Rattle.top_call.proofs.ResumedRuns.{stands_at, tells_at}
+use Rattle.top_call.proofs.Taken.{sound_of, resumes_of, ends_as, is_taken, tells_alter}
 
 -- WHAT IS PRINTED WHOLE
 
@@ -47,11 +49,12 @@ module _ (words : List (List ℕ)) (source : Taking) (sink : Giving) (turns : Li
   abbrev Under : Status → Type 0
   Under status = EndsUnder status words source sink turns journal
 
+  -- the whole text was given, in UTF-8
   abbrev Gave : Printed → Type 0
-  Gave printed = Appends sink.before sink.after printed.text
+  Gave printed = Appends sink.before sink.after printed.text × IsUtf8 printed.text
 
   text_given : (printed : Printed) (text : List ℕ) → printed.text ≡ text → Gave printed → Appends sink.before sink.after text
-  text_given printed text is given = subst (λ (bytes : List ℕ). Appends sink.before sink.after bytes) is given
+  text_given printed text is given = subst (λ (bytes : List ℕ). Appends sink.before sink.after bytes) is given.0
 
   reads_by : (chosen : PlanCommand) → command words ≡ Some (asked chosen) → reads_source (command words) ≡ true
   reads_by plans.Check is = ap reads_source is
@@ -115,7 +118,7 @@ module _ (words : List (List ℕ)) (source : Taking) (sink : Giving) (turns : Li
         accepted = said;
         text = printed.text;
         schema = comes.shows.shows;
-        given = given;
+        given = given.0;
         untaken = comes.untaken;
       })
 
@@ -127,22 +130,27 @@ module _ (words : List (List ℕ)) (source : Taking) (sink : Giving) (turns : Li
   printed_done (plans.Rebuild workers) prints = prints
 
   module _ (laws : Laws) (chosen : PlanCommand) (printed : Printed) (was : IsRead chosen source (Some printed) turns journal) (plan : PlanData) (is : command words ≡ Some (asked chosen)) (said : read was.bytes ≡ Ok plan) (given : Gave printed) (taken : IsTaken chosen plan (run_text chosen was.bytes plan journal) (Some printed) turns journal) where
-    sound : IsSoundRun plan journal
+    sound : IsSoundRun plan (run_in plan journal)
     sound = sound_of chosen plan turns journal taken.takes
 
-    report_given : (verdict : Verdict) → verdict_of plan journal ≡ verdict → PrintsReport chosen verdict source sink turns journal
+    resumes : Resumes plan journal
+    resumes = resumes_of chosen plan turns journal taken.takes
+
+    report_given : (verdict : Verdict) → verdict_at plan journal ≡ verdict → PrintsReport chosen verdict source sink turns journal
     report_given verdict same =
-        let tells = tells_alter laws plan journal taken.was_read sound.kept.faithful sound.kept.follows in
+        let tells = tells_at laws.finishes plan journal taken.was_read sound resumes (tells_alter laws plan (run_in plan journal) taken.was_read sound.kept.faithful sound.kept.follows) in
         record {
           runs = runs_of laws chosen source (Some printed) turns journal was plan (run_text chosen was.bytes plan journal) said taken;
           taken = is_taken plan journal (laws.allow was.bytes plan said).turns taken.reports.over;
-          over = ends_as plan journal verdict sound.ends tells taken.reports.over sound.bound same;
+          over = ends_as plan journal verdict sound.ends resumes tells taken.reports.over sound.bound same;
           verdict_is = same;
           tells = tells;
           given = text_given printed _ (taken.reports.text_is ∙ ap (run_text chosen was.bytes plan journal) same) given;
+          utf8 = subst IsUtf8 (taken.reports.text_is ∙ ap (run_text chosen was.bytes plan journal) same) given.1;
+          made = taken.reports.made;
         }
 
-    verdict_under : (verdict : Verdict) → verdict_of plan journal ≡ verdict → printed.status ≡ status_of verdict → Under printed.status
+    verdict_under : (verdict : Verdict) → verdict_at plan journal ≡ verdict → printed.status ≡ status_of verdict → Under printed.status
     unfolding report_given
     verdict_under verdicts.Done same status = done_under (Some (asked chosen)) printed is status (printed_done chosen (report_given verdicts.Done same))
     verdict_under verdicts.Unfinished same status = subst Under (sym status) (record { chosen = chosen; command_is = is; prints = report_given verdicts.Unfinished same })
@@ -152,11 +160,11 @@ module _ (words : List (List ℕ)) (source : Taking) (sink : Giving) (turns : Li
           command_is = is;
           cause = cause;
           prints = report_given (verdicts.Reverted cause) same;
-          stands = sound.causes cause same;
+          stands = stands_at laws.finishes plan journal taken.was_read sound resumes cause taken.reports.over same;
         })
 
     report_under : Under printed.status
-    report_under = verdict_under (verdict_of plan journal) refl taken.reports.status_is
+    report_under = verdict_under (verdict_at plan journal) refl taken.reports.status_is
 
   -- a refusal of the plan, whatever the command is
   unread_under : (chosen : PlanCommand) (printed : Printed) (was : IsRead chosen source (Some printed) turns journal) (refusal : PlanRefusal) → command words ≡ Some (asked chosen) → read was.bytes ≡ Err refusal → Gave printed → TakesNone (IsRefusal (refusals.Plan refusal)) (Some printed) turns journal → Under printed.status
@@ -245,7 +253,7 @@ module _ (words : List (List ℕ)) (source : Taking) (sink : Giving) (turns : Li
 
   given_under : Laws → (printed : Option Printed) (status : Status) → ComesTo (command words) source printed turns journal → Gives printed sink status → Under status
   given_under laws None status comes gives = subst Under (sym gives.status_is) (record { comes = comes; given = gives.given })
-  given_under laws (Some printed) status comes (inl all) = subst Under (sym all.status_is) (whole_under laws (command words) printed refl all.given comes)
+  given_under laws (Some printed) status comes (inl all) = subst Under (sym all.status_is) (whole_under laws (command words) printed refl (all.given, all.utf8) comes)
   given_under laws (Some printed) status comes (inr front) = subst Under (sym front.status_is) (record { printed = printed; comes = comes; given = front.given; rose = front.rose })
 
   -- *Ends*

@@ -19,6 +19,7 @@ use Rattle.top_call.specs.Audits.{TellsTrace}
 use Rattle.top_call.specs.Comings.{IsRead, TellsPlan, ComesTo, Does}
 use Rattle.top_call.specs.Outcomes.{IsTaken, RebuildComes, TakesNone, Comes, run_text}
 use Rattle.top_call.specs.Promises.{Runs, RunsBy}
+use Rattle.top_call.specs.ResumedRuns.{run_in}
 use Rattle.top_call.specs.TopLaws.{Laws}
 use Rattle.top_call.proofs.Taken.{sound_of, completes, done_where_smooth, done_with_room}
 
@@ -33,10 +34,11 @@ runs_of laws chosen source printed turns journal was plan text said taken = reco
   whole = was.whole;
   plan = plan;
   accepted = said;
+  named = taken.was_read.text;
   takes = taken.takes;
-  completes = completes laws plan journal taken.was_read (sound_of chosen plan turns journal taken.takes).kept;
-  smooth = done_where_smooth laws plan journal taken.was_read (sound_of chosen plan turns journal taken.takes).kept;
-  roomy = done_with_room laws plan journal taken.was_read (sound_of chosen plan turns journal taken.takes);
+  completes = completes laws plan (run_in plan journal) taken.was_read (sound_of chosen plan turns journal taken.takes).kept;
+  smooth = done_where_smooth laws plan (run_in plan journal) taken.was_read (sound_of chosen plan turns journal taken.takes).kept;
+  roomy = done_with_room laws plan (run_in plan journal) taken.was_read (sound_of chosen plan turns journal taken.takes);
 }
 
 runs_said : Laws → (chosen : PlanCommand) (source : Taking) (printed : Option Printed) (turns : List Turn) (journal : List Entry) (was : IsRead chosen source printed turns journal) (said : Result PlanData PlanRefusal) → read was.bytes ≡ said → Comes chosen was.bytes said printed turns journal → (length journal == 0) ≡ false → Runs chosen source turns journal

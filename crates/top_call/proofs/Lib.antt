@@ -2,6 +2,8 @@ mod AlteringPlans
 mod Comings
 mod Endings
 mod Faulty
+mod FinishLaws
+mod FinishedMarks
 mod Headline
 mod LogReads
 mod MarkedRuns
@@ -10,6 +12,8 @@ mod ReadTraces
 mod ReadTurns
 mod Rebuilt
 mod RestedServers
+mod ResumedRuns
+mod Splits
 mod Taken
 mod TraceBytes
 mod Unread

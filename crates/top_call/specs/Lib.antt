@@ -1,10 +1,12 @@
 pub mod Audits
 pub mod Comings
+pub mod FinishLaws
 pub mod Outcomes
 pub mod PrintedOrders
 pub mod Promises
 pub mod ReadTraces
 pub mod Rebuilds
+pub mod ResumedRuns
 pub mod RestedServers
 pub mod TopLaws
 pub mod WorkerPlans

@@ -1,6 +1,6 @@
 -- What comes of a plan's bytes: the turns that are taken, what is printed, and the status that it has where it is printed
 -- whole. (This project's rule.)
-use Rattle.std.specs.Prelude.{◌≡◌, Bool, true, false, ℕ, List, [], map, Option, IfSome, Result, Ok, Err}
+use Rattle.std.specs.Prelude.{◌≡◌, ◌<◌, ◌^◌, Bool, true, false, ℕ, List, [], take, drop, map, Option, IfSome, Result, Ok, Err}
 use Rattle.server_model.specs.declared.entry.Entry.{Entry}
 use Rattle.server_model.specs.declared.outcome.Verdict.{Verdict}
 use Rattle.server_model.specs.declared.outcome.Verdict.TheVariants as verdicts
@@ -8,11 +8,9 @@ use Rattle.plan_data.specs.PlanData.{PlanData}
 use Rattle.plan_reader.specs.declared.fault.PlanRefusal.{PlanRefusal}
 use Rattle.tool_program.specs.JournalWords.Journals.{state_at}
 use Rattle.tool_program.specs.Orders.{WorkerTurn}
-use Rattle.tool_program.specs.Verdicts.{verdict_of}
 use Rattle.proof_plans.specs.ReadPlans.Laws.{WasRead}
 use Rattle.top_report.specs.Reports.{report}
 use Rattle.top_trace.specs.Texts.{trace_text}
-use Rattle.run_turns.specs.Runs.{is_over}
 use Rattle.top_endings.specs.declared.command.PlanCommand.{PlanCommand}
 use Rattle.top_endings.specs.declared.command.PlanCommand.TheVariants.{Check, Replay, Run, Trace, Rebuild}
 use Rattle.top_endings.specs.declared.printed.Printed.{Printed}
@@ -26,6 +24,7 @@ use Rattle.top_endings.specs.declared.refusals.Refusal.TheVariants as refusals
 use Rattle.top_call.specs.WholeReplays.Replays.{IsSoundReplay}
 use Rattle.top_call.specs.PlanWorks.Works.{IsSoundRunByWorkers}
 use Rattle.top_call.specs.Rebuilds.{text_at_mark}
+use Rattle.top_call.specs.ResumedRuns.{Resumes, finish_in, is_over_at, run_in, verdict_at}
 
 -- the status of a report
 abbrev pub status_of : Verdict → Status
@@ -33,7 +32,7 @@ status_of verdicts.Done = statuses.Done
 status_of (verdicts.Reverted cause) = statuses.Reverted
 status_of verdicts.Unfinished = statuses.TurnsSpent
 
--- whose turns a replay's journal has: all are of worker 0
+-- whose turns a replay's journal has, or a new tool's: all are of worker 0
 abbrev pub turns_of : List Entry → List Turn
 turns_of journal = map (λ entry. record { worker = 0; actor = entry.actor }) journal
 
@@ -41,14 +40,27 @@ turns_of journal = map (λ entry. record { worker = 0; actor = entry.actor }) jo
 abbrev pub worker_turns : List Turn → List WorkerTurn
 worker_turns turns = map (λ turn. record { worker = turn.worker; actor = turn.actor }) turns
 
+-- the turns of a sound replay, and those of a new tool behind it where one comes
+pub record IsReplayTaken (plan : PlanData) (turns : List Turn) (journal : List Entry) : Type 0 where
+  pub run : IsSoundReplay plan (run_in plan journal)
+  pub resumes : Resumes plan journal
+  pub turns_are : turns ≡ turns_of journal
+
+-- the turns of a sound run by this many workers, and those of a new tool behind it where one comes
+pub record IsRunTaken (workers : ℕ) (plan : PlanData) (turns : List Turn) (journal : List Entry) : Type 0 where
+  pub run : IsSoundRunByWorkers plan (run_in plan journal) (worker_turns (take plan.options.turn_limit turns)) workers
+  pub resumes : Resumes plan journal
+  pub turns_are : drop plan.options.turn_limit turns ≡ turns_of (finish_in plan journal)
+
 -- *Takes*: what holds of the turns that a command takes of a plan: they are those of a sound replay, or of a sound run by this
--- many workers; `check` takes none, and `rebuild` none of a plan whose altered schema has a second unique key
+-- many workers, and those of a new tool behind it where one comes; `check` takes none, and `rebuild` none of a plan whose altered
+-- schema has a second unique key
 abbrev pub Takes : PlanCommand → PlanData → List Turn → List Entry → Type 0
 Takes Check plan turns journal = ⊥
-Takes Replay plan turns journal = IsSoundReplay plan journal × (turns ≡ turns_of journal)
-Takes (Run workers) plan turns journal = IsSoundRunByWorkers plan journal (worker_turns turns) workers
-Takes Trace plan turns journal = IsSoundReplay plan journal × (turns ≡ turns_of journal)
-Takes (Rebuild workers) plan turns journal = IsSoundReplay plan journal × (turns ≡ turns_of journal) × (has_second_unique plan ≡ false)
+Takes Replay plan turns journal = IsReplayTaken plan turns journal
+Takes (Run workers) plan turns journal = IsRunTaken workers plan turns journal
+Takes Trace plan turns journal = IsReplayTaken plan turns journal
+Takes (Rebuild workers) plan turns journal = IsReplayTaken plan turns journal × (has_second_unique plan ≡ false)
 
 -- no turn was taken
 pub record IsUntaken (turns : List Turn) (journal : List Entry) : Type 0 where
@@ -80,14 +92,16 @@ run_text Trace bytes plan journal = trace_at bytes plan journal
 run_text (Rebuild workers) bytes plan journal = rebuild_at plan journal
 run_text chosen bytes plan journal = report_at plan journal
 
--- the text of a run that has ended, or has as many turns as the plan allows
+-- the text of a run that has ended, or has as many turns as the plan allows; where it is resumed, the new tool is over too; the server
+-- numbered its sessions with 32 bits
 pub record IsRunPrinted (text : Verdict → List ℕ) (plan : PlanData) (journal : List Entry) (printed : Printed) : Type 0 where
-  pub over : is_over plan journal ≡ true
-  pub status_is : printed.status ≡ status_of (verdict_of plan journal)
-  pub text_is : printed.text ≡ text (verdict_of plan journal)
+  pub over : is_over_at plan journal ≡ true
+  pub status_is : printed.status ≡ status_of (verdict_at plan journal)
+  pub text_is : printed.text ≡ text (verdict_at plan journal)
+  pub made : (state_at plan journal).made < 2 ^ 32
 
--- These are the turns of a sound replay of the plan, or of a sound run of it by this many workers. Its text is printed, and then
--- it is over; or nothing is where memory ran out, and then the turns are those that were taken until then.
+-- These are the turns of a sound replay of the plan, or of a sound run of it by this many workers, and those of a new tool behind it
+-- where one comes. Its text is printed, and then it is over; or nothing is where memory ran out, and then the turns are those that were taken until then.
 pub record IsTaken (chosen : PlanCommand) (plan : PlanData) (text : Verdict → List ℕ) (printed : Option Printed) (turns : List Turn) (journal : List Entry) : Type 0 where
   pub was_read : WasRead plan
   pub takes : Takes chosen plan turns journal

@@ -15,17 +15,20 @@ use Rattle.proof_feeds.specs.Laws.{TurnsMayGo}
 use Rattle.run_turns.specs.Runs.{is_over, Stops}
 use Rattle.top_report.specs.Reports.{report}
 use Rattle.top_report.specs.Turns.{turns_taken}
+use Rattle.top_call.specs.ResumedRuns.{is_resumed}
 
 -- the plan with this order of turns in place of its own
 abbrev pub ordered : PlanData → List ActorRun → PlanData
 ordered plan runs = record plan { turns = runs }
 
 -- *Is replayed*: the journal is a replay of the plan with this order. Under it, too, the run is over when it was, with its verdict, its
--- tables and its report.
+-- tables and its report; and a new tool goes on behind it if one did. What a report prints of the order of such a run and the new tool's
+-- turns is no order of this kind: a kept journal has none of them.
 pub record IsReplayed (plan : PlanData) (runs : List ActorRun) (journal : List Entry) : Type 0 where
   pub replay : IsReplay (ordered plan runs) journal
   pub over_is : is_over (ordered plan runs) journal ≡ is_over plan journal
   pub stops : Stops plan journal → Stops (ordered plan runs) journal
+  pub resumed_is : is_resumed (ordered plan runs) journal ≡ is_resumed plan journal
   pub verdict_is : verdict_of (ordered plan runs) journal ≡ verdict_of plan journal
   pub tables_are : (state_at (ordered plan runs) journal).tables ≡ (state_at plan journal).tables
   pub report_is : (verdict : Verdict) (tables : Database) → report (ordered plan runs) journal verdict tables ≡ report plan journal verdict tables

@@ -1,6 +1,7 @@
 -- What the top call promises under each status.
-use Rattle.std.specs.Prelude.{◌≡◌, ◌≢◌, ℕ, ◌==◌, ◌≤◌, ◌<◌, true, false, if◌then◌else◌, List, [], length, Option, Some, None, Result, Ok, Err}
+use Rattle.std.specs.Prelude.{◌≡◌, ◌≢◌, ℕ, ◌==◌, ◌≤◌, ◌<◌, ◌^◌, true, false, if◌then◌else◌, List, [], length, Option, Some, None, Result, Ok, Err}
 use Rattle.std.specs.Io.KnownBytes.{Appends, Consumes}
+use Rattle.std.specs.Str.{IsUtf8}
 use Rattle.base_edges.specs.Edges.{Rose}
 use Rattle.base_edges.specs.Whole.{ReadsWhole, GivesPart}
 use Rattle.server_model.specs.declared.entry.Entry.{Entry}
@@ -12,9 +13,8 @@ use Rattle.plan_reader.specs.declared.limits.TheConstants.{PLAN_LIMIT}
 use Rattle.plan_reader.specs.declared.fault.PlanRefusal.{PlanRefusal}
 use Rattle.plan_reader.specs.Plans.{read}
 use Rattle.tool_program.specs.JournalWords.Bounds.{bound}
-use Rattle.tool_program.specs.Failures.{Stands}
+use Rattle.tool_program.specs.JournalWords.Journals.{state_at}
 use Rattle.tool_program.specs.Verdicts.{has_ended, verdict_of}
-use Rattle.proof_journals.specs.Machine.Laws.{TellsAlter}
 use Rattle.proof_plans.specs.Complete.Laws.{IsSmoothRun}
 use Rattle.proof_plans.specs.Complete.Quiet.{IsQuiet, RowsHaveConvertedRows, IsWithinLimits}
 use Rattle.run_audit.specs.declared.trace.Audit.{Audit}
@@ -44,6 +44,7 @@ use Rattle.top_endings.specs.Texts.{refused_text, usage_text, read_fault_text}
 use Rattle.top_workload.specs.Workloads.{workload}
 use Rattle.top_call.specs.Comings.{ComesTo}
 use Rattle.top_call.specs.Outcomes.{IsUntaken, Takes, run_text}
+use Rattle.top_call.specs.ResumedRuns.{StandsAt, TellsAlterAt, has_ended_at, is_resumed, run_in, verdict_at}
 
 -- *Completes*: where a plan has no client, no command and no loss, each row of its table can be converted, no limit is met and
 -- the run has ended, the ALTER was done.
@@ -59,17 +60,19 @@ IsDoneWhereSmooth plan journal = IsSmoothRun plan journal → has_ended plan jou
 abbrev pub IsDoneWithRoom : PlanData → List Entry → Type 0
 IsDoneWithRoom plan journal = bound plan ≤ plan.options.turn_limit → IsSmoothRun plan journal → is_over plan journal ≡ true → verdict_of plan journal ≡ verdicts.Done
 
--- *The headline*, of the turns that a call leaves: the source was read whole, its bytes are an accepted plan, and the turns are
--- those of a sound replay of the plan, or of a sound run of it by this many workers, as the command says.
+-- *The headline*, of the turns that a call leaves: the source was read whole, its bytes are an accepted plan, whose table has a text for
+-- its name, and the turns are those of a sound replay of the plan, or of a sound run of it by this many workers, as the command says, and
+-- those of a new tool behind it where one comes.
 pub record Runs (chosen : PlanCommand) (source : Taking) (turns : List Turn) (journal : List Entry) : Type 0 where
   pub bytes : List ℕ
   pub whole : ReadsWhole PLAN_LIMIT source.before source.after bytes
   pub plan : PlanData
   pub accepted : read bytes ≡ Ok plan
+  pub named : IsUtf8 plan.table
   pub takes : Takes chosen plan turns journal
-  pub completes : Completes plan journal
-  pub smooth : IsDoneWhereSmooth plan journal
-  pub roomy : IsDoneWithRoom plan journal
+  pub completes : Completes plan (run_in plan journal)
+  pub smooth : IsDoneWhereSmooth plan (run_in plan journal)
+  pub roomy : IsDoneWithRoom plan (run_in plan journal)
 
 -- the same of the command that the words are
 pub record RunsBy (words : List (List ℕ)) (source : Taking) (turns : List Turn) (journal : List Entry) : Type 0 where
@@ -77,21 +80,25 @@ pub record RunsBy (words : List (List ℕ)) (source : Taking) (turns : List Turn
   pub command_is : command words ≡ Some (asked chosen)
   pub runs : Runs chosen source turns journal
 
--- Where the verdict is done or reverted, the run has ended; where it is unfinished, the run hasn't, and took as many turns
--- as the plan allows, which are fewer than the plan's bound.
+-- Where the verdict is done or reverted, the run has ended, or the new tool behind it; where it is unfinished, the run hasn't, and took
+-- as many turns as the plan allows, which are fewer than the plan's bound; and no new tool came, since the plan has no `resume` or
+-- there was no checkpoint.
 abbrev pub EndsBy : PlanData → List Entry → Verdict → Type 0
-EndsBy plan journal verdicts.Unfinished = (has_ended plan journal ≡ false) × (length journal ≡ plan.options.turn_limit) × (plan.options.turn_limit < bound plan)
-EndsBy plan journal verdict = has_ended plan journal ≡ true
+EndsBy plan journal verdicts.Unfinished = (has_ended plan journal ≡ false) × (length journal ≡ plan.options.turn_limit) × (plan.options.turn_limit < bound plan) × (is_resumed plan journal ≡ false)
+EndsBy plan journal verdict = has_ended_at plan journal ≡ true
 
 -- The report is given, or what the command prints in its place: turns were taken, the run is over as this verdict says, which is that of the journal and tells whether
--- the ALTER was done; what is given is the text of the run, of the verdict and of the tables at its end.
+-- the ALTER was done; what is given is the text of the run, of the verdict and of the tables at its end, in UTF-8. The server numbered its sessions
+-- with 32 bits.
 pub record PrintsReport (chosen : PlanCommand) (verdict : Verdict) (source : Taking) (sink : Giving) (turns : List Turn) (journal : List Entry) : Type 0 where
   pub runs : Runs chosen source turns journal
   pub taken : (length journal == 0) ≡ false
   pub over : EndsBy runs.plan journal verdict
-  pub verdict_is : verdict_of runs.plan journal ≡ verdict
-  pub tells : has_ended runs.plan journal ≡ true → TellsAlter runs.plan journal
+  pub verdict_is : verdict_at runs.plan journal ≡ verdict
+  pub tells : has_ended_at runs.plan journal ≡ true → TellsAlterAt runs.plan journal
   pub given : Appends sink.before sink.after (run_text chosen runs.bytes runs.plan journal verdict)
+  pub utf8 : IsUtf8 (run_text chosen runs.bytes runs.plan journal verdict)
+  pub made : (state_at runs.plan journal).made < 2 ^ 32
 
 -- Status 0 of `check`: the text of the schema that the ALTER of an accepted plan leaves is given.
 pub record PrintsSchema (source : Taking) (sink : Giving) (turns : List Turn) (journal : List Entry) : Type 0 where
@@ -181,7 +188,7 @@ pub record PrintsRevert (words : List (List ℕ)) (source : Taking) (sink : Givi
   pub command_is : command words ≡ Some (asked chosen)
   pub cause : Cause
   pub prints : PrintsReport chosen (verdicts.Reverted cause) source sink turns journal
-  pub stands : Stands prints.runs.plan journal cause
+  pub stands : StandsAt prints.runs.plan journal cause
 
 -- Status 4: the source's fault count increased, and that is said.
 pub record PrintsReadFault (words : List (List ℕ)) (source : Taking) (sink : Giving) (turns : List Turn) (journal : List Entry) : Type 0 where
@@ -202,7 +209,7 @@ pub record PrintsNone (words : List (List ℕ)) (source : Taking) (sink : Giving
   pub comes : ComesTo (command words) source None turns journal
   pub given : Appends sink.before sink.after []
 
--- Status 7: the report, or the trace, is given of a run that hasn't ended, and has as many turns as the plan allows.
+-- Status 7: the report, or the trace, is given of a run that hasn't ended, has as many turns as the plan allows, and isn't resumed.
 pub record PrintsUnfinished (words : List (List ℕ)) (source : Taking) (sink : Giving) (turns : List Turn) (journal : List Entry) : Type 0 where
   pub chosen : PlanCommand
   pub command_is : command words ≡ Some (asked chosen)

@@ -1,20 +1,23 @@
 //! What comes of a plan.
 
-ghost use Rattle.std.specs.Prelude.{◌≡◌, ◌≢◌, ◌≤◌, ◌<◌, true, false, [], ◌∷◌, None, IfSome, IfOk};
+ghost use Rattle.std.specs.Prelude.{◌≡◌, ◌≢◌, ◌≤◌, ◌<◌, ◌^◌, true, false, [], ◌∷◌, None, IfSome, IfOk};
 ghost use Rattle.server_model.specs.declared.outcome.Verdict.TheVariants as verdicts;
 ghost use Rattle.proof_plans.specs.ReadPlans.Laws.{WasRead};
 ghost use Rattle.run_rebuild.specs.ShardNumbers.{AreShards};
 ghost use Rattle.run_replay.specs.WholeReplay.Marks.{logged_at_mark};
 ghost use Rattle.top_endings.specs.declared.command.PlanCommand.TheVariants as plans;
 ghost use Rattle.top_endings.specs.Rebuilt.{has_second_unique};
-ghost use Rattle.top_call.specs.WholeReplays.Replays.{IsEnd, IsSoundReplay};
+ghost use Rattle.top_call.specs.ResumedRuns.{IsEnd, Resumes, run_in};
+ghost use Rattle.top_call.specs.WholeReplays.Replays.{IsSoundReplay};
 ghost use Rattle.top_call.specs.Outcomes.{IsRunPrinted, IsTaken, Takes, rebuild_at, report_at, status_of, trace_at};
 
+use crate::finishes::finishes_tell_the_alter;
 use crate::plan_rebuilds::rebuilt;
 use crate::plan_works::work_plan;
+use crate::resumed_runs::End;
 use crate::status::status_of;
 use crate::turns::{turns_in, turns_of_workers};
-use crate::whole_replays::{End, Left, open_plan, replay_plan};
+use crate::whole_replays::{Left, open_plan, replay_plan};
 use base_edges::Gate;
 use base_values::{Sequence, Text};
 use plan_data::Plan;
@@ -60,6 +63,11 @@ fn printed(verdict: &Verdict, text: Text) -> Printed
     }
 }
 
+/// How many sessions a server makes is a number of 32 bits.
+fn sessions_are_few(sessions: u32)
+    ensures { sessions < 2 ^ 32 }
+{}
+
 /// The report of a run that ended.
 fn reported<V: Serve>(
     alloc: Global,
@@ -67,11 +75,12 @@ fn reported<V: Serve>(
     journal: &Journal,
     end: &Option<End<V>>,
 ) -> Option<Printed>
-    requires { IfSome end.now (λ end. IsEnd plan.now journal.now end.verdict (V.state end.server)) }
+    requires { IfSome end.now (λ end. IsEnd plan.now journal.now end.verdict (V.state end.server) end.sessions) }
     ensures report { IfSome result (IsRunPrinted (report_at plan.now journal.now) plan.now journal.now) }
     ensures none { end.now ≡ None → result ≡ None }
 {
     let end = end.as_ref()?;
+    sessions_are_few(end.sessions);
     let tables = end.server.tables();
     match report(alloc, plan, journal, &end.verdict, tables) {
         Ok(text) => Some(printed(&end.verdict, text)),
@@ -87,10 +96,11 @@ fn traced<V: Serve>(
     journal: &Journal,
     end: &Option<End<V>>,
 ) -> Option<Printed>
-    requires { IfSome end.now (λ end. IsEnd plan.now journal.now end.verdict (V.state end.server)) }
+    requires { IfSome end.now (λ end. IsEnd plan.now journal.now end.verdict (V.state end.server) end.sessions) }
     ensures { IfSome result (IsRunPrinted (trace_at plan_text.now plan.now journal.now) plan.now journal.now) }
 {
     let end = end.as_ref()?;
+    sessions_are_few(end.sessions);
     let tables = end.server.tables();
     match print_trace(alloc, plan_text, plan, journal, &end.verdict, tables) {
         Ok(text) => Some(printed(&end.verdict, text)),
@@ -103,13 +113,13 @@ fn traced<V: Serve>(
 fn replayed(alloc: Global, plan: &Plan) -> Result<(Left<FinalServer>, Turns), AllocError>
     requires { WasRead plan.now }
     ensures takes { IfOk result (λ replayed. Takes plans.Replay plan.now replayed.1 replayed.0.journal) }
-    ensures logged { IfOk result (λ replayed. replayed.0.logged ≡ logged_at_mark plan.now (plan.now.table ∷ []) replayed.0.journal) }
-    ensures end { IfOk result (λ replayed. IfSome replayed.0.end (λ end. IsEnd plan.now replayed.0.journal end.verdict end.server.state)) }
+    ensures logged { IfOk result (λ replayed. replayed.0.logged ≡ logged_at_mark plan.now (plan.now.table ∷ []) (run_in plan.now replayed.0.journal)) }
+    ensures end { IfOk result (λ replayed. IfSome replayed.0.end (λ end. IsEnd plan.now replayed.0.journal end.verdict end.server.state end.sessions)) }
 {
     // The room for the turns is made before the first, so that none that was taken is thrown away.
-    let room = Vec::with_capacity(alloc, plan.options().turn_limit as usize)?;
+    let mut room = Vec::with_capacity(alloc, plan.options().turn_limit as usize)?;
     let server = open_plan(alloc, plan)?;
-    let left = replay_plan(alloc, plan, server)?;
+    let left = replay_plan(alloc, plan, server, &mut room)?;
     let turns = turns_in(room, left.journal.as_slice());
     Ok((left, turns))
 }
@@ -157,7 +167,7 @@ fn is_done<V: Serve>(end: &Option<End<V>>) -> bool
 
 /// The report of a run that ended, and its journal.
 fn reported_after<V: Serve>(alloc: Global, plan: &Plan, left: Left<V>) -> (Option<Printed>, Journal)
-    requires end { IfSome left.end (λ end. IsEnd plan.now left.journal end.verdict (V.state end.server)) }
+    requires end { IfSome left.end (λ end. IsEnd plan.now left.journal end.verdict (V.state end.server) end.sessions) }
     requires undone { IfSome left.end (λ end. end.verdict ≢ verdicts.Done) }
     ensures printed { IfSome result.0 (IsRunPrinted (rebuild_at plan.now left.journal) plan.now left.journal) }
     ensures journal { result.1 ≡ left.journal }
@@ -167,7 +177,6 @@ fn reported_after<V: Serve>(alloc: Global, plan: &Plan, left: Left<V>) -> (Optio
 }
 
 /// The table that is made anew from the log of a run in which the RENAME was done, and its journal.
-#[tactic(auto, using(crate::proofs::Rebuilt::rested_end, crate::proofs::Rebuilt::after_mark, crate::proofs::Rebuilt::done_printed))]
 fn rebuilt_after<V: Serve, R: Threads + Sync, G: Gate + Sync>(
     rt: &R,
     alloc: Global,
@@ -178,25 +187,27 @@ fn rebuilt_after<V: Serve, R: Threads + Sync, G: Gate + Sync>(
 ) -> (Option<Printed>, Journal)
     requires workers { AreShards workers }
     requires read { WasRead plan.now }
-    requires few { plan.now.options.turn_limit < u32.MAX }
-    requires replay { IsSoundReplay plan.now left.journal }
-    requires logged { left.logged ≡ logged_at_mark plan.now (plan.now.table ∷ []) left.journal }
-    requires end { IfSome left.end (λ end. IsEnd plan.now left.journal end.verdict (V.state end.server)) }
+    requires replay { IsSoundReplay plan.now (run_in plan.now left.journal) }
+    requires resumes { Resumes plan.now left.journal }
+    requires logged { left.logged ≡ logged_at_mark plan.now (plan.now.table ∷ []) (run_in plan.now left.journal) }
+    requires end { IfSome left.end (λ end. IsEnd plan.now left.journal end.verdict (V.state end.server) end.sessions) }
     requires done { IfSome left.end (λ end. end.verdict ≡ verdicts.Done) }
     ensures printed { IfSome result.0 (IsRunPrinted (rebuild_at plan.now left.journal) plan.now left.journal) }
     ensures journal { result.1 ≡ left.journal }
 {
+    finishes_tell_the_alter();
     let Left {
         journal,
         logged,
         end,
     } = left;
     match end {
-        Some(end) => {
+        // The log is read by one more session: else no number would be left for it.
+        Some(end) if end.sessions < u32::MAX => {
             let printed = rebuilt(rt, alloc, plan, end.server, logged, workers, gate);
             (printed, journal)
         }
-        None => (None, journal),
+        _ => (None, journal),
     }
 }
 
@@ -212,10 +223,10 @@ fn rebuilt_or_reported<V: Serve, R: Threads + Sync, G: Gate + Sync>(
 ) -> (Option<Printed>, Journal)
     requires workers { AreShards workers }
     requires read { WasRead plan.now }
-    requires few { plan.now.options.turn_limit < u32.MAX }
-    requires replay { IsSoundReplay plan.now left.journal }
-    requires logged { left.logged ≡ logged_at_mark plan.now (plan.now.table ∷ []) left.journal }
-    requires end { IfSome left.end (λ end. IsEnd plan.now left.journal end.verdict (V.state end.server)) }
+    requires replay { IsSoundReplay plan.now (run_in plan.now left.journal) }
+    requires resumes { Resumes plan.now left.journal }
+    requires logged { left.logged ≡ logged_at_mark plan.now (plan.now.table ∷ []) (run_in plan.now left.journal) }
+    requires end { IfSome left.end (λ end. IsEnd plan.now left.journal end.verdict (V.state end.server) end.sessions) }
     ensures printed { IfSome result.0 (IsRunPrinted (rebuild_at plan.now left.journal) plan.now left.journal) }
     ensures journal { result.1 ≡ left.journal }
 {
@@ -239,10 +250,6 @@ pub(crate) fn plan_rebuilt<R: Threads + Sync, G: Gate + Sync>(
     requires single { has_second_unique plan.now ≡ false }
     ensures { IfOk result (λ outcome. IsTaken (plans.Rebuild workers) plan.now (rebuild_at plan.now outcome.journal) outcome.printed outcome.turns outcome.journal) }
 {
-    // A turn makes one session at most, and one more reads the log: else no number would be left for it.
-    if plan.options().turn_limit == u32::MAX {
-        return Err(AllocError);
-    }
     let (left, turns) = replayed(alloc, plan)?;
     let (printed, journal) = rebuilt_or_reported(rt, alloc, plan, left, workers, gate);
     Ok(Outcome {
@@ -254,7 +261,7 @@ pub(crate) fn plan_rebuilt<R: Threads + Sync, G: Gate + Sync>(
 
 /// What comes of the run of a plan by `workers` workers. Where there is no memory for the list of turns, for the server or for
 /// the turn queue, no turn is taken.
-#[tactic(auto, using(crate::proofs::Worked::few_turns, crate::proofs::Worked::taken_by))]
+#[tactic(auto, using(crate::proofs::Worked::few_turns))]
 pub(crate) fn plan_worked<R: Threads + Wait + Sync, G: Gate + Sync>(
     rt: &R,
     alloc: Global,
@@ -267,12 +274,12 @@ pub(crate) fn plan_worked<R: Threads + Wait + Sync, G: Gate + Sync>(
     requires read { WasRead plan.now }
     ensures { IfOk result (λ outcome. IsTaken (plans.Run workers) plan.now (report_at plan.now outcome.journal) outcome.printed outcome.turns outcome.journal) }
 {
-    let room = Vec::with_capacity(alloc, plan.options().turn_limit as usize)?;
+    let mut room = Vec::with_capacity(alloc, plan.options().turn_limit as usize)?;
     let server = open_plan(alloc, plan)?;
-    let left = work_plan(rt, alloc, plan, server, workers, gate)?;
+    let left = work_plan(rt, alloc, plan, server, workers, gate, &mut room)?;
     Ok(Outcome {
         printed: reported(alloc, plan, &left.journal, &left.end),
-        turns: turns_of_workers(room, left.turns.as_slice()),
+        turns: turns_of_workers(room, left.turns.as_slice(), left.journal.as_slice()),
         journal: left.journal,
     })
 }

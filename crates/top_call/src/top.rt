@@ -16,6 +16,7 @@ ghost use Rattle.top_call.specs.Promises.{Ends, RunsBy, PrintsReport, PrintsSche
 ghost use Rattle.top_call.specs.TopLaws.{Laws};
 
 use crate::audits::trace_audited;
+use crate::finishes::finishes_tell_the_alter;
 use crate::outcome::{Outcome, plan_rebuilt, plan_replayed, plan_traced, plan_worked, untaken};
 use base_edges::{Gate, ReadFault, Sink, Source, read_whole};
 use law_journals::completion::{quiet_runs_are_done, smooth_runs_are_done};
@@ -40,9 +41,9 @@ use top_words::{Command, Line};
 pub struct Ended {
     /// The number of its status.
     pub status: u8,
-    /// Whose turns its run took, in order; none where no plan was run.
+    /// Whose turns its run took, in order, and a new tool's behind them where one came; none where no plan was run.
     pub turns: Turns,
-    /// The turns of its run, as the run kept them; none where no plan was run.
+    /// The turns of its run, as the run kept them, and the new tool's; none where no plan was run.
     pub journal: Journal,
 }
 
@@ -294,6 +295,7 @@ fn laws_stand()
     quiet_runs_are_done();
     smooth_runs_are_done();
     read_options_allow();
+    finishes_tell_the_alter();
 }
 
 /// Does what the words ask for, and says how it ended, with what the laws make of it.
@@ -320,9 +322,11 @@ fn ending<R: Threads + Wait + Sync, S: Source, K: Sink, G: Gate + Sync>(
 /// The commands are `check`, which prints the schema that the plan's ALTER leaves; `replay`, which runs the plan on one thread
 /// and prints the report; `run`, by which worker threads do so, 4 where their number isn't said; `generate`, which prints
 /// the plan of a number and reads nothing; `trace`, which runs the plan as `replay` does, and prints the plan and each turn; `audit`,
-/// which reads such a text and says whether it breaks a rule, and the first; and `rebuild`, which runs it so too, and prints the table that threads make anew from the log. The gate is told before and after
-/// each turn of a worker's, and never while one is held; and before and after each shard of a rebuild. Workers wait for each other's
-/// turns; every other command goes through `outcome_without_waits`, which waits for nothing.
+/// which reads such a text and says whether it breaks a rule, and the first; and `rebuild`, which runs it so too, and prints the table
+/// that threads make anew from the log. Where the plan has `resume`, and its run took all turns that the plan allows, hasn't ended and
+/// left a checkpoint, a new tool finishes it, whose turns are behind the run's. The gate is told before and after each turn of a worker's,
+/// and never while one is held; and before and after each shard of a rebuild. Workers wait for each other's turns; every other command
+/// goes through `outcome_without_waits`, which waits for nothing.
 pub fn ghost_<R: Threads + Wait + Sync, S: Source, K: Sink, G: Gate + Sync>(
     rt: &R,
     alloc: Global,

@@ -1,6 +1,7 @@
 -- How a call of the program ends: the number of its status, what it took from the source and what it gave to the sink.
 use Rattle.std.specs.Prelude.{◌≡◌, ◌≤◌, ℕ, Bool, true, false, List, [], Option, Some, None, ◌⊎◌}
 use Rattle.std.specs.Io.KnownBytes.{Appends, Consumes}
+use Rattle.std.specs.Str.{IsUtf8}
 use Rattle.base_edges.specs.Edges.{Rose}
 use Rattle.base_edges.specs.Whole.{GivesPart}
 use Rattle.top_words.specs.declared.command.Command.{Command}
@@ -65,11 +66,12 @@ pub record IsReadFault (source : Taking) (printed : Printed) : Type 0 where
   pub text_is : printed.text ≡ read_fault_text
   pub rose : Rose source.faults_before source.faults_after
 
--- What was given of what is printed, and how the call ended: the whole text, or a prefix of it where the sink failed; nothing
--- where memory ran out.
+-- What was given of what is printed, and how the call ended: the whole text, which is UTF-8, or a prefix of it where the sink failed;
+-- nothing where memory ran out.
 pub record GivesAll (printed : Printed) (sink : Giving) (status : Status) : Type 0 where
   pub status_is : status ≡ printed.status
   pub given : Appends sink.before sink.after printed.text
+  pub utf8 : IsUtf8 printed.text
 
 pub record GivesFront (printed : Printed) (sink : Giving) (status : Status) : Type 0 where
   pub status_is : status ≡ WriteFault

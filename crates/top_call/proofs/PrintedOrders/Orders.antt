@@ -19,7 +19,7 @@ use Rattle.top_call.specs.PrintedOrders.{IsReplayed, ordered}
 use Rattle.proof_feeds.specs.Laws.{TurnsMayGo}
 use Rattle.top_call.proofs.PrintedOrders.Programs.{follows_so, keeps_so}
 use Rattle.top_call.proofs.PrintedOrders.Replicas.{may_go_same}
-use Rattle.top_call.proofs.PrintedOrders.Verdicts.{over_same, report_same, stops_same, verdict_same}
+use Rattle.top_call.proofs.PrintedOrders.Verdicts.{over_same, report_same, resumed_same, stops_same, verdict_same}
 
 -- a loss between calls is no turn of the order
 cut_taken : (entry : Entry) (rest : List Entry) → is_cut entry.asked ≡ true → turns_taken (entry ∷ rest) ≡ turns_taken rest
@@ -110,6 +110,7 @@ replayed plan journal runs kept numbered goes are = record {
   };
   over_is = over_same plan runs journal;
   stops = stops_same plan runs journal;
+  resumed_is = resumed_same plan runs journal;
   verdict_is = verdict_same plan runs journal;
   tables_are = refl;
   report_is = report_same plan runs journal;

@@ -1,12 +1,13 @@
 -- The history, the verdict and the report of a journal are the same whatever order of turns its plan asks for.
-use Rattle.std.proofs.Common.{◌≡◌, ℕ, nat_le, ◌+◌, Bool, false, ◌&&◌, ◌||◌, if◌then◌else◌, List, [], ◌∷◌, ◌++◌, length, Option, Some, None, refl, ap, ap₂, ◌∙◌}
+use Rattle.std.proofs.Common.{◌≡◌, ℕ, nat_le, ◌+◌, Bool, false, not, ◌&&◌, ◌||◌, if◌then◌else◌, List, [], ◌∷◌, ◌++◌, length, Option, Some, None, refl, ap, ap₂, ◌∙◌}
 use Rattle.std.specs.Prelude.{codes}
 use Rattle.std.specs.List.{flat_map, list_any}
 use Rattle.base_values.specs.declared.value.Value.{Value}
+use Rattle.base_values.specs.ToolNames.{log_name}
 use Rattle.base_script.specs.declared.actor.Actor.{Actor}
 use Rattle.base_script.specs.declared.actor.Actor.TheVariants.{Op, Insp, Copy, Apply, Lock, Ren, Client}
 use Rattle.base_script.specs.declared.script.ScriptLine.{ScriptLine}
-use Rattle.table_store.specs.Databases.{Database}
+use Rattle.table_store.specs.Databases.{Database, has_table}
 use Rattle.server_model.specs.Along.{gathered}
 use Rattle.server_model.specs.declared.request.Request.{Request}
 use Rattle.server_model.specs.declared.answer.Answer.{Answer}
@@ -19,6 +20,8 @@ use Rattle.plan_data.specs.PlanData.{PlanData, new_schema}
 use Rattle.plan_data.specs.declared.runs.ActorRun.{ActorRun}
 use Rattle.tool_program.specs.JournalWords.Clients.{all_over, client_at, client_over}
 use Rattle.tool_program.specs.JournalWords.Histories.{HistoryItem, about, adds, alters, answer_in, entry_adds, history, is_alter, replies_of}
+use Rattle.tool_finish.specs.Checkpoints.{has_checkpoint, is_migrating, writes_checkpoint}
+use Rattle.tool_program.specs.JournalWords.Journals.{state_at}
 use Rattle.tool_program.specs.JournalWords.Serials.{tables_left}
 use Rattle.tool_program.specs.Tools.{ToolPhase, SettingUp, Migrating, Reason, CopyUnfit, ApplyUnfit, Spent, Panicked, Tool, Moment, moment}
 use Rattle.tool_program.specs.Verdicts.{apply_key, cause_of, ended_so, has_ended, new_column_name, reverted_by, verdict_of}
@@ -32,6 +35,7 @@ use Rattle.top_report.specs.Reports.{report, where_shown}
 use Rattle.top_report.specs.Tables.{tables_text}
 use Rattle.top_report.specs.Turns.{turns_text}
 use Rattle.top_call.specs.PrintedOrders.{ordered}
+use Rattle.top_call.specs.ResumedRuns.{is_resumed}
 use Rattle.top_call.proofs.PrintedOrders.Programs.{along_same, moment_same}
 
 gathered_same : {E A : Type 0} (one two : List E → E → List A) → ((before : List E) (entry : E) → one before entry ≡ two before entry) → (before entries : List E) → gathered one before entries ≡ gathered two before entries
@@ -114,6 +118,19 @@ module _ (plan : PlanData) (runs : List ActorRun) where
   pub stops_same : (journal : List Entry) → Stops plan journal → Stops (ordered plan runs) journal
   unfolding Stops
   stops_same journal stops = along_same (λ before entry. is_over plan before ≡ false) (λ before entry. is_over (ordered plan runs) before ≡ false) (λ before entry is. over_same before ∙ is) [] journal stops
+
+  -- WHETHER IT IS RESUMED
+
+  checkpoint_same : (journal : List Entry) → has_checkpoint (ordered plan runs) journal ≡ has_checkpoint plan journal
+  unfolding has_checkpoint
+  checkpoint_same journal = ap (λ (m : Moment). is_migrating m.tool.tool_phase && list_any writes_checkpoint journal && has_table (log_name plan.table) (state_at plan journal).tables) (moment_same plan runs journal)
+
+  -- *A new tool goes on behind it if one did*
+  pub resumed_same : (journal : List Entry) → is_resumed (ordered plan runs) journal ≡ is_resumed plan journal
+  unfolding is_resumed
+  resumed_same journal =
+      ap₂ (λ (over ended : Bool). plan.options.resume && over && not ended && has_checkpoint (ordered plan runs) journal) (over_same journal) (has_ended_same journal)
+      ∙ ap (λ (found : Bool). plan.options.resume && is_over plan journal && not (has_ended plan journal) && found) (checkpoint_same journal)
 
   -- THE REPORT
 

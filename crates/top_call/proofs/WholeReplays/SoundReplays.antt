@@ -1,15 +1,13 @@
 -- The replay of a plan that was read.
-use Rattle.std.proofs.Common.{◌≡◌, ℕ, ◌≤◌, ◌≢◌, nat_le, Bool, true, false, ◌||◌, List, [], ◌∷◌, length, cond, Option, Some, None, IfSome, refl, sym, ap, subst, ◌∙◌}
+use Rattle.std.proofs.Common.{◌≡◌, ℕ, ◌≤◌, ◌≢◌, nat_le, Bool, true, false, ◌||◌, List, [], ◌∷◌, length, cond, Option, Some, None, refl, sym, ap, subst, ◌∙◌}
 use Rattle.std.specs.List.{list_any}
 use Rattle.base_script.specs.declared.actor.Actor.{Actor}
 use Rattle.server_model.specs.declared.entry.Entry.{Entry}
-use Rattle.server_model.specs.declared.outcome.Verdict.{Verdict}
-use Rattle.server_model.specs.States.{State}
 use Rattle.plan_data.specs.PlanData.{PlanData}
 use Rattle.tool_program.specs.JournalWords.Journals.{state_at}
 use Rattle.tool_program.specs.JournalWords.Sessions.{KeepsSessions}
 use Rattle.tool_program.specs.Orders.{actors, may_go, Found, Queue, first_ready, from_pass, from_round, from_words, actor_of, chosen, queue_at, next_actor, IsReplay}
-use Rattle.tool_program.specs.Verdicts.{has_ended, verdict_of}
+use Rattle.tool_program.specs.Verdicts.{has_ended}
 use Rattle.proof_journals.specs.Run.Kept.{IsKept}
 use Rattle.tool_program.specs.Replay.{OneReplay}
 use Rattle.proof_plans.specs.ReadPlans.Laws.{WasRead}
@@ -20,9 +18,11 @@ use Rattle.run_turns.specs.Runs.{RunView, is_over, Stops}
 use Rattle.run_replay.specs.WholeReplay.Marks.{logged_at_mark}
 use Rattle.run_replay.specs.WholeReplay.Replays.{IsStalled}
 use Rattle.run_replay.specs.declared.whole_replay.replays.Replayed.{Replayed}
-use Rattle.run_replay.specs.declared.whole_replay.replays.Replayed.TheVariants as replayed
+use Rattle.run_replay.specs.declared.whole_replay.replays.Replayed.TheVariants as answers
+use Rattle.top_call.specs.ResumedRuns.{IsWholeRun, Resumes, run_in}
 use Rattle.top_call.specs.WholeReplays.SoundRuns.{KeptRunsAreSound}
-use Rattle.top_call.specs.WholeReplays.Replays.{IsSoundReplay, IsEnd}
+use Rattle.top_call.specs.WholeReplays.Replays.{IsSoundReplay}
+use Rattle.top_call.proofs.ResumedRuns.{of_whole, whole_resumes}
 
 abbrev kept_of : (plan : PlanData) (journal : List Entry) → IsReplay plan journal → KeepsSessions journal → IsKept plan journal
 kept_of plan journal replay sessions = record { faithful = replay.faithful; planned = replay.planned; follows = replay.follows; sessions = sessions }
@@ -31,7 +31,7 @@ kept_of plan journal replay sessions = record { faithful = replay.faithful; plan
 pub sound_replay : KeptRunsAreSound → OneReplay → (plan : PlanData) (journal : List Entry) → WasRead plan → IsReplay plan journal → KeepsSessions journal → length journal ≤ plan.options.turn_limit → Stops plan journal → IsSoundReplay plan journal
 unfolding KeptRunsAreSound
 sound_replay sound one plan journal was replay sessions bound stops = record {
-  sound = sound plan journal was (kept_of plan journal replay sessions) bound stops;
+  sound = sound plan journal was (kept_of plan journal replay sessions) replay.numbered bound stops;
   replay = replay;
   behind = turns_stay_behind plan journal replay.follows (replay_turns_may_go plan journal replay.order);
   only = λ other others same. one plan other journal others replay same;
@@ -73,44 +73,45 @@ stalled_over goes plan journal was kept stalled = by (has_ended plan journal) re
   by false is = absurd (let going = someone_may_go plan journal (goes plan journal was kept is) in let none = nobody_goes plan journal stalled.nobody in cc)
 
 -- *Replays end over*
-pub over_after : AcceptedRunsGoOn → (plan : PlanData) (journal : List Entry) (answer : Replayed) → WasRead plan → IsReplay plan journal → KeepsSessions journal → answer ≢ replayed.NoMemory → (answer ≡ replayed.Over → is_over plan journal ≡ true) → (answer ≡ replayed.Stalled → IsStalled plan journal) → is_over plan journal ≡ true
-over_after goes plan journal replayed.Over was replay sessions memory over stalled = over refl
-over_after goes plan journal replayed.Stalled was replay sessions memory over stalled = stalled_over goes plan journal was (kept_of plan journal replay sessions) (stalled refl)
-over_after goes plan journal replayed.NoMemory was replay sessions memory over stalled = absurd (memory refl)
+pub over_after : AcceptedRunsGoOn → (plan : PlanData) (journal : List Entry) (answer : Replayed) → WasRead plan → IsReplay plan journal → KeepsSessions journal → answer ≢ answers.NoMemory → (answer ≡ answers.Over → is_over plan journal ≡ true) → (answer ≡ answers.Stalled → IsStalled plan journal) → is_over plan journal ≡ true
+over_after goes plan journal answers.Over was replay sessions memory over stalled = over refl
+over_after goes plan journal answers.Stalled was replay sessions memory over stalled = stalled_over goes plan journal was (kept_of plan journal replay sessions) (stalled refl)
+over_after goes plan journal answers.NoMemory was replay sessions memory over stalled = absurd (memory refl)
 
--- OF A RUN
+-- OF THE RUN THAT A REPLAY LEFT
 
-pub plan_of : (run feed : RunView) (plan : PlanData) → run ≡ feed → feed.plan ≡ plan → run.plan ≡ plan
-plan_of run feed plan is plan_is = ap (λ (r : RunView). r.plan) is ∙ plan_is
+-- the run behind a replay is this one, of this plan
+module _ (plan : PlanData) (replayed run : RunView) (run_is : run ≡ replayed) (plan_is : replayed.plan ≡ plan) where
+  of_run : (P : PlanData → RunView → Type 0) → P replayed.plan replayed → P plan run
+  of_run P is = subst (λ (p : PlanData). P p run) plan_is (subst (P replayed.plan) (sym run_is) is)
 
--- the same of the run that it was, and of the journal that is taken out of it
-pub sound_replay_of : KeptRunsAreSound → OneReplay → (plan : PlanData) (run : RunView) (journal : List Entry) → run.plan ≡ plan → journal ≡ run.journal → WasRead plan → IsReplay run.plan run.journal → KeepsSessions run.journal → length run.journal ≤ run.plan.options.turn_limit → Stops run.plan run.journal → IsSoundReplay plan journal
-sound_replay_of sound one plan run journal plan_is journal_is was replay sessions bound stops =
-    subst (IsSoundReplay plan) (sym journal_is) (subst (λ (p : PlanData). IsSoundReplay p run.journal) plan_is (sound_replay sound one run.plan run.journal (subst WasRead (sym plan_is) was) replay sessions bound stops))
+  pub own_plan : run.plan ≡ plan
+  own_plan = ap (λ (r : RunView). r.plan) run_is ∙ plan_is
 
--- so is what was counted at the mark
-pub logged_of : (plan : PlanData) (run : RunView) (journal : List Entry) (tables : List (List ℕ)) (logged : Option ℕ) → run.plan ≡ plan → journal ≡ run.journal → tables ≡ plan.table ∷ [] → logged ≡ logged_at_mark run.plan tables run.journal → logged ≡ logged_at_mark plan (plan.table ∷ []) journal
-logged_of plan run journal tables logged plan_is journal_is tables_are is =
-    is ∙ ap (λ (p : PlanData). logged_at_mark p tables run.journal) plan_is ∙ ap (λ (t : List (List ℕ)). logged_at_mark plan t run.journal) tables_are ∙ ap (logged_at_mark plan (plan.table ∷ [])) (sym journal_is)
+  pub sound_so : KeptRunsAreSound → OneReplay → WasRead plan → IsReplay replayed.plan replayed.journal → KeepsSessions run.journal → length run.journal ≤ run.plan.options.turn_limit → Stops replayed.plan replayed.journal → IsSoundReplay plan run.journal
+  sound_so sound one was replay sessions bound stops =
+      sound_replay sound one plan run.journal was (of_run (λ (p : PlanData) (r : RunView). IsReplay p r.journal) replay) sessions (subst (λ (p : PlanData). length run.journal ≤ p.options.turn_limit) own_plan bound) (of_run (λ (p : PlanData) (r : RunView). Stops p r.journal) stops)
 
-pub end_of : AcceptedRunsGoOn → (plan : PlanData) (run : RunView) (journal : List Entry) (answer : Replayed) (verdict : Verdict) (server : State) → run.plan ≡ plan → journal ≡ run.journal → WasRead plan → IsReplay run.plan run.journal → KeepsSessions run.journal → answer ≢ replayed.NoMemory → (answer ≡ replayed.Over → is_over run.plan run.journal ≡ true) → (answer ≡ replayed.Stalled → IsStalled run.plan run.journal)
-    → verdict ≡ verdict_of run.plan run.journal → server ≡ run.server → (answer ≢ replayed.NoMemory → run.server ≡ state_at run.plan run.journal) → IsEnd plan journal verdict server
-end_of goes plan run journal answer verdict server plan_is journal_is was replay sessions memory over stalled verdict_is server_is at_end =
-    subst (λ (j : List Entry). IsEnd plan j verdict server) (sym journal_is) (subst (λ (p : PlanData). IsEnd p run.journal verdict server) plan_is (record {
-      over = over_after goes run.plan run.journal answer (subst WasRead (sym plan_is) was) replay sessions memory over stalled;
-      verdict_is = verdict_is;
-      server_is = server_is ∙ at_end memory;
-    }))
+  pub logged_so : (tables : List (List ℕ)) (logged : Option ℕ) → tables ≡ plan.table ∷ [] → logged ≡ logged_at_mark replayed.plan tables replayed.journal → logged ≡ logged_at_mark plan (plan.table ∷ []) run.journal
+  logged_so tables logged tables_are counted = of_run (λ (p : PlanData) (r : RunView). logged ≡ logged_at_mark p tables r.journal) counted ∙ ap (λ (t : List (List ℕ)). logged_at_mark plan t run.journal) tables_are
 
--- the same of each verdict that there is
-pub reported_end : AcceptedRunsGoOn → (plan : PlanData) (run : RunView) (journal : List Entry) (answer : Replayed) (chosen : Option Verdict) (server : State) → run.plan ≡ plan → journal ≡ run.journal → WasRead plan → IsReplay run.plan run.journal → KeepsSessions run.journal → IfSome chosen (λ verdict. answer ≢ replayed.NoMemory) → (answer ≡ replayed.Over → is_over run.plan run.journal ≡ true) → (answer ≡ replayed.Stalled → IsStalled run.plan run.journal)
-    → IfSome chosen (λ verdict. verdict ≡ verdict_of run.plan run.journal) → server ≡ run.server → (answer ≢ replayed.NoMemory → run.server ≡ state_at run.plan run.journal) → IfSome chosen (λ verdict. IsEnd plan journal verdict server)
-reported_end goes plan run journal answer None server plan_is journal_is was replay sessions memory over stalled verdict_is server_is at_end = tt
-reported_end goes plan run journal answer (Some verdict) server plan_is journal_is was replay sessions memory over stalled verdict_is server_is at_end =
-    end_of goes plan run journal answer verdict server plan_is journal_is was replay sessions memory over stalled verdict_is server_is at_end
+  pub over_so : AcceptedRunsGoOn → (answer : Replayed) → WasRead plan → IsReplay replayed.plan replayed.journal → KeepsSessions run.journal → (answer ≡ answers.Over → is_over replayed.plan replayed.journal ≡ true) → (answer ≡ answers.Stalled → IsStalled replayed.plan replayed.journal) → answer ≢ answers.NoMemory → is_over plan run.journal ≡ true
+  over_so goes answer was replay sessions over stalled memory =
+      over_after goes plan run.journal answer was (of_run (λ (p : PlanData) (r : RunView). IsReplay p r.journal) replay) sessions memory (λ is. of_run (λ (p : PlanData) (r : RunView). is_over p r.journal ≡ true) (over is)) (λ is. of_run (λ (p : PlanData) (r : RunView). IsStalled p r.journal) (stalled is))
 
--- what is so of the verdict and the server is so of an end with both
-pub with_end : {E : Type 0} (result : Option E) (verdict_in : E → Verdict) (state_in : E → State) (chosen : Option Verdict) (server : State) (P : Verdict → State → Type 0) → IfSome result (λ end. (chosen ≡ Some (verdict_in end)) × (state_in end ≡ server)) → IfSome chosen (λ verdict. P verdict server) → IfSome result (λ end. P (verdict_in end) (state_in end))
-with_end None verdict_in state_in chosen server P ends is = tt
-with_end (Some end) verdict_in state_in chosen server P ends is =
-    subst (λ (state : State). P (verdict_in end) state) (sym ends.1) (subst (λ (one : Option Verdict). IfSome one (λ verdict. P verdict server)) ends.0 is)
+  pub server_so : replayed.server ≡ state_at replayed.plan replayed.journal → run.server ≡ state_at plan run.journal
+  server_so is = of_run (λ (p : PlanData) (r : RunView). r.server ≡ state_at p r.journal) is
+
+-- and of the journal that it left, with the new tool's turns where one came
+module _ (plan : PlanData) (run : RunView) (plan_is : run.plan ≡ plan) (journal : List Entry) (whole : IsWholeRun run.plan run.journal journal) (is : IsSoundReplay plan run.journal) where
+  whole_so : IsWholeRun plan run.journal journal
+  whole_so = subst (λ (p : PlanData). IsWholeRun p run.journal journal) plan_is whole
+
+  pub replay_left : IsSoundReplay plan (run_in plan journal)
+  replay_left = of_whole (IsSoundReplay plan) plan run.journal journal is.sound.bound whole_so is
+
+  pub resumes_left : Resumes plan journal
+  resumes_left = whole_resumes plan run.journal journal is.sound.bound whole_so
+
+  pub logged_left : (logged : Option ℕ) → logged ≡ logged_at_mark plan (plan.table ∷ []) run.journal → logged ≡ logged_at_mark plan (plan.table ∷ []) (run_in plan journal)
+  logged_left logged counted = of_whole (λ (all : List Entry). logged ≡ logged_at_mark plan (plan.table ∷ []) all) plan run.journal journal is.sound.bound whole_so counted

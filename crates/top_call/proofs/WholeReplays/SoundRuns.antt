@@ -10,8 +10,9 @@ use Rattle.top_call.specs.WholeReplays.SoundRuns.{KeptRunsAreSound}
 -- *Kept runs are sound*
 pub sound : AcceptedRunsAreSerial → AcceptedRenamesFindTheAltered → AcceptedRunsFindTheTable → AcceptedRunsKeepTheOldTable → AcceptedRunsAreOnline → AcceptedRunsKeepOrder → AcceptedRunsCopyUnderLocks → AcceptedRunsApplyInserts → AcceptedRunsDraw → AcceptedCausesStand → AcceptedCausesAreLeast → RunsAreBounded → AcceptedRunsGoOn → KeptRunsAreSound
 unfolding KeptRunsAreSound
-sound serial altered found old online order locks inserts draws causes least bounded goes plan journal was kept bound stops = record {
+sound serial altered found old online order locks inserts draws causes least bounded goes plan journal was kept numbered bound stops = record {
   kept = kept;
+  numbered = numbered;
   bound = bound;
   stops = stops;
   ends = λ going. bounded plan journal was kept going;

@@ -10,6 +10,7 @@ use Rattle.tool_program.specs.JournalWords.Bounds.{bound}
 use Rattle.tool_program.specs.JournalWords.Draws.{Draws}
 use Rattle.tool_program.specs.JournalWords.Journals.{state_at}
 use Rattle.tool_program.specs.JournalWords.Serials.{IsSerial}
+use Rattle.tool_program.specs.JournalWords.Sessions.{NumbersSessions}
 use Rattle.tool_program.specs.Failures.{Stands}
 use Rattle.tool_program.specs.Online.{IsOnline}
 use Rattle.tool_program.specs.Orders.{actors, may_go}
@@ -38,7 +39,8 @@ abbrev pub EndsInTime : PlanData → List Entry → Type 0
 EndsInTime plan journal = has_ended plan journal ≡ false → length journal < bound plan
 
 -- *Sound run*. Each answer is the plain server's; clients take the lines of their scripts in order, and sessions are lost where
--- the plan says; each turn asks what was given, in its actor's session. There are no more turns than the plan allows, and none
+-- the plan says; each turn asks what was given, in its actor's session, and sessions are numbered one by one. There are no more turns
+-- than the plan allows, and none
 -- is taken of a run that is over; until it has ended, there are fewer than the plan's bound, and some actor may go, whatever replica
 -- lags. What clients got and the tables that
 -- are left are those of their ended transactions, one at a time, with the ALTER at one instant or not at all. The RENAME finds
@@ -49,6 +51,7 @@ EndsInTime plan journal = has_ended plan journal ≡ false → length journal < 
 -- before it.
 pub record IsSoundRun (plan : PlanData) (journal : List Entry) : Type 0 where
   pub kept : IsKept plan journal
+  pub numbered : NumbersSessions journal
   pub bound : length journal ≤ plan.options.turn_limit
   pub stops : Stops plan journal
   pub ends : EndsInTime plan journal
@@ -65,7 +68,7 @@ pub record IsSoundRun (plan : PlanData) (journal : List Entry) : Type 0 where
   pub causes : (cause : Cause) → verdict_of plan journal ≡ Reverted cause → Stands plan journal cause
   pub least : (cause other : Cause) → verdict_of plan journal ≡ Reverted cause → Stands plan journal other → IsNoLater cause other
 
--- *Kept runs are sound*: each journal of an accepted plan that is kept, has no more turns than the plan allows and none after
--- its end.
+-- *Kept runs are sound*: each journal of an accepted plan that is kept, numbers its sessions, has no more turns than the plan allows and
+-- none after its end.
 unfoldable pub KeptRunsAreSound : Type 0
-KeptRunsAreSound = (plan : PlanData) (journal : List Entry) → WasRead plan → IsKept plan journal → length journal ≤ plan.options.turn_limit → Stops plan journal → IsSoundRun plan journal
+KeptRunsAreSound = (plan : PlanData) (journal : List Entry) → WasRead plan → IsKept plan journal → NumbersSessions journal → length journal ≤ plan.options.turn_limit → Stops plan journal → IsSoundRun plan journal

@@ -8,4 +8,5 @@ returns c = record {
   quiet = c.quiet_runs_are_done.ensures;
   smooth = c.smooth_runs_are_done.ensures;
   allow = c.read_options_allow.ensures;
+  finishes = c.finishes_tell_the_alter.ensures;
 }

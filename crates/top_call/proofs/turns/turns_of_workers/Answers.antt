@@ -3,7 +3,7 @@ use Rattle.top_call.proofs.Worked.{reported_more}
 use Rattle.top_call.proofs.turns.turns_of_workers.Goals as goal
 
 pub push_reserved-requires : goal.push_reserved-requires
-push_reserved-requires c = omega (arith, c.loop-turn-test.true, c.loop-turn.invariant.count, c.loop-turn.invariant.room)
+push_reserved-requires c = omega (arith, c.loop-turn-test.true, c.loop-turn.invariant.count, c.loop-turn.invariant.room, c.requires.run)
 
 pub loop-turn-preserved : goal.loop-turn-preserved
 loop-turn-preserved c = record {

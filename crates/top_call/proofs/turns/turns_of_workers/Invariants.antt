@@ -7,5 +7,5 @@ abbrev pub invariant-loop-turn : goal.invariant-loop-turn
 invariant-loop-turn l = record {
   turns_are : worker_turns l.turns.items ++ drop l.turn-index l.taken ≡ l.taken;
   count : vec_len l.turns ≡ l.turn-index;
-  room : length l.taken ≤ vec_capacity l.turns;
+  room : length l.journal ≤ vec_capacity l.turns;
 }

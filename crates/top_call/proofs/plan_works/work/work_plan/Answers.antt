@@ -1,33 +1,36 @@
-use Rattle.std.proofs.Common.{◌≤◌, sym, ap, subst, ◌∙◌}
-use Rattle.server_model.specs.States.{State}
-use Rattle.server_model.specs.declared.outcome.Verdict.{Verdict}
-use Rattle.run_turns.specs.Runs.{RunView}
-use Rattle.run_workers.specs.WorkerRun.Workers.{IsGoing}
-use Rattle.top_call.specs.WholeReplays.Replays.{IsEnd}
-use Rattle.top_call.proofs.WholeReplays.SoundReplays.{with_end}
-use Rattle.top_call.proofs.PlanWorks.SoundRuns.{sound_run_of, reported_end}
+use Rattle.std.proofs.Common.{◌≡◌, true, IfSome, sym, ap, subst, ◌∙◌, arith}
+use Rattle.plan_data.specs.PlanData.{PlanData}
+use Rattle.tool_program.specs.JournalWords.Journals.{state_at}
+use Rattle.proof_plans.specs.ReadPlans.Laws.{WasRead}
+use Rattle.run_turns.specs.Runs.{is_over}
+use Rattle.top_call.specs.ResumedRuns.{IsEnd}
+use Rattle.top_call.specs.WholeReplays.SoundRuns.{IsSoundRun}
+use Rattle.top_call.proofs.PlanWorks.SoundRuns.{resumes_left, run_left}
 use Rattle.top_call.proofs.plan_works.work.work_plan.Goals as goal
 
-pub open-requires-clause-runs : goal.open-requires-clause-runs
-open-requires-clause-runs g c = c.read_plans_are_runnable.ensures c.args.plan.now c.requires.read
+pub whole_run-journal-requires-clause-read : goal.whole_run-journal-requires-clause-read
+whole_run-journal-requires-clause-read g c = subst WasRead (sym c.in_ok-ran.ensures.plan) c.requires.read
 
-pub open-requires-2-clause-pause : goal.open-requires-2-clause-pause
-open-requires-2-clause-pause g c =
-    subst (λ (run : RunView). 1 ≤ run.plan.options.replica_pause) (sym c.in_ok-opened.ensures) (c.read_options_allow.ensures c.requires.read.bytes c.args.plan.now c.requires.read.is).pause
+pub whole_run-journal-requires-clause-sound : goal.whole_run-journal-requires-clause-sound
+whole_run-journal-requires-clause-sound g c = subst (λ (plan : PlanData). IsSoundRun plan c.in_ok-ran.ran.run.journal) (sym c.in_ok-ran.ensures.plan) c.in_ok-ran.ensures.run.sound
 
-pub run_by_workers-requires-clause-going : goal.run_by_workers-requires-clause-going
-run_by_workers-requires-clause-going g c = λ names lives.
-    subst (λ (run : RunView). IsGoing run.plan) (sym (c.in_ok-feed.ensures.run ∙ c.in_ok-opened.ensures)) (c.read_plans_go.ensures c.args.plan.now c.requires.read)
+pub whole_run-journal-requires-clause-over : goal.whole_run-journal-requires-clause-over
+whole_run-journal-requires-clause-over g c = λ over. subst (λ (plan : PlanData). is_over plan c.in_ok-ran.ran.run.journal ≡ true) (sym c.in_ok-ran.ensures.plan) (c.in_ok-ran.ensures.over (c.is_over.ensures over))
+
+pub whole_run-journal-requires-clause-server : goal.whole_run-journal-requires-clause-server
+whole_run-journal-requires-clause-server g c = λ over. c.in_ok-ran.ensures.server (c.is_over.ensures over) ∙ ap (λ (plan : PlanData). state_at plan c.in_ok-ran.ran.run.journal) (sym c.in_ok-ran.ensures.plan)
+
+pub whole_run-journal-requires-clause-capacity : goal.whole_run-journal-requires-clause-capacity
+whole_run-journal-requires-clause-capacity g c = omega (arith, c.in_ok-ran.ensures.run.sound.bound, c.requires.capacity)
 
 pub returns-clause-run : goal.returns-clause-run
 returns-clause-run g c =
-    sound_run_of c.args.plan.now c.in_ok-feed.feed.run.plan c.in_ok-ran.ran.run c.stop-server.result.1 (ap (λ (run : RunView). run.plan) (c.in_ok-feed.ensures.run ∙ c.in_ok-opened.ensures)) c.in_ok-ran.ensures.plan c.stop-server.ensures.turns
-    c.kept_runs_are_sound.ensures c.in_ok-ran.ran.turns.items c.args.workers c.requires.read c.in_ok-ran.ensures.kept c.in_ok-ran.ensures.numbered c.in_ok-ran.ensures.order
-    c.in_ok-ran.ensures.stops c.stop-server.ensures.bound
+    run_left c.args.plan.now c.in_ok-ran.ran.run c.in_ok-ran.ensures.plan c.whole_run-journal.result.journal c.in_ok-ran.ran.turns.items c.args.workers c.whole_run-journal.ensures.whole c.in_ok-ran.ensures.run
+
+pub returns-clause-resumes : goal.returns-clause-resumes
+returns-clause-resumes g c =
+    resumes_left c.args.plan.now c.in_ok-ran.ran.run c.in_ok-ran.ensures.plan c.whole_run-journal.result.journal c.in_ok-ran.ran.turns.items c.args.workers c.whole_run-journal.ensures.whole c.in_ok-ran.ensures.run
 
 pub returns-clause-end : goal.returns-clause-end
 returns-clause-end g c =
-    with_end c.end_with.result (λ end. end.verdict) (λ end. g.V.Serve.state end.server) c.verdict_after-verdict.result (g.V.Serve.state c.stop-server.result.0) (λ (verdict : Verdict) (state : State). IsEnd c.args.plan.now c.stop-server.result.1 verdict state) c.end_with.ensures.end
-    (reported_end c.args.plan.now c.in_ok-feed.feed.run.plan c.in_ok-ran.ran.run c.stop-server.result.1 (ap (λ (run : RunView). run.plan) (c.in_ok-feed.ensures.run ∙ c.in_ok-opened.ensures)) c.in_ok-ran.ensures.plan c.stop-server.ensures.turns
-    c.in_ok-ran.ran.ending c.verdict_after-verdict.result (g.V.Serve.state c.stop-server.result.0) c.verdict_after-verdict.ensures.verdict c.verdict_after-verdict.ensures.over c.in_ok-ran.ensures.over c.in_ok-ran.ensures.server
-    c.stop-server.ensures.server)
+    subst (λ (plan : PlanData). IfSome c.whole_run-journal.result.end (λ end. IsEnd plan c.whole_run-journal.result.journal end.verdict (g.V.Serve.state end.server) end.sessions)) c.in_ok-ran.ensures.plan c.whole_run-journal.ensures.end

@@ -1,36 +1,37 @@
-use Rattle.std.proofs.Common.{◌≡◌, ◌≢◌, ◌≤◌, true, sym, ap, subst, ◌∙◌}
-use Rattle.server_model.specs.States.{State}
-use Rattle.server_model.specs.declared.outcome.Verdict.{Verdict}
+use Rattle.std.proofs.Common.{◌≡◌, true, IfSome, sym, ap, subst, ◌∙◌, arith}
+use Rattle.plan_data.specs.PlanData.{PlanData}
 use Rattle.tool_program.specs.JournalWords.Journals.{state_at}
-use Rattle.tool_program.specs.Orders.{IsReplay}
-use Rattle.run_turns.specs.Runs.{RunView, is_over, Stops}
-use Rattle.run_replay.specs.WholeReplay.Marks.{logged_at_mark}
-use Rattle.run_replay.specs.WholeReplay.Replays.{IsStalled}
-use Rattle.run_replay.specs.declared.whole_replay.replays.Replayed.TheVariants as replayed
-use Rattle.top_call.specs.WholeReplays.Replays.{IsEnd}
-use Rattle.top_call.proofs.WholeReplays.SoundReplays.{logged_of, plan_of, reported_end, sound_replay_of, with_end}
+use Rattle.proof_plans.specs.ReadPlans.Laws.{WasRead}
+use Rattle.run_turns.specs.Runs.{is_over}
+use Rattle.top_call.specs.ResumedRuns.{IsEnd}
+use Rattle.top_call.specs.WholeReplays.SoundRuns.{IsSoundRun}
+use Rattle.top_call.proofs.WholeReplays.SoundReplays.{logged_left, replay_left, resumes_left}
 use Rattle.top_call.proofs.whole_replays.replays.replay_plan.Goals as goal
 
-pub open-requires-clause-runs : goal.open-requires-clause-runs
-open-requires-clause-runs g c = c.read_plans_are_runnable.ensures c.args.plan.now c.requires.read
+pub whole_run-journal-requires-clause-read : goal.whole_run-journal-requires-clause-read
+whole_run-journal-requires-clause-read g c = subst WasRead (sym c.in_ok-run.ensures.plan) c.requires.read
 
-pub open-requires-2-clause-pause : goal.open-requires-2-clause-pause
-open-requires-2-clause-pause g c =
-    subst (λ (run : RunView). 1 ≤ run.plan.options.replica_pause) (sym c.in_ok-opened.ensures) (c.read_options_allow.ensures c.requires.read.bytes c.args.plan.now c.requires.read.is).pause
+pub whole_run-journal-requires-clause-sound : goal.whole_run-journal-requires-clause-sound
+whole_run-journal-requires-clause-sound g c = subst (λ (plan : PlanData). IsSoundRun plan c.in_ok-run.run'.journal) (sym c.in_ok-run.ensures.plan) c.in_ok-run.ensures.replay.sound
+
+pub whole_run-journal-requires-clause-over : goal.whole_run-journal-requires-clause-over
+whole_run-journal-requires-clause-over g c = λ over. subst (λ (plan : PlanData). is_over plan c.in_ok-run.run'.journal ≡ true) (sym c.in_ok-run.ensures.plan) (c.in_ok-run.ensures.over (c.is_over.ensures over))
+
+pub whole_run-journal-requires-clause-server : goal.whole_run-journal-requires-clause-server
+whole_run-journal-requires-clause-server g c = λ over. c.in_ok-run.ensures.server (c.is_over.ensures over) ∙ ap (λ (plan : PlanData). state_at plan c.in_ok-run.run'.journal) (sym c.in_ok-run.ensures.plan)
+
+pub whole_run-journal-requires-clause-capacity : goal.whole_run-journal-requires-clause-capacity
+whole_run-journal-requires-clause-capacity g c = omega (arith, c.in_ok-run.ensures.replay.sound.bound, c.requires.capacity)
 
 pub returns-clause-replay : goal.returns-clause-replay
-returns-clause-replay g c =
-    sound_replay_of c.kept_runs_are_sound.ensures c.replays_agree.ensures.one c.args.plan.now c.stop-run.result c.stop-server.result.1 (plan_of c.stop-run.result c.replay-replayed.new.feed.run c.args.plan.now c.stop-run.ensures (c.replay-replayed.ensures.plan ∙ ap (λ (run : RunView). run.plan) (c.in_ok-feed.ensures.run ∙ c.in_ok-opened.ensures))) c.stop-server.ensures.turns
-    c.requires.read (subst (λ (run : RunView). IsReplay run.plan run.journal) (sym c.stop-run.ensures) c.replay-replayed.ensures.replay) c.journal-in_sessions.ensures.sessions c.stop-server.ensures.bound (subst (λ (run : RunView). Stops run.plan run.journal) (sym c.stop-run.ensures) c.replay-replayed.ensures.stops)
+returns-clause-replay g c = replay_left c.args.plan.now c.in_ok-run.run' c.in_ok-run.ensures.plan c.whole_run-journal.result.journal c.whole_run-journal.ensures.whole c.in_ok-run.ensures.replay
+
+pub returns-clause-resumes : goal.returns-clause-resumes
+returns-clause-resumes g c = resumes_left c.args.plan.now c.in_ok-run.run' c.in_ok-run.ensures.plan c.whole_run-journal.result.journal c.whole_run-journal.ensures.whole c.in_ok-run.ensures.replay
 
 pub returns-clause-logged : goal.returns-clause-logged
-returns-clause-logged g c =
-    logged_of c.args.plan.now c.stop-run.result c.stop-server.result.1 c.in_ok-migrated.migrated c.replay-replayed.result.logged (plan_of c.stop-run.result c.replay-replayed.new.feed.run c.args.plan.now c.stop-run.ensures (c.replay-replayed.ensures.plan ∙ ap (λ (run : RunView). run.plan) (c.in_ok-feed.ensures.run ∙ c.in_ok-opened.ensures))) c.stop-server.ensures.turns c.in_ok-migrated.ensures
-    (subst (λ (run : RunView). c.replay-replayed.result.logged ≡ logged_at_mark run.plan c.in_ok-migrated.migrated run.journal) (sym c.stop-run.ensures) c.replay-replayed.ensures.logged)
+returns-clause-logged g c = logged_left c.args.plan.now c.in_ok-run.run' c.in_ok-run.ensures.plan c.whole_run-journal.result.journal c.whole_run-journal.ensures.whole c.in_ok-run.ensures.replay c.in_ok-run.outcome.logged c.in_ok-run.ensures.logged
 
 pub returns-clause-end : goal.returns-clause-end
 returns-clause-end g c =
-    with_end c.end_with.result (λ end. end.verdict) (λ end. g.V.Serve.state end.server) c.verdict_after-verdict.result (g.V.Serve.state c.stop-server.result.0) (λ (verdict : Verdict) (state : State). IsEnd c.args.plan.now c.stop-server.result.1 verdict state) c.end_with.ensures.end
-    (reported_end c.accepted_runs_go_on.ensures.going c.args.plan.now c.stop-run.result c.stop-server.result.1 c.replay-replayed.result.replayed c.verdict_after-verdict.result (g.V.Serve.state c.stop-server.result.0)
-    (plan_of c.stop-run.result c.replay-replayed.new.feed.run c.args.plan.now c.stop-run.ensures (c.replay-replayed.ensures.plan ∙ ap (λ (run : RunView). run.plan) (c.in_ok-feed.ensures.run ∙ c.in_ok-opened.ensures))) c.stop-server.ensures.turns c.requires.read (subst (λ (run : RunView). IsReplay run.plan run.journal) (sym c.stop-run.ensures) c.replay-replayed.ensures.replay) c.journal-in_sessions.ensures.sessions
-    c.verdict_after-verdict.ensures.memory (subst (λ (run : RunView). c.replay-replayed.result.replayed ≡ replayed.Over → is_over run.plan run.journal ≡ true) (sym c.stop-run.ensures) c.replay-replayed.ensures.over) (subst (λ (run : RunView). c.replay-replayed.result.replayed ≡ replayed.Stalled → IsStalled run.plan run.journal) (sym c.stop-run.ensures) c.replay-replayed.ensures.stalled) c.verdict_after-verdict.ensures.verdict c.stop-server.ensures.server (subst (λ (run : RunView). c.replay-replayed.result.replayed ≢ replayed.NoMemory → run.server ≡ state_at run.plan run.journal) (sym c.stop-run.ensures) c.replay-replayed.ensures.server))
+    subst (λ (plan : PlanData). IfSome c.whole_run-journal.result.end (λ end. IsEnd plan c.whole_run-journal.result.journal end.verdict (g.V.Serve.state end.server) end.sessions)) c.in_ok-run.ensures.plan c.whole_run-journal.ensures.end
