@@ -1,29 +1,34 @@
--- The trace of every run of every accepted plan is audited yes.
-use Rattle.proof_plans.specs.Laws.{AcceptedCausesStand, AcceptedRunsAreSerial}
-use Rattle.proof_plans.specs.ReadPlans.Laws.{ReadPlansAreAlterable, ReadPlansAreRunnable, ReadPlansAreSerial, ReadPlansAreWorded, WasRead}
-use Rattle.server_model.specs.declared.entry.Entry.{Entry}
-use Rattle.plan_data.specs.PlanData.{PlanData}
-use Rattle.proof_journals.specs.Plans.{IsPlanRun}
-use Rattle.proof_journals.specs.Run.Kept.{IsKept}
+-- The trace of every run of every accepted plan is audited yes, and so is that of a run that a new tool goes on with.
+use Rattle.proof_plans.specs.Laws.{AcceptedCausesStand}
+use Rattle.proof_plans.specs.ReadPlans.Laws.{ReadPlansAreAlterable, ReadPlansAreRunnable, ReadPlansAreSerial, ReadPlansAreWorded}
+use Rattle.server_model.specs.declared.outcome.Verdict.{Verdict}
+use Rattle.tool_program.specs.JournalWords.Journals.{state_at}
+use Rattle.tool_finish.specs.WholeJournals.{run_in}
 use Rattle.proof_migration.specs.Laws.{RenamesFindTheAltered}
 use Rattle.proof_migration.specs.Once.{RenamesComeOnce}
 use Rattle.proof_migration.specs.ToolPhase.Marked.{MarkedJournalsAreRuns}
 use Rattle.proof_plans.proofs.Tables.Found.{run_of}
+use Rattle.run_audit.specs.declared.trace.Audit.TheVariants.{Yes}
+use Rattle.run_audit.specs.Audits.{audited}
+use Rattle.run_audit.specs.Lines.{trace_of}
 use Rattle.proof_audit.proofs.Audited.{traces_audited}
-use Rattle.law_traces.specs.Laws.{TracesAreAudited}
+use Rattle.proof_audit.proofs.Wholes.{kept_cause, kept_verdict, kept_whole}
+use Rattle.law_traces.specs.Laws.{TracesAreAudited, WholeTracesAreAudited}
 use Rattle.law_traces.proofs.Alters.{lines_tell_alters}
 use Rattle.law_traces.proofs.Draws.{draws_as_left}
-use Rattle.std.proofs.Common.{List}
+use Rattle.law_traces.proofs.WholeRuns.{AcceptedRunsAreRuns, Known, finish_tells, wholes_serial}
+use Rattle.std.proofs.Common.{◌≡◌, subst}
 
--- each kept journal of a plan that was read is a run of it
-abbrev pub AcceptedRunsAreRuns : Type 0
-AcceptedRunsAreRuns = (plan : PlanData) (journal : List Entry) → WasRead plan → IsKept plan journal → IsPlanRun plan journal
+-- *Traces are audited yes*, of whole journals
+pub wholes_audited : Known → AcceptedCausesStand → ReadPlansAreWorded → WholeTracesAreAudited
+wholes_audited known causes worded plan journal was whole stands =
+    traces_audited plan journal (worded plan was).scripts (wholes_serial known plan was) (lines_tell_alters plan (known.serial was.bytes plan was.is) (known.runnable plan was)) (draws_as_left plan (known.runnable plan was) (λ some is. known.runs plan some was is)) whole
+    (λ cause verdict. causes plan (run_in plan journal) cause was whole.kept verdict) (finish_tells known plan was journal whole stands)
 
--- *Traces are audited yes*
-pub accepted_audited : AcceptedRunsAreSerial → AcceptedCausesStand → AcceptedRunsAreRuns → ReadPlansAreRunnable → ReadPlansAreSerial → ReadPlansAreWorded → TracesAreAudited
-accepted_audited serial causes each runnable plans worded plan journal was kept within =
-    traces_audited plan journal (worded plan was).scripts (λ some is. serial plan some was is) (lines_tell_alters plan (plans was.bytes plan was.is) (runnable plan was)) (draws_as_left plan (runnable plan was) (λ some is. each plan some was is)) kept within
-    (λ cause verdict. causes plan journal cause was kept verdict)
+-- ... and of those that are kept and have no more turns than the plan allows
+pub kept_audited : WholeTracesAreAudited → TracesAreAudited
+kept_audited wholes plan journal was kept within =
+    subst (λ (verdict : Verdict). audited plan (trace_of plan journal verdict (state_at plan journal).tables) ≡ Yes) (kept_verdict plan journal within) (wholes plan journal was (kept_whole plan journal within kept) (kept_cause plan journal within))
 
 -- each journal of a plan that was read is a run of it, where it is kept
 pub accepted_runs : MarkedJournalsAreRuns → RenamesFindTheAltered → RenamesComeOnce → ReadPlansAreRunnable → ReadPlansAreAlterable → ReadPlansAreWorded → ReadPlansAreSerial → AcceptedRunsAreRuns

@@ -1,6 +1,7 @@
 -- A line does the ALTER exactly where its turn adds it to the history.
-use Rattle.std.proofs.Common.{◌≡◌, ◌≢◌, ℕ, ◌&&◌, Bool, true, false, not, List, [], ◌∷◌, ◌++◌, Option, Some, None, refl, sym, ap, ◌∙◌, subst}
+use Rattle.std.proofs.Common.{◌≡◌, ◌≢◌, ℕ, ◌&&◌, Bool, true, false, not, List, [], ◌∷◌, ◌++◌, Option, Some, None, refl, sym, ap, ◌∙◌, subst, inl, inr}
 use Rattle.std.specs.List.{list_any}
+use Rattle.base_values.specs.ToolNames.{ghost_name, old_name}
 use Rattle.table_store.specs.declared.renames.Pair.{Pair}
 use Rattle.base_script.specs.declared.actor.Actor.{Actor}
 use Rattle.base_script.specs.declared.actor.Actor.TheVariants.{Op, Insp, Copy, Apply, Lock, Ren, Client}
@@ -45,16 +46,17 @@ use Rattle.run_audit.specs.Rules.{alters_in, has_renamed, is_done, is_rename}
 use Rattle.proof_audit.specs.Laws.{LinesTellAlters}
 use Rattle.proof_audit.proofs.Kept.{lost_rightly}
 use Rattle.proof_audit.proofs.Renaming.{is_rename_request, lines_tell_waiting}
-use Rattle.proof_audit.proofs.Rules.{kept_before, planned_next, run_next}
+use Rattle.proof_audit.proofs.Wholes.{LastTurn, OfRun, OfTool, kept_before, last_turn, planned_next, run_next}
+use Rattle.law_traces.proofs.NewTools.{CallsFor, IsBehindTurn, ItsTurn, Loses, RenamesWell, last_behind, names_not}
 
 -- ---- answers
 
-abbrev is_ok : Option Answer → Bool
+abbrev pub is_ok : Option Answer → Bool
 is_ok (Some (answers.Ok count)) = true
 is_ok answer = false
 
 -- an answer that was heard
-heard_done : (answer : Answer) → is_done (heard_answer false answer) ≡ is_ok (Some answer)
+pub heard_done : (answer : Answer) → is_done (heard_answer false answer) ≡ is_ok (Some answer)
 heard_done (answers.Ok count) = refl
 heard_done (answers.Refused number column) = refl
 heard_done (answers.Rows rows) = refl
@@ -72,7 +74,7 @@ missed_done pairs (answers.TimedOut waited) fits = refl
 missed_done pairs answer fits = absurd cc
 
 -- what the history has of a RENAME of the migrated table
-rename_alters : (plan : PlanData) (pairs : List Pair) (answer : Option Answer) → takes_away plan.table pairs ≡ true → list_any is_alter (alters plan (Some (requests.Rename pairs)) answer) ≡ is_ok answer
+pub rename_alters : (plan : PlanData) (pairs : List Pair) (answer : Option Answer) → takes_away plan.table pairs ≡ true → list_any is_alter (alters plan (Some (requests.Rename pairs)) answer) ≡ is_ok answer
 rename_alters plan pairs (Some (answers.Ok count)) takes = rw takes refl
 rename_alters plan pairs answer takes = refl
 
@@ -84,7 +86,7 @@ other_away : (name : List ℕ) (request : Request) → is_rename_request request
 other_away name (requests.Rename pairs) other = absurd cc
 other_away name request other = refl
 
-other_alters : (plan : PlanData) (request : Request) (answer : Option Answer) → is_rename_request request ≡ false → list_any is_alter (alters plan (Some request) answer) ≡ false
+pub other_alters : (plan : PlanData) (request : Request) (answer : Option Answer) → is_rename_request request ≡ false → list_any is_alter (alters plan (Some request) answer) ≡ false
 other_alters plan request (Some (answers.Ok count)) other = rw (other_away plan.table request other) refl
 other_alters plan request answer other = refl
 
@@ -113,7 +115,7 @@ line_done pairs (Some Before) answer missed lost fits = ap (λ (a : Answer). is_
 line_done pairs (Some After) answer missed lost fits =
     let one = fits refl in ap (λ (m : Option Answer). is_done (missed_answer m)) one.1 ∙ missed_done pairs one.0 one.2 ∙ sym (ap is_ok one.1)
 
-call_rename : (renamed : Bool) (request : Request) → is_rename renamed (asked_of (Call request)) ≡ is_rename_request request
+pub call_rename : (renamed : Bool) (request : Request) → is_rename renamed (asked_of (Call request)) ≡ is_rename_request request
 call_rename renamed (requests.Rename pairs) = refl
 call_rename renamed request = refl
 
@@ -254,6 +256,65 @@ module _ (plan : PlanData) (serial : IsSerialPlan plan) (runs : IsRunnable plan)
   entry_alike Lock same = tool_alike (ap is_client same)
   entry_alike Ren same = tool_alike (ap is_client same)
 
+-- ---- a new tool's turn
+
+module _ (plan : PlanData) (before : List Entry) (entry : Entry) where
+  abbrev adds_here : Actor → Bool
+  adds_here actor = list_any is_alter (adds plan before entry actor)
+
+  -- what a turn of the tool's adds
+  adds_of : (actor : Actor) → is_client actor ≡ false → adds plan before entry actor ≡ alters plan (about before entry) (answer_in entry.asked entry.side entry.answer entry.missed)
+  adds_of Op tool = refl
+  adds_of Insp tool = refl
+  adds_of Copy tool = refl
+  adds_of Apply tool = refl
+  adds_of Lock tool = refl
+  adds_of Ren tool = refl
+  adds_of (Client c) tool = absurd cc
+
+  -- the loss of a session adds no ALTER
+  cut_of_tool : (actor : Actor) → entry.asked ≡ Cut → is_client actor ≡ false → adds_here actor ≡ false
+  cut_of_tool actor cut tool =
+      ap (list_any is_alter) (adds_of actor tool) ∙ ap (λ (asked : Asked). list_any is_alter (alters plan (about before entry) (answer_in asked entry.side entry.answer entry.missed))) cut
+
+  cut_adds : (actor : Actor) → entry.asked ≡ Cut → adds_here actor ≡ false
+  cut_adds (Client c) cut = of_client plan before entry c
+  cut_adds Op cut = cut_of_tool Op cut refl
+  cut_adds Insp cut = cut_of_tool Insp cut refl
+  cut_adds Copy cut = cut_of_tool Copy cut refl
+  cut_adds Apply cut = cut_of_tool Apply cut refl
+  cut_adds Lock cut = cut_of_tool Lock cut refl
+  cut_adds Ren cut = cut_of_tool Ren cut refl
+
+  -- the two tables that are exchanged
+  abbrev exchanged : List Pair
+  exchanged = record { old = plan.table; new = old_name plan.table } ∷ record { old = ghost_name plan.table; new = plan.table } ∷ []
+
+  -- a call that renames well
+  well_alike : (request : Request) (answer : Answer) → RenamesWell plan request → (is_rename_request request && is_ok (Some answer)) ≡ list_any is_alter (alters plan (Some request) (Some answer))
+  well_alike request answer (inl nothing) =
+      let other : is_rename_request request ≡ false = names_not request nothing in ap (λ (b : Bool). b && is_ok (Some answer)) other ∙ sym (other_alters plan request (Some answer) other)
+  well_alike request answer (inr is) =
+      subst (λ (r : Request). (is_rename_request r && is_ok (Some answer)) ≡ list_any is_alter (alters plan (Some r) (Some answer))) (sym is) (sym (rename_alters plan exchanged (Some answer) (exchange_takes plan.table exchanged refl)))
+
+  behind_alike : IsBehindTurn plan entry → alters_in (lines_of before) (line_of entry) ≡ list_any is_alter (entry_adds plan before entry)
+  behind_alike turn = by turn.its where
+    by : ItsTurn plan entry → alters_in (lines_of before) (line_of entry) ≡ list_any is_alter (entry_adds plan before entry)
+    by (Loses cut) = ap (λ (asked : Asked). is_rename (has_renamed (lines_of before) entry.actor) (asked_of asked) && is_done (line_of entry).answer) cut ∙ sym (cut_adds entry.actor cut)
+    by (CallsFor request tool called well) =
+        ap (λ (asked : Asked). is_rename (has_renamed (lines_of before) entry.actor) (asked_of asked) && is_done (line_of entry).answer) called
+        ∙ ap (λ (b : Bool). b && is_done (line_of entry).answer) (call_rename (has_renamed (lines_of before) entry.actor) request)
+        ∙ ap (λ (b : Bool). is_rename_request request && is_done (line_answer b entry.side entry.answer entry.missed)) tool
+        ∙ ap (λ (side : Option Side). is_rename_request request && is_done (line_answer false side entry.answer entry.missed)) turn.unlost
+        ∙ ap (λ (b : Bool). is_rename_request request && b) (heard_done entry.answer)
+        ∙ well_alike request entry.answer well
+        ∙ sym (ap (λ (side : Option Side). list_any is_alter (alters plan (Some request) (answer_in (Call request) side entry.answer entry.missed))) turn.unlost)
+        ∙ sym (ap (λ (asked : Asked). list_any is_alter (alters plan (asked_about asked (request_waiting before entry.actor)) (answer_in asked entry.side entry.answer entry.missed))) called)
+        ∙ sym (ap (list_any is_alter) (adds_of entry.actor tool))
+
 -- *The lines tell of the ALTER*
 pub lines_tell_alters : (plan : PlanData) → IsSerialPlan plan → IsRunnable plan → LinesTellAlters plan
-lines_tell_alters plan serial runs before entry kept = entry_alike plan serial runs before entry kept entry.actor refl
+lines_tell_alters plan serial runs before entry whole = by (last_turn plan before entry whole) where
+  by : LastTurn plan before entry → alters_in (lines_of before) (line_of entry) ≡ list_any is_alter (entry_adds plan before entry)
+  by (OfRun kept) = entry_alike plan serial runs before entry kept entry.actor refl
+  by (OfTool run turns is kept are) = behind_alike plan before entry (last_behind plan run turns entry are)

@@ -2,6 +2,7 @@
 use Rattle.std.proofs.Common.{◌≡◌, ℕ, Bool, true, false, not, cond, List, [], ◌∷◌, ◌++◌, Option, Some, None, refl, sym, ap, ◌∙◌, subst}
 use Rattle.std.specs.Prelude.{is_some}
 use Rattle.std.specs.List.{AllByRecursion, list_any}
+use Rattle.std.specs.Option.{option_map}
 use Rattle.std.specs.Str.{bytes_eq}
 use Rattle.std.proofs.lemmas.Bool.{true≢false}
 use Rattle.table_store.specs.Databases.{Database, TableRows, find_table}
@@ -20,6 +21,7 @@ use Rattle.server_model.specs.declared.request.Request.{Request}
 use Rattle.server_model.specs.declared.request.Request.TheVariants as requests
 use Rattle.server_model.specs.declared.session.Session.{Session}
 use Rattle.server_model.specs.declared.session.Waiting.{Waiting}
+use Rattle.server_model.specs.Along.{Along}
 use Rattle.server_model.specs.Checks.{draws}
 use Rattle.server_model.specs.Counting.{drawn_if, is_answered, offered_to}
 use Rattle.server_model.specs.Drawing.{offered_in, offered_of}
@@ -44,7 +46,9 @@ use Rattle.proof_journals.proofs.Journals.{opened_waits}
 use Rattle.proof_journals.proofs.Left.{left_found}
 use Rattle.proof_journals.proofs.Machine.Clients.{Next, calls_line, client_next, polls_line}
 use Rattle.proof_journals.proofs.Machine.Journals.{IsRun}
-use Rattle.proof_journals.proofs.Machine.Seated.{IsServed, own_waiting}
+use Rattle.proof_journals.proofs.Actors.{placed}
+use Rattle.proof_journals.proofs.Machine.Seated.{IsKnown, IsServed, all_known, own_waiting}
+use Rattle.proof_journals.proofs.Run.Living.{all_living, own_kind}
 use Rattle.proof_journals.proofs.Naming.{extras_open, extras_serial, left_is}
 use Rattle.proof_journals.proofs.PlanJournals.{PlanHolds, plan_goes}
 use Rattle.proof_migration.proofs.ToolPhase.Hearing.{opened_tables}
@@ -52,7 +56,9 @@ use Rattle.proof_migration.proofs.ToolPhase.Unaltered.Away.{IsKnownAsked, all_as
 use Rattle.proof_migration.proofs.ToolServes.{tool_serves}
 use Rattle.run_audit.specs.Audits.{draws_in, first_draws, word_draws}
 use Rattle.proof_audit.specs.Laws.{DrawsAsLeft, MayDraw}
-use Rattle.proof_audit.proofs.Rules.{kept_before, planned_next, run_next}
+use Rattle.proof_audit.proofs.Wholes.{IsTurn, LastTurn, OfRun, OfTool, kept_before, last_turn, planned_next, run_next, turn_next, whole_before, whole_faithful, whole_sessions, whole_turns}
+use Rattle.proof_audit.specs.Wholes.{IsWhole}
+use Rattle.law_traces.proofs.NewTools.{CallsFor, IsBehindTurn, ItsTurn, Loses, last_behind}
 use Rattle.proof_plain.proofs.Journals.{inside_offers}
 
 -- ---- what is offered
@@ -194,6 +200,50 @@ module _ (plan : PlanData) (runs : IsRunnable plan) (before : List Entry) (entry
   actor_draws Lock same = absurd (no_tool (ap is_client same))
   actor_draws Ren same = absurd (no_tool (ap is_client same))
 
+-- ---- a new tool's turn draws nothing
+
+tool_in : (found : Option Session) → option_map (λ (s : Session). s.is_tool) found ≡ Some true → is_of_tool found ≡ true
+tool_in None is = absurd cc
+tool_in (Some session) is = let same : session.is_tool ≡ true = cc in same
+
+module _ (plan : PlanData) (before : List Entry) (entry : Entry) (whole : IsWhole plan (before ++ entry ∷ [])) where
+  begun : IsWhole plan before
+  begun = whole_before plan before (entry ∷ []) whole
+
+  turn : IsTurn plan before entry
+  turn = turn_next plan before entry [] whole
+
+  abbrev opened : State
+  opened = opens entry (state_at plan before)
+
+  all_served : (some journal : List Entry) → Along (IsTurn plan) some journal → Along (IsServed plan) some journal
+  all_served some [] turns = tt
+  all_served some (one ∷ journal) turns = (record { answered = turns.0.answered; seated = turns.0.seated }, all_served (some ++ one ∷ []) journal turns.1)
+
+  seated : IsKnown plan before
+  seated = all_known plan before (all_served [] before (whole_turns plan before begun))
+
+  -- its session is the tool's
+  of_tool : is_command entry.asked ≡ false → is_client entry.actor ≡ false → is_of_tool (session_of entry.session opened.sessions) ≡ true
+  of_tool called tool =
+      tool_in (session_of entry.session opened.sessions)
+      (own_kind before (state_at plan before) entry (all_living plan before (whole_faithful plan before begun) (whole_sessions plan before begun)) seated.sessions (placed before entry turn.seated) turn.answered called ∙ ap (λ (b : Bool). Some (not b)) tool)
+
+  pub undrawn : IsBehindTurn plan entry → is_some entry.draw ≡ true → ⊥
+  undrawn behind drew = by behind.its where
+    offered : IsOffered (session_of entry.session opened.sessions) opened.tables (asks_for opened entry.session entry.asked)
+    offered = drawn_offered opened entry.session entry.asked (inner_answer (state_at plan before) entry) (ap is_some (sym turn.answered.draw) ∙ drew)
+
+    no : None ≡ Some (requests.Do offered.statement) → ⊥
+    no both = cc
+
+    by : ItsTurn plan entry → ⊥
+    by (Loses cut) = no (sym (ap (asks_for opened entry.session) cut) ∙ offered.is)
+    by (CallsFor request tool called well) = true≢false (sym (of_tool (ap is_command called) tool) ∙ offered.client)
+
 -- *Clients' statements draw*, with their tables as they are left
 pub draws_as_left : (plan : PlanData) → IsRunnable plan → ((journal : List Entry) → IsKept plan journal → IsPlanRun plan journal) → DrawsAsLeft plan
-draws_as_left plan runs each before entry kept drew = actor_draws plan runs before entry kept (each before (kept_before plan before (entry ∷ []) kept)) drew entry.actor refl
+draws_as_left plan runs each before entry whole drew = by (last_turn plan before entry whole) where
+  by : LastTurn plan before entry → MayDraw plan before entry.actor
+  by (OfRun kept) = actor_draws plan runs before entry kept (each before (kept_before plan before (entry ∷ []) kept)) drew entry.actor refl
+  by (OfTool run turns is kept are) = absurd (undrawn plan before entry whole (last_behind plan run turns entry are) drew)

@@ -1,7 +1,15 @@
 pub mod Accepted
 pub mod Alters
+pub mod BehindKeys
+pub mod BehindPlain
+pub mod BehindSessions
 pub mod Draws
-pub mod PlanActors
+pub mod Names
+pub mod NewTools
 pub mod PlainValues
+pub mod PlanActors
 pub mod PrintedCauses
 pub mod PrintedRuns
+pub mod PrintedWholes
+pub mod WholePrints
+pub mod WholeRuns

@@ -1,5 +1,5 @@
 -- The values of each kept journal of a plan that was read are plain.
-use Rattle.std.proofs.Common.{◌≡◌, ◌<◌, ℕ, ◌-◌, ◌^◌, Bool, true, false, not, cond, List, [], ◌∷◌, ◌++◌, zero, suc, append_assoc, Option, Some, None, Ok, refl, sym, ap, ◌∙◌, subst}
+use Rattle.std.proofs.Common.{◌≡◌, ◌<◌, ℕ, ◌-◌, ◌^◌, Bool, true, false, not, cond, List, [], ◌∷◌, ◌++◌, zero, suc, append_assoc, Option, Some, None, refl, sym, ap, ◌∙◌, subst}
 use Rattle.std.specs.Prelude.{drop, filter, is_some, take}
 use Rattle.std.specs.List.{AllByRecursion, flat_map, list_any, slice_get}
 use Rattle.std.specs.Option.{option_to_list}
@@ -7,7 +7,6 @@ use Rattle.base_script.specs.declared.actor.Actor.{Actor}
 use Rattle.base_script.specs.declared.actor.Actor.TheVariants.{Op, Insp, Copy, Apply, Lock, Ren, Client}
 use Rattle.base_script.specs.declared.actor.Side.{Side}
 use Rattle.base_script.specs.declared.actor.Side.TheVariants.{Before, After}
-use Rattle.base_values.specs.declared.gho_schema.schema.Column.{Column}
 use Rattle.base_values.specs.declared.value.Value.{Value}
 use Rattle.base_values.specs.declared.value.Value.TheVariants.{Null, Num, Text, Blob}
 use Rattle.base_values.specs.GhoSchema.Rows.{key_of, key_places}
@@ -48,20 +47,19 @@ use Rattle.proof_plans.specs.ReadPlans.Laws.{ReadPlansAreAlterable, ReadPlansAre
 use Rattle.proof_plans.specs.ReadPlans.Schemas.{ReadPlansAreAccepted}
 use Rattle.proof_migration.specs.ToolPhase.Runnable.{IsAlterable}
 use Rattle.proof_migration.proofs.Program.Turns.Follows.{kept_front}
-use Rattle.proof_audit.proofs.Rules.{run_next}
-use Rattle.proof_plain.specs.Plain.{IsPlain, PlainAnswer, PlainColumns, PlainDatabase, PlainRow, PlainTable, ShownRow, SmallIf}
+use Rattle.proof_audit.proofs.Wholes.{run_next}
+use Rattle.proof_plain.specs.Plain.{IsPlain, PlainAnswer, PlainRow, PlainTable, ShownRow, SmallIf}
 use Rattle.proof_plain.specs.Plans.{IsShort, PlainPlan, SmallReason}
-use Rattle.proof_plain.proofs.Finals.{PlainTurn, ShownTable, journal_short, plan_plain, table_shown, turn_plain}
+use Rattle.proof_literals.proofs.Finals.{PlainTurn, ShownTable, journal_short, plan_plain, table_shown, turn_plain}
 use Rattle.proof_plain.proofs.Journals.{DrawnAnswer, PlainRun, all_plain, short_front}
-use Rattle.proof_plain.proofs.ReadLimits.{small_plan}
-use Rattle.proof_plain.proofs.ReadScripts.{scripts_shown}
+use Rattle.proof_literals.proofs.ReadLimits.{small_plan}
 use Rattle.proof_plain.proofs.Requests.{DoingIf, PlainAnswers, doing_plain}
 use Rattle.proof_plain.proofs.UnfitKeys.{unfit_keyed}
 use Rattle.proof_plain.proofs.Statements.{PlainIfThere, found_plain, found_row}
 use Rattle.proof_schemas.specs.Printed.Laws.{CanPrintValue}
 use Rattle.run_audit.specs.declared.line.LineAnswer.{LineAnswer}
 use Rattle.run_audit.specs.Lines.{drawn_shown, heard_answer, line_answer, line_of, lines_of, missed_answer, trace_of}
-use Rattle.law_texts.specs.PrintedTraces.{CanDraw, CanPrintAnswer, CanPrintRow, CanPrintTable, CanPrintTask, IsOneLine}
+use Rattle.law_texts.specs.PrintedTraces.{CanDraw, CanPrintAnswer, CanPrintRow, CanPrintTask}
 use Rattle.law_traces.specs.Printed.{HasPlainVerdict, ValuesArePlain, tables_at}
 
 -- ---- values
@@ -72,11 +70,11 @@ value_prints (Num number) plain = plain
 value_prints (Text text) plain = tt
 value_prints (Blob blob) plain = plain
 
-values_print : (row : List Value) → PlainRow row → AllByRecursion CanPrintValue row
+pub values_print : (row : List Value) → PlainRow row → AllByRecursion CanPrintValue row
 values_print [] plain = tt
 values_print (value ∷ row) plain = (value_prints value plain.0, values_print row plain.1)
 
-rows_print : (rows : List (List Value)) → AllByRecursion ShownRow rows → AllByRecursion CanPrintRow rows
+pub rows_print : (rows : List (List Value)) → AllByRecursion ShownRow rows → AllByRecursion CanPrintRow rows
 rows_print [] shown = tt
 rows_print (row ∷ rows) shown = ((shown.0.0, values_print row shown.0.1), rows_print rows shown.1)
 
@@ -98,7 +96,7 @@ missed_prints (Some (answers.Refused number column)) = tt
 missed_prints (Some (answers.TimedOut waited)) = tt
 missed_prints missed = tt
 
-line_prints : (client : Bool) (side : Option Side) (answer : Answer) (missed : Option Answer) → PlainAnswer answer → CanPrintAnswer (line_answer client side answer missed)
+pub line_prints : (client : Bool) (side : Option Side) (answer : Answer) (missed : Option Answer) → PlainAnswer answer → CanPrintAnswer (line_answer client side answer missed)
 line_prints client None answer missed plain = heard_prints client answer plain
 line_prints client (Some Before) answer missed plain = heard_prints client answer plain
 line_prints client (Some After) answer missed plain = missed_prints missed
@@ -135,7 +133,7 @@ inner_draws client (Some After) (Call request) given n drew small = missed_draws
 inner_draws client (Some After) Poll given n drew small = missed_draws given n drew small
 inner_draws client (Some After) (Command word) given n drew small = missed_draws given n drew small
 
-no_draw : (said : LineAnswer) → CanDraw said (drawn_shown None said)
+pub no_draw : (said : LineAnswer) → CanDraw said (drawn_shown None said)
 no_draw said = tt
 
 module _ (plan : PlanData) (plain : PlainPlan plan) (runs : IsRunnable plan) (serial : IsSerialPlan plan) where
@@ -163,7 +161,7 @@ module _ (plan : PlanData) (plain : PlainPlan plan) (runs : IsRunnable plan) (se
         subst (λ (s : LineAnswer). CanDraw s (drawn_shown (Some n) s)) (sym same)
         (inner_draws (is_client entry.actor) entry.side entry.asked given n (turn.drawn (ap is_some is)) (subst SmallIf is turn.draw))
 
-  lines_print : (before later : List Entry) → IsKept plan (before ++ later) → IsShort (before ++ later) → AllByRecursion (λ line. CanPrintAnswer line.answer × CanDraw line.answer line.drawn) (lines_of later)
+  pub lines_print : (before later : List Entry) → IsKept plan (before ++ later) → IsShort (before ++ later) → AllByRecursion (λ line. CanPrintAnswer line.answer × CanDraw line.answer line.drawn) (lines_of later)
   lines_print before [] kept short = tt
   lines_print before (entry ∷ later) kept short =
       let same = append_assoc before (entry ∷ []) later in (
@@ -173,26 +171,22 @@ module _ (plan : PlanData) (plain : PlainPlan plan) (runs : IsRunnable plan) (se
 
   -- ---- the tables
 
-  columns_named : (columns : List Column) → PlainColumns columns → AllByRecursion (λ column. IsOneLine column.name) columns
-  columns_named [] plain = tt
-  columns_named (column ∷ columns) plain = (plain.0.0, columns_named columns plain.1)
+  abbrev HaveRows : Database → Type 0
+  HaveRows tables = AllByRecursion (λ table. AllByRecursion CanPrintRow table.rows) tables
 
-  table_prints : (found : Option TableRows) → WhereFound (ShownTable plan plain runs serial) found → AllByRecursion CanPrintTable (option_to_list found)
+  table_prints : (found : Option TableRows) → WhereFound (ShownTable plan plain runs serial) found → HaveRows (option_to_list found)
   table_prints None shown = tt
-  table_prints (Some table) shown = (record { name = shown.0.name; columns = columns_named table.schema.columns shown.0.columns; rows = rows_print table.rows shown.1 }, tt)
+  table_prints (Some table) shown = (rows_print table.rows shown, tt)
 
-  tables_print : (journal : List Entry) → IsKept plan journal → PlainRun plan journal → (some : Database) → AllByRecursion CanPrintTable (flat_map (λ table. option_to_list (find_table table.schema.name (tables_at plan journal))) some)
+  tables_print : (journal : List Entry) → IsKept plan journal → PlainRun plan journal → (some : Database) → HaveRows (flat_map (λ table. option_to_list (find_table table.schema.name (tables_at plan journal))) some)
   tables_print journal kept now [] = tt
   tables_print journal kept now (table ∷ some) =
-      All-append CanPrintTable (option_to_list (find_table table.schema.name (tables_at plan journal))) _ (table_prints (find_table table.schema.name (tables_at plan journal)) (table_shown plan plain runs serial journal table.schema.name kept now)) (tables_print journal kept now some)
+      All-append (λ (one : TableRows). AllByRecursion CanPrintRow one.rows) (option_to_list (find_table table.schema.name (tables_at plan journal))) _
+      (table_prints (find_table table.schema.name (tables_at plan journal)) (table_shown plan plain runs serial journal table.schema.name kept now)) (tables_print journal kept now some)
 
-  left_print : (journal : List Entry) → IsKept plan journal → PlainRun plan journal → AllByRecursion CanPrintTable (tables_left plan (tables_at plan journal))
+  pub left_print : (journal : List Entry) → IsKept plan journal → PlainRun plan journal → HaveRows (tables_left plan (tables_at plan journal))
   unfolding tables_left
   left_print journal kept now = tables_print journal kept now (filter (λ table. not (is_tool_name plan.table table.schema.name)) plan.tables)
-
-  names_print : (tables : Database) → PlainDatabase tables → AllByRecursion (λ table. IsOneLine table.schema.name) tables
-  names_print [] plain = tt
-  names_print (table ∷ tables) plain = (plain.0.name, names_print tables plain.1)
 
   -- ---- the verdict
 
@@ -216,7 +210,7 @@ module _ (plan : PlanData) (plain : PlainPlan plan) (runs : IsRunnable plan) (se
     by true false (Some (Panicked turn)) small is = absurd cc
 
   -- the key of a plain row
-  key_plain : (places : List ℕ) (row : List Value) → PlainRow row → PlainRow (key_of places row)
+  pub key_plain : (places : List ℕ) (row : List Value) → PlainRow row → PlainRow (key_of places row)
   unfolding key_of
   key_plain [] row plain = tt
   key_plain (place ∷ places) row plain = All-append IsPlain (option_to_list (slice_get row place)) (key_of places row) (by place row plain) (key_plain places row plain) where
@@ -225,11 +219,11 @@ module _ (plan : PlanData) (plain : PlainPlan plan) (runs : IsRunnable plan) (se
     by zero (value ∷ row) plain = (plain.0, tt)
     by (suc place) (value ∷ row) plain = by place row plain.1
 
-  row_found : (found : Option TableRows) (key row : List Value) → WhereFound PlainTable found → row_in found key ≡ Some row → PlainRow row
+  pub row_found : (found : Option TableRows) (key row : List Value) → WhereFound PlainTable found → row_in found key ≡ Some row → PlainRow row
   row_found None key row plain is = absurd cc
   row_found (Some table) key row plain is = subst PlainIfThere is (found_row (is_at (key_places table.schema) key) table.rows plain.rows)
 
-  done_plain : (doing : Option Doing) → DoingIf doing → PlainRow (row_done doing)
+  pub done_plain : (doing : Option Doing) → DoingIf doing → PlainRow (row_done doing)
   done_plain None plain = tt
   done_plain (Some (Putting row)) plain = plain
   done_plain (Some (Removing row)) plain = plain
@@ -263,7 +257,7 @@ module _ (plan : PlanData) (plain : PlainPlan plan) (runs : IsRunnable plan) (se
         take_drop (suc n) [] = refl
         take_drop (suc n) (entry ∷ all) = ap (λ (rest : List Entry). entry ∷ rest) (take_drop n all)
 
-  verdict_prints : IsAlterable plan → StoresAgain → (journal : List Entry) → IsKept plan journal → IsShort journal → PlainRun plan journal → ((cause : Cause) → verdict_of plan journal ≡ verdicts.Reverted cause → Stands plan journal cause) → HasPlainVerdict (verdict_of plan journal)
+  pub verdict_prints : IsAlterable plan → StoresAgain → (journal : List Entry) → IsKept plan journal → IsShort journal → PlainRun plan journal → ((cause : Cause) → verdict_of plan journal ≡ verdicts.Reverted cause → Stands plan journal cause) → HasPlainVerdict (verdict_of plan journal)
   unfolding Stands
   verdict_prints alterable again journal kept short now stands = by (verdict_of plan journal) refl where
     by : (verdict : Verdict) → verdict_of plan journal ≡ verdict → HasPlainVerdict verdict
@@ -278,17 +272,16 @@ module _ (plan : PlanData) (plain : PlainPlan plan) (runs : IsRunnable plan) (se
 -- *Values are plain*
 pub values_plain : ReadPlansAreAccepted → ReadPlansAreAlterable → ReadPlansAreRunnable → ReadPlansAreSerial → AcceptedCausesStand → StoresAgain → ValuesArePlain
 unfolding trace_of
-values_plain accepted alterable runnable serials causes again bytes plan journal is text kept within numbered names =
+values_plain accepted alterable runnable serials causes again bytes plan journal is text kept within numbered =
     let was : WasRead plan = record { bytes = bytes; is = is; text = text } in
     let limits = small_plan bytes plan is in
     let runs : IsRunnable plan = runnable plan was in
     let serial : IsSerialPlan plan = serials bytes plan is in
-    let plain : PlainPlan plan = plan_plain bytes plan is (accepted bytes plan is) runs limits (scripts_shown bytes plan is) names in
+    let plain : PlainPlan plan = plan_plain bytes plan is (accepted bytes plan is) runs in
     let short : IsShort journal = journal_short plan journal limits kept numbered within in
     let now : PlainRun plan journal = all_plain plan journal plain runs serial kept short in
     record {
       answers = lines_print plan plain runs serial [] journal kept short;
       verdict = verdict_prints plan plain runs serial (alterable bytes plan is) again journal kept short now (λ cause verdict. causes plan journal cause was kept verdict);
-      tables = left_print plan plain runs serial journal kept now;
-      names = names_print plan plain runs serial (tables_at plan journal) now.state.tables;
+      rows = left_print plan plain runs serial journal kept now;
     }

@@ -1,14 +1,12 @@
--- The turns of a journal that is kept are of the plan's actors.
-use Rattle.std.proofs.Common.{◌≡◌, ◌≢◌, ◌≤◌, ◌<◌, ℕ, ◌+◌, ◌-◌, ◌==◌, nat_le, nat_lt, Bool, true, false, ◌&&◌, if◌then◌else◌, List, [], ◌∷◌, length, fold, Option, Some, None, refl, sym, ap, ◌∙◌, subst, arith}
+-- The turns of a whole journal are of the plan's actors.
+use Rattle.std.proofs.Common.{◌≡◌, ◌≢◌, ◌≤◌, ◌<◌, ℕ, ◌-◌, ◌==◌, nat_le, nat_lt, Bool, true, false, if◌then◌else◌, List, [], ◌∷◌, length, fold, Option, Some, None, refl, sym, ap, ◌∙◌, subst, arith}
 use Rattle.std.specs.Prelude.{is_some, unwrap_or}
 use Rattle.std.specs.List.{AllByRecursion, slice_get}
 use Rattle.std.proofs.lemmas.Bool.{true≢false}
 use Rattle.std.proofs.lemmas.Bool.Decides.{nat_tests}
-use Rattle.std.proofs.lemmas.Option.{none-some, same_Some, slice_get_past}
+use Rattle.std.proofs.lemmas.Option.{none-some, slice_get_past}
 use Rattle.base_script.specs.declared.actor.Actor.{Actor}
 use Rattle.base_script.specs.declared.actor.Actor.TheVariants.{Op, Insp, Copy, Apply, Lock, Ren, Client}
-use Rattle.base_script.specs.declared.loss.Loss.{Loss}
-use Rattle.base_script.specs.declared.loss.Loss.TheVariants.{Nth, Turn}
 use Rattle.base_script.specs.declared.script.ScriptLine.{ScriptLine}
 use Rattle.server_model.specs.declared.entry.Asked.{Asked}
 use Rattle.server_model.specs.declared.entry.Asked.TheVariants.{Call, Poll, Command, Cut}
@@ -16,9 +14,10 @@ use Rattle.server_model.specs.declared.entry.Entry.{Entry}
 use Rattle.server_model.specs.Entries.{same_actor}
 use Rattle.plan_data.specs.PlanData.{PlanData}
 use Rattle.tool_program.specs.JournalWords.Clients.{after_turn, client_asks, client_at, line_asks, new_client, script_of, Reached}
-use Rattle.tool_program.specs.JournalWords.KeptPlans.{IsPlanned, IsStruck, TakesNext, cut_among, cut_by, cut_due, or_first}
-use Rattle.tool_program.specs.JournalWords.Sessions.{live_session, session_in}
+use Rattle.tool_program.specs.JournalWords.KeptPlans.{TakesNext}
+use Rattle.tool_program.specs.JournalWords.Sessions.{IsInSession, IsSeated, live_session, session_in}
 use Rattle.proof_journals.proofs.Actors.{same_actor_is}
+use Rattle.proof_audit.proofs.Wholes.{IsTurn}
 use Rattle.law_texts.specs.TurnOrders.{IsOf}
 
 module _ (plan : PlanData) where
@@ -69,25 +68,6 @@ module _ (plan : PlanData) where
 
   -- ---- the next turn
 
-  -- who loses a session had one
-  cut_had : (before : List Entry) (turn : ℕ) (loss : Loss) (actor : Actor) → cut_by before turn loss ≡ Some actor → is_some (live_session before actor) ≡ true
-  cut_had before turn (Nth one n side) actor is = absurd cc
-  cut_had before turn (Turn number one) actor is = by (number == turn) (is_some (live_session before one)) refl is where
-    by : (at has : Bool) → is_some (live_session before one) ≡ has → (if at && has then Some one else None) ≡ Some actor → is_some (live_session before actor) ≡ true
-    by true true had is = subst (λ (a : Actor). is_some (live_session before a) ≡ true) (same_Some one actor is) had
-    by true false had is = absurd cc
-    by false has had is = absurd cc
-
-  first_had : (before : List Entry) (first later : Option Actor) (actor : Actor) → (first ≡ Some actor → is_some (live_session before actor) ≡ true) → (later ≡ Some actor → is_some (live_session before actor) ≡ true) → or_first first later ≡ Some actor → is_some (live_session before actor) ≡ true
-  first_had before None later actor one other is = other is
-  first_had before (Some first) later actor one other is = one is
-
-  all_had : (before : List Entry) (losses : List Loss) (actor : Actor) → cut_among before losses ≡ Some actor → is_some (live_session before actor) ≡ true
-  unfolding cut_among
-  all_had before [] actor is = absurd cc
-  all_had before (loss ∷ losses) actor is =
-      first_had before (cut_by before (length before + 1) loss) (cut_among before losses) actor (cut_had before (length before + 1) loss actor) (all_had before losses actor) is
-
   -- whether the plan has an actor is known
   decide : (actor : Actor) (P : Type 0) → (IsIts actor → P) → ((IsIts actor → ⊥) → P) → P
   decide Op P here away = here tt
@@ -120,9 +100,21 @@ module _ (plan : PlanData) where
   takes_its before (Client number) Poll its going takes = asks_its before number Poll its takes
   takes_its before (Client number) (Command word) its going takes = asks_its before number (Command word) its takes
 
-  struck_its : (before : List Entry) (entry : Entry) (due : Option Actor) → cut_due plan before ≡ due → AreIts before → TakesNext plan before entry.actor entry.asked → IsStruck plan before entry due → IsIts entry.actor
-  struck_its before entry (Some actor) is its takes struck = subst IsIts (sym struck.0) (lost_its before actor its (all_had before plan.faults actor is))
-  struck_its before entry None is its takes struck = takes_its before entry.actor entry.asked its struck.0 takes
+  -- who loses a session had one
+  cut_had : (before : List Entry) (entry : Entry) (live : Option ℕ) → IsInSession before entry Cut live → is_some live ≡ true
+  cut_had before entry None is = absurd is
+  cut_had before entry (Some session) is = refl
 
-  pub next_its : (before : List Entry) (entry : Entry) → AreIts before → IsPlanned plan before entry → IsIts entry.actor
-  next_its before entry its planned = struck_its before entry (cut_due plan before) refl its planned.next planned.struck
+  lost_one : (before : List Entry) (entry : Entry) → entry.asked ≡ Cut → IsSeated before entry → is_some (live_session before entry.actor) ≡ true
+  lost_one before entry cut seated = cut_had before entry (live_session before entry.actor) (subst (λ (asked : Asked). IsInSession before entry asked (live_session before entry.actor)) cut seated.session)
+
+  pub turn_its : (before : List Entry) (entry : Entry) → AreIts before → IsTurn plan before entry → IsIts entry.actor
+  turn_its before entry its turn = by entry.asked refl where
+    takes : entry.asked ≢ Cut → IsIts entry.actor
+    takes other = takes_its before entry.actor entry.asked its other turn.takes
+
+    by : (asked : Asked) → entry.asked ≡ asked → IsIts entry.actor
+    by Cut cut = lost_its before entry.actor its (lost_one before entry cut turn.seated)
+    by (Call request) call = takes (λ cut. let no : Call request ≡ Cut = sym call ∙ cut in absurd (cc no))
+    by Poll poll = takes (λ cut. let no : Poll ≡ Cut = sym poll ∙ cut in absurd (cc no))
+    by (Command word) command = takes (λ cut. let no : Command word ≡ Cut = sym command ∙ cut in absurd (cc no))

@@ -24,7 +24,7 @@ turn_fits plan journal turn entry before few is =
     let some : 0 < turn = is.from_one in
     omega (arith, few, within, some)
 
-number_fits : (unfit : Unfit) → error_number unfit < 2 ^ 16
+pub number_fits : (unfit : Unfit) → error_number unfit < 2 ^ 16
 number_fits unfits.Null = omega arith
 number_fits unfits.Range = omega arith
 number_fits unfits.Length = omega arith

@@ -1,14 +1,14 @@
--- The text of a run's trace is read as that trace.
-use Rattle.std.proofs.Common.{◌≡◌, ◌≤◌, ℕ, ◌+◌, true, not, ◌&&◌, codes, List, [], ◌∷◌, ◌++◌, length, Option, Some, None, Ok, refl, sym, ap, subst, arith, append_assoc}
+-- The turns of a whole journal can be printed, and are no more than the bytes of their text.
+use Rattle.std.proofs.Common.{◌≡◌, ◌≤◌, ℕ, ◌+◌, true, not, ◌&&◌, codes, List, [], ◌∷◌, ◌++◌, length, Option, Some, None, refl, sym, ap, subst, arith, append_assoc}
 use Rattle.std.specs.Fmt.{decimal}
 use Rattle.std.specs.List.{AllByRecursion, flat_map}
-use Rattle.std.specs.Str.{IsUtf8}
-use Rattle.std.proofs.lemmas.List.{length-append, length-map}
+use Rattle.std.proofs.lemmas.List.{length-append}
 use Rattle.base_script.specs.declared.actor.Actor.{Actor}
 use Rattle.base_script.specs.declared.actor.Actor.TheVariants.{Op, Insp, Copy, Apply, Lock, Ren, Client}
 use Rattle.base_script.specs.declared.actor.Side.{Side}
 use Rattle.base_script.specs.declared.actor.Side.TheVariants.{Before, After}
 use Rattle.base_values.proofs.SchemaRules.Lists.{All-append}
+use Rattle.table_store.specs.Databases.{Database}
 use Rattle.server_model.specs.declared.answer.Answer.{Answer}
 use Rattle.server_model.specs.declared.answer.Answer.TheVariants as answers
 use Rattle.server_model.specs.declared.entry.Asked.{Asked}
@@ -18,33 +18,19 @@ use Rattle.server_model.specs.declared.request.Request.{Request}
 use Rattle.server_model.specs.declared.request.Request.TheVariants as requests
 use Rattle.server_model.specs.Entries.{is_client}
 use Rattle.plan_data.specs.PlanData.{PlanData}
-use Rattle.table_print.specs.Names.{names_line}
 use Rattle.tool_program.specs.JournalWords.Journals.{IsAnswered, may_lose, state_at}
-use Rattle.tool_program.specs.JournalWords.Serials.{tables_left}
-use Rattle.proof_journals.specs.Run.Kept.{IsKept}
-use Rattle.proof_plans.specs.ReadPlans.Schemas.{ReadPlansAreAccepted}
-use Rattle.proof_audit.proofs.Rules.{planned_next, run_next}
+use Rattle.proof_audit.specs.Wholes.{IsWhole}
+use Rattle.proof_audit.proofs.Wholes.{IsTurn, turn_next}
 use Rattle.run_audit.specs.declared.line.TraceLine.{TraceLine}
 use Rattle.run_audit.specs.declared.trace.Trace.{Trace}
-use Rattle.run_audit.specs.Lines.{asked_of, heard_answer, line_answer, line_of, lines_of, missed_answer, trace_of}
+use Rattle.run_audit.specs.Lines.{asked_of, heard_answer, line_answer, line_of, lines_of, missed_answer}
 use Rattle.top_report.specs.Turns.{actor_word}
 use Rattle.top_report.specs.Verdicts.{verdict_line}
-use Rattle.top_trace.specs.Texts.{answer_text, asked_text, drawn_text, journal_line, journal_text, read_rows_text, side_text, trace_text, turn_line, turns_text}
-use Rattle.top_trace_reader.specs.declared.whole.TheConstants.{TRACE_LIMIT}
-use Rattle.top_trace_reader.specs.Traces.{read_trace}
+use Rattle.top_trace.specs.Texts.{answer_text, asked_text, drawn_text, journal_line, journal_text, read_rows_text, side_text, turn_line, turns_text}
 use Rattle.top_trace_reader.specs.Turns.{fits, fits_actor, was_missed}
-use Rattle.law_texts.specs.PrintedTraces.{CanDraw, CanHaveSide, CanPrintAnswer, CanPrintTrace, CanPrintTurn, PrintedTracesAreRead, text_of}
-use Rattle.law_traces.specs.Laws.{TracesAreAudited}
-use Rattle.law_traces.specs.Printed.{HasPlainValues, PrintedTracesAreAudited, ValuesArePlain, tables_at, text_at, trace_at}
-use Rattle.server_model.specs.declared.outcome.Cause.{Cause}
-use Rattle.server_model.specs.declared.outcome.Verdict.TheVariants.{Reverted}
-use Rattle.tool_program.specs.Failures.{Stands}
-use Rattle.tool_program.specs.Verdicts.{verdict_of}
-use Rattle.proof_plans.specs.ReadPlans.Laws.{WasRead}
-use Rattle.proof_plans.specs.Laws.{AcceptedCausesStand}
-use Rattle.proof_plans.specs.ReadPlans.Options.{ReadOptionsAllow}
-use Rattle.law_traces.proofs.PrintedCauses.{verdict_prints}
-use Rattle.law_traces.proofs.PlanActors.{AreIts, next_its}
+use Rattle.law_texts.specs.PrintedTraces.{CanDraw, CanHaveSide, CanPrintAnswer, CanPrintRow, CanPrintTable, CanPrintTurn}
+use Rattle.law_traces.specs.Printed.{HaveOneLineNames}
+use Rattle.law_traces.proofs.PlanActors.{AreIts, turn_its}
 
 -- ---- a turn
 
@@ -92,23 +78,24 @@ module _ (plan : PlanData) where
   abbrev HasPlain : TraceLine → Type 0
   HasPlain line = CanPrintAnswer line.answer × CanDraw line.answer line.drawn
 
-  turn_prints : (before : List Entry) (entry : Entry) (later : List Entry) → IsKept plan (before ++ entry ∷ later) → AreIts plan before → HasPlain (line_of entry) → CanPrintTurn (length plan.clients) (line_of entry)
-  turn_prints before entry later kept its plain =
-      let answered : IsAnswered (state_at plan before) entry = (run_next plan before entry later kept).answered in
+  turn_prints : (before : List Entry) (entry : Entry) (later : List Entry) → IsWhole plan (before ++ entry ∷ later) → AreIts plan before → HasPlain (line_of entry) → CanPrintTurn (length plan.clients) (line_of entry)
+  turn_prints before entry later whole its plain =
+      let turn : IsTurn plan before entry = turn_next plan before entry later whole in
+      let answered : IsAnswered (state_at plan before) entry = turn.answered in
       record {
-        its = next_its plan before entry its (planned_next plan before entry later kept);
+        its = turn_its plan before entry its turn;
         beside = beside entry.asked entry.side (λ cut. answered.sides (ap may_lose cut)) (λ word command. answered.sides (ap may_lose command));
         fitting = answer_fits entry.actor entry.side entry.answer entry.missed;
         numbers = plain.0;
         draw = plain.1;
       }
 
-  turns_print : (before later : List Entry) → IsKept plan (before ++ later) → AreIts plan before → AllByRecursion HasPlain (lines_of later) → AllByRecursion (CanPrintTurn (length plan.clients)) (lines_of later)
-  turns_print before [] kept its plain = tt
-  turns_print before (entry ∷ later) kept its plain =
-      let turn = turn_prints before entry later kept its plain.0 in (
+  pub turns_print : (before later : List Entry) → IsWhole plan (before ++ later) → AreIts plan before → AllByRecursion HasPlain (lines_of later) → AllByRecursion (CanPrintTurn (length plan.clients)) (lines_of later)
+  turns_print before [] whole its plain = tt
+  turns_print before (entry ∷ later) whole its plain =
+      let turn = turn_prints before entry later whole its plain.0 in (
         turn,
-        turns_print (before ++ entry ∷ []) later (subst (IsKept plan) (sym (append_assoc before (entry ∷ []) later)) kept) (All-append (λ (one : Entry). _) before (entry ∷ []) its (turn.its, tt)) plain.1,
+        turns_print (before ++ entry ∷ []) later (subst (IsWhole plan) (sym (append_assoc before (entry ∷ []) later)) whole) (All-append (λ (one : Entry). _) before (entry ∷ []) its (turn.its, tt)) plain.1,
       )
 
 -- ---- lengths
@@ -139,7 +126,7 @@ turns_short turn (line ∷ lines) =
     let both : length (own ++ rest) ≡ length own + length rest = length-append own rest in
     let short : length (line ∷ lines) ≤ length (own ++ rest) = omega (arith, others, some, more, both) in short
 
-lines_short : (bytes : List ℕ) (trace : Trace) (names : List ℕ) → length trace.lines ≤ length (bytes ++ codes "\n" ++ journal_text trace names)
+pub lines_short : (bytes : List ℕ) (trace : Trace) (names : List ℕ) → length trace.lines ≤ length (bytes ++ codes "\n" ++ journal_text trace names)
 unfolding journal_text
 lines_short bytes trace names =
     let turns : List ℕ = turns_text 1 trace.lines in
@@ -155,34 +142,6 @@ lines_short bytes trace names =
 
 -- ---- the law
 
-same_text : (bytes : List ℕ) (plan : PlanData) (journal : List Entry) → text_of bytes (trace_at plan journal) (tables_at plan journal) ≡ text_at bytes plan journal
-unfolding trace_text
-same_text bytes plan journal = refl
-
-trace_prints : (bytes : List ℕ) (plan : PlanData) (journal : List Entry) → length plan.clients ≤ 64 → 1 ≤ plan.options.default_retries → IsKept plan journal → ((cause : Cause) → verdict_of plan journal ≡ Reverted cause → Stands plan journal cause) → HasPlainValues plan journal
-    → length (text_at bytes plan journal) ≤ TRACE_LIMIT → CanPrintTrace plan (trace_at plan journal) (tables_left plan (tables_at plan journal))
-unfolding trace_of trace_text
-trace_prints bytes plan journal clients tries kept causes plain short =
-    let lines : length (lines_of journal) ≤ length (text_at bytes plan journal) = lines_short bytes (trace_at plan journal) (names_line (tables_at plan journal)) in
-    let turns : length (lines_of journal) ≡ length journal = length-map journal line_of in
-    record {
-      few = omega (arith, clients);
-      short = omega (arith, lines, short);
-      turns = turns_print plan [] journal kept tt plain.answers;
-      ended = verdict_prints plan journal (verdict_of plan journal) (omega (arith, lines, turns, short)) tries plain.verdict causes;
-      printed = refl;
-      tables = plain.tables;
-    }
-
--- *Printed traces are audited yes*
-pub printed_audited : ReadPlansAreAccepted → ReadOptionsAllow → AcceptedCausesStand → ValuesArePlain → PrintedTracesAreRead → TracesAreAudited → PrintedTracesAreAudited
-printed_audited accepted allow causes values reads audits = λ bytes plan journal is text kept within numbered named utf8 short.
-    let plain = values bytes plan journal is text kept within numbered named in
-    let same = same_text bytes plan journal in
-    let was : WasRead plan = record { bytes = bytes; is = is; text = text } in (
-      subst (λ (printed : List ℕ). read_trace printed ≡ Ok (plan, trace_at plan journal)) same
-          (reads bytes plan (trace_at plan journal) (tables_left plan (tables_at plan journal)) (tables_at plan journal) is
-          (trace_prints bytes plan journal (accepted bytes plan is).few (allow bytes plan is).tries kept (λ cause verdict. causes plan journal cause was kept verdict) plain short) plain.names (subst IsUtf8 (sym same) utf8)
-          (subst (λ (printed : List ℕ). length printed ≤ TRACE_LIMIT) (sym same) short)),
-      audits plan journal was kept within,
-    )
+pub table_prints : (tables : Database) → HaveOneLineNames tables → AllByRecursion (λ table. AllByRecursion CanPrintRow table.rows) tables → AllByRecursion CanPrintTable tables
+table_prints [] names rows = tt
+table_prints (table ∷ tables) names rows = (record { name = names.0.0; columns = names.0.1; rows = rows.0 }, table_prints tables names.1 rows.1)

@@ -1,17 +1,15 @@
 -- An audit names the first that is wrong; and the lines decide the tables.
-use Rattle.std.proofs.Common.{◌≡◌, ℕ, ◌≤◌, ◌||◌, nat_lt, Bool, true, false, cond, List, [], ◌∷◌, ◌++◌, map, Option, Some, None, refl, sym, ap, ◌∙◌, subst, arith}
+use Rattle.std.proofs.Common.{◌≡◌, ℕ, ◌≤◌, ◌||◌, nat_lt, Bool, true, false, List, [], ◌∷◌, ◌++◌, map, Option, Some, None, refl, sym, ap, ◌∙◌, subst, arith}
 use Rattle.std.specs.Prelude.{min, nat_eq}
 use Rattle.std.specs.List.{AllByRecursion, list_any}
 use Rattle.std.proofs.lemmas.Bool.Decides.{nat_tests}
 use Rattle.table_store.specs.Databases.{Database}
-use Rattle.plan_data.specs.PlanData.{PlanData}
 use Rattle.tool_program.specs.JournalWords.Serials.{Serial}
 use Rattle.run_audit.specs.declared.line.TraceLine.{TraceLine}
 use Rattle.run_audit.specs.declared.trace.Audit.TheVariants as audits
-use Rattle.run_audit.specs.declared.trace.Trace.{Trace}
 use Rattle.run_audit.specs.Audits.{audited, bad_turns, first_no, first_other, item_of, judged, least, least_with, opening_tables, tables_reached, verdict_holds}
 use Rattle.run_audit.specs.Lines.{printed_table}
-use Rattle.proof_audit.specs.AuditedTraces.{AuditsNameTheFirst, HaveTheSameTables, IsAudited, IsLeast, LinesDecideTables}
+use Rattle.proof_audit.specs.AuditedTraces.{AuditsNameTheFirst, IsAudited, IsLeast, LinesDecideTables}
 use Rattle.proof_audit.proofs.Losing.{serial_is_one}
 use Rattle.proof_audit.proofs.Whole.{least_none, say_yes}
 

@@ -1,4 +1,5 @@
 pub mod Audited
+mod Behind
 pub mod Clients
 pub mod Ended
 pub mod First
@@ -17,3 +18,4 @@ pub mod Struck
 pub mod Timed
 pub mod Verdicts
 pub mod Whole
+pub mod Wholes

@@ -1,11 +1,8 @@
 -- A client that was lost has no session any more.
-use Rattle.std.proofs.Common.{◌≡◌, ◌≢◌, ℕ, ◌+◌, ◌==◌, ◌&&◌, Bool, true, false, List, [], ◌∷◌, ◌++◌, is_some, length, cond, Option, Some, None, refl, sym, ap, ◌∙◌, subst, ◌⊎◌, inl, inr}
-use Rattle.std.proofs.lemmas.Bool.{and_parts}
+use Rattle.std.proofs.Common.{◌≡◌, ◌≢◌, ℕ, Bool, true, false, List, [], ◌∷◌, ◌++◌, is_some, cond, Option, Some, None, refl, sym, ap, ◌∙◌, subst, ◌⊎◌, inl, inr}
 use Rattle.base_script.specs.declared.actor.Actor.{Actor}
 use Rattle.base_script.specs.declared.actor.Actor.TheVariants.{Client}
 use Rattle.base_script.specs.declared.actor.Side.{Side}
-use Rattle.base_script.specs.declared.loss.Loss.{Loss}
-use Rattle.base_script.specs.declared.loss.Loss.TheVariants.{Nth, Turn}
 use Rattle.base_script.specs.declared.script.ScriptLine.{ScriptLine}
 use Rattle.server_model.specs.declared.transaction.Mark.{Mark}
 use Rattle.server_model.specs.declared.transaction.Mark.TheVariants as marks
@@ -20,8 +17,8 @@ use Rattle.server_model.specs.Along.{Along, Along-keeps}
 use Rattle.server_model.specs.Entries.{same_actor}
 use Rattle.plan_data.specs.PlanData.{PlanData}
 use Rattle.tool_program.specs.JournalWords.Clients.{Reached, after_turn, became_in, became_of, client_after, client_asks, client_at, is_loss, marked, with_draw}
-use Rattle.tool_program.specs.JournalWords.KeptPlans.{IsPlanned, IsStruck, cut_among, cut_by, cut_due, or_first, TakesNext}
-use Rattle.tool_program.specs.JournalWords.Sessions.{live_session, session_left}
+use Rattle.tool_program.specs.JournalWords.KeptPlans.{TakesNext}
+use Rattle.tool_program.specs.JournalWords.Sessions.{IsInSession, IsSeated, live_session, session_left}
 use Rattle.proof_audit.proofs.Clients.{same_client}
 use Rattle.proof_audit.proofs.Sessions.{IsLostRightly, live_more}
 use Rattle.proof_journals.proofs.Actors.{lost_left}
@@ -57,29 +54,9 @@ drawn_lost (Some number) client = refl
 
 -- ---- a loss between calls takes a session that is there
 
-taken_live : (b : Bool) (actor other : Actor) → cond b (Some actor) None ≡ Some other → (b ≡ true) × (actor ≡ other)
-taken_live true actor other is = (refl, cc)
-taken_live false actor other is = absurd cc
-
-one_live : (before : List Entry) (turn : ℕ) (loss : Loss) (actor : Actor) → cut_by before turn loss ≡ Some actor → is_some (live_session before actor) ≡ true
-one_live before turn (Nth other n side) actor is = absurd cc
-one_live before turn (Turn number other) actor is =
-    let taken = taken_live ((number == turn) && is_some (live_session before other)) other actor is in
-    subst (λ (a : Actor). is_some (live_session before a) ≡ true) taken.1 (and_parts (number == turn) (is_some (live_session before other)) taken.0).1
-
-among_here : (before : List Entry) (loss : Loss) (losses : List Loss) (actor : Actor) (found : Option Actor) → cut_by before (length before + 1) loss ≡ found → or_first found (cut_among before losses) ≡ Some actor
-    → (cut_among before losses ≡ Some actor → is_some (live_session before actor) ≡ true) → is_some (live_session before actor) ≡ true
-among_here before loss losses actor None none first rest = rest first
-among_here before loss losses actor (Some one) some first rest = one_live before (length before + 1) loss actor (some ∙ first)
-
-among_live : (before : List Entry) (losses : List Loss) (actor : Actor) → cut_among before losses ≡ Some actor → is_some (live_session before actor) ≡ true
-unfolding cut_among
-among_live before [] actor is = absurd cc
-among_live before (loss ∷ losses) actor is = among_here before loss losses actor (cut_by before (length before + 1) loss) refl is (among_live before losses actor)
-
-struck_live : (plan : PlanData) (before : List Entry) (entry : Entry) (due : Option Actor) → cut_due plan before ≡ due → IsStruck plan before entry due → entry.asked ≡ Cut → is_some (live_session before entry.actor) ≡ true
-struck_live plan before entry None is struck cut = absurd (struck.0 cut)
-struck_live plan before entry (Some actor) is struck cut = subst (λ (a : Actor). is_some (live_session before a) ≡ true) (sym struck.0) (among_live before plan.faults actor is)
+cut_live : (before : List Entry) (entry : Entry) (live : Option ℕ) → IsInSession before entry Cut live → is_some live ≡ true
+cut_live before entry None is = absurd is
+cut_live before entry (Some session) is = refl
 
 none_live : (live : Option ℕ) → live ≡ None → is_some live ≡ true → ⊥
 none_live None none is = cc
@@ -100,7 +77,8 @@ lost_takes plan before c (Command word) takes other lost = asks_none (client_at 
 -- what is asked of each turn
 pub record IsLosing (plan : PlanData) (before : List Entry) (entry : Entry) : Type 0 where
   pub rightly : IsLostRightly entry
-  pub planned : IsPlanned plan before entry
+  pub takes : TakesNext plan before entry.actor entry.asked
+  pub seated : IsSeated before entry
 
 abbrev pub LostHaveNone : PlanData → List Entry → Type 0
 LostHaveNone plan journal = (c : ℕ) → (client_at plan journal c).is_lost ≡ true → live_session journal (Client c) ≡ None
@@ -109,10 +87,12 @@ LostHaveNone plan journal = (c : ℕ) → (client_at plan journal c).is_lost ≡
 pub lost_before : (plan : PlanData) (before : List Entry) (entry : Entry) (c : ℕ) → IsLosing plan before entry → LostHaveNone plan before → entry.actor ≡ Client c → (client_at plan before c).is_lost ≡ true → ⊥
 lost_before plan before entry c turn none is lost = by entry.asked refl where
   live : entry.asked ≡ Cut → is_some (live_session before (Client c)) ≡ true
-  live cut = subst (λ (a : Actor). is_some (live_session before a) ≡ true) is (struck_live plan before entry (cut_due plan before) refl turn.planned.struck cut)
+  live cut =
+      subst (λ (a : Actor). is_some (live_session before a) ≡ true) is
+      (cut_live before entry (live_session before entry.actor) (subst (λ (asked : Asked). IsInSession before entry asked (live_session before entry.actor)) cut turn.seated.session))
 
   takes : TakesNext plan before (Client c) entry.asked
-  takes = subst (λ (a : Actor). TakesNext plan before a entry.asked) is turn.planned.next
+  takes = subst (λ (a : Actor). TakesNext plan before a entry.asked) is turn.takes
 
   by : (asked : Asked) → entry.asked ≡ asked → ⊥
   by Cut cut = none_live (live_session before (Client c)) (none c lost) (live cut)

@@ -1,6 +1,6 @@
 -- A call that was refused changes no table.
 use Rattle.server_model.specs.Drawing.{filled}
-use Rattle.std.proofs.Common.{◌≡◌, ℕ, ◌||◌, Bool, true, false, cond, List, [], ◌∷◌, ◌++◌, map, Option, Some, None, Result, Ok, Err, refl, sym, ap, ◌∙◌, subst}
+use Rattle.std.proofs.Common.{◌≡◌, ℕ, Bool, true, false, cond, List, [], ◌∷◌, ◌++◌, map, Option, Some, None, Result, Ok, Err, refl, sym, ap, ◌∙◌, subst}
 use Rattle.std.specs.List.{list_any}
 use Rattle.base_values.specs.declared.value.Value.{Value}
 use Rattle.base_values.specs.declared.row_conversion.conversion_fault.UnfitAt.{UnfitAt}
@@ -28,10 +28,9 @@ use Rattle.server_model.specs.PlainServer.{called_unless, calls, does, done, did
 use Rattle.server_model.specs.States.{State, is_in_transaction, session_of, waiting_of, writes_of}
 use Rattle.server_model.specs.declared.session.Waiting.{Waiting}
 use Rattle.tool_program.specs.JournalWords.Journals.{inner_answer, missed, opening, opens, state_at}
-use Rattle.proof_journals.proofs.Machine.Journals.{IsRun}
 use Rattle.proof_journals.proofs.Journals.{opened_tables, state_more}
 use Rattle.proof_audit.specs.Laws.{RefusalsKeep}
-use Rattle.proof_audit.proofs.Rules.{run_next}
+use Rattle.proof_audit.proofs.Wholes.{IsTurn, turn_next}
 
 -- the answer is a refusal
 abbrev IsRefusal : Answer → Type 0
@@ -167,13 +166,13 @@ refused_inner (Command word) said number column is = subst IsRefusal (let one : 
 -- *Refusals keep tables*
 pub refusals_keep : RefusalsKeep
 unfolding inner_answer
-refusals_keep plan idle before entry number column kept at refused =
+refusals_keep plan idle before entry number column whole at refused =
     let state : State = state_at plan before in
-    let run : IsRun plan before entry = run_next plan before entry [] kept in
+    let run : IsTurn plan before entry = turn_next plan before entry [] whole in
     let said : Answer = (serves (opens entry state) entry.session entry.asked).answer in
     let inner : given_at (Some After) entry.asked said ≡ Some (answers.Refused number column) = sym (ap (λ (side : Option Side). missed side (given_at side entry.asked said)) at) ∙ sym run.answered.missed ∙ refused in
     ap (λ (s : State). s.tables) (state_more (opening plan) before entry)
     ∙ ap (λ (side : Option Side). (leaves side (opens entry state) entry.session entry.asked).tables) at
     ∙ lost_tables entry.session (serves (opens entry state) entry.session entry.asked).after
-    ∙ served_keeps (opens entry state) entry.session entry.asked (idle before entry kept) (refused_inner entry.asked said number column inner)
+    ∙ served_keeps (opens entry state) entry.session entry.asked (idle before entry whole) (refused_inner entry.asked said number column inner)
     ∙ opened_tables _ _ entry.session state

@@ -1,5 +1,5 @@
--- No line of a journal that is kept breaks a rule of scripts, losses or commands.
-use Rattle.std.proofs.Common.{◌≡◌, ◌≢◌, ℕ, ◌<◌, ◌&&◌, ◌||◌, nat_lt, Bool, true, false, not, cond, List, [], ◌∷◌, ◌++◌, length, Option, Some, None, refl, sym, ap, ◌∙◌, subst, arith}
+-- No line of a whole journal breaks a rule of scripts, losses or commands.
+use Rattle.std.proofs.Common.{◌≡◌, ◌≢◌, ℕ, ◌<◌, ◌&&◌, ◌||◌, nat_lt, Bool, true, false, not, cond, List, [], ◌∷◌, length, Option, Some, None, refl, sym, ap, ◌∙◌, subst, arith}
 use Rattle.std.proofs.lemmas.Bool.Decides.{nat_tests}
 use Rattle.std.proofs.lemmas.Option.{slice_get_within}
 use Rattle.std.proofs.lemmas.Bool.{and_from}
@@ -12,55 +12,21 @@ use Rattle.server_model.specs.declared.request.Request.TheVariants as requests
 use Rattle.server_model.specs.declared.entry.Asked.{Asked}
 use Rattle.server_model.specs.declared.entry.Asked.TheVariants.{Call, Poll, Command, Cut}
 use Rattle.server_model.specs.declared.entry.Entry.{Entry}
-use Rattle.server_model.specs.Along.{Along}
 use Rattle.server_model.specs.Entries.{is_command}
 use Rattle.plan_data.specs.PlanData.{PlanData}
 use Rattle.tool_program.specs.JournalWords.Clients.{Reached, client_asks, client_at, line_asks, word_asks}
-use Rattle.tool_program.specs.JournalWords.Journals.{IsAnswered, state_at}
-use Rattle.tool_program.specs.JournalWords.KeptPlans.{IsPlanned, KeepsPlan, TakesNext, commands_taken, words_of}
-use Rattle.tool_program.specs.JournalWords.Sessions.{IsSeated, KeepsSessions}
-use Rattle.tool_program.specs.Programs.{Follows, IsFollowed}
-use Rattle.proof_journals.specs.Run.Kept.{IsKept}
-use Rattle.proof_journals.proofs.Ghost.Turns.{along_next}
-use Rattle.proof_journals.proofs.Machine.Journals.{IsRun}
-use Rattle.proof_journals.proofs.ServerTurns.Agreements.{along_front}
+use Rattle.tool_program.specs.JournalWords.KeptPlans.{TakesNext, commands_taken, words_of}
 use Rattle.run_audit.specs.declared.line.LineAsked.{LineAsked}
 use Rattle.run_audit.specs.declared.line.LineAsked.TheVariants as asks
 use Rattle.run_audit.specs.declared.line.TraceLine.{TraceLine}
 use Rattle.run_audit.specs.Lines.{asked_of, line_of, lines_of}
 use Rattle.run_audit.specs.Rules.{asks_next, client_reached, commands_in, is_astray, keeps_commands, keeps_losses, keeps_script, was_lost}
-use Rattle.proof_audit.proofs.Lost.{IsLosing, lost_have_none}
 use Rattle.proof_audit.proofs.Sessions.{lines_tell_commands}
 use Rattle.proof_audit.proofs.Struck.{losses_are_kept}
 use Rattle.proof_audit.specs.Laws.{LinesKeepRules}
-use Rattle.proof_audit.proofs.Kept.{client_lives, kept_lost, kept_runs, lost_rightly, tell_clients}
-
--- ---- prefixes
-
-pub kept_before : (plan : PlanData) (before later : List Entry) → IsKept plan (before ++ later) → IsKept plan before
-unfolding KeepsPlan Follows KeepsSessions
-kept_before plan before later kept = record {
-  faithful = along_front (λ some entry. IsAnswered (state_at plan some) entry) [] before later kept.faithful;
-  planned = along_front (IsPlanned plan) [] before later kept.planned;
-  follows = along_front (IsFollowed plan) [] before later kept.follows;
-  sessions = along_front IsSeated [] before later kept.sessions;
-}
-
-pub planned_next : (plan : PlanData) (before : List Entry) (entry : Entry) (later : List Entry) → IsKept plan (before ++ entry ∷ later) → IsPlanned plan before entry
-unfolding KeepsPlan
-planned_next plan before entry later kept = along_next (IsPlanned plan) [] before entry later kept.planned
-
-pub run_next : (plan : PlanData) (before : List Entry) (entry : Entry) (later : List Entry) → IsKept plan (before ++ entry ∷ later) → IsRun plan before entry
-run_next plan before entry later kept = along_next (IsRun plan) [] before entry later (kept_runs plan (before ++ entry ∷ later) kept)
-
-all_losing : (plan : PlanData) (before journal : List Entry) → Along (IsRun plan) before journal → Along (IsPlanned plan) before journal → Along (IsLosing plan) before journal
-all_losing plan before [] runs planned = tt
-all_losing plan before (entry ∷ journal) runs planned =
-    (record { rightly = lost_rightly (state_at plan before) entry runs.0.answered; planned = planned.0 }, all_losing plan (before ++ entry ∷ []) journal runs.1 planned.1)
-
-kept_losing : (plan : PlanData) (journal : List Entry) → IsKept plan journal → Along (IsLosing plan) [] journal
-unfolding KeepsPlan
-kept_losing plan journal kept = all_losing plan [] journal (kept_runs plan journal kept) kept.planned
+use Rattle.proof_audit.proofs.Kept.{client_lives, none_have, tell_clients, whole_lost}
+use Rattle.proof_audit.proofs.Wholes.{IsTurn, turn_next, whole_before}
+use Rattle.proof_audit.specs.Wholes.{IsWhole}
 
 -- ---- scripts
 
@@ -158,26 +124,23 @@ commands_here plan before asked (Client c) same takes =
 
 -- *The lines keep the rules*
 pub keep_rules : LinesKeepRules
-keep_rules plan before entry later fit kept = record { script = script; losses = losses } where
-  front : IsKept plan before
-  front = kept_before plan before (entry ∷ later) kept
+keep_rules plan before entry later fit whole = record { script = script; losses = losses } where
+  front : IsWhole plan before
+  front = whole_before plan before (entry ∷ later) whole
 
-  planned : IsPlanned plan before entry
-  planned = planned_next plan before entry later kept
-
-  run : IsRun plan before entry
-  run = run_next plan before entry later kept
+  turn : IsTurn plan before entry
+  turn = turn_next plan before entry later whole
 
   client : (c : ℕ) → entry.actor ≡ Client c → ((client_reached plan (lines_of before) c).is_lost ≡ false) × (asks_next (client_reached plan (lines_of before) c).waits (client_reached plan (lines_of before) c).left (asked_of entry.asked) ≡ true)
   client c same =
       let known : client_reached plan (lines_of before) c ≡ client_at plan before c = tell_clients plan before c fit front in
-      let takes : TakesNext plan before (Client c) entry.asked = subst (λ (a : Actor). TakesNext plan before a entry.asked) same planned.next in (
-        ap (λ (r : Reached). r.is_lost) known ∙ client_lives plan before entry c (lost_have_none plan before (kept_losing plan before front)) run planned same,
+      let takes : TakesNext plan before (Client c) entry.asked = subst (λ (a : Actor). TakesNext plan before a entry.asked) same turn.takes in (
+        ap (λ (r : Reached). r.is_lost) known ∙ client_lives plan before entry c (none_have plan before (entry ∷ later) whole) turn same,
         ap (λ (r : Reached). asks_next r.waits r.left (asked_of entry.asked)) known ∙ client_next_so plan before c entry.asked takes,
       )
 
   script : keeps_script plan (lines_of before) (line_of entry) ≡ true
   script = script_here plan before (asked_of entry.asked) entry.actor client
 
-  losses : keeps_losses plan (lines_of before) (line_of entry) ≡ true
-  losses = and_from _ _ (losses_are_kept plan before entry (kept_lost plan before front) planned.struck) (commands_here plan before entry.asked entry.actor (lines_tell_commands before) planned.next)
+  losses : length before < plan.options.turn_limit → keeps_losses plan (lines_of before) (line_of entry) ≡ true
+  losses within = and_from _ _ (losses_are_kept plan before entry (whole_lost plan before front) (turn.struck within)) (commands_here plan before entry.asked entry.actor (lines_tell_commands before) turn.takes)

@@ -28,8 +28,6 @@ use Rattle.tool_program.specs.JournalWords.Histories.{HistoryItem, Txn, Past, ad
 use Rattle.tool_program.specs.JournalWords.Journals.{IsAnswered, inner_answer, missed, opens, state_at}
 use Rattle.tool_program.specs.JournalWords.Serials.{IsSerial, Leads, Serial, tables_left}
 use Rattle.proof_journals.specs.Machine.Scripts.{ScriptsFit}
-use Rattle.proof_journals.specs.Run.Kept.{IsKept}
-use Rattle.proof_journals.proofs.Machine.Journals.{IsRun}
 use Rattle.run_audit.specs.declared.line.LineAsked.{LineAsked}
 use Rattle.run_audit.specs.declared.line.LineAsked.TheVariants as asks
 use Rattle.run_audit.specs.declared.line.LineAnswer.{LineAnswer}
@@ -42,9 +40,11 @@ use Rattle.proof_audit.proofs.Clients.{IsClientTurn, IsClients, became_side, bef
 use Rattle.proof_audit.proofs.Judging.{serial_is_judged}
 use Rattle.proof_audit.proofs.Losing.{leads_to_one, refused_leads}
 use Rattle.proof_audit.proofs.Printing.{no_other}
-use Rattle.proof_audit.specs.Laws.{KeptAreSerial, LinesAreSerial, MarksAgree, RefusalsKeepTables}
-use Rattle.proof_audit.proofs.Kept.{client_turn_kept, tell_clients}
-use Rattle.proof_audit.proofs.Rules.{keep_rules, kept_before, run_next}
+use Rattle.proof_audit.specs.Laws.{WholesAreSerial, LinesAreSerial, MarksAgree, RefusalsKeepTables}
+use Rattle.proof_audit.proofs.Kept.{client_turn_next, tell_clients}
+use Rattle.proof_audit.proofs.Rules.{keep_rules}
+use Rattle.proof_audit.proofs.Wholes.{IsTurn, turn_next, whole_before}
+use Rattle.proof_audit.specs.Wholes.{IsWhole}
 
 -- ---- serial histories
 
@@ -197,7 +197,7 @@ drawn_items plan number (Some drawn) client tables after same is = by client.lef
   by [] is = is
   by (line ∷ lines) is = refused_line plan number client (word_numbered (Some drawn) line.word) line.word tables after same is
 
-client_serial : (plan : PlanData) (before : List Entry) (entry : Entry) (c : ℕ) → ScriptsFit plan → RefusalsKeepTables plan → IsKept plan (before ++ entry ∷ []) → entry.actor ≡ Client c
+client_serial : (plan : PlanData) (before : List Entry) (entry : Entry) (c : ℕ) → ScriptsFit plan → RefusalsKeepTables plan → IsWhole plan (before ++ entry ∷ []) → entry.actor ≡ Client c
     → Serial plan (tables_left plan (state_at plan before).tables) (entry_adds plan before entry) (tables_left plan (state_at plan (before ++ entry ∷ [])).tables)
     → Serial plan (tables_left plan (state_at plan before).tables) (map item_of (judged_in plan (lines_of before) (line_of entry) entry.actor)) (tables_left plan (state_at plan (before ++ entry ∷ [])).tables)
 client_serial plan before entry c fit keep kept same is =
@@ -205,11 +205,11 @@ client_serial plan before entry c fit keep kept same is =
       client : Reached
       client = client_at plan before c
 
-      run : IsRun plan before entry
-      run = run_next plan before entry [] kept
+      run : IsTurn plan before entry
+      run = turn_next plan before entry [] kept
 
       turn : IsClientTurn plan before entry c
-      turn = client_turn_kept plan before entry c fit kept same
+      turn = client_turn_next plan before entry c fit kept same
 
       turns : List ℕ
       turns = reply_turns plan (lines_of before ++ line_of entry ∷ []) c
@@ -236,7 +236,7 @@ client_serial plan before entry c fit keep kept same is =
       judged_is : map item_of (judged_in plan (lines_of before) (line_of entry) entry.actor) ≡ client_ends c (shown client true) said
       judged_is =
           ap (λ (a : Actor). map item_of (judged_in plan (lines_of before) (line_of entry) a)) same
-          ∙ ap (λ (r : Reached). map item_of (cond r.is_lost [] (judged_of turns (client_ends c (shown r (is_client entry.actor)) (became_of_line r.waits (asked_of entry.asked) (line_answer (is_client entry.actor) entry.side entry.answer entry.missed)))))) (tell_clients plan before c fit (kept_before plan before (entry ∷ []) kept))
+          ∙ ap (λ (r : Reached). map item_of (cond r.is_lost [] (judged_of turns (client_ends c (shown r (is_client entry.actor)) (became_of_line r.waits (asked_of entry.asked) (line_answer (is_client entry.actor) entry.side entry.answer entry.missed)))))) (tell_clients plan before c fit (whole_before plan before (entry ∷ []) kept))
           ∙ ap (λ (b : Bool). map item_of (cond b [] (judged_of turns (client_ends c (shown client (is_client entry.actor)) (became_of_line client.waits (asked_of entry.asked) (line_answer (is_client entry.actor) entry.side entry.answer entry.missed)))))) turn.lives
           ∙ ap (λ (b : Bool). map item_of (judged_of turns (client_ends c (shown client b) (became_of_line client.waits (asked_of entry.asked) (line_answer b entry.side entry.answer entry.missed))))) (ap is_client same)
           ∙ client_items turns c (shown client true) said
@@ -264,7 +264,7 @@ client_serial plan before entry c fit keep kept same is =
           (drawn_items plan c entry.draw client now later (ap (tables_left plan) (keep before entry loss.number loss.column kept loss.at loss.refused))
           (subst (λ (b : Became). Serial plan now (client_ends c drawn b) later) loss.became_is added))
 
-one_serial : (plan : PlanData) (before : List Entry) (entry : Entry) → ScriptsFit plan → MarksAgree plan → RefusalsKeepTables plan → IsKept plan (before ++ entry ∷ [])
+one_serial : (plan : PlanData) (before : List Entry) (entry : Entry) → ScriptsFit plan → MarksAgree plan → RefusalsKeepTables plan → IsWhole plan (before ++ entry ∷ [])
     → Serial plan (tables_left plan (state_at plan before).tables) (entry_adds plan before entry) (tables_left plan (state_at plan (before ++ entry ∷ [])).tables)
     → Serial plan (tables_left plan (state_at plan before).tables) (map item_of (judged_in plan (lines_of before) (line_of entry) entry.actor)) (tables_left plan (state_at plan (before ++ entry ∷ [])).tables)
 one_serial plan before entry fit marks keep kept is = by entry.actor refl where
@@ -292,33 +292,33 @@ unfolding straight_lines
 straight_all plan before [] all = refl
 straight_all plan before (line ∷ lines) all = rw all.0 (ap (λ (rest : List TraceLine). line ∷ rest) (straight_all plan (before ++ line ∷ []) lines all.1))
 
-lines_straight : (plan : PlanData) (before journal : List Entry) → ScriptsFit plan → IsKept plan (before ++ journal) → Along (λ some line. is_astray plan some line.asked line.actor ≡ false) (lines_of before) (lines_of journal)
+lines_straight : (plan : PlanData) (before journal : List Entry) → ScriptsFit plan → IsWhole plan (before ++ journal) → Along (λ some line. is_astray plan some line.asked line.actor ≡ false) (lines_of before) (lines_of journal)
 lines_straight plan before [] fit kept = tt
 lines_straight plan before (entry ∷ journal) fit kept = (
   not_second (was_lost plan (lines_of before) entry.actor) (is_astray plan (lines_of before) (asked_of entry.asked) entry.actor) (keep_rules plan before entry journal fit kept).script,
   subst (λ (some : List TraceLine). Along (λ some line. is_astray plan some line.asked line.actor ≡ false) some (lines_of journal)) (map-append line_of before (entry ∷ []))
-      (lines_straight plan (before ++ entry ∷ []) journal fit (subst (IsKept plan) (sym (append_assoc before (entry ∷ []) journal)) kept)),
+      (lines_straight plan (before ++ entry ∷ []) journal fit (subst (IsWhole plan) (sym (append_assoc before (entry ∷ []) journal)) kept)),
 )
 
 abbrev added_by : PlanData → List TraceLine → TraceLine → List Judged
 added_by plan before line = judged_in plan before line line.actor
 
-judged_all : (plan : PlanData) (journal : List Entry) → ScriptsFit plan → IsKept plan journal → judged plan (lines_of journal) ≡ gathered (added_by plan) [] (lines_of journal)
+judged_all : (plan : PlanData) (journal : List Entry) → ScriptsFit plan → IsWhole plan journal → judged plan (lines_of journal) ≡ gathered (added_by plan) [] (lines_of journal)
 unfolding judged
 judged_all plan journal fit kept = ap (gathered (added_by plan) []) (straight_all plan [] (lines_of journal) (lines_straight plan [] journal fit kept))
 
-judged_more : (plan : PlanData) (before : List Entry) (entry : Entry) → ScriptsFit plan → IsKept plan (before ++ entry ∷ []) → judged plan (lines_of (before ++ entry ∷ [])) ≡ judged plan (lines_of before) ++ judged_in plan (lines_of before) (line_of entry) entry.actor
+judged_more : (plan : PlanData) (before : List Entry) (entry : Entry) → ScriptsFit plan → IsWhole plan (before ++ entry ∷ []) → judged plan (lines_of (before ++ entry ∷ [])) ≡ judged plan (lines_of before) ++ judged_in plan (lines_of before) (line_of entry) entry.actor
 judged_more plan before entry fit kept =
     judged_all plan (before ++ entry ∷ []) fit kept
     ∙ ap (gathered (added_by plan) []) (map-append line_of before (entry ∷ []))
     ∙ gathered-more (added_by plan) [] (lines_of before) (line_of entry)
-    ∙ ap (λ (items : List Judged). items ++ judged_in plan (lines_of before) (line_of entry) entry.actor) (sym (judged_all plan before fit (kept_before plan before (entry ∷ []) kept)))
+    ∙ ap (λ (items : List Judged). items ++ judged_in plan (lines_of before) (line_of entry) entry.actor) (sym (judged_all plan before fit (whole_before plan before (entry ∷ []) kept)))
 
-pub kept_prefixes : (plan : PlanData) (before journal : List Entry) → IsKept plan (before ++ journal) → Along (λ some entry. IsKept plan (some ++ entry ∷ [])) before journal
-kept_prefixes plan before [] kept = tt
-kept_prefixes plan before (entry ∷ journal) kept =
-    let regrouped : IsKept plan ((before ++ entry ∷ []) ++ journal) = subst (IsKept plan) (sym (append_assoc before (entry ∷ []) journal)) kept in
-    (kept_before plan (before ++ entry ∷ []) journal regrouped, kept_prefixes plan (before ++ entry ∷ []) journal regrouped)
+pub whole_prefixes : (plan : PlanData) (before journal : List Entry) → IsWhole plan (before ++ journal) → Along (λ some entry. IsWhole plan (some ++ entry ∷ [])) before journal
+whole_prefixes plan before [] kept = tt
+whole_prefixes plan before (entry ∷ journal) kept =
+    let regrouped : IsWhole plan ((before ++ entry ∷ []) ++ journal) = subst (IsWhole plan) (sym (append_assoc before (entry ∷ []) journal)) kept in
+    (whole_before plan (before ++ entry ∷ []) journal regrouped, whole_prefixes plan (before ++ entry ∷ []) journal regrouped)
 
 abbrev IsJudged : PlanData → List Entry → Type 0
 IsJudged plan journal = Serial plan (opening_tables plan) (map item_of (judged plan (lines_of journal))) (tables_left plan (state_at plan journal).tables)
@@ -327,12 +327,12 @@ judged_begins : (plan : PlanData) → IsSerial plan [] → IsJudged plan []
 unfolding judged straight_lines history
 judged_begins plan is = is.leads
 
-judged_step : (plan : PlanData) (before : List Entry) (entry : Entry) → ScriptsFit plan → KeptAreSerial plan → MarksAgree plan → RefusalsKeepTables plan → IsKept plan (before ++ entry ∷ []) → IsJudged plan before → IsJudged plan (before ++ entry ∷ [])
+judged_step : (plan : PlanData) (before : List Entry) (entry : Entry) → ScriptsFit plan → WholesAreSerial plan → MarksAgree plan → RefusalsKeepTables plan → IsWhole plan (before ++ entry ∷ []) → IsJudged plan before → IsJudged plan (before ++ entry ∷ [])
 unfolding history
 judged_step plan before entry fit serial marks keep kept is =
     let now : Database = tables_left plan (state_at plan before).tables in
     let later : Database = tables_left plan (state_at plan (before ++ entry ∷ [])).tables in
-    let front : IsSerial plan before = serial before (kept_before plan before (entry ∷ []) kept) in
+    let front : IsSerial plan before = serial before (whole_before plan before (entry ∷ []) kept) in
     let whole : IsSerial plan (before ++ entry ∷ []) = serial (before ++ entry ∷ []) kept in
     let one : Serial plan now (entry_adds plan before entry) later =
     serial_split plan (opening_tables plan) now later (history plan before) (entry_adds plan before entry) front.leads
@@ -341,10 +341,10 @@ judged_step plan before entry fit serial marks keep kept is =
     (sym (ap (map item_of) (judged_more plan before entry fit kept) ∙ map-append item_of (judged plan (lines_of before)) (judged_in plan (lines_of before) (line_of entry) entry.actor)))
     (serial_join plan (opening_tables plan) now later (map item_of (judged plan (lines_of before))) (map item_of (judged_in plan (lines_of before) (line_of entry) entry.actor)) is (one_serial plan before entry fit marks keep kept one))
 
-all_judged : (plan : PlanData) (journal : List Entry) → ScriptsFit plan → KeptAreSerial plan → MarksAgree plan → RefusalsKeepTables plan → IsKept plan journal → IsJudged plan journal
+all_judged : (plan : PlanData) (journal : List Entry) → ScriptsFit plan → WholesAreSerial plan → MarksAgree plan → RefusalsKeepTables plan → IsWhole plan journal → IsJudged plan journal
 all_judged plan journal fit serial marks keep kept =
-    Along-keeps (λ some entry. IsKept plan (some ++ entry ∷ [])) (IsJudged plan) (λ before entry whole is. judged_step plan before entry fit serial marks keep whole is) [] journal (kept_prefixes plan [] journal kept)
-    (judged_begins plan (serial [] (kept_before plan [] journal kept)))
+    Along-keeps (λ some entry. IsWhole plan (some ++ entry ∷ [])) (IsJudged plan) (λ before entry whole is. judged_step plan before entry fit serial marks keep whole is) [] journal (whole_prefixes plan [] journal kept)
+    (judged_begins plan (serial [] (whole_before plan [] journal kept)))
 
 -- *The lines are serial*
 pub are_serial : LinesAreSerial

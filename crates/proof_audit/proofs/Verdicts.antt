@@ -1,5 +1,5 @@
 -- A cause that is in a journal is in its lines.
-use Rattle.std.proofs.Common.{◌≡◌, ℕ, ◌-◌, ◌<◌, ◌==◌, ◌&&◌, ◌||◌, Bool, true, false, take, List, [], ◌∷◌, Option, Some, None, refl, sym, ap, ◌∙◌, ◌⊎◌, inl, inr, arith}
+use Rattle.std.proofs.Common.{◌≡◌, ℕ, ◌-◌, ◌<◌, ◌==◌, ◌||◌, Bool, true, false, take, List, [], ◌∷◌, Option, Some, None, refl, sym, ap, ◌∙◌, ◌⊎◌, inl, inr, arith}
 use Rattle.std.specs.List.{AllByRecursion, list_all, slice_get}
 use Rattle.std.proofs.lemmas.Bool.Decides.{nat_tests}
 use Rattle.std.proofs.lemmas.Bool.{and_from}
@@ -37,7 +37,7 @@ heard_so : (client : Bool) (side : Option Side) (answer : Answer) (missed : Opti
 heard_so client None answer missed none = refl
 heard_so client (Some side) answer missed none = absurd cc
 
-refused_in_line : (client : Bool) (entry : Entry) (number : ℕ) (place : Option ℕ) → IsLostRightly entry → entry.answer ≡ answers.Refused number place → is_refusal number (line_answer client entry.side entry.answer entry.missed) ≡ true
+pub refused_in_line : (client : Bool) (entry : Entry) (number : ℕ) (place : Option ℕ) → IsLostRightly entry → entry.answer ≡ answers.Refused number place → is_refusal number (line_answer client entry.side entry.answer entry.missed) ≡ true
 refused_in_line client entry number place rightly is =
     let none : entry.side ≡ None = was_heard entry.side entry.answer rightly.sided (λ lost. let no : answers.Refused number place ≡ answers.Lost = sym is ∙ lost in absurd (cc no)) in
     ap (is_refusal number) (heard_so client entry.side entry.answer entry.missed none ∙ ap (heard_answer client) is) ∙ number_itself number

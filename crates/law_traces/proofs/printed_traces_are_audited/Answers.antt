@@ -1,5 +1,5 @@
-use Rattle.law_traces.proofs.PrintedRuns.{printed_audited}
+use Rattle.law_traces.proofs.PrintedWholes.{printed_audited}
 use Rattle.law_traces.proofs.printed_traces_are_audited.Goals as goal
 
 pub returns : goal.returns
-returns c = printed_audited c.read_plans_are_accepted.ensures c.read_options_allow.ensures c.accepted_runs_go_on.ensures.causes c.values_are_plain.ensures c.printed_traces_are_read.ensures c.traces_are_audited.ensures
+returns c = printed_audited c.whole_printed_traces_are_audited.ensures
