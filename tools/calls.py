@@ -5,7 +5,7 @@ import re
 from sql import closing, split, words_of
 
 LIST, HINT, WHO = "list the tables", "write the hint", "who waits?"
-HEARTBEAT, CHECKPOINT = "write heartbeat", "write the checkpoint"
+HEARTBEAT, CHECKPOINT, REACHED = "write heartbeat", "write the checkpoint", "read the checkpoint"
 NUMBER = "which number comes next?"
 LOG_END, RANGE = "where does the log end?", "least and greatest key"
 END, SPAN, COPY = "where does the chunk end?", "lock the chunk's rows", "copy a row"
@@ -278,21 +278,55 @@ class Worker:
             self.step, self.is_open = "first", False
 
 
+class NewTool:
+    """Who finishes a run whose whole tool was lost: its inspector. Copier and applier work as those of the run, and the renamer asks
+    once."""
+
+    def __init__(self, tables, drops_old):
+        self.tables, self.calls = tables, [LIST, REACHED]
+        self.ends = [f"DROP {name}" for name in (tables.log, *([tables.old] if drops_old else []))]
+
+    def call(self, turn):
+        if not self.calls:
+            self.calls = self.rest(turn)
+        return self.calls[0]
+
+    def took(self):
+        self.calls.pop(0)
+
+    def rest(self, turn):
+        """What comes behind the checkpoint. That a sentry stands is known by the answer to the first of these calls."""
+        if self.tables.new not in self.tables.there:
+            return list(self.ends)
+        sentry = [f"DROP {self.tables.old}"] if turn.answer.startswith("ok ") else []
+        return [*sentry, *([NUMBER, self.tables.setting()] if self.tables.is_counting else []), RANGE, *self.ends]
+
+
+def new_workers():
+    return {"copy": Worker(END, SPAN, COPY), "apply": Worker(READ, BEGIN, CHANGE)}
+
+
 class Naming:
     """A trace, turn by turn."""
 
     def __init__(self, trace):
         self.trace, self.tables = trace, Tables(trace.plan)
         self.cutover = CutOver(self.tables)
-        self.inspector = Inspector(self.tables, self.cutover, trace.option("ok_to_drop_table", False))
-        self.workers = {"copy": Worker(END, SPAN, COPY), "apply": Worker(READ, BEGIN, CHANGE)}
+        self.drops_old = trace.option("ok_to_drop_table", False)
+        self.inspector = Inspector(self.tables, self.cutover, self.drops_old)
+        self.workers, self.new_tool = new_workers(), None
         self.clients = dict(zip(trace.clients(), map(Client, trace.plan.get("clients", []))))
         self.commands = commands_in(trace.plan.get("operator", ""))
         self.waiting, self.sessions, self.live, self.made = {}, {}, {}, 0
-        self.following, self.cause = next_calls(trace.turns), trace.last_cause()
+        self.following = next_calls(trace)
+        self.is_resumed = trace.run_length() < len(trace.turns)
+        self.cause = None if self.is_resumed else trace.last_cause()
 
     def name(self):
         for turn in self.trace.turns:
+            if self.trace.is_behind(turn) and self.new_tool is None:
+                self.new_tool = NewTool(self.tables, self.drops_old)
+                self.workers, self.cause = new_workers(), self.trace.last_cause()
             if turn.asked != "word" and turn.actor not in self.live:
                 self.open(turn)
             turn.call = self.call(turn)
@@ -300,7 +334,14 @@ class Naming:
                 self.waiting[turn.actor] = turn.call
                 turn.blocker = self.sessions.get(int(turn.answer.split()[1]))
             self.took(turn)
+            if self.is_resumed and self.new_tool is None and self.cause is None and self.begins_revert(turn):
+                self.cause = turn.number
         return self.trace
+
+    def begins_revert(self, turn):
+        """Whether the run is reverted from this turn on, by panic or by a row that doesn't fit: a new tool's verdict doesn't say so. Nor
+        does a trace say how often a task failed: of a run that was reverted for that the calls behind it are named wrongly."""
+        return turn.call == "panic" and turn.asked == "word" or turn.actor in self.workers and turn.error() is not None
 
     def open(self, turn):
         self.made += 1
@@ -322,6 +363,8 @@ class Naming:
             return self.workers[turn.actor].call(turn, self.following[turn.number - 1], self.is_reverting(turn))
         if turn.actor == "ren":
             return self.tables.rename()
+        if self.new_tool is not None:
+            return self.new_tool.call(turn)
         return {"insp": self.inspector.call, "lock": self.cutover.lock_call}.get(turn.actor, self.client_call)(turn)
 
     def client_call(self, turn):
@@ -329,7 +372,10 @@ class Naming:
 
     def took(self, turn):
         actor = turn.actor
-        if actor in self.workers and (turn.asked != "cut" or self.workers[actor].is_open or actor in self.waiting):
+        if self.new_tool is not None and actor == "insp":
+            if turn.asked != "cut":
+                self.new_tool.took()
+        elif actor in self.workers and (turn.asked != "cut" or self.workers[actor].is_open or actor in self.waiting):
             self.workers[actor].took(turn, turn.call)
         elif actor in self.clients:
             self.clients[actor].took(turn)
@@ -354,10 +400,12 @@ class Naming:
             self.cutover.holds = False
 
 
-def next_calls(turns):
-    """For each turn the next call of the same actor, or none."""
-    following, last = [None] * len(turns), {}
-    for turn in reversed(turns):
+def next_calls(trace):
+    """For each turn the next call of the same actor, or none: a new tool's calls follow on none of the run's."""
+    following, last = [None] * len(trace.turns), {}
+    for turn in reversed(trace.turns):
+        if turn.number == trace.run_length():
+            last = {}
         following[turn.number - 1] = last.get(turn.actor)
         if turn.asked in ("call", "rename"):
             last[turn.actor] = turn

@@ -81,7 +81,15 @@ class Numbers:
         for span in self.locks:
             attempt = sum(begun <= span.first for begun in self.attempts)
             yield f"attempt {attempt}: the table was locked from turn {span.first} to turn {span.last}, {span.last - span.first} turns"
+        yield from self.resumed()
         yield from self.refused()
+
+    def resumed(self):
+        """Where a new tool finished the run, when it came."""
+        behind = [turn for turn in self.trace.turns if self.trace.is_behind(turn)]
+        if behind:
+            lost = sum(turn.is_loss() for turn in behind)
+            yield f"after turn {behind[0].number - 1} the whole tool was lost, with {lost} sessions; a new one finished in {len(behind) - lost} turns"
 
     def refused(self):
         """The errors, those first whose statements weren't run."""

@@ -9,8 +9,8 @@ from faults import Fault, Search, nearest, short, words_of
 from sql import closing
 
 CREATE_WORDS = (10, 11)
-# An AUTO_INCREMENT that no number can be given out of, and what the program doesn't do yet.
-NUMBERS_GIVEN, NOT_BUILT = 32, 60
+# An AUTO_INCREMENT that no number can be given out of.
+NUMBERS_GIVEN = 32
 ALTER_WORDS = (20, 25, 26, 29, 31)
 LINE_WORDS = (40, 41, 42)
 NAME = "explained_"
@@ -143,7 +143,7 @@ class Explanation:
         self.version = 2 if plan.get("version") == 2 else 1
         if 51 <= first.code <= 55:
             plan = self.mended_keys(plan)
-        for part in (self.tables, self.rows, self.names, self.alter, self.clients, self.operator, self.faults, self.turns, self.not_built):
+        for part in (self.tables, self.rows, self.names, self.alter, self.clients, self.operator, self.faults, self.turns):
             if plan is not None:
                 plan = part(plan)
         if plan is not None:
@@ -628,18 +628,6 @@ class Explanation:
             self.nearest(refusal.code, words, at, forms, lambda text: self.code({**plan, "turns": text}) is None)
             words = [word for word in words if word]
         return None
-
-    def not_built(self, plan):
-        """What the program reads, but can't do yet: options of later versions."""
-        refusal = self.asking.plan(plan)
-        if refusal is None or refusal.code != NOT_BUILT:
-            return plan
-        for key, it in list(plan.get("options", {}).items()):
-            if self.code(self.least(options={key: it})) == NOT_BUILT:
-                self.point(f"options, key {key}", value(it))
-                self.reason(NOT_BUILT, "this program doesn't do it yet: without it the plan is read")
-                plan = {**plan, "options": {name: other for name, other in plan["options"].items() if name != key}}
-        return plan
 
     def actors(self, plan):
         clients = [f"c{number}" for number in range(1, len(plan.get("clients", [])) + 1)]

@@ -2,7 +2,7 @@
 import collections
 import re
 
-from calls import BEGIN, CHANGE, COMMIT, COPY, HINT, LOG_END, RANGE, READ, ROLLBACK, SPAN, UNLOCK, is_begin, is_end, is_note
+from calls import BEGIN, CHANGE, CHECKPOINT, COMMIT, COPY, HINT, LOG_END, RANGE, READ, ROLLBACK, SPAN, UNLOCK, is_begin, is_end, is_note
 
 CHANGES = re.compile(r"(?i)(?:insert\s+into|replace\s+into|update|delete\s+from)\s+(`(?:[^`]|``)+`|\w+)")
 CHUNK, TRANSACTION, BATCH, TABLE_LOCK = "chunk locked, shared", "transaction open", "batch open", "table locked"
@@ -72,9 +72,10 @@ def spans(trace):
 
 
 def begun_again(trace, actor):
-    """How often the chunk or the batch of an actor failed: its session was lost in a call, or with work open, or a wait timed out."""
+    """How often the chunk or the batch of an actor failed: its session was lost in a call, or with work open, or a wait timed out. That
+    the whole tool was lost isn't counted."""
     failed, is_open, is_waiting = 0, False, False
-    for turn in trace.turns:
+    for turn in trace.turns[: trace.run_length()]:
         if turn.actor == actor:
             failed += turn.is_timeout() or turn.is_loss() and (turn.asked != "cut" or is_open or is_waiting)
             is_open, is_waiting = (is_open or opens(turn) is not None) and not closes(turn), turn.is_wait()
@@ -139,10 +140,13 @@ class Events:
         self.table, self.most, self.mark = trace.table(), trace.option("dml_batch_size", 10), mark(trace)
         self.unread, self.open, self.batch, self.is_applying, self.has_begun = 0, {}, 0, False, False
         self.passing, self.rows = reads_of_nothing(trace), set()
+        self.trace, self.passed, self.is_resumed = trace, 0, False
 
     def took(self, turn):
         if self.mark is not None and turn.number > self.mark:
             return
+        if self.trace.is_behind(turn) and not self.is_resumed:
+            self.resume()
         if turn.is_client():
             self.client(turn)
         elif turn.call == LOG_END or turn.asked == "rename":
@@ -154,10 +158,16 @@ class Events:
             # (a row that is there already is deleted and written)
             self.unread += 2 if turn.call in self.rows else 1
             self.rows.add(turn.call)
+            self.passed = 0 if turn.call == CHECKPOINT else self.passed
         elif turn.actor == "apply":
             self.applier(turn)
         if not self.has_begun:
             self.unread = 0
+
+    def resume(self):
+        """A new tool begins at the checkpoint's position: what was passed since is unread again."""
+        self.unread, self.passed, self.is_resumed = self.unread + self.passed, 0, True
+        self.batch, self.is_applying = 0, False
 
     def client(self, turn):
         """An event is logged for each row changed, at the COMMIT."""
@@ -181,7 +191,8 @@ class Events:
         elif turn.call == BEGIN:
             self.is_applying = turn.is_done()
         if turn.number in self.passing or turn.call == COMMIT and turn.answer == "ok 0":
-            self.unread, self.batch, self.is_applying = self.unread - self.batch, 0, False
+            self.unread, self.passed = self.unread - self.batch, self.passed + self.batch
+            self.batch, self.is_applying = 0, False
         elif turn.is_loss() and (turn.asked != "cut" or self.is_applying) or turn.is_timeout():
             self.batch, self.is_applying = 0, False
 

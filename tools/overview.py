@@ -44,6 +44,7 @@ class Overview:
         self.taken()
         self.locked()
         self.alter()
+        self.lost_tool()
         for place, (curve, color) in enumerate(zip(curves(trace), CURVES)):
             self.curve(curve, color, self.bottom + 40 + CURVE * place)
         picture.text(14, self.bottom + CURVE * 3 + 44, LEGEND, font_size=10, fill=GREY)
@@ -79,6 +80,13 @@ class Overview:
             x = self.x(self.column(turn)) + WIDTH // 2
             self.picture.line(x, TOP - 10, x, self.bottom + CURVE * 3 + 20, VIOLET, stroke_width=2)
             self.picture.text(x - 6, TOP - 8, f"ALTER at turn {turn}", text_anchor="end", fill=VIOLET, font_weight="bold")
+
+    def lost_tool(self):
+        last = self.trace.run_length()
+        if last < self.turns:
+            x = self.x(self.column(last + 1))
+            self.picture.line(x, TOP - 10, x, self.bottom + CURVE * 3 + 20, GREY, stroke_width=2)
+            self.picture.text(x - 6, TOP - 8, "the whole tool is lost", text_anchor="end", fill=GREY, font_weight="bold")
 
     def curve(self, curve, color, base):
         height, most, width = CURVE - 12, max(1, curve.most), WIDTH * COLUMNS

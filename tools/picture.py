@@ -12,6 +12,7 @@ SHORT = (
     *(("create the sentry", "sentry"), ("LOCK TABLES", "LOCK"), ("write the hint", "hint"), ("RENAME", "RENAME"), ("who waits?", "who waits?")),
     *(("drop the sentry", "drop sentry"), ("UNLOCK", "UNLOCK"), ("read the log", "read log"), ("COMMIT", "commit"), ("ROLLBACK", "rollback")),
     *(("BEGIN", "begin"), ("list the tables", "list"), ("DROP", "drop"), ("CREATE", "create"), ("lock the chunk", "span"), ("where does the chunk", "chunk")),
+    ("read the checkpoint", "checkpoint"),
 )
 LEGEND = "blue: a call of the tool · green: a client's statement · yellow: waits, a dot for each poll, the dashed line to whom it waits for · red: refused · cross: the session is lost"
 
@@ -48,6 +49,7 @@ class Timeline:
         for wait in waits(self.trace):
             self.bar(wait.actor, wait.first, wait.last, "url(#stripes)")
         self.alter()
+        self.lost_tool()
         for turn in self.trace.turns[self.first - 1 : self.last]:
             self.turn(turn)
         self.counts()
@@ -92,6 +94,16 @@ class Timeline:
         x = self.x(turn) + TURN // 2
         self.picture.line(x, TOP - 22, x, self.bottom, VIOLET, stroke_width=2, stroke_dasharray="4 3")
         self.picture.text(x + 5, TOP - 14, "ALTER, at this instant", fill=VIOLET, font_weight="bold")
+
+    def lost_tool(self):
+        """Where a new tool comes."""
+        last = self.trace.run_length()
+        if last == len(self.trace.turns) or not self.first <= last < self.last:
+            return
+        x = self.x(last + 1)
+        self.picture.line(x, TOP - 22, x, self.bottom, GREY, stroke_width=2)
+        self.picture.text(x - 5, TOP - 14, "the whole tool is lost", text_anchor="end", fill=GREY, font_weight="bold")
+        self.picture.text(x + 5, TOP - 14, "a new tool", fill=GREY, font_weight="bold")
 
     def turn(self, turn):
         picture, x, y = self.picture, self.x(turn.number), self.lanes[turn.actor]

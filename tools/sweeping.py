@@ -60,6 +60,8 @@ class Sweep:
         shown = {"show_turns": True, "show_replies": True, "show_tables": False, "show_history": False}
         self.plan["options"] = {**self.plan.get("options", {}), **shown}
         self.usual = self.run(self.plan)
+        # (no loss and no command strikes a new tool's turns)
+        self.order = self.usual.order[: self.plan["options"].get("turn_limit", len(self.usual.order))]
 
     def run(self, plan):
         ran = subprocess.run([self.program, "replay"], input=toml(plan).encode("utf-8", "surrogateescape"), stdout=subprocess.PIPE)
@@ -74,7 +76,7 @@ class Sweep:
 
     def turns_of(self):
         """The actors with sessions, and how many turns each took."""
-        return collections.Counter(actor for actor in self.usual.order if actor != "op")
+        return collections.Counter(actor for actor in self.order if actor != "op")
 
     def losses(self, every):
         """Each turn of each actor, before its call and after it; of every so many turns where that is more than one."""
@@ -94,8 +96,8 @@ class Sweep:
     def panics(self, every):
         """The operator's panic before each turn."""
         commands = [word for line in self.plan.get("operator", "").split("\n") for word in commands_in(line)]
-        for at in range(0, len(self.usual.order) + 1, every):
-            before, after = self.usual.order[:at], self.usual.order[at:]
+        for at in range(0, len(self.order) + 1, every):
+            before, after = self.order[:at], self.order[at:]
             taken = before.count("op")
             operator = "\n".join([*commands[:taken], "panic"])
             turns = " ".join([*before, "op", *(actor for actor in after if actor != "op")])

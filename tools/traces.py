@@ -57,6 +57,14 @@ class Trace:
     def option(self, name, otherwise):
         return self.plan.get("options", {}).get(name, otherwise)
 
+    def run_length(self):
+        """How many turns are the run's: those behind them are of a new tool."""
+        return min(len(self.turns), self.option("turn_limit", 200_000)) if self.option("resume", False) else len(self.turns)
+
+    def is_behind(self, turn):
+        """Whether the turn is of a new tool, or the loss of a session before its first."""
+        return turn.number > self.run_length()
+
     def table(self):
         return self.plan["table"]
 

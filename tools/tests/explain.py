@@ -131,7 +131,7 @@ class Script(unittest.TestCase):
 
 class Numbers(unittest.TestCase):
     """AUTO_INCREMENT in plans of version 2, with a program that knows nothing else: a table that has it is refused where it has
-    no PRIMARY KEY, or begins at 0. The option `notes` isn't built yet."""
+    no PRIMARY KEY, or begins at 0."""
 
     def answer(self, data):
         plan = tomllib.loads(data.decode())
@@ -140,10 +140,10 @@ class Numbers(unittest.TestCase):
         for number, table in enumerate(plan["tables"], 1):
             if "AUTO_INCREMENT" in table["create"] and ("PRIMARY KEY" not in table["create"] or "AUTO_INCREMENT=0" in table["create"]):
                 return f"refused 32 auto_column table {number}\n"
-        return "refused 60 not_built\n" if "notes" in plan.get("options", {}) else ""
+        return ""
 
-    def explained(self, *creates, **keys):
-        plan = {"version": 2, "table": "t", "alter": "ADD b INT", "tables": [{"create": create} for create in creates], **keys}
+    def explained(self, *creates):
+        plan = {"version": 2, "table": "t", "alter": "ADD b INT", "tables": [{"create": create} for create in creates]}
         return explained(Asking(self.answer), toml(plan).encode()).split("\n")[:-1]
 
     def test_numbers(self):
@@ -153,10 +153,6 @@ class Numbers(unittest.TestCase):
         self.assertEqual(self.explained(small, "CREATE TABLE u (a INT AUTO_INCREMENT)"), lines)
         lines = ["refused 32 auto_column table 2", "table 2: AUTO_INCREMENT=0", "    32: the table option AUTO_INCREMENT is out of range: without it the table is read"]
         self.assertEqual(self.explained(small, f"{beside} AUTO_INCREMENT=0"), lines)
-
-    def test_what_is_not_built(self):
-        lines = ["refused 60 not_built", "options, key notes: 3", "    60: this program doesn't do it yet: without it the plan is read"]
-        self.assertEqual(self.explained("CREATE TABLE t (id INT AUTO_INCREMENT PRIMARY KEY) AUTO_INCREMENT=9", options={"notes": 3}), lines)
 
 
 class Searching(unittest.TestCase):

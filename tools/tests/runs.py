@@ -75,6 +75,14 @@ class Looked(unittest.TestCase):
         self.assertEqual(tips[1], "turn 22, locker: LOCK TABLES users, _users_del → waits 4, behind c1")
         self.assertEqual(tips[17], "turn 38, locker: UNLOCK → lost")
 
+    def test_new_tool(self):
+        """The turns after `turn_limit` are those of a new tool, and a line says where it comes."""
+        given = trace("resumed")
+        for words in ([], ["--overview"]):
+            self.assertIn("the whole tool is lost", run("timeline", *words, given=given)[1])
+        self.assertNotIn("the whole tool is lost", run("timeline", "--to", "27", given=given)[1])
+        self.assertNotIn("the whole tool is lost", run("timeline", given=given.replace(b"resume = true", b"resume = false"))[1])
+
     def test_long_runs_are_small(self):
         """A run of 20,000 turns is an overview of less than a quarter of a megabyte."""
         plan, _, _ = trace("beside").partition(b"#journal\n")
@@ -173,6 +181,11 @@ class Swept(unittest.TestCase):
     def test_fewer(self):
         _, printed, _ = self.sweep("--every", "2", self.plan)
         self.assertIn("6 runs, each with one loss", printed)
+
+    def test_new_tool(self):
+        """No loss strikes a turn behind `turn_limit`: a new tool's."""
+        self.plan.write_text(self.plan.read_text().replace("[[tables]]", "[options]\nturn_limit = 3\n[[tables]]"))
+        self.assertIn("6 runs, each with one loss", self.sweep(self.plan)[1])
 
     def test_pairs_and_panics(self):
         _, printed, _ = self.sweep("--pairs", "7", "--panics", self.plan)
