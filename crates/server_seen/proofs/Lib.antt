@@ -1,4 +1,5 @@
 pub mod Clashing
+pub mod FoundRows
 pub mod Gathered
 pub mod KeyTables
 pub mod MergedRows

@@ -1,15 +1,16 @@
 //! A table as a transaction sees it.
 
-ghost use Rattle.std.specs.Prelude.{◌≡◌, IfOk};
+ghost use Rattle.std.specs.Prelude.{◌≡◌, option_copied, IfOk};
 ghost use Rattle.base_values.specs.GhoSchema.Rows.{key_places};
 ghost use Rattle.base_values.specs.GhoSchema.Tables.{Ascends};
+ghost use Rattle.table_store.specs.Databases.{row_at_key};
 ghost use Rattle.server_model.specs.Rows.{rows_met};
 ghost use Rattle.server_model.specs.StatementResults.{displaced};
 
 use crate::met_rows::{rows_clashing, rows_met};
 use crate::written::WrittenRows;
 use base_values::gho_schema::Schema;
-use base_values::{Row, Rows};
+use base_values::{Key, Row, Rows};
 use server_model::Reach;
 use std::alloc::{AllocError, Global};
 use std::marker::Model;
@@ -55,6 +56,22 @@ impl<'a> SeenTable<'a> {
         // For the prover: `schema` says that what was written is well formed (`IsWritten`).
         let _written = self.written.schema();
         self.table.schema()
+    }
+
+    /// The row of this key. It takes no memory.
+    pub fn row_of(&self, key: &Key) -> Option<&'a Row>
+        ensures { option_copied result ≡ row_at_key self.now key.now }
+    {
+        match self.written.row_of(key) {
+            Some(row) => Some(row),
+            None => {
+                if self.written.touches(key) {
+                    None
+                } else {
+                    self.table.get(key)
+                }
+            }
+        }
     }
 
     /// The rows that a condition reaches, in order.

@@ -1,9 +1,10 @@
 //! What was written to a table.
 
-ghost use Rattle.std.specs.Prelude.{◌≡◌, ◌≤◌, ◌<◌, ◌+◌, length, IfOk, OnOk, OnErr};
+ghost use Rattle.std.specs.Prelude.{◌≡◌, ◌≤◌, ◌<◌, ◌+◌, find, length, option_copied, IfOk, OnOk, OnErr};
 ghost use Rattle.base_values.specs.GhoSchema.Rows.{key_of, key_places};
 ghost use Rattle.base_values.specs.GhoSchema.Tables.{Ascends};
-ghost use Rattle.server_model.specs.Rows.{rows_met};
+ghost use Rattle.table_store.specs.RowLists.{is_at};
+ghost use Rattle.server_model.specs.Rows.{rows_met, stands};
 ghost use Rattle.server_model.specs.StatementResults.{displaced};
 ghost use Rattle.server_seen.specs.Written.{nothing, untouched, put_all, removed, stored, wrote, written_over};
 ghost use Rattle.server_seen.specs.FittingChanges.{IsWritten};
@@ -155,6 +156,20 @@ impl WrittenRows {
             }
         }
         Ok(())
+    }
+
+    /// The row that exists with this key.
+    pub(crate) fn row_of(&self, key: &Key) -> Option<&Row>
+        ensures { option_copied result ≡ find (is_at (key_places self.now.schema) key.now) self.now.written.rows }
+    {
+        self.rows.get(key)
+    }
+
+    /// Whether the row of this key was written or removed.
+    pub(crate) fn touches(&self, key: &Key) -> bool
+        ensures { result ≡ stands key.now self.now.written.keys }
+    {
+        self.keys.contains(key)
     }
 
     /// The rows that exist and that a condition reaches.

@@ -1,56 +1,28 @@
 //! What the copy of a row comes to: the insertion of its converted row, or a refusal.
 
-ghost use Rattle.std.specs.Prelude.{◌≡◌, Some, IfOk, option_copied, slice_get};
+ghost use Rattle.std.specs.Prelude.{◌≡◌, Some, IfOk, option_copied};
 ghost use Rattle.std.specs.Option.{option_map};
-ghost use Rattle.base_values.specs.Spans.{point};
-ghost use Rattle.base_values.specs.GhoSchema.ClusteredKey.{clustered_place};
 ghost use Rattle.base_values.specs.GhoSchema.Rows.{key_places};
 ghost use Rattle.base_values.specs.RowConversion.ConvertedRows.{converted_row};
-ghost use Rattle.table_store.specs.Databases.{database, find_table, row_at_key};
+ghost use Rattle.table_store.specs.Databases.{database, find_table};
 ghost use Rattle.server_model.specs.declared.work.Work.TheVariants as works;
 ghost use Rattle.server_model.specs.Checks.{new_row, or_refused};
 ghost use Rattle.server_model.specs.Operations.{after_events, copy_from, copy_work};
-ghost use Rattle.server_model.specs.Rows.{rows_met};
-ghost use Rattle.server_model.specs.LockedRows.Coverage.{IsWellFormedTable};
 ghost use Rattle.server_transaction.specs.Premises.{IsOf};
-ghost use Rattle.server_seen.specs.Written.{nothing, seen};
+ghost use Rattle.server_seen.specs.Written.{seen};
 
 use crate::Txn;
 use crate::row_copies::RowCopy;
-use base_values::gho_schema::{Schema, clustered_place};
+use base_values::gho_schema::Schema;
 use base_values::mysql_errors::ER_NO_SUCH_TABLE;
 use base_values::row_conversion::{ColumnMap, ConversionFault, converted_row};
-use base_values::{Duplicate, Key, Row, Rows, Span};
-use server_model::{Answer, Reach, Work};
+use base_values::{Key, Row};
+use server_model::{Answer, Work};
 use server_prepare::{new_row, refuses, refuses_value};
 use server_seen::{SeenTable, WrittenRows};
 use std::alloc::{AllocError, Global};
 use table_store::paged_tables::Tables;
 use table_store::paged_tables::row_pages::Table;
-
-/// The rows that one value of the clustered key at this place reaches, of a table as it is seen.
-fn rows_reached(
-    alloc: Global,
-    seen: &SeenTable<'_>,
-    place: usize,
-    key: &Key,
-) -> Result<Rows, AllocError>
-    ensures { IfOk result (λ rows. rows ≡ rows_met seen.now.schema (record { key = place; span = point key.now }) seen.now.rows) }
-{
-    let span = Span::point(key.copy()?)?;
-    seen.met(alloc, &Reach { key: place, span })
-}
-
-/// The rows of a clustered key, of a table as it is seen: one, where a row has it.
-fn rows_at(alloc: Global, seen: &SeenTable<'_>, key: &Key) -> Result<Rows, AllocError>
-    requires { IsWellFormedTable seen.now }
-    ensures { IfOk result (λ rows. slice_get rows 0 ≡ row_at_key seen.now key.now) }
-{
-    match clustered_place(seen.schema()) {
-        Some(place) => rows_reached(alloc, seen, place, key),
-        None => unreachable!(),
-    }
-}
 
 /// The insertion of a converted row, or the refusal of a value that doesn't fit its column.
 fn work_of_converted_row(
@@ -94,27 +66,11 @@ fn work_from(
     key: &Key,
     into: &Schema,
 ) -> Result<Work, AllocError>
-    requires schema { written.now.schema ≡ table.now.table.schema }
-    requires well_formed { IsWellFormedTable (record { schema = table.now.table.schema; rows = seen (key_places table.now.table.schema) written.now.written table.now.table.rows }) }
+    requires { written.now.schema ≡ table.now.table.schema }
     ensures { IfOk result (λ work. work ≡ copy_from (Some (record { schema = table.now.table.schema; rows = seen (key_places table.now.table.schema) written.now.written table.now.table.rows })) map.now key.now into.now) }
 {
-    let rows = rows_at(alloc, &SeenTable::new(table, written), key)?;
-    work_of_row(alloc, map, rows.as_slice().first(), into)
-}
-
-/// What the copy comes to of the row of this key of a table to which nothing was written.
-fn work_from_unwritten(
-    alloc: Global,
-    table: &Table,
-    map: &ColumnMap,
-    key: &Key,
-    into: &Schema,
-) -> Result<Work, AllocError>
-    requires { IsWellFormedTable (record { schema = table.now.table.schema; rows = seen (key_places table.now.table.schema) nothing table.now.table.rows }) }
-    ensures { IfOk result (λ work. work ≡ copy_from (Some (record { schema = table.now.table.schema; rows = seen (key_places table.now.table.schema) nothing table.now.table.rows })) map.now key.now into.now) }
-{
-    let written = WrittenRows::new(alloc, table.schema())?;
-    work_from(alloc, table, &written, map, key, into)
+    let seen = SeenTable::new(table, written);
+    work_of_row(alloc, map, seen.row_of(key), into)
 }
 
 /// What the copy comes to of the row of this key of the table of this name, as the session sees it.
@@ -135,6 +91,6 @@ pub fn work_of_copy(
     let _schema = table.schema();
     match txn.written_to(copy.from) {
         Some(written) => work_from(alloc, table, written, copy.map, copy.key, into),
-        None => work_from_unwritten(alloc, table, copy.map, copy.key, into),
+        None => work_of_row(alloc, copy.map, table.get(copy.key), into),
     }
 }
