@@ -7,5 +7,6 @@ pub mod MetRows
 pub mod MovedRows
 pub mod SeenChanges
 pub mod SeenRows
+pub mod SeenTables
 pub mod StoredWrites
 pub mod TouchedKeys

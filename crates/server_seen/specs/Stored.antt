@@ -1,11 +1,11 @@
 -- How keys, and what was written to a table, are stored: what contracts see of them.
-use Rattle.std.specs.Prelude.{◌≡◌, ℕ, zero, suc, ◌≤◌, List, [], ◌∷◌, length}
+use Rattle.std.specs.Prelude.{◌≡◌, ℕ, zero, suc, ◌≤◌, List, [], ◌∷◌, length, Option, Some, None}
 use Rattle.std.specs.List.{AllByRecursion}
 use Rattle.base_values.specs.declared.value.Value.{Value}
 use Rattle.base_values.specs.declared.gho_schema.schema.Schema.{Schema}
 use Rattle.base_values.specs.GhoSchema.Rows.{key_places}
 use Rattle.table_store.specs.Databases.{TableRows}
-use Rattle.server_seen.specs.Written.{Written}
+use Rattle.server_seen.specs.Written.{Written, nothing}
 use Rattle.server_seen.specs.FittingChanges.{IsWritten}
 
 -- keys, how many values each has at most, and for how many more keys there is room
@@ -29,6 +29,11 @@ pub record StoredWrites : Type 0 where
   pub schema : Schema
   pub written : Written
   pub spare : ℕ
+
+-- what was written, where there is anything
+abbrev pub written_in : Option StoredWrites → Written
+written_in None = nothing
+written_in (Some writes) = writes.written
 
 -- the keys are those of the schema's clustered key
 pub record IsStored (schema : Schema) (width : ℕ) (written : Written) : Type 0 where

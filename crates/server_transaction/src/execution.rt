@@ -10,7 +10,7 @@ ghost use Rattle.server_model.specs.Operations.{table_of, events_of, result_of, 
 ghost use Rattle.server_model.specs.StatementResults.{tells};
 ghost use Rattle.server_model.specs.LockedRows.Coverage.{IsWellFormedTable, IsSound};
 ghost use Rattle.server_transaction.specs.Premises.{HasSchema, IsOf, events_ready};
-ghost use Rattle.server_seen.specs.Written.{seen};
+ghost use Rattle.server_seen.specs.Written.{nothing, seen};
 
 use crate::server_data::ReadyResult;
 use crate::txn::Txn;
@@ -99,6 +99,21 @@ fn say_of(
     tell(alloc, &SeenTable::new(table, written), &work)
 }
 
+/// What a statement says of its table, to which nothing was written.
+fn say_of_unwritten(
+    alloc: Global,
+    table: &Table,
+    statement: &Statement,
+) -> Result<ReadyResult<Option<Writes>>, AllocError>
+    requires { IsWellFormedTable (record { schema = table.now.table.schema; rows = seen (key_places table.now.table.schema) nothing table.now.table.rows }) }
+    ensures statement_result { IfOk result (λ executed. executed.result ≡ result_of table.now.table.schema.name (tells table.now.table.schema (seen (key_places table.now.table.schema) nothing table.now.table.rows) (work_of table.now.table.schema statement.now))) }
+    ensures events { IfOk result (λ executed. events_ready executed.writes ≡ executed.result.events) }
+    ensures schema { IfOk result (λ executed. IfSome executed.writes (λ one. one.schema ≡ table.now.table.schema)) }
+{
+    let work = work_of(alloc, table.schema(), statement)?;
+    tell(alloc, &SeenTable::unwritten(table), &work)
+}
+
 /// What a statement needs of its table, as it is seen through what was written to it.
 fn needs_of(
     alloc: Global,
@@ -111,6 +126,18 @@ fn needs_of(
 {
     let work = work_of(alloc, table.schema(), statement)?;
     needs(alloc, &SeenTable::new(table, written), &work)
+}
+
+/// What a statement needs of its table, to which nothing was written.
+fn needs_of_unwritten(
+    alloc: Global,
+    table: &Table,
+    statement: &Statement,
+) -> Result<LockSet, AllocError>
+    ensures { IfOk result (λ locks. locks ≡ needs table.now.table.schema (seen (key_places table.now.table.schema) nothing table.now.table.rows) (work_of table.now.table.schema statement.now)) }
+{
+    let work = work_of(alloc, table.schema(), statement)?;
+    needs(alloc, &SeenTable::unwritten(table), &work)
 }
 
 /// What is said where the table doesn't exist.
@@ -147,10 +174,7 @@ pub fn execute(
     let _schema = table.schema();
     match txn.written_to(name) {
         Some(written) => say_of(alloc, table, written, statement),
-        None => {
-            let written = WrittenRows::new(alloc, table.schema())?;
-            say_of(alloc, table, &written, statement)
-        }
+        None => say_of_unwritten(alloc, table, statement),
     }
 }
 
@@ -172,9 +196,6 @@ pub fn statement_needs(
     let _schema = table.schema();
     match txn.written_to(name) {
         Some(written) => needs_of(alloc, table, written, statement),
-        None => {
-            let written = WrittenRows::new(alloc, table.schema())?;
-            needs_of(alloc, table, &written, statement)
-        }
+        None => needs_of_unwritten(alloc, table, statement),
     }
 }

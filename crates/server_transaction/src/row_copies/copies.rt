@@ -52,8 +52,7 @@ fn tell_of_unwritten(
     ensures events { IfOk result (λ executed. events_ready executed.writes ≡ executed.result.events) }
     ensures schema { IfOk result (λ executed. IfSome executed.writes (λ one. one.schema ≡ table.now.table.schema)) }
 {
-    let written = WrittenRows::new(alloc, table.schema())?;
-    tell_of(alloc, table, &written, work)
+    tell(alloc, &SeenTable::unwritten(table), work)
 }
 
 /// What work needs of a table, as it is seen through what was written to it.
@@ -73,8 +72,7 @@ fn needs_of(
 fn needs_of_unwritten(alloc: Global, table: &Table, work: &Work) -> Result<LockSet, AllocError>
     ensures { IfOk result (λ locks. locks ≡ needs table.now.table.schema (seen (key_places table.now.table.schema) nothing table.now.table.rows) work.now) }
 {
-    let written = WrittenRows::new(alloc, table.schema())?;
-    needs_of(alloc, table, &written, work)
+    needs(alloc, &SeenTable::unwritten(table), work)
 }
 
 /// What is said where the session copies the row of this clustered key, converted, from the one table into the other, and what

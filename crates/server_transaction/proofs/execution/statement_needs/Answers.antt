@@ -1,7 +1,8 @@
-use Rattle.std.proofs.Common.{◌≡◌, List, ◌∙◌, subst}
+use Rattle.std.proofs.Common.{◌≡◌, List, ◌∙◌, subst, refl}
 use Rattle.std.specs.Prelude.{IfOk}
 use Rattle.server_locks.specs.declared.row_locks.lock.Lock.{Lock}
 use Rattle.table_store.specs.Databases.{database}
+use Rattle.server_seen.specs.Written.{nothing}
 use Rattle.server_transaction.proofs.Sayings.{IsRead, IsReadThrough, reads_some, reads_none, missing_needs}
 use Rattle.server_transaction.proofs.execution.statement_needs.Goals as goal
 
@@ -20,9 +21,9 @@ returns-in-Some-written_to c =
     c.in-Some-written_to.ensures.writes c.in-Some-written_to.ensures.shown in
     subst (λ (ls : List Lock). IfOk c.needs_of.result (λ locks. locks ≡ ls)) read.read.needed c.needs_of.ensures
 
-pub returns-in_ok-written-in-None : goal.returns-in_ok-written-in-None
-returns-in_ok-written-in-None c =
-    let read : IsRead (database c.args.tables.now) c.args.txn.now.events c.args.statement.now c.in-Some.table.now.table c.in_ok-written-in-None.written.written =
-    reads_none (database c.args.tables.now) c.args.txn.now c.args.statement.now c.table_of-name.result.now c.in-Some.table.now.table c.in_ok-written-in-None.written.written c.table_of-name.ensures c.requires c.in-Some.ensures.table c.schema-schema.ensures.ascends
-    c.in-None.ensures.writes c.in-None.ensures.shown c.in_ok-written-in-None.ensures.written in
-    subst (λ (ls : List Lock). IfOk c.needs_of-in-None.result (λ locks. locks ≡ ls)) read.needed c.needs_of-in-None.ensures
+pub returns-in-None : goal.returns-in-None
+returns-in-None c =
+    let read : IsRead (database c.args.tables.now) c.args.txn.now.events c.args.statement.now c.in-Some.table.now.table nothing =
+    reads_none (database c.args.tables.now) c.args.txn.now c.args.statement.now c.table_of-name.result.now c.in-Some.table.now.table nothing c.table_of-name.ensures c.requires c.in-Some.ensures.table c.schema-schema.ensures.ascends
+    c.in-None.ensures.writes c.in-None.ensures.shown refl in
+    subst (λ (ls : List Lock). IfOk c.needs_of_unwritten.result (λ locks. locks ≡ ls)) read.needed c.needs_of_unwritten.ensures
