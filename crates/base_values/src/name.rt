@@ -9,10 +9,11 @@ use crate::duplicate::Duplicate;
 use crate::sequence::Sequence;
 use std::alloc::{AllocError, Global};
 use std::marker::Model;
+use std::sync::ArcStr;
 
-/// The name of a table, a column or a key. Which texts are names, and how they compare, the reader of each says.
+/// The name of a table, a column or a key. Which texts are names, and how they compare, the reader of each says. Copies share the text.
 pub struct Name {
-    text: String,
+    text: ArcStr,
 }
 
 // By hand, so that crates above prove it as one call.
@@ -24,11 +25,12 @@ impl Drop for Name {
 }
 
 impl Model for Name {
-    ghost use Rattle.std.specs.Prelude.{ℕ, List, string_bytes};
+    ghost use Rattle.std.specs.Prelude.{ℕ, List};
+    ghost use Rattle.std.specs.Arc.{arc_str_bytes};
 
     ghost Value = { List ℕ };
 
-    ghost view = { λ n. string_bytes n.text };
+    ghost view = { λ n. arc_str_bytes n.text };
 }
 
 impl Name {
@@ -37,7 +39,7 @@ impl Name {
         ensures { IfOk result (λ name. name ≡ text.now) }
     {
         Ok(Name {
-            text: String::from_str(alloc, text)?,
+            text: ArcStr::from_str(alloc, text)?,
         })
     }
 

@@ -10,10 +10,11 @@ use crate::duplicate::Duplicate;
 use itoa::Buffer;
 use std::alloc::{AllocError, Global};
 use std::marker::Model;
+use std::sync::ArcStr;
 
-/// The text of a value, of a comment or of a default.
+/// The text of a value, of a comment or of a default. Copies share it.
 pub struct Chars {
-    text: String,
+    text: ArcStr,
 }
 
 // By hand, so that crates above prove it as one call.
@@ -25,11 +26,12 @@ impl Drop for Chars {
 }
 
 impl Model for Chars {
-    ghost use Rattle.std.specs.Prelude.{ℕ, List, string_bytes};
+    ghost use Rattle.std.specs.Prelude.{ℕ, List};
+    ghost use Rattle.std.specs.Arc.{arc_str_bytes};
 
     ghost Value = { List ℕ };
 
-    ghost view = { λ c. string_bytes c.text };
+    ghost view = { λ c. arc_str_bytes c.text };
 }
 
 impl Chars {
@@ -38,7 +40,7 @@ impl Chars {
         ensures { IfOk result (λ chars. chars ≡ text.now) }
     {
         Ok(Chars {
-            text: String::from_str(alloc, text)?,
+            text: ArcStr::from_str(alloc, text)?,
         })
     }
 

@@ -4,6 +4,7 @@ ghost use Rattle.std.specs.Prelude.{◌≡◌, IfOk};
 
 use crate::duplicate::Duplicate;
 use crate::sequence::Sequence;
+use crate::shared::Shared;
 use crate::text::Chars;
 use std::alloc::AllocError;
 
@@ -44,11 +45,14 @@ impl Duplicate for Value {
     }
 }
 
+/// Values as they are gathered.
+pub type Values = Sequence<Value>;
+
 /// The values of a key's columns, in the key's order.
-pub type Key = Sequence<Value>;
+pub type Key = Shared<Value>;
 
 /// The values of a table's columns, in the schema's order.
-pub type Row = Sequence<Value>;
+pub type Row = Shared<Value>;
 
 /// Keys in order.
 pub type Keys = Sequence<Key>;

@@ -5,7 +5,7 @@ ghost use Rattle.base_values.specs.declared.value.Value.TheVariants.{Num};
 ghost use Rattle.server_model.specs.StatementResults.{selected};
 
 use crate::columns::columns_of;
-use base_values::{Rows, Sequence, Value};
+use base_values::{Rows, Sequence, Shared, Value};
 use server_model::{Answer, Selection};
 use std::alloc::{AllocError, Global};
 
@@ -16,7 +16,7 @@ fn row_of_count(alloc: Global, count: usize) -> Result<Rows, AllocError>
     let mut row = Sequence::new(alloc);
     row.push(Value::Num(count as i128))?;
     let mut rows = Sequence::new(alloc);
-    rows.push(row)?;
+    rows.push(Shared::from_sequence(row)?)?;
     Ok(rows)
 }
 

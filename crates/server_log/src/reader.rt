@@ -5,7 +5,9 @@ ghost use Rattle.std.specs.Str.{is_utf8};
 ghost use Rattle.server_log.specs.Decodings.{Reads, taken, sized_at, number_of, number_at, text_of, text_at, blob_at, value_at, with_value, values_at, name_of, name_at, count_at, one_row, two_rows, change_at, event_of, event_at, decoded};
 
 use crate::fault::DecodeFault;
-use base_values::{Change, Chars, Name, Row, RowEvent, Sequence, Value, character_count};
+use base_values::{
+    Change, Chars, Name, Row, RowEvent, Sequence, Shared, Value, Values, character_count,
+};
 use std::alloc::{AllocError, Global};
 
 /// The first `n` bytes and those after them, or the fault where there are fewer.
@@ -108,7 +110,7 @@ fn value_at(alloc: Global, bytes: &[u8]) -> Result<(Option<Value>, &[u8]), Decod
 }
 
 /// The values so far with one more, unless one of them is none.
-fn with_value(values: Option<Row>, value: Option<Value>) -> Result<Option<Row>, AllocError>
+fn with_value(values: Option<Values>, value: Option<Value>) -> Result<Option<Values>, AllocError>
     ensures { IfOk result (λ more. more ≡ with_value values value) }
 {
     match (values, value) {
@@ -118,6 +120,16 @@ fn with_value(values: Option<Row>, value: Option<Value>) -> Result<Option<Row>, 
         }
         _ => Ok(None),
     }
+}
+
+/// The row of the values.
+fn shared(values: Option<Values>) -> Result<Option<Row>, AllocError>
+    ensures { IfOk result (λ row. row ≡ values) }
+{
+    Ok(match values {
+        Some(values) => Some(Shared::from_sequence(values)?),
+        None => None,
+    })
 }
 
 /// `count` values, and what follows them.
@@ -138,7 +150,7 @@ fn values_at(alloc: Global, count: u8, bytes: &[u8]) -> Result<(Option<Row>, &[u
             Err(fault) => return Err(fault),
         }
     }
-    Ok((values, rest))
+    Ok((shared(values)?, rest))
 }
 
 /// The name that bytes are, where it has at most 64 characters.

@@ -10,7 +10,7 @@ use crate::refusals::Checked;
 use crate::rows::new_row;
 use base_script::Statement;
 use base_values::gho_schema::{Column, Schema};
-use base_values::{Duplicate, Names, Row, Sequence, StoreFault, Value, store};
+use base_values::{Duplicate, Names, Row, Sequence, Shared, StoreFault, Value, Values, store};
 use server_model::auto_place;
 use std::alloc::{AllocError, Global};
 
@@ -32,7 +32,7 @@ fn names_filled(
     }
 }
 
-fn push_all(row: &mut Row, values: &[Value]) -> Result<(), AllocError>
+fn push_all(row: &mut Values, values: &[Value]) -> Result<(), AllocError>
     ensures { OnOk result (row.new ≡ row.old ++ values.now) }
 {
     for value in values {
@@ -56,17 +56,17 @@ fn value_set(
     let mut rest = values;
     for other in places {
         let Some((value, others)) = rest.split_first() else {
-            return Ok(row);
+            return Shared::from_sequence(row);
         };
         if place == *other {
             row.push(Value::Num(number as i128))?;
             push_all(&mut row, others)?;
-            return Ok(row);
+            return Shared::from_sequence(row);
         }
         row.push(value.copy()?)?;
         rest = others;
     }
-    Ok(row)
+    Shared::from_sequence(row)
 }
 
 /// The values, with the number for the column of this place.
@@ -85,7 +85,7 @@ fn values_filled(
     let mut row = Sequence::new(alloc);
     push_all(&mut row, values)?;
     row.push(Value::Num(number as i128))?;
-    Ok(row)
+    Shared::from_sequence(row)
 }
 
 fn column_at(schema: &Schema, place: usize) -> Option<&Column>

@@ -9,7 +9,7 @@ use crate::refusals::{Checked, refuses, refuses_value};
 use base_values::gho_schema::{Index, Schema};
 use base_values::mysql_errors::ER_BAD_FIELD_ERROR;
 use base_values::row_conversion::UnfitAt;
-use base_values::{Duplicate, Key, Row, Sequence, StoreFault, Value, seek};
+use base_values::{Duplicate, Key, Row, Sequence, Shared, StoreFault, Value, Values, seek};
 use std::alloc::{AllocError, Global};
 
 /// Whether each of the places is one of the others.
@@ -79,7 +79,7 @@ pub fn wanted_each(
     let mut rest = values;
     for place in places {
         let Some((value, others)) = rest.split_first() else {
-            return Ok(Ok(sought));
+            return Ok(Ok(Shared::from_sequence(sought)?));
         };
         let value = match wanted_at(alloc, schema, *place, value)? {
             Ok(value) => value,
@@ -88,11 +88,11 @@ pub fn wanted_each(
         sought.push(value)?;
         rest = others;
     }
-    Ok(Ok(sought))
+    Ok(Ok(Shared::from_sequence(sought)?))
 }
 
 fn push_beside(
-    key: &mut Key,
+    key: &mut Values,
     place: usize,
     places: &[usize],
     values: &[Value],
@@ -119,7 +119,7 @@ pub fn key_from(
     for place in key {
         push_beside(&mut found, *place, places, values)?;
     }
-    Ok(found)
+    Shared::from_sequence(found)
 }
 
 /// Whether the others are all this place.

@@ -3,7 +3,7 @@
 ghost use Rattle.std.specs.Prelude.{◌≡◌, map, IfOk};
 
 use base_script::{Comparison, Set};
-use base_values::{Duplicate, Names, Row, Sequence};
+use base_values::{Duplicate, Names, Row, Sequence, Shared};
 use std::alloc::{AllocError, Global};
 
 /// The columns that are set.
@@ -25,7 +25,7 @@ pub fn set_values(alloc: Global, sets: &[Set]) -> Result<Row, AllocError>
     for set in sets {
         values.push(set.value.copy()?)?;
     }
-    Ok(values)
+    Shared::from_sequence(values)
 }
 
 /// The columns that are compared.
@@ -47,5 +47,5 @@ pub fn compared_values(alloc: Global, comparisons: &[Comparison]) -> Result<Row,
     for comparison in comparisons {
         values.push(comparison.value.copy()?)?;
     }
-    Ok(values)
+    Shared::from_sequence(values)
 }

@@ -6,7 +6,7 @@ ghost use Rattle.base_values.specs.KeyOrder.{compare_keys};
 ghost use Rattle.server_model.specs.Checks.{inner_low, inner_high, span_of, both_spans, whole, spans_together};
 
 use base_script::{Comparison, Sign};
-use base_values::{Bound, Duplicate, Key, Sequence, Span, Value};
+use base_values::{Bound, Duplicate, Key, Sequence, Shared, Span, Value};
 use std::alloc::{AllocError, Global};
 
 /// All keys.
@@ -123,7 +123,7 @@ fn key_of_value(alloc: Global, value: &Value) -> Result<Key, AllocError>
 {
     let mut key = Sequence::new(alloc);
     key.push(value.copy()?)?;
-    Ok(key)
+    Shared::from_sequence(key)
 }
 
 /// The keys that comparisons leave together. The grammar has at most two.

@@ -9,7 +9,7 @@ use crate::refusals::{Checked, refuses, refuses_value};
 use base_values::gho_schema::{Column, Schema};
 use base_values::mysql_errors::{ER_NO_DEFAULT_FOR_FIELD, ER_WRONG_VALUE_COUNT_ON_ROW};
 use base_values::row_conversion::UnfitAt;
-use base_values::{Duplicate, Names, Row, Sequence, StoreFault, Value, store};
+use base_values::{Duplicate, Names, Row, Sequence, Shared, StoreFault, Value, store};
 use std::alloc::{AllocError, Global};
 
 /// What the column at this place stores of a value.
@@ -69,7 +69,7 @@ fn row_from(
         row.push(value)?;
         place += 1;
     }
-    Ok(Ok(row))
+    Ok(Ok(Shared::from_sequence(row)?))
 }
 
 /// The new row of an INSERT or a REPLACE, with its columns checked first, then the number of values, then each value.

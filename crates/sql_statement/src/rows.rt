@@ -6,7 +6,7 @@ ghost use Rattle.sql_statement.specs.Rows.{literals_at, set_at, sets_at, columns
 use crate::code::StatementFault;
 use crate::pieces::{MISTAKE, keyword_at, literal_at, name_at, names_at, sign_at};
 use base_script::{Set, Sets};
-use base_values::{Name, Names, Row, Sequence};
+use base_values::{Name, Names, Row, Sequence, Shared};
 use sql_grammar::{Token, after_sign};
 use std::alloc::Global;
 
@@ -31,7 +31,7 @@ fn literals_at(alloc: Global, words: &[Token]) -> Result<(Row, &[Token]), Statem
         let (value, following) = literal_at(alloc, rest)?;
         values.push(value)?;
         match after_sign(",", following) {
-            None => return Ok((values, following)),
+            None => return Ok((Shared::from_sequence(values)?, following)),
             Some(next) => rest = next,
         }
     }

@@ -1,7 +1,7 @@
 //! Spans of whole numbers, written as intervals: `(1,3]` has 2 and 3, and two dots stand for no end.
 
 use crate::reader::{CallFault, number_of};
-use base_values::{Bound, Key, Sequence, Span, Value};
+use base_values::{Bound, Key, Sequence, Shared, Span, Value};
 use std::alloc::Global;
 
 /// The key of one number.
@@ -9,7 +9,7 @@ pub fn key_of(alloc: Global, number: &str) -> Result<Key, CallFault> {
     let number = number_of(number)?;
     let mut key = Sequence::new(alloc);
     key.push(Value::Num(number))?;
-    Ok(key)
+    Ok(Shared::from_sequence(key)?)
 }
 
 fn bound_of(alloc: Global, is_open: bool, number: &str) -> Result<Bound, CallFault> {

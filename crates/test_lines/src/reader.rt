@@ -2,7 +2,7 @@
 
 ghost use Rattle.std.specs.Prelude.{◌≡◌};
 
-use base_values::{Bytes, Chars, Kind, Row, Sequence, Text, Value};
+use base_values::{Bytes, Chars, Kind, Row, Sequence, Shared, Text, Value};
 use std::alloc::{AllocError, AllocFailed, Global};
 
 /// Why a call has no answer.
@@ -104,7 +104,7 @@ pub fn row_of(alloc: Global, text: &str) -> Result<Row, CallFault> {
             row.push(value_of(alloc, value)?)?;
         }
     }
-    Ok(row)
+    Ok(Shared::from_sequence(row)?)
 }
 
 /// A kind, as `TINYINT UNSIGNED` or `VARCHAR 3`.

@@ -5,7 +5,7 @@ ghost use Rattle.std.specs.List.{flat_map};
 ghost use Rattle.base_values.specs.declared.value.Value.TheVariants.{Num};
 ghost use Rattle.server_model.specs.StatementResults.{selected};
 
-use base_values::{Duplicate, Row, Rows, Sequence, Value};
+use base_values::{Duplicate, Row, Rows, Sequence, Shared, Value, Values};
 use server_model::{Answer, Selection};
 use std::alloc::{AllocError, Global};
 
@@ -17,7 +17,7 @@ fn value_at(row: &Row, place: usize) -> Option<&Value>
 }
 
 /// Adds the value at a place, where there is one.
-fn push_value(shown: &mut Row, row: &Row, place: usize) -> Result<(), AllocError>
+fn push_value(shown: &mut Values, row: &Row, place: usize) -> Result<(), AllocError>
     ensures { OnOk result (shown.new ≡ shown.old ++ option_to_list (slice_get row.now place)) }
 {
     match value_at(row, place) {
@@ -34,7 +34,7 @@ fn values_at(alloc: Global, places: &[usize], row: &Row) -> Result<Row, AllocErr
     for place in places {
         push_value(&mut shown, row, *place)?;
     }
-    Ok(shown)
+    Shared::from_sequence(shown)
 }
 
 /// The rows' values at these places.
@@ -55,7 +55,7 @@ fn row_of_count(alloc: Global, count: usize) -> Result<Rows, AllocError>
     let mut row = Sequence::new(alloc);
     row.push(Value::Num(count as i128))?;
     let mut rows = Sequence::new(alloc);
-    rows.push(row)?;
+    rows.push(Shared::from_sequence(row)?)?;
     Ok(rows)
 }
 

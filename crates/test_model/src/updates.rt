@@ -16,7 +16,7 @@ use crate::rows::change_rows;
 use base_values::gho_schema::Schema;
 use base_values::mysql_errors::ER_DUP_ENTRY;
 use base_values::row_conversion::UnfitAt;
-use base_values::{Change, Duplicate, Row, Rows, Sequence, Value};
+use base_values::{Change, Duplicate, Row, Rows, Sequence, Shared, Value};
 use server_model::{Answer, ColumnSets, Reach};
 use server_prepare::{Checked, refuses, refuses_value};
 use std::alloc::{AllocError, Global};
@@ -54,7 +54,7 @@ fn with_sets(alloc: Global, sets: &[Option<Value>], row: &[Value]) -> Result<Row
 {
     let mut new = Sequence::new(alloc);
     push_with_sets(&mut new, sets, row)?;
-    Ok(new)
+    Shared::from_sequence(new)
 }
 
 /// How far an UPDATE is.

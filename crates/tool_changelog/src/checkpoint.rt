@@ -3,7 +3,7 @@
 ghost use Rattle.std.specs.Prelude.{◌≡◌, ◌++◌, IfOk, OnOk};
 ghost use Rattle.tool_changelog.specs.Checkpoints.{short_text, reach_text, checkpoint_text, checkpoint_value, checkpoint_row};
 
-use base_values::{Chars, Key, Kind, Row, Sequence, StoreFault, Text, Value, print_row, store};
+use base_values::{Chars, Key, Kind, Row, Shared, StoreFault, Text, Value, print_row, store};
 use std::alloc::{AllocError, Global};
 
 /// The hint of a checkpoint row.
@@ -74,5 +74,5 @@ pub fn checkpoint_row(
         return Ok(None);
     };
     let hint = Chars::new(alloc, CHECKPOINT_HINT)?;
-    Ok(Some(Sequence::from_vec(vec![in alloc; Value::Num(0), Value::Text(hint), value]?)))
+    Ok(Some(Shared::from_vec(vec![in alloc; Value::Num(0), Value::Text(hint), value]?)?))
 }

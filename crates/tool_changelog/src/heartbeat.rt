@@ -3,7 +3,7 @@
 ghost use Rattle.std.specs.Prelude.{◌≡◌, IfOk};
 ghost use Rattle.tool_changelog.specs.Heartbeats.{heartbeat_row};
 
-use base_values::{Chars, Row, Sequence, Value};
+use base_values::{Chars, Row, Shared, Value};
 use itoa::Buffer;
 use std::alloc::{AllocError, Global};
 
@@ -21,9 +21,9 @@ pub fn heartbeat_row(alloc: Global, number: u32) -> Result<Row, AllocError>
     let number = i128::from(number);
     let hint = Chars::new(alloc, HEARTBEAT_HINT)?;
     let value = Chars::new(alloc, Buffer::new().format(number))?;
-    Ok(Sequence::from_vec(vec![in alloc;
+    Shared::from_vec(vec![in alloc;
         Value::Num(HEARTBEAT_BASE + number),
         Value::Text(hint),
         Value::Text(value),
-    ]?))
+    ]?)
 }

@@ -4,7 +4,7 @@ ghost use Rattle.std.specs.Prelude.{◌≡◌, IfOk};
 ghost use Rattle.tool_changelog.specs.Hints.{hint_row, hint_of, or_last, hint_in, last_hint};
 
 use base_values::tool_names::is_log_name;
-use base_values::{Change, Chars, Name, Row, RowEvent, Sequence, Value};
+use base_values::{Change, Chars, Name, Row, RowEvent, Shared, Value};
 use itoa::Buffer;
 use std::alloc::{AllocError, Global};
 
@@ -18,11 +18,7 @@ pub fn hint_row(alloc: Global, attempt: u64) -> Result<Row, AllocError>
     let number = attempt as i128;
     let hint = Chars::new(alloc, HINT)?;
     let value = Chars::new(alloc, Buffer::new().format(number))?;
-    Ok(Sequence::from_vec(vec![in alloc;
-        Value::Num(number),
-        Value::Text(hint),
-        Value::Text(value),
-    ]?))
+    Shared::from_vec(vec![in alloc; Value::Num(number), Value::Text(hint), Value::Text(value)]?)
 }
 
 /// The attempt whose hint row this is; none where it is no hint row.

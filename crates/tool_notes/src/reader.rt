@@ -6,7 +6,7 @@ ghost use Rattle.sql_words.specs.Readings.{views};
 ghost use Rattle.tool_notes.specs.Readings.{is_blank, literals_among, literals, position_of, reach_of, note_of, has_text, checked, checkpoint_of};
 
 use crate::checkpoint::Checkpoint;
-use base_values::{Row, Sequence, Value};
+use base_values::{Row, Sequence, Shared, Value};
 use sql_grammar::word_values::literal;
 use sql_words::{Word, WordFault, words};
 use std::alloc::{AllocError, Global};
@@ -21,7 +21,7 @@ fn literals_among(alloc: Global, words: &[Word<'_>]) -> Result<Row, AllocError>
             values.push(value)?;
         }
     }
-    Ok(values)
+    Shared::from_sequence(values)
 }
 
 /// The literals of a text; none where it has a fault.
@@ -31,7 +31,7 @@ fn literals(alloc: Global, text: &str) -> Result<Row, AllocError>
     match words(alloc, text) {
         Ok(words) => literals_among(alloc, words.as_slice()),
         Err(WordFault::Memory) => Err(AllocError),
-        Err(_) => Ok(Sequence::new(alloc)),
+        Err(_) => Shared::from_sequence(Sequence::new(alloc)),
     }
 }
 

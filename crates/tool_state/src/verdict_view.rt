@@ -4,7 +4,7 @@ ghost use Rattle.std.specs.Prelude.{◌≡◌, IfOk};
 ghost use Rattle.tool_state.specs.Verdicts.{key_meant, cause_meant, verdict_meant};
 
 use base_values::gho_schema::key_of;
-use base_values::{Key, Name, Sequence, Value, copy_of};
+use base_values::{Key, Name, Sequence, Shared, Value, copy_of};
 use server_model::{Cause, Numbers, Task, Verdict};
 use std::alloc::{AllocError, Global};
 
@@ -63,7 +63,7 @@ impl KeyView<'_> {
         ensures { IfOk result (λ key. key ≡ key_meant self.entry) }
     {
         match self {
-            KeyView::Values(values) => Ok(Sequence::from_vec(copy_of(alloc, values)?)),
+            KeyView::Values(values) => Shared::from_vec(copy_of(alloc, values)?),
             KeyView::Of { row, places } => key_of(alloc, places, row),
         }
     }

@@ -4,7 +4,7 @@ ghost use Rattle.std.specs.Prelude.{◌≡◌, ◌++◌, OnOk, IfOk, option_to_l
 ghost use Rattle.sql_grammar.specs.Pieces.{literal_of};
 ghost use Rattle.top_trace_reader.specs.Literals.{first_in, has_none, literals_in, number_in, numbers_in, row_in, row_printed_so};
 
-use base_values::{Row, Sequence, Text, Value, print_row};
+use base_values::{Row, Sequence, Shared, Text, Value, Values, print_row};
 use server_model::Numbers;
 use sql_grammar::word_values::literal;
 use sql_grammar::{Token, text_words};
@@ -21,7 +21,7 @@ fn literal_of(alloc: Global, word: &Token) -> Result<Option<Value>, AllocError>
     }
 }
 
-fn push_found(values: &mut Row, found: Option<Value>) -> Result<(), AllocError>
+fn push_found(values: &mut Values, found: Option<Value>) -> Result<(), AllocError>
     ensures { OnOk result (values.new ≡ values.old ++ option_to_list found) }
 {
     match found {
@@ -32,7 +32,7 @@ fn push_found(values: &mut Row, found: Option<Value>) -> Result<(), AllocError>
 
 /// The values of the literals among words.
 #[tactic(auto, unfolding(crate::specs::Literals::literals_in))]
-pub(crate) fn literals_in(alloc: Global, words: &[Token]) -> Result<Row, AllocError>
+pub(crate) fn literals_in(alloc: Global, words: &[Token]) -> Result<Values, AllocError>
     ensures { IfOk result (λ values. values ≡ literals_in words.now) }
 {
     let mut values = Sequence::new(alloc);
@@ -105,6 +105,6 @@ pub(crate) fn row_in(alloc: Global, line: &str) -> Result<Option<Row>, AllocErro
     ensures { IfOk result (λ row. row ≡ row_in line.now) }
 {
     let read = text_words(alloc, line)?;
-    let row = literals_in(alloc, read.words.as_slice())?;
+    let row = Shared::from_sequence(literals_in(alloc, read.words.as_slice())?)?;
     row_printed_so(alloc, line, row)
 }

@@ -6,7 +6,7 @@ ghost use Rattle.top_trace_reader.specs.Verdicts.{batch_spent, below_2_16, cause
 ghost use Rattle.top_trace_reader.specs.Literals.{first_in};
 
 use crate::literals::{first_in, literals_in, number_in, numbers_in};
-use base_values::{Key, Name, Row, Text, Value};
+use base_values::{Key, Name, Shared, Text, Value, Values};
 use server_model::{Cause, Numbers, Task, Verdict};
 use sql_grammar::{Token, text_words};
 use std::alloc::{AllocError, Global};
@@ -62,13 +62,13 @@ fn panic_in(numbers: Numbers) -> Option<Cause>
 /// Values before the last two, and these.
 #[derive(Drop)]
 pub struct Ended {
-    pub front: Row,
+    pub front: Values,
     pub last_but_one: Value,
     pub last: Value,
 }
 
 #[tactic(auto, unfolding(crate::specs::Verdicts::ended_in))]
-fn ended_in(values: Row) -> Option<Ended>
+fn ended_in(values: Values) -> Option<Ended>
     ensures { result ≡ ended_in values }
 {
     let mut front = values;
@@ -121,12 +121,12 @@ fn unfit_turn(alloc: Global, turn: u64, ended: Ended) -> Result<Option<Cause>, A
 {
     let column = name_in(alloc, &ended.last_but_one)?;
     let number = error_in(&ended.last);
-    Ok(unfit(turn, ended.front, column, number))
+    Ok(unfit(turn, Shared::from_sequence(ended.front)?, column, number))
 }
 
 /// A turn, a key, a column and an error's number.
 #[tactic(auto, unfolding(crate::specs::Verdicts::unfit_in))]
-fn unfit_in(alloc: Global, values: Row) -> Result<Option<Cause>, AllocError>
+fn unfit_in(alloc: Global, values: Values) -> Result<Option<Cause>, AllocError>
     ensures { IfOk result (λ cause. cause ≡ unfit_in values) }
 {
     let Some((turn, others)) = first_in(values) else {

@@ -6,7 +6,7 @@ ghost use Rattle.base_values.specs.GhoSchema.Rows.{key_of, put};
 
 use crate::gho_schema::schema::Places;
 use crate::mysql_errors::ER_DUP_ENTRY;
-use crate::{Duplicate, Key, Row, Rows, Sequence, Value};
+use crate::{Duplicate, Key, Row, Rows, Sequence, Shared, Value, Values};
 use std::alloc::{AllocError, AllocFailed, Global};
 use std::collections::BTreeMap;
 use std::marker::Model;
@@ -76,7 +76,7 @@ impl Model for KeyedRows {
     ghost invariant = { λ k. k.entries.entries ≡ with_keys k.places (rows_of k.entries.entries) };
 }
 
-fn push_at(key: &mut Key, place: usize, row: &[Value]) -> Result<(), AllocError>
+fn push_at(key: &mut Values, place: usize, row: &[Value]) -> Result<(), AllocError>
     ensures { OnOk result (key.new ≡ key.old ++ option_to_list (slice_get row.now place)) }
 {
     match row.get(place) {
@@ -94,7 +94,7 @@ pub fn key_of(alloc: Global, places: &[usize], row: &[Value]) -> Result<Key, All
     for place in places {
         push_at(&mut key, *place, row)?;
     }
-    Ok(key)
+    Shared::from_sequence(key)
 }
 
 impl KeyedRows {

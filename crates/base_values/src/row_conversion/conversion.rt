@@ -7,7 +7,7 @@ ghost use Rattle.base_values.specs.Faults.{Answers};
 
 use crate::row_conversion::conversion_fault::{ConversionFault, UnfitAt};
 use crate::row_conversion::map::{MapColumn, Origin};
-use crate::{Row, Sequence, StoreFault, Value, store};
+use crate::{Row, Sequence, Shared, StoreFault, Value, store};
 use std::alloc::Global;
 
 /// What a new column gets from a row before it stores it: the old value, or the added default. The caller lends a null for a row
@@ -58,5 +58,5 @@ pub fn converted_row(
         made.push(value)?;
         column += 1;
     }
-    Ok(made)
+    Ok(Shared::from_sequence(made)?)
 }

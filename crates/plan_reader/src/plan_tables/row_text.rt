@@ -10,7 +10,7 @@ ghost use Rattle.plan_reader.specs.PlanTables.RowTexts.{value_at, mark, values_a
 use crate::plan_tables::fault::RowFault;
 use base_values::gho_schema::Column;
 use base_values::laws::stored_values_store_again;
-use base_values::{Row, Sequence, StoreFault, Value, store};
+use base_values::{Row, Sequence, Shared, StoreFault, Value, store};
 use sql_grammar::{SchemaFault, TextWords, Token, after_sign, literal_at, text_words};
 use std::alloc::Global;
 
@@ -67,7 +67,7 @@ fn values_at<'a>(
         rest = after;
         is_first = false;
     }
-    Ok((row, rest))
+    Ok((Shared::from_sequence(row)?, rest))
 }
 
 fn is_empty(words: &[Token]) -> bool

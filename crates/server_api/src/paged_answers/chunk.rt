@@ -5,7 +5,7 @@ ghost use Rattle.base_values.specs.GhoSchema.Rows.{key_of, key_places};
 ghost use Rattle.server_model.specs.Chunks.{keys_of, last_of, ends_of, chunk_end, end_key, first_keys, span_keys};
 
 use base_values::gho_schema::key_of;
-use base_values::{Bound, Duplicate, Key, Keys, Row, Sequence, Span};
+use base_values::{Bound, Duplicate, Key, Keys, Row, Sequence, Shared, Span};
 use server_model::{Answer, KeyRange};
 use std::alloc::{AllocError, Global};
 use table_store::paged_tables::row_pages::{SpanRows, Table};
@@ -83,7 +83,7 @@ fn end_key(alloc: Global, end: &Bound) -> Result<Key, AllocError>
     match end {
         Bound::Open(key) => key.copy(),
         Bound::Closed(key) => key.copy(),
-        Bound::Free => Ok(Sequence::new(alloc)),
+        Bound::Free => Shared::from_sequence(Sequence::new(alloc)),
     }
 }
 
@@ -93,7 +93,7 @@ fn last_of(alloc: Global, keys: &[Key]) -> Result<Key, AllocError>
 {
     match keys.last() {
         Some(key) => key.copy(),
-        None => Ok(Sequence::new(alloc)),
+        None => Shared::from_sequence(Sequence::new(alloc)),
     }
 }
 

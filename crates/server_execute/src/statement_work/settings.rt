@@ -3,7 +3,7 @@
 ghost use Rattle.std.specs.Prelude.{◌≡◌, map, unwrap_or, IfOk};
 ghost use Rattle.server_model.specs.StatementResults.{with_sets};
 
-use base_values::{Duplicate, Row, Rows, Sequence, Value};
+use base_values::{Duplicate, Row, Rows, Sequence, Shared, Value};
 use std::alloc::{AllocError, Global};
 
 /// A copy of what the column is set to, or else of the value that it has.
@@ -31,7 +31,7 @@ pub fn with_sets(alloc: Global, sets: &[Option<Value>], row: &[Value]) -> Result
         new.push(set_or(set, value)?)?;
         rest = others;
     }
-    Ok(new)
+    Shared::from_sequence(new)
 }
 
 /// The new rows.

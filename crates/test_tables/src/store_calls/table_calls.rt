@@ -2,7 +2,7 @@
 //! `in`, `in-by`, `rows`, `pages`, `len` and `copy`.
 
 use base_values::gho_schema::{Schema, key_of};
-use base_values::{Row, Sequence, Text, Value, print_row};
+use base_values::{Row, Sequence, Shared, Text, Value, print_row};
 use sql_create::{SchemaFault, read_schema};
 use std::alloc::{AllocError, Global};
 use table_store::paged_tables::row_pages::{SpanRows, Table};
@@ -67,7 +67,7 @@ fn put_rising(
         let mut row = Sequence::new(alloc);
         row.push(Value::Num(i128::from(n)))?;
         row.push(Value::Num(i128::from(n)))?;
-        put(alloc, table, row, output)?;
+        put(alloc, table, Shared::from_sequence(row)?, output)?;
     }
     Ok(())
 }

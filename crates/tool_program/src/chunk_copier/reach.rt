@@ -6,7 +6,7 @@ ghost use Rattle.tool_program.specs.Programs.{reach_in};
 
 use crate::chunk_copier::copier::Copier;
 use crate::chunk_copier::reader::last_key;
-use base_values::{Sequence, Value, copy_of};
+use base_values::{Shared, Value, copy_of};
 use server_model::Entry;
 use std::alloc::{AllocError, Global};
 use tool_changelog::Reach;
@@ -29,7 +29,7 @@ impl<'a> ReachView<'a> {
     {
         match self {
             ReachView::Nothing => Ok(Reach::Nothing),
-            ReachView::To(key) => Ok(Reach::To(Sequence::from_vec(copy_of(alloc, key)?))),
+            ReachView::To(key) => Ok(Reach::To(Shared::from_vec(copy_of(alloc, key)?)?)),
             ReachView::All => Ok(Reach::All),
         }
     }

@@ -4,7 +4,7 @@ ghost use Rattle.std.specs.Prelude.{◌≡◌, [], IfOk};
 ghost use Rattle.server_model.specs.Entries.{answer_at};
 ghost use Rattle.server_model.specs.EarlierAnswers.{keys_in, end_in};
 
-use base_values::{Duplicate, Key, Sequence, Value};
+use base_values::{Duplicate, Key, Sequence, Shared, Value};
 use server_model::turn_answers::answer_at;
 use server_model::{Answer, Entry};
 use std::alloc::{AllocError, Global};
@@ -25,7 +25,7 @@ pub(crate) fn end_reported(alloc: Global, journal: &[Entry], turn: u64) -> Resul
 {
     match answer_at(journal, turn) {
         Some(Answer::Keys { end, .. } | Answer::End(end)) => end.copy(),
-        _ => Ok(Sequence::new(alloc)),
+        _ => Shared::from_sequence(Sequence::new(alloc)),
     }
 }
 

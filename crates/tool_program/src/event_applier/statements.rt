@@ -11,7 +11,7 @@ use crate::event_applier::batch_plan::Planned;
 use base_script::{Condition, Set, Sets, Statement};
 use base_values::gho_schema::{Column, Schema};
 use base_values::row_conversion::{MapColumn, source};
-use base_values::{Duplicate, Name, Row, Sequence, Value};
+use base_values::{Duplicate, Name, Row, Sequence, Shared, Value};
 use std::alloc::{AllocError, Global};
 
 fn value_of(column: &MapColumn, row: &[Value]) -> Result<Value, AllocError>
@@ -29,7 +29,7 @@ fn given_values(alloc: Global, map: &[MapColumn], row: &[Value]) -> Result<Row, 
     for column in map {
         values.push(value_of(column, row)?)?;
     }
-    Ok(values)
+    Shared::from_sequence(values)
 }
 
 /// The name of the column at a place; empty where there is none.

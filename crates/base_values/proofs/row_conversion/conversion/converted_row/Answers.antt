@@ -1,4 +1,4 @@
-use Rattle.std.proofs.Common.{arith}
+use Rattle.std.proofs.Common.{Ok, sym, ap, ◌∙◌, arith}
 use Rattle.std.proofs.lemmas.Result.{err_from_is_err_and}
 use Rattle.base_values.proofs.RowConversion.RowConversions.{goes_on, fails, is_full}
 use Rattle.base_values.proofs.row_conversion.conversion.converted_row.Goals as goal
@@ -15,4 +15,4 @@ loop-new-preserved c = record {
 }
 
 pub returns : goal.returns
-returns c = is_full c.loop-new.made c.args.map.now c.loop-new.new-index c.loop-new.column c.args.row.now _ c.loop-new-test.false c.loop-new.invariant.made
+returns c = is_full c.loop-new.made c.args.map.now c.loop-new.new-index c.loop-new.column c.args.row.now _ c.loop-new-test.false c.loop-new.invariant.made ∙ ap Ok (sym c.in_ok-from_sequence.ensures)
