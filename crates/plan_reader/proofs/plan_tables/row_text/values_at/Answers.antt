@@ -15,4 +15,4 @@ pub loop-column-preserved : goal.loop-column-preserved
 loop-column-preserved c = rw c.in_ok-push.ensures.ok (goes_on c.loop-column.row c.args.columns.now c.loop-column.column-index c.loop-column.is_first c.column-item.result c.loop-column.rest.now c.in-Some.following.now c.in_ok-value.value c.in_ok-value.after.now _ c.loop-column-test.true c.column-item.is (sym c.in-Some.ensures) c.in_ok-value.ensures c.loop-column.invariant)
 
 pub returns : goal.returns
-returns c = is_full c.loop-column.row c.args.columns.now c.loop-column.column-index c.loop-column.is_first c.loop-column.rest.now _ c.loop-column-test.false c.loop-column.invariant
+returns c = rw c.in_ok-from_sequence.ensures (is_full c.loop-column.row c.args.columns.now c.loop-column.column-index c.loop-column.is_first c.loop-column.rest.now _ c.loop-column-test.false c.loop-column.invariant)
