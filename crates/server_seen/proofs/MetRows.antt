@@ -1,17 +1,21 @@
 -- The rows of a table that a condition reaches, and those that clash with a new row.
-use Rattle.std.proofs.Common.{◌≡◌, ℕ, Bool, true, false, ◌&&◌, ◌||◌, List, [], ◌∷◌, find, filter, cond, Option, Some, None, refl, sym, ap, ◌∙◌}
+use Rattle.std.proofs.Common.{◌≡◌, ℕ, Bool, true, false, ◌&&◌, ◌||◌, List, [], ◌∷◌, find, filter, cond, Option, Some, None, Ordering, Less, Equal, Greater, refl, sym, ap, ◌∙◌, subst}
 use Rattle.std.proofs.lemmas.Bool.{true≢false, and_parts, or_right}
-use Rattle.std.proofs.Math.Bool.{and-true}
-use Rattle.std.specs.List.{slice_get}
+use Rattle.std.proofs.Math.Bool.{and-false, and-true}
+use Rattle.std.specs.Ordering.{is_eq, is_gt, is_le, ordering_reverse}
+use Rattle.std.specs.List.{AllByRecursion, slice_get}
 use Rattle.base_values.specs.declared.span.Span.{Span}
-use Rattle.base_values.specs.Spans.{has}
+use Rattle.base_values.specs.KeyOrder.{compare_keys}
+use Rattle.base_values.specs.Spans.{has, point}
 use Rattle.base_values.specs.declared.gho_schema.schema.Schema.{Schema}
 use Rattle.base_values.specs.declared.gho_schema.schema.Index.{Index}
 use Rattle.base_values.specs.GhoSchema.ClusteredKey.{clustered_place, unique_at}
 use Rattle.base_values.specs.GhoSchema.Rows.{key_of, key_places, places_of}
-use Rattle.base_values.specs.GhoSchema.Tables.{no_null, clash}
-use Rattle.table_store.specs.Databases.{TableRows, rows_in, clashing}
-use Rattle.table_store.proofs.Orders.{Row}
+use Rattle.base_values.specs.GhoSchema.Tables.{Ascends, no_null, clash}
+use Rattle.table_store.specs.Databases.{TableRows, rows_in, row_at_key, clashing}
+use Rattle.table_store.specs.RowLists.{is_at}
+use Rattle.table_store.proofs.Orders.{Row, turned, is_Equal}
+use Rattle.table_store.proofs.FoundRows.{others_not_at}
 use Rattle.server_model.specs.declared.work.Reach.{Reach}
 use Rattle.server_model.specs.Rows.{lies_under, rows_met, same_row, stands}
 use Rattle.server_model.specs.StatementResults.{displaced}
@@ -43,13 +47,55 @@ pub lies_in : (index : Index) (span : Span) (row : Row) → lies_under (Some ind
 unfolding lies_under
 lies_in index span row lies = (and_parts (no_null (key_of index.places row)) (has span (key_of index.places row)) lies).1
 
+-- the clustered key is that of its place
+pub own_places : (schema : Schema) (place : ℕ) (index : Index) → clustered_place schema ≡ Some place → slice_get schema.uniques place ≡ Some index → key_places schema ≡ index.places
+own_places schema place index at is = ap (λ (own : Option ℕ). places_of (unique_at schema.uniques own)) at ∙ ap places_of is
+
 -- by the clustered key they are among those in the span
-pub reached_in : (table : TableRows) (reach : Reach) (index : Index) → clustered_place table.schema ≡ Some reach.key → slice_get table.schema.uniques reach.key ≡ Some index
-    → filter (lies_under (Some index) reach.span) (rows_in table reach.span) ≡ rows_met table.schema reach table.rows
-reached_in table reach index at is =
-    let places : key_places table.schema ≡ index.places = ap (λ (place : Option ℕ). places_of (unique_at table.schema.uniques place)) at ∙ ap places_of is in
-    ap (λ (ps : List ℕ). filter (lies_under (Some index) reach.span) (filter (λ (row : Row). has reach.span (key_of ps row)) table.rows)) places
-    ∙ filter_within (lies_under (Some index) reach.span) (λ (row : Row). has reach.span (key_of index.places row)) table.rows (lies_in index reach.span) ∙ sym (reached_by table.schema reach table.rows index is)
+pub reached_in : (table : TableRows) (index : Index) (span : Span) → key_places table.schema ≡ index.places → filter (lies_under (Some index) span) (rows_in table span) ≡ filter (lies_under (Some index) span) table.rows
+reached_in table index span places =
+    ap (λ (ps : List ℕ). filter (lies_under (Some index) span) (filter (λ (row : Row). has span (key_of ps row)) table.rows)) places
+    ∙ filter_within (lies_under (Some index) span) (λ (row : Row). has span (key_of index.places row)) table.rows (lies_in index span)
+
+-- a point has its key alone
+has_point : (key other : Row) → has (point key) other ≡ is_eq (compare_keys key other)
+unfolding has
+has_point key other = ap (λ (o : Ordering). is_le o && is_le (compare_keys other key)) (turned key other) ∙ at (compare_keys other key) ∙ ap is_eq (sym (turned key other)) where
+  at : (o : Ordering) → (is_le (ordering_reverse o) && is_le o) ≡ is_eq (ordering_reverse o)
+  at Less = refl
+  at Equal = refl
+  at Greater = refl
+
+under_point : (index : Index) (key row : Row) → lies_under (Some index) (point key) row ≡ (no_null (key_of index.places row) && is_at index.places key row)
+unfolding lies_under
+under_point index key row = ap (λ (b : Bool). no_null (key_of index.places row) && b) (has_point key (key_of index.places row))
+
+-- so it reaches the row that is found by it, if any
+none_under : (index : Index) (key : Row) (rows : List Row) → AllByRecursion (λ row. is_at index.places key row ≡ false) rows → filter (lies_under (Some index) (point key)) rows ≡ []
+none_under index key [] none = refl
+none_under index key (row ∷ rows) none = rw (under_point index key row ∙ ap (λ (b : Bool). no_null (key_of index.places row) && b) none.0 ∙ and-false (no_null (key_of index.places row))) (none_under index key rows none.1)
+
+-- the row, if no part of its key is null
+abbrev pub if_whole : List ℕ → Option Row → List Row
+if_whole places None = []
+if_whole places (Some row) = cond (no_null (key_of places row)) (row ∷ []) []
+
+pub under_one : (index : Index) (key : Row) (rows : List Row) → Ascends index.places rows → filter (lies_under (Some index) (point key)) rows ≡ if_whole index.places (find (is_at index.places key) rows)
+under_one index key [] ascends = refl
+under_one index key (row ∷ rows) ascends = here (no_null (key_of index.places row)) (is_at index.places key row) refl refl (under_one index key rows ascends.1) where
+  none_behind : is_at index.places key row ≡ true → filter (lies_under (Some index) (point key)) rows ≡ []
+  none_behind at =
+      none_under index key rows (others_not_at index.places key row rows (ap is_gt (is_Equal (compare_keys key (key_of index.places row)) at)) ascends.0)
+
+  here : (b c : Bool) → no_null (key_of index.places row) ≡ b → is_at index.places key row ≡ c → filter (lies_under (Some index) (point key)) rows ≡ if_whole index.places (find (is_at index.places key) rows)
+      → filter (lies_under (Some index) (point key)) (row ∷ rows) ≡ if_whole index.places (cond c (Some row) (find (is_at index.places key) rows))
+  here b false whole at others = rw (under_point index key row ∙ ap (λ (d : Bool). no_null (key_of index.places row) && d) at ∙ and-false (no_null (key_of index.places row))) others
+  here true true whole at others = rw (under_point index key row, whole, at) (ap (λ (rs : List Row). row ∷ rs) (none_behind at))
+  here false true whole at others = rw (under_point index key row, whole) (none_behind at)
+
+pub row_under : (table : TableRows) (index : Index) (key : Row) → key_places table.schema ≡ index.places → Ascends (key_places table.schema) table.rows → filter (lies_under (Some index) (point key)) table.rows ≡ if_whole index.places (row_at_key table key)
+row_under table index key places ascends =
+    under_one index key table.rows (subst (λ (ps : List ℕ). Ascends ps table.rows) places ascends) ∙ ap (λ (ps : List ℕ). if_whole index.places (find (is_at ps key) table.rows)) (sym places)
 
 -- none clashes
 fails_first : (b c : Bool) (row : Row) (rest : Option Row) → cond (b && c) (Some row) rest ≡ None → ((b && c) ≡ false) × (rest ≡ None)
