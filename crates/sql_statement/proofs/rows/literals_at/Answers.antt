@@ -15,7 +15,7 @@ returns-in_err-value c =
 
 pub returns-in-None : goal.returns-in-None
 unfolding literals_at
-returns-in-None c = rw (c.in_ok-from_sequence.ensures, c.in_ok-push.ensures.ok) (is_last literal_at Syntax c.loop.values (length c.args.words.now) c.loop.counter c.loop.rest.now _ c.in_ok-value.value c.in_ok-value.following.now c.loop-test.true c.in_ok-value.ensures (sym c.in-None.ensures) c.loop.invariant)
+returns-in-None c = rw (c.in_ok-from_sequence-in-None.ensures, c.in_ok-push.ensures.ok) (is_last literal_at Syntax c.loop.values (length c.args.words.now) c.loop.counter c.loop.rest.now _ c.in_ok-value.value c.in_ok-value.following.now c.loop-test.true c.in_ok-value.ensures (sym c.in-None.ensures) c.loop.invariant)
 
 pub loop-preserved : goal.loop-preserved
 loop-preserved c = rw c.in_ok-push.ensures.ok (goes_on literal_at Syntax c.loop.values (length c.args.words.now) c.loop.counter c.loop.rest.now _ c.in_ok-value.value c.in_ok-value.following.now c.in-Some.next.now c.loop-test.true c.in_ok-value.ensures (sym c.in-Some.ensures) c.loop.invariant)
