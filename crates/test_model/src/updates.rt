@@ -16,7 +16,7 @@ use crate::rows::change_rows;
 use base_values::gho_schema::Schema;
 use base_values::mysql_errors::ER_DUP_ENTRY;
 use base_values::row_conversion::UnfitAt;
-use base_values::{Change, Duplicate, Row, Rows, Sequence, Shared, Value};
+use base_values::{Change, Duplicate, Row, Rows, Sequence, Shared, Value, Values};
 use server_model::{Answer, ColumnSets, Reach};
 use server_prepare::{Checked, refuses, refuses_value};
 use std::alloc::{AllocError, Global};
@@ -33,7 +33,11 @@ fn set_or(set: &Option<Value>, value: &Value) -> Result<Value, AllocError>
 
 /// Adds copies of the row's values, with its columns set to these, where there are such.
 #[tactic(auto, using(server_model::proofs::LockedRows::Sets::with_sets_more, crate::proofs::Sets::with_no_sets), unfolding(server_model::specs::StatementResults::with_sets))]
-fn push_with_sets(into: &mut Row, sets: &[Option<Value>], row: &[Value]) -> Result<(), AllocError>
+fn push_with_sets(
+    into: &mut Values,
+    sets: &[Option<Value>],
+    row: &[Value],
+) -> Result<(), AllocError>
     ensures { OnOk result (into.new ≡ into.old ++ with_sets sets.now row.now) }
 {
     let mut rest = sets;
