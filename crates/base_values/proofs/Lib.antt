@@ -1,4 +1,5 @@
 pub mod Escapes
+pub mod NameHeads
 pub mod Orders
 mod Prefixes
 pub mod PrintedValues

@@ -2,6 +2,7 @@ pub mod KeyOrder
 pub mod Faults
 pub mod Laws
 pub mod Literals
+pub mod NameHeads
 pub mod Spans
 pub mod StoredValues
 pub mod ValueOrder

@@ -1,25 +1,30 @@
 //! Names of tables, columns and keys.
 
-ghost use Rattle.std.specs.Prelude.{◌≡◌, nat_eq, IfOk};
+ghost use Rattle.std.specs.Prelude.{◌≡◌, ◌<◌, nat_eq, get_or, IfOk};
+ghost use Rattle.std.specs.Ordering.{nat_cmp};
 ghost use Rattle.std.specs.Cmp.{partial_equiv_from_equiv};
-ghost use Rattle.std.specs.Cmp.Lexicographic.{pointwise};
+ghost use Rattle.std.specs.Cmp.Lexicographic.{pointwise, slice_cmp};
 ghost use Rattle.std.proofs.lemmas.Cmp.{nat_list_eq_equiv};
+ghost use Rattle.base_values.specs.NameHeads.{IsHead};
 
 use crate::duplicate::Duplicate;
 use crate::sequence::Sequence;
 use std::alloc::{AllocError, Global};
+use std::cmp::Ordering;
 use std::marker::Model;
 use std::sync::ArcStr;
 
 /// The name of a table, a column or a key. Which texts are names, and how they compare, the reader of each says. Copies share the text.
 pub struct Name {
     text: ArcStr,
+    // The first eight bytes as a number: most names differ in it, so they are compared by one test.
+    head: u64,
 }
 
 // By hand, so that crates above prove it as one call.
 impl Drop for Name {
     fn drop(self) {
-        let Name { text } = self;
+        let Name { text, head: _ } = self;
         drop(text);
     }
 }
@@ -27,10 +32,35 @@ impl Drop for Name {
 impl Model for Name {
     ghost use Rattle.std.specs.Prelude.{ℕ, List};
     ghost use Rattle.std.specs.Arc.{arc_str_bytes};
+    ghost use Rattle.base_values.specs.NameHeads.{IsHead};
 
     ghost Value = { List ℕ };
 
     ghost view = { λ n. arc_str_bytes n.text };
+
+    ghost invariant = { λ n. IsHead 8 (arc_str_bytes n.text) n.head };
+}
+
+/// The byte at a place as a number, and 0 after the last.
+fn byte_at(text: &[u8], place: usize) -> u64
+    ensures byte { result ≡ get_or text.now place 0 }
+    ensures small { result < 256 }
+{
+    match text.get(place) {
+        Some(byte) => u64::from(*byte),
+        None => 0,
+    }
+}
+
+/// The first eight bytes as a number, the first of them highest.
+fn head_of(text: &[u8]) -> u64
+    ensures { IsHead 8 text.now result }
+{
+    let mut head = 0;
+    for place in 0..8 {
+        head = head * 256 + byte_at(text, place);
+    }
+    head
 }
 
 impl Name {
@@ -40,6 +70,7 @@ impl Name {
     {
         Ok(Name {
             text: ArcStr::from_str(alloc, text)?,
+            head: head_of(text.as_bytes()),
         })
     }
 
@@ -49,12 +80,28 @@ impl Name {
     {
         self.text.as_str()
     }
+
+    /// Which of two names comes first, by their bytes.
+    pub fn compare(&self, other: &Name) -> Ordering
+        ensures { result ≡ slice_cmp nat_cmp self.now other.now }
+    {
+        let heads = self.head.cmp(&other.head);
+        if heads.is_ne() {
+            return heads;
+        }
+        let (len, other_len) = (self.text.len(), other.text.len());
+        if len <= 8 && other_len <= 8 {
+            return len.cmp(&other_len);
+        }
+        self.as_str().cmp(other.as_str())
+    }
 }
 
 impl Duplicate for Name {
     fn copy(&self) -> Result<Name, AllocError> {
         Ok(Name {
             text: self.text.clone()?,
+            head: self.head,
         })
     }
 }
@@ -66,7 +113,7 @@ impl PartialEq for Name {
     ghost laws = { partial_equiv_from_equiv nat_list_eq_equiv };
 
     fn eq(&self, other: &Name) -> bool {
-        self.text == other.text
+        self.head == other.head && self.text == other.text
     }
 }
 
