@@ -58,10 +58,7 @@ fn compare_lows(a: &Bound, b: &Bound) -> Ordering
 pub fn compare_key(table: &Name, key: usize, lock: &Lock) -> Ordering
     ensures { result ≡ compare_key table.now key lock.now }
 {
-    table
-        .as_str()
-        .cmp(lock.table.as_str())
-        .then(key.cmp(&lock.key))
+    table.compare(&lock.table).then(key.cmp(&lock.key))
 }
 
 /// Which of two locks comes first by table and key.
