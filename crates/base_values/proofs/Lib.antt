@@ -1,3 +1,4 @@
+pub mod Characters
 pub mod Escapes
 pub mod NameHeads
 pub mod Orders
