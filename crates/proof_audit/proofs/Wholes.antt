@@ -7,7 +7,7 @@ use Rattle.std.proofs.lemmas.List.{drop-append-le, drop_all, length-append, take
 use Rattle.std.proofs.lemmas.Option.{same_Some}
 use Rattle.base_script.specs.declared.actor.Actor.{Actor}
 use Rattle.base_script.specs.declared.actor.Actor.TheVariants.{Insp, Copy, Apply, Ren}
-use Rattle.server_model.specs.Along.{Along}
+use Rattle.server_model.specs.Along.{Along, Along-append, Along-rest}
 use Rattle.server_model.specs.declared.entry.Asked.{Asked}
 use Rattle.server_model.specs.declared.entry.Asked.TheVariants.{Call, Cut}
 use Rattle.server_model.specs.declared.entry.Entry.{Entry}
@@ -114,14 +114,6 @@ tool_turns plan run before (entry ∷ turns) full finish answered =
 
 -- ---- all turns
 
-along_rest : {E : Type 0} (keeps : List E → E → Type 0) (before some rest : List E) → Along keeps before (some ++ rest) → Along keeps (before ++ some) rest
-along_rest keeps before [] rest all = subst (λ front. Along keeps front rest) (sym (append-nil before)) all
-along_rest keeps before (first ∷ some) rest all = subst (λ front. Along keeps front rest) (append_assoc before (first ∷ []) some) (along_rest keeps (before ++ first ∷ []) some rest all.1)
-
-along_join : {E : Type 0} (keeps : List E → E → Type 0) (before some rest : List E) → Along keeps before some → Along keeps (before ++ some) rest → Along keeps before (some ++ rest)
-along_join keeps before [] rest one two = subst (λ front. Along keeps front rest) (append-nil before) two
-along_join keeps before (first ∷ some) rest one two = (one.0, along_join keeps (before ++ first ∷ []) some rest one.1 (subst (λ front. Along keeps front rest) (sym (append_assoc before (first ∷ []) some)) two))
-
 -- where turns are behind so many, there are so many
 pub all_taken : (count : ℕ) (journal : List Entry) (entry : Entry) (turns : List Entry) → drop count journal ≡ entry ∷ turns → length (take count journal) ≡ count
 all_taken zero journal entry turns is = refl
@@ -130,7 +122,7 @@ all_taken (suc count) (first ∷ journal) entry turns is = ap suc (all_taken cou
 
 gone_turns : (plan : PlanData) (run turns : List Entry) → plan.options.turn_limit ≤ length run → AreNewTools plan run turns → Along (IsTurn plan) run turns
 unfolding IsFinish
-gone_turns plan run turns full are = tool_turns plan run run turns full are.finish (along_rest (λ some entry. IsAnswered (state_at plan some) entry) [] run turns are.faithful)
+gone_turns plan run turns full are = tool_turns plan run run turns full are.finish (Along-rest (λ some entry. IsAnswered (state_at plan some) entry) [] run turns are.faithful)
 
 tail_turns : (plan : PlanData) (journal turns : List Entry) → finish_in plan journal ≡ turns → MayGoOn plan (run_in plan journal) turns → Along (IsTurn plan) (run_in plan journal) turns
 tail_turns plan journal [] is goes_on = tt
@@ -141,7 +133,7 @@ tail_turns plan journal (entry ∷ turns) is goes_on =
 pub whole_turns : (plan : PlanData) (journal : List Entry) → IsWhole plan journal → Along (IsTurn plan) [] journal
 whole_turns plan journal whole =
     subst (Along (IsTurn plan) []) (take-append-drop plan.options.turn_limit journal)
-    (along_join (IsTurn plan) [] (run_in plan journal) (finish_in plan journal) (kept_turns plan (run_in plan journal) whole.kept) (tail_turns plan journal (finish_in plan journal) refl whole.goes_on))
+    (Along-append (IsTurn plan) [] (run_in plan journal) (finish_in plan journal) (kept_turns plan (run_in plan journal) whole.kept) (tail_turns plan journal (finish_in plan journal) refl whole.goes_on))
 
 pub turn_next : (plan : PlanData) (before : List Entry) (entry : Entry) (later : List Entry) → IsWhole plan (before ++ entry ∷ later) → IsTurn plan before entry
 turn_next plan before entry later whole = along_next (IsTurn plan) [] before entry later (whole_turns plan (before ++ entry ∷ later) whole)

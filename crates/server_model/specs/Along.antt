@@ -37,3 +37,13 @@ pub Along-keeps : {E : Type 0} (keeps : List E → E → Type 0) (P : List E →
 Along-keeps keeps P step before [] kept now = subst P (sym (append-nil before)) now
 Along-keeps keeps P step before (first ∷ entries) kept now =
     subst P (append_assoc before (first ∷ []) entries) (Along-keeps keeps P step (before ++ first ∷ []) entries kept.1 (step before first kept.0 now))
+
+-- of entries after others: the rule along the last of them
+pub Along-rest : {E : Type 0} (keeps : List E → E → Type 0) (before some rest : List E) → Along keeps before (some ++ rest) → Along keeps (before ++ some) rest
+Along-rest keeps before [] rest kept = subst (λ all. Along keeps all rest) (sym (append-nil before)) kept
+Along-rest keeps before (first ∷ some) rest kept = subst (λ all. Along keeps all rest) (append_assoc before (first ∷ []) some) (Along-rest keeps (before ++ first ∷ []) some rest kept.1)
+
+-- and along all of them
+pub Along-append : {E : Type 0} (keeps : List E → E → Type 0) (before some rest : List E) → Along keeps before some → Along keeps (before ++ some) rest → Along keeps before (some ++ rest)
+Along-append keeps before [] rest kept more = subst (λ all. Along keeps all rest) (append-nil before) more
+Along-append keeps before (first ∷ some) rest kept more = (kept.0, Along-append keeps (before ++ first ∷ []) some rest kept.1 (subst (λ all. Along keeps all rest) (sym (append_assoc before (first ∷ []) some)) more))

@@ -9,7 +9,7 @@ use Rattle.base_script.specs.declared.actor.Actor.{Actor}
 use Rattle.base_script.specs.declared.actor.Actor.TheVariants.{Op, Insp, Copy, Apply, Ren, Client}
 use Rattle.base_script.specs.declared.actor.Side.{Side}
 use Rattle.base_values.specs.ToolNames.{log_name}
-use Rattle.server_model.specs.Along.{Along, Along-both}
+use Rattle.server_model.specs.Along.{Along, Along-append, Along-both, Along-rest}
 use Rattle.server_model.specs.declared.answer.Answer.{Answer}
 use Rattle.server_model.specs.declared.answer.Answer.TheVariants as answers
 use Rattle.server_model.specs.declared.entry.Asked.{Asked}
@@ -475,20 +475,10 @@ alone_begins plan run kept = record {
 abbrev Turn : PlanData → List Entry → List Entry → Entry → Type 0
 Turn plan run before entry = IsFinishTurn plan run before entry × IsAnswered (state_at plan before) entry
 
--- the turns behind the first ones
-pub along_rest : {E : Type 0} (keeps : List E → E → Type 0) (before some rest : List E) → Along keeps before (some ++ rest) → Along keeps (before ++ some) rest
-along_rest keeps before [] rest kept = subst (λ all. Along keeps all rest) (sym (append-nil before)) kept
-along_rest keeps before (first ∷ some) rest kept = subst (λ all. Along keeps all rest) (append_assoc before (first ∷ []) some) (along_rest keeps (before ++ first ∷ []) some rest kept.1)
-
--- and both
-pub along_both : {E : Type 0} (keeps : List E → E → Type 0) (before some rest : List E) → Along keeps before some → Along keeps (before ++ some) rest → Along keeps before (some ++ rest)
-along_both keeps before [] rest kept more = subst (λ all. Along keeps all rest) (append-nil before) more
-along_both keeps before (first ∷ some) rest kept more = (kept.0, along_both keeps (before ++ first ∷ []) some rest kept.1 (subst (λ all. Along keeps all rest) (sym (append_assoc before (first ∷ []) some)) more))
-
 pub finish_turns : (plan : PlanData) (run turns : List Entry) → IsFinish plan run turns → IsFaithful plan (run ++ turns) → Along (Turn plan run) run turns
 unfolding IsFinish
 finish_turns plan run turns finish faithful =
-    Along-both (IsFinishTurn plan run) (λ before entry. IsAnswered (state_at plan before) entry) run turns finish (along_rest (λ before entry. IsAnswered (state_at plan before) entry) [] run turns faithful)
+    Along-both (IsFinishTurn plan run) (λ before entry. IsAnswered (state_at plan before) entry) run turns finish (Along-rest (λ before entry. IsAnswered (state_at plan before) entry) [] run turns faithful)
 
 all_at_once : (plan : PlanData) (run turns rest : List Entry) → Along (Turn plan run) (run ++ turns) rest → GoesAlone plan run turns → AllByRecursion (λ entry. is_cut entry.asked ≡ false → came_at_once entry.answer ≡ true) rest
 all_at_once plan run turns [] kept goes = tt
@@ -508,4 +498,4 @@ own_sessions plan run before (entry ∷ turns) finish = (record { session = fini
 -- *The new tool keeps to sessions*
 pub finishes_keep_sessions : FinishesKeepSessions
 unfolding KeepsSessions IsFinish
-finishes_keep_sessions plan run turns kept finish = along_both IsSeated [] run turns kept (own_sessions plan run run turns finish)
+finishes_keep_sessions plan run turns kept finish = Along-append IsSeated [] run turns kept (own_sessions plan run run turns finish)

@@ -8,7 +8,7 @@ use Rattle.base_values.specs.ToolNames.{ghost_name, is_tool_name, log_name, old_
 use Rattle.base_values.specs.declared.gho_schema.schema.Schema.{Schema}
 use Rattle.base_script.specs.declared.actor.Actor.{Actor}
 use Rattle.base_script.specs.declared.actor.Actor.TheVariants.{Op, Insp, Copy, Apply, Lock, Ren, Client}
-use Rattle.server_model.specs.Along.{Along, Along-both}
+use Rattle.server_model.specs.Along.{Along, Along-append, Along-both}
 use Rattle.server_model.specs.Answers.{ok}
 use Rattle.server_model.specs.declared.entry.Asked.{Asked}
 use Rattle.server_model.specs.declared.entry.Asked.TheVariants.{Call, Poll, Command, Cut}
@@ -55,7 +55,7 @@ use Rattle.proof_resume.specs.Finish.Runs.{FinishesAreRuns, FinishesAreSerial}
 use Rattle.proof_resume.proofs.Finish.Holders.{rests_free, IsHeldBy}
 use Rattle.proof_resume.proofs.Finish.Machines.{is_losing, losing_knows, took_knows, IsApplierOf, IsCopierOf, KnowsAt}
 use Rattle.proof_resume.proofs.Finish.Marks.{finishes_alter_once}
-use Rattle.proof_resume.proofs.Finish.Prompt.{along_both, alone_begins, alone_more, finish_turns, finishes_keep_sessions, its_actor, its_request, lost_cut, GoesAlone, StandsAlone}
+use Rattle.proof_resume.proofs.Finish.Prompt.{alone_begins, alone_more, finish_turns, finishes_keep_sessions, its_actor, its_request, lost_cut, GoesAlone, StandsAlone}
 
 -- an actor of the tool's program that calls
 abbrev calls_server : Actor → Bool
@@ -311,9 +311,9 @@ finishes_are_runs plan run turns runs is kept finish faithful so =
     record {
       serial = is.serial;
       faithful = faithful;
-      lines = along_both (λ some entry. TakesNext plan some entry.actor entry.asked) [] run turns is.lines (each_next plan run turns away);
+      lines = Along-append (λ some entry. TakesNext plan some entry.actor entry.asked) [] run turns is.lines (each_next plan run turns away);
       seated = finishes_keep_sessions plan run turns kept.sessions finish;
-      away = along_both (λ some entry. KeepsAway plan some entry entry.actor) [] run turns is.away (each_away plan run turns away);
+      away = Along-append (λ some entry. KeepsAway plan some entry entry.actor) [] run turns is.away (each_away plan run turns away);
     }
 
 -- ... and serial

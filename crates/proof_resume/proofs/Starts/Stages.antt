@@ -11,7 +11,7 @@ use Rattle.base_values.specs.declared.gho_schema.schema.Schema.{Schema}
 use Rattle.base_values.specs.declared.mysql_errors.TheConstants.{ER_BAD_TABLE_ERROR}
 use Rattle.base_values.specs.GhoSchema.Rows.{key_places}
 use Rattle.table_store.specs.Databases.{Database, TableRows, find_table, has_table, is_named, without_table}
-use Rattle.server_model.specs.Along.{Along, Along-both, Along-keeps, Along-more}
+use Rattle.server_model.specs.Along.{Along, Along-both, Along-keeps, Along-more, Along-rest}
 use Rattle.server_model.specs.Answers.{ok, refuses}
 use Rattle.server_model.specs.Chunks.{ends_of, keys_of}
 use Rattle.server_model.specs.declared.answer.Answer.{Answer}
@@ -309,11 +309,6 @@ stage_more plan run turns entry =
     ap (λ (w : Walk). w.stage) (fold-append (walked plan) start turns (entry ∷ []))
     ∙ ap (λ (l : List Entry). took plan (l ++ entry ∷ []) (state_at plan (l ++ entry ∷ [])) entry.answer (fold (walked plan) start turns).stage) (walk_turns plan start turns)
 
--- a rule along the end of a list
-along_rest : {E : Type 0} (keeps : List E → E → Type 0) (before front back : List E) → Along keeps before (front ++ back) → Along keeps (before ++ front) back
-along_rest {E} keeps before [] back all = subst (λ (l : List E). Along keeps l back) (sym (append-nil before)) all
-along_rest {E} keeps before (first ∷ front) back all = subst (λ (l : List E). Along keeps l back) (append_assoc before (first ∷ []) front) (along_rest keeps (before ++ first ∷ []) front back all.1)
-
 module _ (plan : PlanData) (m : Migration) (rows : List Row) (of : IsMigrationOf plan m rows) (run : List Entry) (work : Work) (kept : IsKept plan run) (off : IsUnaltered plan run) (phase : (moment plan run).tool.tool_phase ≡ Migrating work) where
   -- after some turns of the new tool
   record Stands (journal : List Entry) : Type 0 where
@@ -350,7 +345,7 @@ module _ (plan : PlanData) (m : Migration) (rows : List Row) (of : IsMigrationOf
   stands_all : (turns : List Entry) → IsFaithful plan (run ++ turns) → IsFinish plan run turns → Stands (run ++ turns)
   unfolding IsFinish
   stands_all turns faithful finish =
-      Along-keeps Keeps Stands stands_more run turns (Along-both (IsFinishTurn plan run) Answered run turns finish (along_rest Answered [] run turns faithful)) (stands_begins (along_front Answered [] run turns faithful))
+      Along-keeps Keeps Stands stands_more run turns (Along-both (IsFinishTurn plan run) Answered run turns finish (Along-rest Answered [] run turns faithful)) (stands_begins (along_front Answered [] run turns faithful))
 
   same_turns : (turns other : List Entry) → run ++ turns ≡ run ++ other → other ≡ turns
   same_turns turns other same = sym (sym (drop-append_seam run turns) ∙ ap (drop (length run)) same ∙ drop-append_seam run other)

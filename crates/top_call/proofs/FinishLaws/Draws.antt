@@ -3,7 +3,7 @@ use Rattle.std.proofs.Common.{◌≡◌, ◌⊎◌, ℕ, true, false, List, [], 
 use Rattle.std.proofs.lemmas.Bool.{true≢false}
 use Rattle.std.proofs.Math.Seq.{drop-append_seam}
 use Rattle.base_script.specs.declared.actor.Actor.TheVariants.{Insp, Copy, Apply, Ren}
-use Rattle.server_model.specs.Along.{Along}
+use Rattle.server_model.specs.Along.{Along, Along-append}
 use Rattle.server_model.specs.declared.entry.Asked.{Asked}
 use Rattle.server_model.specs.declared.entry.Asked.TheVariants.{Call, Poll, Command, Cut}
 use Rattle.server_model.specs.declared.entry.Entry.{Entry}
@@ -22,7 +22,7 @@ use Rattle.tool_finish.specs.declared.stage.UnfitRow.TheVariants.{Copied, Applie
 use Rattle.tool_finish.specs.Finishes.{IsFinish, IsFinishTurn, first_live, next, rolls_back, stage_behind}
 use Rattle.tool_finish.specs.Finishes as finishes
 use Rattle.proof_journals.specs.Run.Kept.{IsKept}
-use Rattle.proof_resume.proofs.Finish.Prompt.{GoesAlone, along_both, alone_begins, alone_more, finish_turns, its_actor, lost_cut}
+use Rattle.proof_resume.proofs.Finish.Prompt.{GoesAlone, alone_begins, alone_more, finish_turns, its_actor, lost_cut}
 use Rattle.law_draws.proofs.OtherTables.{drawn_asks, drawn_by_client}
 
 -- WHOSE TURN IT IS
@@ -93,6 +93,6 @@ none_along plan run turns (entry ∷ rest) kept goes = (
 -- *What is drawn behind a run* was drawn in it
 pub finish_draws : (plan : PlanData) (run turns : List Entry) → IsKept plan run → IsFinish plan run turns → IsFaithful plan (run ++ turns) → Draws plan run → Draws plan (run ++ turns)
 finish_draws plan run turns kept finish faithful draws =
-    along_both (DrawsSo plan) [] run turns draws
+    Along-append (DrawsSo plan) [] run turns draws
     (subst (λ (all : List Entry). Along (DrawsSo plan) all turns) (append-nil run)
     (none_along plan run [] turns (subst (λ (all : List Entry). Along (Turn plan run) all turns) (sym (append-nil run)) (finish_turns plan run turns finish faithful)) (alone_begins plan run kept)))
