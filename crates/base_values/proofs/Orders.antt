@@ -1,15 +1,26 @@
 -- Values and keys that the order ties are one.
-use Rattle.std.proofs.Common.{◌≡◌, List, [], ◌∷◌, refl, ap}
+use Rattle.std.proofs.Common.{◌≡◌, true, List, [], ◌∷◌, ◌⊎◌, inl, inr, refl, ap}
 use Rattle.std.specs.declared.cmp.Ordering.{Ordering}
 use Rattle.std.specs.declared.cmp.Ordering.TheVariants.{Less, Equal, Greater}
 use Rattle.std.specs.Cmp.{IsTotalOrder}
-use Rattle.std.specs.Ordering.{ordering_then}
+use Rattle.std.specs.Ordering.{is_lt, is_le, ordering_then}
 use Rattle.std.proofs.lemmas.Cmp.{lists_total}
 use Rattle.std.proofs.lemmas.Map.Lookups.{exact_signed, exact_bytes}
 use Rattle.base_values.specs.declared.value.Value.{Value}
 use Rattle.base_values.specs.declared.value.Value.TheVariants.{Null, Num, Text, Blob}
 use Rattle.base_values.specs.KeyOrder.{compare_values, compare_keys}
 use Rattle.base_values.specs.ValueOrder.{values_total}
+
+-- what a test of an answer says of it
+pub is_Less : (o : Ordering) → is_lt o ≡ true → o ≡ Less
+is_Less Less e = refl
+is_Less Equal e = absurd cc
+is_Less Greater e = absurd cc
+
+pub not_Greater : (o : Ordering) → is_le o ≡ true → (o ≡ Less) ⊎ (o ≡ Equal)
+not_Greater Less e = inl refl
+not_Greater Equal e = inr refl
+not_Greater Greater e = absurd cc
 
 pub tied_values : (a b : Value) → compare_values a b ≡ Equal → a ≡ b
 unfolding compare_values

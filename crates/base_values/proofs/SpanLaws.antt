@@ -1,5 +1,5 @@
 -- Ends round a common key leave room.
-use Rattle.std.proofs.Common.{◌≡◌, Bool, true, false, ◌&&◌, List, refl, sym, ap, ◌∙◌, ◌⊎◌, inl, inr}
+use Rattle.std.proofs.Common.{◌≡◌, Bool, true, false, ◌&&◌, List, refl, sym, ap, ◌∙◌, inl, inr}
 use Rattle.std.specs.declared.cmp.Ordering.{Ordering}
 use Rattle.std.specs.declared.cmp.Ordering.TheVariants.{Less, Equal, Greater}
 use Rattle.std.specs.Cmp.{both_ways as one_answer}
@@ -12,17 +12,7 @@ use Rattle.base_values.specs.declared.span.Span.{Span}
 use Rattle.base_values.specs.declared.value.Value.{Value}
 use Rattle.base_values.specs.KeyOrder.{compare_keys}
 use Rattle.base_values.specs.Spans.{above, below, has, leave_room, meets, point}
-use Rattle.base_values.proofs.Orders.{keys_total, tied_keys}
-
-is_Less : (o : Ordering) → is_lt o ≡ true → o ≡ Less
-is_Less Less e = refl
-is_Less Equal e = absurd cc
-is_Less Greater e = absurd cc
-
-not_Greater : (o : Ordering) → is_le o ≡ true → (o ≡ Less) ⊎ (o ≡ Equal)
-not_Greater Less e = inl refl
-not_Greater Equal e = inr refl
-not_Greater Greater e = absurd cc
+use Rattle.base_values.proofs.Orders.{is_Less, not_Greater, keys_total, tied_keys}
 
 lt_lt : (a k b : List Value) → is_lt (compare_keys a k) ≡ true → is_lt (compare_keys k b) ≡ true → compare_keys a b ≡ Less
 lt_lt a k b p q = keys_total.trans a k b (is_Less (compare_keys a k) p) (is_Less (compare_keys k b) q)

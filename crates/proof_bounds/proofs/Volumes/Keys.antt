@@ -1,6 +1,6 @@
 -- All keys that the migrated table ever had: those of its opening rows, and those that events put. How many of them lie under an
 -- end that rises from key to key.
-use Rattle.std.proofs.Common.{◌≡◌, ◌≤◌, ◌⊎◌, inl, inr, ℕ, zero, suc, ◌+◌, ◌-◌, Bool, true, false, cond, not, ◌||◌, ◌&&◌, List, [], ◌∷◌, ◌++◌, length, filter, take, Option, Some, None, Ordering, Less, Equal, Greater, refl, sym, ap, ◌∙◌, subst, arith, append_assoc}
+use Rattle.std.proofs.Common.{◌≡◌, ◌≤◌, ◌⊎◌, inl, inr, ℕ, zero, suc, ◌+◌, ◌-◌, Bool, true, false, cond, not, ◌||◌, ◌&&◌, List, [], ◌∷◌, ◌++◌, length, filter, take, Option, Some, None, Ordering, Equal, refl, sym, ap, ◌∙◌, subst, arith, append_assoc}
 use Rattle.std.specs.Prelude.{count_by, nat_lt, unwrap_or}
 use Rattle.std.specs.List.{AllByRecursion, list_any, slice_get}
 use Rattle.std.specs.Ordering.{is_eq, is_lt}
@@ -20,7 +20,7 @@ use Rattle.base_values.specs.declared.span.Span.{Span}
 use Rattle.base_values.specs.GhoSchema.Rows.{key_of, key_places}
 use Rattle.base_values.specs.KeyOrder.{compare_keys}
 use Rattle.base_values.specs.Spans.{above, has}
-use Rattle.base_values.proofs.Orders.{keys_total, tied_keys}
+use Rattle.base_values.proofs.Orders.{is_Less, keys_total, tied_keys}
 use Rattle.table_store.specs.Databases.{TableRows}
 use Rattle.table_store.proofs.Orders.{is_Equal, under_fails}
 use Rattle.server_model.specs.declared.answer.Answer.TheVariants as answers
@@ -147,11 +147,6 @@ puts_filtered test name places p (event ∷ log) all = by (p event) (and_parts (
 -- how many keys don't lie above the end
 abbrev pub count_under : Bound → List Row → ℕ
 count_under low keys = count_by (λ key. not (above low key)) keys
-
-is_Less : (o : Ordering) → is_lt o ≡ true → o ≡ Less
-is_Less Less is = refl
-is_Less Equal is = absurd (false≢true is)
-is_Less Greater is = absurd (false≢true is)
 
 -- what is under the one end is under the other, at a key above it
 still_under : (low : Bound) (end key : Row) → above low end ≡ true → not (above low key) ≡ true → not (above (Open end) key) ≡ true

@@ -15,7 +15,7 @@ use Rattle.base_values.specs.GhoSchema.Rows.{key_of, key_places}
 use Rattle.base_values.specs.GhoSchema.Tables.{Ascends}
 use Rattle.base_values.specs.KeyOrder.{compare_keys}
 use Rattle.base_values.specs.Spans.{above, has}
-use Rattle.base_values.proofs.Orders.{keys_total}
+use Rattle.base_values.proofs.Orders.{is_Less, keys_total}
 use Rattle.table_store.specs.Databases.{TableRows}
 use Rattle.table_store.proofs.Orders.{turned, under_fails, Row}
 use Rattle.server_model.specs.declared.answer.Answer.TheVariants as answers
@@ -85,11 +85,6 @@ module _ (places : List ℕ) where
       let here = weight (key_of places row) in
       let rest = span_takes low high rows past in
       omega (arith, one, two, three, here, rest) where
-        is_Less : (o : Ordering) → is_lt o ≡ true → o ≡ Less
-        is_Less Less is = refl
-        is_Less Equal is = absurd (false≢true is)
-        is_Less Greater is = absurd (false≢true is)
-
         still_above : (key : Row) → is_lt (compare_keys high key) ≡ true → above low key ≡ true
         still_above key less = not-false (above low key) (under_fails low high key (is_Less (compare_keys high key) less) (ap not past))
 

@@ -1,5 +1,5 @@
 -- After a chunk's COMMIT no key is left to copy that was copied; and where the server ends chunks.
-use Rattle.std.proofs.Common.{◌≡◌, ℕ, zero, suc, ◌-◌, arith, Bool, true, false, cond, not, ◌&&◌, List, [], ◌∷◌, length, filter, take, Option, Some, None, Ordering, Less, Equal, Greater, refl, sym, ap, ◌∙◌, subst, inl, inr}
+use Rattle.std.proofs.Common.{◌≡◌, ℕ, zero, suc, ◌-◌, arith, Bool, true, false, cond, not, ◌&&◌, List, [], ◌∷◌, length, filter, take, Option, Some, None, Ordering, Less, refl, sym, ap, ◌∙◌, subst, inl, inr}
 use Rattle.std.specs.BTreeMap.Comparable.{le_lt_trans}
 use Rattle.std.specs.Ordering.{is_lt, is_le}
 use Rattle.std.specs.Prelude.{nat_lt, unwrap_or}
@@ -13,7 +13,7 @@ use Rattle.base_values.specs.declared.span.Span.{Span}
 use Rattle.base_values.specs.KeyOrder.{compare_keys}
 use Rattle.base_values.specs.Spans.{above, below, has}
 use Rattle.base_values.specs.GhoSchema.Rows.{key_of, key_places}
-use Rattle.base_values.proofs.Orders.{keys_total}
+use Rattle.base_values.proofs.Orders.{is_Less, keys_total}
 use Rattle.server_model.specs.declared.answer.Answer.TheVariants as answers
 use Rattle.server_model.specs.Chunks.{chunk_end, keys_in, keys_of, last_of, span_keys}
 use Rattle.proof_journals.specs.Ghost.Rows.Moments.{Row}
@@ -21,18 +21,13 @@ use Rattle.proof_journals.proofs.Ghost.Rows.Chunking.{none_left}
 use Rattle.proof_resume.specs.Reached.ChunkEnds.{EndIsAbove}
 use Rattle.proof_resume.specs.Reached.Laws.{ChunksShrink, ChunkEndsAreAbove, SpanEndsAreAbove}
 
-is_less : (o : Ordering) → is_lt o ≡ true → o ≡ Less
-is_less Less is = refl
-is_less Equal is = absurd (true≢false (sym is))
-is_less Greater is = absurd (true≢false (sym is))
-
 less_le : (o : Ordering) → o ≡ Less → is_le o ≡ true
 less_le o is = ap is_le is
 
 -- what is above a key that is above a low end is above the low end
 above_more : (low : Bound) (end key : Row) → above low end ≡ true → is_lt (compare_keys end key) ≡ true → above low key ≡ true
-above_more (Open other) end key over more = ap is_lt (le_lt_trans keys_total other end key (less_le (compare_keys other end) (is_less (compare_keys other end) over)) (is_less (compare_keys end key) more))
-above_more (Closed other) end key over more = ap is_le (le_lt_trans keys_total other end key over (is_less (compare_keys end key) more))
+above_more (Open other) end key over more = ap is_lt (le_lt_trans keys_total other end key (less_le (compare_keys other end) (is_Less (compare_keys other end) over)) (is_Less (compare_keys end key) more))
+above_more (Closed other) end key over more = ap is_le (le_lt_trans keys_total other end key over (is_Less (compare_keys end key) more))
 above_more Free end key over more = refl
 
 still_left : (low : Bound) (end top key : Row) → EndIsAbove low end top → has (record { low = Open end; high = Closed top }) key ≡ true → has (record { low = low; high = Closed top }) key ≡ true

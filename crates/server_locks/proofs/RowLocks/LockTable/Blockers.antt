@@ -12,7 +12,7 @@ use Rattle.base_values.specs.declared.span.Bound.{Bound}
 use Rattle.base_values.specs.declared.span.Bound.TheVariants.{Open, Closed, Free}
 use Rattle.base_values.specs.KeyOrder.{compare_keys}
 use Rattle.base_values.specs.Spans.{leave_room, meets}
-use Rattle.base_values.proofs.Orders.{keys_total, tied_keys}
+use Rattle.base_values.proofs.Orders.{is_Less, not_Greater, keys_total, tied_keys}
 use Rattle.server_locks.specs.LeastSession.Least.{least}
 use Rattle.server_locks.proofs.LeastSession.Sessions.{least-least, least-none}
 use Rattle.base_page_list.specs.Pages.{FailsOn, between}
@@ -33,16 +33,6 @@ use Rattle.server_locks.proofs.RowLocks.LockTable.TotalOrders.{places_total, sta
 pub ruleset steps = (least-least, least-none, drop_more, drop_all)
 
 -- Keys.
-not_Greater : (o : Ordering) → is_le o ≡ true → (o ≡ Less) ⊎ (o ≡ Equal)
-not_Greater Less e = inl refl
-not_Greater Equal e = inr refl
-not_Greater Greater e = absurd cc
-
-is_Less : (o : Ordering) → is_lt o ≡ true → o ≡ Less
-is_Less Less e = refl
-is_Less Equal e = absurd cc
-is_Less Greater e = absurd cc
-
 le_of : (o : Ordering) → is_gt o ≡ false → is_le o ≡ true
 le_of Less e = refl
 le_of Equal e = refl
