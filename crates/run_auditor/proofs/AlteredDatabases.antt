@@ -3,6 +3,7 @@ use Rattle.std.proofs.Common.{◌≡◌, ℕ, zero, suc, ◌+◌, ◌≤◌, Boo
 use Rattle.std.specs.Option.{option_map}
 use Rattle.std.specs.List.{slice_get}
 use Rattle.std.specs.Str.{bytes_eq}
+use Rattle.std.proofs.lemmas.Bool.{or_parts}
 use Rattle.base_values.specs.declared.value.Value.{Value}
 use Rattle.base_values.specs.declared.gho_schema.schema.Schema.{Schema}
 use Rattle.base_values.specs.GhoSchema.Rows.{key_places}
@@ -45,10 +46,6 @@ ordered_by plan table schema copy map rows given ordered planned altered convert
     (subst (λ (r : List (List Value)). Ascends (key_places schema) r) (sym same) (ordered (record { schema = schema; rows = rows }) (sym (altered_is plan table schema map (Some rows) planned altered converted))))
 
 -- ---- finding
-
-or_parts : (a b : Bool) → (a || b) ≡ false → (a ≡ false) × (b ≡ false)
-or_parts true b is = absurd (cc)
-or_parts false b is = (refl, is)
 
 or_other : (a b : Bool) → a ≡ false → (a || b) ≡ true → b ≡ true
 or_other true b first both = absurd (cc)

@@ -3,6 +3,7 @@ use Rattle.std.proofs.Common.{◌≡◌, ◌≤◌, ℕ, suc, ◌+◌, Bool, tru
 use Rattle.std.specs.Prelude.{option_to_list}
 use Rattle.std.specs.List.{AllByRecursion, flat_map, slice_get}
 use Rattle.std.specs.Option.{option_map}
+use Rattle.std.proofs.lemmas.Bool.{or_parts}
 use Rattle.base_values.specs.declared.gho_schema.schema.Schema.{Schema}
 use Rattle.base_values.specs.ToolNames.{is_tool_name}
 use Rattle.table_store.specs.Databases.{TableRows, Database, NamesDiffer, find_table, has_table, is_named}
@@ -88,10 +89,6 @@ opening_formed plan tables is all =
     subst IsWellFormedDatabase (sym is) (record { each = λ name. found_formed name (filter (is_kept plan.table) plan.tables) (kept_formed plan.table plan.tables all) })
 
 -- ---- the migrated table's schema
-
-or_parts : (a b : Bool) → (a || b) ≡ false → (a ≡ false) × (b ≡ false)
-or_parts true b is = absurd (cc)
-or_parts false b is = (refl, is)
 
 kept_none : (name other : List ℕ) (tables : Database) → has_table other tables ≡ false → has_table other (filter (is_kept name) tables) ≡ false
 kept_none name other [] none = refl

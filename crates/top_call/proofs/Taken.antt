@@ -1,7 +1,7 @@
 -- A run that is over: turns were taken, and it ended as its verdict says.
 use Rattle.std.proofs.Common.{◌≡◌, ℕ, suc, ◌==◌, ◌≤◌, ◌<◌, nat_le, Bool, true, false, not, ◌&&◌, ◌||◌, List, [], ◌∷◌, length, refl, sym, ap, ◌∙◌, subst, arith}
 use Rattle.std.specs.List.{list_any}
-use Rattle.std.proofs.lemmas.Bool.{true≢false}
+use Rattle.std.proofs.lemmas.Bool.{or_parts, true≢false}
 use Rattle.std.proofs.lemmas.Bool.Decides.{nat_tests}
 use Rattle.server_model.specs.declared.entry.Entry.{Entry}
 use Rattle.server_model.specs.declared.outcome.Cause.{Cause}
@@ -90,11 +90,6 @@ as_ended plan journal verdicts.Unfinished ended tells same = absurd (chosen plan
 as_ended plan journal verdicts.Done ended tells same = ended
 as_ended plan journal (verdicts.Reverted cause) ended tells same = ended
 
-either : (a b : Bool) → (a || b) ≡ false → (a ≡ false) × (b ≡ false)
-either false false none = (refl, refl)
-either true b none = absurd cc
-either false true none = absurd cc
-
 -- where the new tool isn't over, there is none
 not_gone_on : (a b c : Bool) → (a && (not b || c)) ≡ true → c ≡ false → (a ≡ true) × (b ≡ false)
 not_gone_on true false false over going = (refl, refl)
@@ -108,7 +103,7 @@ ends_as plan journal verdict ends resumes tells over few same = by (has_ended_at
   by : (b : Bool) → has_ended_at plan journal ≡ b → EndsBy plan journal verdict
   by true is = as_ended plan journal verdict is (tells is) same
   by false is =
-      let going = either (has_ended plan (run_in plan journal)) (has_finished plan journal) is in
+      let going = or_parts (has_ended plan (run_in plan journal)) (has_finished plan journal) is in
       let so = not_gone_on (is_over plan (run_in plan journal)) (is_resumed plan (run_in plan journal)) (has_finished plan journal) over going.1 in
       let none : finish_in plan journal ≡ [] = alone plan journal resumes so.1 in
       let whole : run_in plan journal ≡ journal = run_whole plan journal none in

@@ -1,7 +1,7 @@
 -- Two lists with the same locks on names refuse alike.
 use Rattle.std.proofs.Common.{◌≡◌, inl, inr, ◌∙◌, ℕ, Bool, true, false, ◌||◌, cond, List, [], ◌∷◌, Option, None, refl, sym, ap}
 use Rattle.std.specs.List.{list_any}
-use Rattle.std.proofs.lemmas.Bool.{or_cases}
+use Rattle.std.proofs.lemmas.Bool.{or_cases, or_left, or_right}
 use Rattle.server_locks.specs.LeastSession.Least.{least}
 use Rattle.server_locks.proofs.LeastSession.Sessions.{least-least, least-none}
 use Rattle.server_locks.specs.declared.metadata_locks.request.Waiter.{Waiter}
@@ -9,19 +9,11 @@ use Rattle.server_locks.specs.MetadataLocks.Grants.{HeldName, holding_session, h
 use Rattle.server_locks.specs.MetadataLocks.SameNames.{HasName, SameNames}
 use Rattle.server_locks.proofs.RowLocks.LockTable.Blockers.{least_comm, least_self, same_least}
 
-or_first : (a b : Bool) → a ≡ true → (a || b) ≡ true
-or_first true b is = refl
-or_first false b is = absurd cc
-
-or_second : (a b : Bool) → b ≡ true → (a || b) ≡ true
-or_second true b is = refl
-or_second false b is = is
-
 -- a test that one of the locks passes
 pub passed : (test : HeldName → Bool) (held : List HeldName) (lock : HeldName) → HasName held lock → test lock ≡ true → list_any test held ≡ true
 passed test [] lock has is = absurd has
-passed test (first ∷ held) lock (inl same) is = or_first (test first) (list_any test held) (ap test same ∙ is)
-passed test (first ∷ held) lock (inr has) is = or_second (test first) (list_any test held) (passed test held lock has is)
+passed test (first ∷ held) lock (inl same) is = or_left (test first) (list_any test held) (ap test same ∙ is)
+passed test (first ∷ held) lock (inr has) is = or_right (test first) (list_any test held) (passed test held lock has is)
 
 -- one of the locks that passes a test
 pub record HasPassing (test : HeldName → Bool) (held : List HeldName) : Type 0 where
