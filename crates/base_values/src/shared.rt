@@ -7,8 +7,8 @@ ghost use Rattle.std.specs.Cmp.Lexicographic.{pointwise, slice_cmp, slice_partia
 ghost use Rattle.std.proofs.lemmas.Cmp.{lists_equiv, lists_total};
 
 use crate::duplicate::Duplicate;
-use crate::sequence::Sequence;
-use std::alloc::AllocError;
+use crate::sequence::{Sequence, copy_of};
+use std::alloc::{AllocError, Global};
 use std::cmp::Ordering;
 use std::marker::Model;
 use std::slice::Iter;
@@ -83,6 +83,15 @@ impl<T> Shared<T> {
         ensures runs { EveryRun (iter_steps {A = T}) (λ p. ItemsMapTo p (λ item. item.now) (iter_rest p.from)) }
     {
         self.items.as_slice().iter()
+    }
+}
+
+impl<T: Duplicate> Shared<T> {
+    /// Copies of its items, to be changed.
+    pub fn to_sequence(&self, alloc: Global) -> Result<Sequence<T>, AllocError>
+        ensures { IfOk result (λ items. items ≡ self.now) }
+    {
+        Ok(Sequence::from_vec(copy_of(alloc, self.items.as_slice())?))
     }
 }
 

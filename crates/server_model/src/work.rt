@@ -1,7 +1,6 @@
 //! What a statement is to do, once it is checked against its table's schema, and what it gives.
 
 use crate::answer::Answer;
-use base_values::gho_schema::Places;
 use base_values::row_conversion::UnfitAt;
 use base_values::{Events, Row, Sequence, Span, Value};
 
@@ -20,7 +19,7 @@ pub enum Selection {
     /// The values of all columns.
     AllColumns,
     /// The values of the columns at these places, in this order.
-    Columns(Places),
+    Columns(Sequence<usize>),
     /// How many rows they are.
     Count,
 }

@@ -6,7 +6,7 @@ ghost use Rattle.base_values.specs.GhoSchema.Names.{same_name};
 ghost use Rattle.server_model.specs.Checks.{place_of, places_named, are_distinct, beside, places_from, places_listed};
 
 use crate::refusals::{Checked, refuses};
-use base_values::gho_schema::{Column, Places, Schema, same_name};
+use base_values::gho_schema::{Column, Schema, same_name};
 use base_values::mysql_errors::{ER_BAD_FIELD_ERROR, ER_FIELD_SPECIFIED_TWICE};
 use base_values::{Name, Names, Sequence, Value};
 use std::alloc::{AllocError, Global};
@@ -36,7 +36,7 @@ pub fn places_named(
     alloc: Global,
     schema: &Schema,
     names: &[Name],
-) -> Result<Checked<Places>, AllocError>
+) -> Result<Checked<Sequence<usize>>, AllocError>
     ensures { IfOk result (λ places. places ≡ places_named schema.now names.now) }
 {
     let mut places = Sequence::new(alloc);
@@ -90,7 +90,7 @@ pub fn beside<'a>(place: usize, places: &[usize], values: &'a [Value]) -> Option
 }
 
 /// The places of all columns.
-fn all_places(alloc: Global, columns: &[Column]) -> Result<Places, AllocError>
+fn all_places(alloc: Global, columns: &[Column]) -> Result<Sequence<usize>, AllocError>
     ensures { IfOk result (λ places. places ≡ places_from 0 columns.now) }
 {
     let mut places = Sequence::new(alloc);
@@ -105,7 +105,7 @@ pub fn places_listed(
     alloc: Global,
     schema: &Schema,
     names: &Option<Names>,
-) -> Result<Checked<Places>, AllocError>
+) -> Result<Checked<Sequence<usize>>, AllocError>
     ensures { IfOk result (λ places. places ≡ places_listed schema.now names.now) }
 {
     let Some(names) = names else {

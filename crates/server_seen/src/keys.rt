@@ -1,6 +1,6 @@
 //! Keys in order, each once.
 
-ghost use Rattle.std.specs.Prelude.{◌≡◌, ◌≤◌, ◌<◌, ◌+◌, ◌^◌, [], length, IfOk, OnOk};
+ghost use Rattle.std.specs.Prelude.{◌≡◌, ◌≤◌, ◌<◌, ◌+◌, ◌^◌, true, [], length, IfOk, OnOk};
 ghost use Rattle.std.specs.List.{AllByRecursion};
 ghost use Rattle.base_values.specs.GhoSchema.Rows.{key_places};
 ghost use Rattle.server_model.specs.Rows.{stands};
@@ -8,8 +8,8 @@ ghost use Rattle.server_seen.specs.Stored.{counted};
 ghost use Rattle.server_seen.specs.Written.{with_key};
 ghost use Rattle.server_seen.specs.FittingChanges.{KeysAscend};
 
-use base_values::gho_schema::{Index, Places, Schema};
-use base_values::{Chars, Duplicate, Key, Keys, Name, Sequence};
+use base_values::gho_schema::{Index, Places, Schema, clustered_key};
+use base_values::{Duplicate, Key, Keys, Sequence, Shared};
 use std::alloc::{AllocError, Global};
 use std::marker::Model;
 use table_store::paged_tables::row_pages::{SpanRows, Table};
@@ -40,6 +40,18 @@ impl Model for KeySet {
     ghost invariant = { λ s. IsKeyTable s.table.table };
 }
 
+/// Whether the places are 0, 1 ..
+fn are_first(places: &[usize]) -> bool
+    ensures { result ≡ true → places.now ≡ counted 0 (length places.now) }
+{
+    for (n, place) in places.iter().enumerate() {
+        if *place != n {
+            return false;
+        }
+    }
+    true
+}
+
 /// The places 0, 1 .. of a key's values.
 fn first_places(alloc: Global, width: usize) -> Result<Places, AllocError>
     ensures { IfOk result (λ places. places ≡ counted 0 width) }
@@ -48,22 +60,32 @@ fn first_places(alloc: Global, width: usize) -> Result<Places, AllocError>
     for place in 0..width {
         places.push(place)?;
     }
-    Ok(places)
+    Shared::from_sequence(places)
 }
 
-/// A schema whose clustered key is at these places.
+/// The places 0, 1 .. of the values of a table's keys. Where the key is of the table's first columns, these are its own
+/// places, which are shared.
+fn places_of_values(alloc: Global, schema: &Schema) -> Result<Places, AllocError>
+    ensures { IfOk result (λ places. places ≡ counted 0 (length (key_places schema.now))) }
+{
+    match clustered_key(schema) {
+        Some(index) if are_first(index.places.as_slice()) => index.places.copy(),
+        _ => first_places(alloc, schema.key_places().len()),
+    }
+}
+
+/// A schema whose clustered key is at these places. It shares all else with another one.
 #[tactic(auto, unfolding(base_values::specs::GhoSchema::ClusteredKey::clustered_among))]
-fn schema_of_keys(alloc: Global, places: Places) -> Result<Schema, AllocError>
+fn schema_of_keys(alloc: Global, other: &Schema, places: Places) -> Result<Schema, AllocError>
     ensures { IfOk result (λ schema. key_places schema ≡ places) }
 {
-    let mut uniques = Sequence::new(alloc);
-    uniques.push(Index { name: None, places })?;
+    let index = Index { name: None, places };
     Ok(Schema {
-        name: Name::new(alloc, "")?,
-        columns: Sequence::new(alloc),
-        uniques,
-        indexes: Sequence::new(alloc),
-        comment: Chars::new(alloc, "")?,
+        name: other.name.copy()?,
+        columns: other.columns.copy()?,
+        uniques: Shared::from_vec(vec![in alloc; index]?)?,
+        indexes: other.indexes.copy()?,
+        comment: other.comment.copy()?,
         start: None,
     })
 }
@@ -80,12 +102,13 @@ fn copies_of(alloc: Global, mut keys: SpanRows<'_>) -> Result<Keys, AllocError>
 }
 
 impl KeySet {
-    /// No keys, of at most `width` values.
-    pub fn new(alloc: Global, width: usize) -> Result<KeySet, AllocError>
+    /// No keys of a table of this schema.
+    pub fn new(alloc: Global, schema: &Schema) -> Result<KeySet, AllocError>
         ensures keys { IfOk result (λ set. set.keys ≡ []) }
-        ensures width { IfOk result (λ set. set.width ≡ width) }
+        ensures width { IfOk result (λ set. set.width ≡ length (key_places schema.now)) }
     {
-        let schema = schema_of_keys(alloc, first_places(alloc, width)?)?;
+        let places = places_of_values(alloc, schema)?;
+        let schema = schema_of_keys(alloc, schema, places)?;
         Ok(KeySet {
             table: Table::new(alloc, schema),
         })

@@ -77,7 +77,7 @@ impl WrittenRows {
         ensures schema { IfOk result (λ writes. writes.schema ≡ schema.now) }
         ensures written { IfOk result (λ writes. writes.written ≡ nothing) }
     {
-        let keys = KeySet::new(alloc, schema.key_places().len())?;
+        let keys = KeySet::new(alloc, schema)?;
         Ok(WrittenRows {
             rows: Table::new(alloc, schema.copy()?),
             keys,

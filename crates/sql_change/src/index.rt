@@ -12,7 +12,7 @@ use crate::columns::{column_named, column_place, has_column};
 use crate::so_far::{AlteredSoFar, copied, removed};
 use base_values::gho_schema::{Column, Index, Indexes, Places, Schema, clustered_place, same_name};
 use base_values::schema_rules::{free_name, is_among};
-use base_values::{Duplicate, Name, Names, Sequence};
+use base_values::{Duplicate, Name, Names, Sequence, Shared};
 use std::alloc::{AllocError, Global};
 
 const INDEX_LIMIT: usize = 8;
@@ -108,7 +108,11 @@ fn index_reason(
     })
 }
 
-fn push_place(places: &mut Places, columns: &[Column], name: &Name) -> Result<(), AllocError>
+fn push_place(
+    places: &mut Sequence<usize>,
+    columns: &[Column],
+    name: &Name,
+) -> Result<(), AllocError>
     ensures { OnOk result (places.new ≡ places.old ++ option_to_list (column_place columns.now name.now)) }
 {
     match column_place(columns, name) {
@@ -124,7 +128,7 @@ fn places_of(alloc: Global, columns: &[Column], names: &[Name]) -> Result<Places
     for name in names {
         push_place(&mut places, columns, name)?;
     }
-    Ok(places)
+    Shared::from_sequence(places)
 }
 
 fn with_keys(
@@ -156,9 +160,10 @@ fn with_index(
 ) -> Result<AlteredSoFar, AllocError>
     ensures { IfOk result (λ new. new ≡ with_index standing.now index) }
 {
-    let mut indexes = standing.schema.indexes.copy()?;
+    let mut indexes = standing.schema.indexes.to_sequence(alloc)?;
     indexes.push(index)?;
-    with_keys(alloc, standing, standing.schema.uniques.copy()?, indexes)
+    let uniques = standing.schema.uniques.copy()?;
+    with_keys(alloc, standing, uniques, Shared::from_sequence(indexes)?)
 }
 
 fn indexed_as(

@@ -5,7 +5,7 @@ ghost use Rattle.std.specs.List.{filter_map, AllByRecursion};
 ghost use Rattle.sql_change.specs.Places.{opened, closed, place_after, index_after, has_places, keys_after, indexes_after, ArePlaces};
 
 use base_values::gho_schema::{Index, Indexes, Places};
-use base_values::{Duplicate, Sequence};
+use base_values::{Duplicate, Sequence, Shared};
 use std::alloc::{AllocError, Global};
 
 /// What happens to the places of columns.
@@ -61,7 +61,11 @@ fn place_after(change: PlaceChange, place: usize) -> Option<usize>
     }
 }
 
-fn push_place(places: &mut Places, change: PlaceChange, place: usize) -> Result<(), AllocError>
+fn push_place(
+    places: &mut Sequence<usize>,
+    change: PlaceChange,
+    place: usize,
+) -> Result<(), AllocError>
     requires { place ≤ 64 }
     ensures { OnOk result (places.new ≡ places.old ++ option_to_list (place_after change place)) }
 {
@@ -79,7 +83,7 @@ fn places_after(alloc: Global, change: PlaceChange, places: &[usize]) -> Result<
     for place in places {
         push_place(&mut after, change, *place)?;
     }
-    Ok(after)
+    Shared::from_sequence(after)
 }
 
 #[tactic(auto, unfolding(crate::specs::Places::index_after))]
@@ -106,10 +110,10 @@ pub fn keys_after(
     for index in indexes {
         after.push(index_after(alloc, change, index)?)?;
     }
-    Ok(after)
+    Shared::from_sequence(after)
 }
 
-fn push_index(indexes: &mut Indexes, index: Index) -> Result<(), AllocError>
+fn push_index(indexes: &mut Sequence<Index>, index: Index) -> Result<(), AllocError>
     ensures { OnOk result (indexes.new ≡ indexes.old ++ filter has_places (index ∷ [])) }
 {
     if index.places.is_empty() {
@@ -132,5 +136,5 @@ pub fn indexes_after(
     for index in indexes {
         push_index(&mut after, index_after(alloc, change, index)?)?;
     }
-    Ok(after)
+    Shared::from_sequence(after)
 }

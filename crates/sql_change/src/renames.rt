@@ -11,7 +11,7 @@ use crate::columns::{column_named, has_column};
 use crate::so_far::{AlteredSoFar, copied, removed};
 use base_values::gho_schema::{Column, Columns, Schema, same_name};
 use base_values::schema_rules::is_column_name;
-use base_values::{Duplicate, Name, Sequence};
+use base_values::{Duplicate, Name, Sequence, Shared};
 use std::alloc::{AllocError, Global};
 
 /// Whether a column gets another name without leave.
@@ -22,6 +22,7 @@ pub fn is_unapproved(approve: bool, old: &Name, new: &Name) -> bool
 }
 
 fn rename_reason(
+    alloc: Global,
     approve: bool,
     columns: &Columns,
     place: usize,
@@ -31,7 +32,7 @@ fn rename_reason(
     requires { place < length columns.now }
     ensures { IfOk result (λ reason. reason ≡ first_reason (rename_reasons approve columns.now place old.now new.now)) }
 {
-    let others = removed(columns.copy()?, place);
+    let others = removed(columns.to_sequence(alloc)?, place);
     Ok(if has_column(others.as_slice(), new) {
         Some(AlterCode::RepeatedName)
     } else if !is_column_name(new.as_str()) {
@@ -55,7 +56,7 @@ fn with_name(column: &Column, name: &Name) -> Result<Column, AllocError>
     })
 }
 
-fn replaced(columns: Columns, place: usize, column: Column) -> Columns
+fn replaced(columns: Sequence<Column>, place: usize, column: Column) -> Sequence<Column>
     requires { place < length columns }
     ensures { result ≡ slice_set columns place column }
 {
@@ -75,10 +76,11 @@ fn renamed_in(
     ensures { IfOk result (λ renamed. renamed ≡ renamed_in standing.now place column) }
 {
     let schema = &standing.schema;
+    let columns = replaced(schema.columns.to_sequence(alloc)?, place, column);
     Ok(AlteredSoFar {
         schema: Schema {
             name: schema.name.copy()?,
-            columns: replaced(schema.columns.copy()?, place, column),
+            columns: Shared::from_sequence(columns)?,
             uniques: schema.uniques.copy()?,
             indexes: schema.indexes.copy()?,
             comment: schema.comment.copy()?,
@@ -103,7 +105,14 @@ pub fn renamed(
     let columns = &standing.schema.columns;
     match column_named(columns.as_slice(), old) {
         None => Err(AlterFault::Refused(AlterCode::UnknownName)),
-        Some((place, column)) => match rename_reason(approve, columns, place, &column.name, new)? {
+        Some((place, column)) => match rename_reason(
+            alloc,
+            approve,
+            columns,
+            place,
+            &column.name,
+            new,
+        )? {
             Some(code) => Err(AlterFault::Refused(code)),
             None => Ok(renamed_in(alloc, standing, place, with_name(column, new)?)?),
         },

@@ -7,7 +7,7 @@ ghost use Rattle.sql_change.specs.AlteredSoFar.{places_from, with_columns, origi
 
 use crate::places::{PlaceChange, indexes_after, keys_after};
 use base_values::gho_schema::{Column, Columns, Schema};
-use base_values::{Duplicate, Sequence};
+use base_values::{Duplicate, Sequence, Shared};
 use std::alloc::{AllocError, Global};
 
 /// The schema that the clauses so far leave, and where its columns' values come from.
@@ -122,9 +122,14 @@ impl AlteredSoFar {
         requires within { at ≤ length self.now.schema.columns }
         ensures { IfOk result (λ standing. standing ≡ put_in self.now at column) }
     {
-        let columns = inserted(self.schema.columns.copy()?, at, column)?;
+        let columns = inserted(self.schema.columns.to_sequence(alloc)?, at, column)?;
         Ok(AlteredSoFar {
-            schema: with_columns(alloc, PlaceChange::Added(at), &self.schema, columns)?,
+            schema: with_columns(
+                alloc,
+                PlaceChange::Added(at),
+                &self.schema,
+                Shared::from_sequence(columns)?,
+            )?,
             origins: inserted(copied(alloc, self.origins.as_slice())?, at, None)?,
         })
     }
@@ -136,9 +141,14 @@ impl AlteredSoFar {
         requires within { at < length self.now.schema.columns }
         ensures { IfOk result (λ standing. standing ≡ taken_out self.now at) }
     {
-        let columns = removed(self.schema.columns.copy()?, at);
+        let columns = removed(self.schema.columns.to_sequence(alloc)?, at);
         Ok(AlteredSoFar {
-            schema: with_columns(alloc, PlaceChange::Dropped(at), &self.schema, columns)?,
+            schema: with_columns(
+                alloc,
+                PlaceChange::Dropped(at),
+                &self.schema,
+                Shared::from_sequence(columns)?,
+            )?,
             origins: removed(copied(alloc, self.origins.as_slice())?, at),
         })
     }
@@ -157,13 +167,13 @@ impl AlteredSoFar {
         requires to { to < length self.now.schema.columns }
         ensures { IfOk result (λ standing. standing ≡ moved_to self.now from to column) }
     {
-        let columns = removed(self.schema.columns.copy()?, from);
+        let columns = removed(self.schema.columns.to_sequence(alloc)?, from);
         let columns = inserted(columns, to, column)?;
         let origin = origin_at(self.origins.as_slice(), from);
         let origins = removed(copied(alloc, self.origins.as_slice())?, from);
         let change = PlaceChange::Moved { from, to };
         Ok(AlteredSoFar {
-            schema: with_columns(alloc, change, &self.schema, columns)?,
+            schema: with_columns(alloc, change, &self.schema, Shared::from_sequence(columns)?)?,
             origins: inserted(origins, to, origin)?,
         })
     }

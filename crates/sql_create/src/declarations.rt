@@ -18,7 +18,7 @@ use base_values::schema_rules::{
     stored_default,
 };
 use base_values::tool_names::is_tool_name;
-use base_values::{Chars, Duplicate, Name, Names, Sequence, because};
+use base_values::{Chars, Duplicate, Name, Names, Sequence, Shared, because};
 use sql_grammar::{SchemaCode, SchemaFault};
 use std::alloc::{AllocError, Global};
 
@@ -179,14 +179,14 @@ fn declared_columns(
         let column = declared_column(alloc, primaries, column)?;
         declared.push(column)?;
     }
-    Ok(declared)
+    Ok(Shared::from_sequence(declared)?)
 }
 
 fn primary_indexes(
     alloc: Global,
     names: &[Name],
     primaries: &[Names],
-) -> Result<Indexes, AllocError>
+) -> Result<Sequence<Index>, AllocError>
     ensures { IfOk result (λ indexes. indexes ≡ map (primary_index names.now) primaries.now) }
 {
     let mut indexes = Sequence::new(alloc);
@@ -210,7 +210,7 @@ fn key_index(alloc: Global, names: &[Name], key: &WrittenKey) -> Result<Index, A
 
 fn push_uniques(
     alloc: Global,
-    indexes: &mut Indexes,
+    indexes: &mut Sequence<Index>,
     names: &[Name],
     keys: &[WrittenKey],
 ) -> Result<(), AllocError>
@@ -233,7 +233,7 @@ fn plain_indexes(alloc: Global, names: &[Name], keys: &[WrittenKey]) -> Result<I
             indexes.push(key_index(alloc, names, key)?)?;
         }
     }
-    Ok(indexes)
+    Shared::from_sequence(indexes)
 }
 
 #[tactic(auto, unfolding(crate::specs::DeclaredSchema::schema_of))]
@@ -253,7 +253,7 @@ fn schema_of(
     Ok(Schema {
         name,
         columns,
-        uniques,
+        uniques: Shared::from_sequence(uniques)?,
         indexes: plain_indexes(alloc, names, keys)?,
         comment,
         start: None,

@@ -5,7 +5,7 @@ ghost use Rattle.tool_changelog.specs.ToolTables.{sentry_comment, not_null, firs
 
 use base_values::gho_schema::{Column, Index, Indexes, Schema};
 use base_values::tool_names::{log_name, old_name};
-use base_values::{Chars, Kind, Name, Sequence};
+use base_values::{Chars, Kind, Name, Shared};
 use std::alloc::{AllocError, Global};
 
 /// The comment that tells the sentry from every other table of its name.
@@ -29,9 +29,9 @@ fn first_is_primary(alloc: Global) -> Result<Indexes, AllocError>
 {
     let index = Index {
         name: None,
-        places: Sequence::from_vec(vec![in alloc; 0]?),
+        places: Shared::from_vec(vec![in alloc; 0]?)?,
     };
-    Ok(Sequence::from_vec(vec![in alloc; index]?))
+    Shared::from_vec(vec![in alloc; index]?)
 }
 
 /// The schema of the sentry: one column, and a comment by which it is known as the tool's.
@@ -46,9 +46,9 @@ pub fn sentry_schema(alloc: Global, table: &Name) -> Result<Schema, AllocError>
     let id = not_null(alloc, "id", int)?;
     Ok(Schema {
         name: old_name(alloc, table)?,
-        columns: Sequence::from_vec(vec![in alloc; id]?),
+        columns: Shared::from_vec(vec![in alloc; id]?)?,
         uniques: first_is_primary(alloc)?,
-        indexes: Sequence::new(alloc),
+        indexes: Shared::from_vec(Vec::new(alloc))?,
         comment: Chars::new(alloc, SENTRY_COMMENT)?,
         start: None,
     })
@@ -68,9 +68,9 @@ pub fn log_schema(alloc: Global, table: &Name) -> Result<Schema, AllocError>
     let value = not_null(alloc, "value", Kind::VarChar(255))?;
     Ok(Schema {
         name: log_name(alloc, table)?,
-        columns: Sequence::from_vec(vec![in alloc; id, hint, value]?),
+        columns: Shared::from_vec(vec![in alloc; id, hint, value]?)?,
         uniques: first_is_primary(alloc)?,
-        indexes: Sequence::new(alloc),
+        indexes: Shared::from_vec(Vec::new(alloc))?,
         comment: Chars::new(alloc, "")?,
         start: None,
     })

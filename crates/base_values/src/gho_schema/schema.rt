@@ -3,10 +3,11 @@
 ghost use Rattle.std.specs.Prelude.{◌≡◌, IfOk};
 
 use crate::gho_schema::clustered::clustered_key;
-use crate::{Chars, Duplicate, Kind, Name, Sequence, Value};
+use crate::{Chars, Duplicate, Kind, Name, Shared, Value};
 use std::alloc::AllocError;
 
-/// A table's columns, keys and indexes (MySQL's manual, "CREATE TABLE Statement").
+/// A table's columns, keys and indexes (MySQL's manual, "CREATE TABLE Statement"). A copy shares them, since each
+/// transaction has one of each table to which it writes.
 pub struct Schema {
     /// The table's name.
     pub name: Name,
@@ -69,13 +70,13 @@ impl Drop for Index {
 }
 
 /// Columns in order.
-pub type Columns = Sequence<Column>;
+pub type Columns = Shared<Column>;
 
 /// Keys or indexes in order.
-pub type Indexes = Sequence<Index>;
+pub type Indexes = Shared<Index>;
 
-/// Places of columns, from 0.
-pub type Places = Sequence<usize>;
+/// Places of a key's columns, from 0.
+pub type Places = Shared<usize>;
 
 // By hand, so that crates above prove it as one call.
 impl Drop for Schema {

@@ -5,7 +5,7 @@ ghost use Rattle.base_values.specs.GhoSchema.Names.{same_name};
 ghost use Rattle.base_values.specs.SchemaRules.Names.{is_among, names_differ, place_of, places_of, spelled, numbered, free_name, first_column};
 
 use crate::gho_schema::{Places, same_name};
-use crate::{Duplicate, Name, Sequence};
+use crate::{Duplicate, Name, Sequence, Shared};
 use itoa::Buffer;
 use std::alloc::{AllocError, Global};
 
@@ -38,7 +38,7 @@ fn place_of(names: &[Name], name: &str) -> Option<usize>
     names.iter().position(|known| same_name(known.as_str().as_bytes(), name.as_bytes()))
 }
 
-fn push_place(places: &mut Places, names: &[Name], column: &Name) -> Result<(), AllocError>
+fn push_place(places: &mut Sequence<usize>, names: &[Name], column: &Name) -> Result<(), AllocError>
     ensures { OnOk result (places.new ≡ places.old ++ option_to_list (place_of names.now column.now)) }
 {
     match place_of(names, column.as_str()) {
@@ -56,7 +56,7 @@ pub fn places_of(alloc: Global, names: &[Name], columns: &[Name]) -> Result<Plac
     for column in columns {
         push_place(&mut places, names, column)?;
     }
-    Ok(places)
+    Shared::from_sequence(places)
 }
 
 #[tactic(auto, unfolding(crate::specs::SchemaRules::Names::spelled))]

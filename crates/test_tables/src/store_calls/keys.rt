@@ -1,7 +1,7 @@
 //! Keys of rows, and rows in order of their keys.
 
 use base_values::gho_schema::{KeyedRows, Places, PutFault, key_of};
-use base_values::{Key, Row, Sequence, Text, print_row};
+use base_values::{Key, Row, Sequence, Shared, Text, print_row};
 use std::alloc::Global;
 use test_lines::{CallFault, place_of, row_of, text_of};
 
@@ -11,7 +11,7 @@ fn places_of(alloc: Global, text: &str) -> Result<Places, CallFault> {
     for place in text.split(", ") {
         places.push(place_of(place)?)?;
     }
-    Ok(places)
+    Ok(Shared::from_sequence(places)?)
 }
 
 /// The values at places of a row, of a text each.

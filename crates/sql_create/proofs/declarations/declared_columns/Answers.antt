@@ -1,3 +1,4 @@
+use Rattle.std.proofs.Common.{Ok, ap, sym, ◌∙◌}
 use Rattle.std.proofs.lemmas.Result.{err_from_is_err_and}
 use Rattle.sql_create.proofs.DeclaredColumns.{goes_on, fails, is_full}
 use Rattle.sql_create.proofs.declarations.declared_columns.Goals as goal
@@ -11,4 +12,4 @@ pub loop-column-preserved : goal.loop-column-preserved
 loop-column-preserved c = rw c.in_ok-push.ensures.ok (goes_on c.args.primaries.now c.loop-column.declared c.args.columns.now c.loop-column.column-index _ c.column-item.result c.in_ok-column.column c.loop-column-test.true c.column-item.is c.in_ok-column.ensures c.loop-column.invariant)
 
 pub returns : goal.returns
-returns c = is_full c.args.primaries.now c.loop-column.declared c.args.columns.now c.loop-column.column-index _ c.loop-column-test.false c.loop-column.invariant
+returns c = is_full c.args.primaries.now c.loop-column.declared c.args.columns.now c.loop-column.column-index _ c.loop-column-test.false c.loop-column.invariant ∙ ap Ok (sym c.in_ok-from_sequence.ensures)
