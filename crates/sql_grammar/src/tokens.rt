@@ -6,7 +6,7 @@ ghost use Rattle.sql_words.specs.Readings.{views, words_of};
 ghost use Rattle.sql_grammar.specs.Tokens.{token_of, words_or_none, cut_at, text_words};
 
 use crate::token::Token;
-use base_values::{Chars, Sequence};
+use base_values::{Sequence, Text};
 use sql_words::{Word, WordFault, words};
 use std::alloc::{AllocError, Global};
 
@@ -22,9 +22,12 @@ pub struct TextWords {
 fn token_of(alloc: Global, word: &Word<'_>) -> Result<Token, AllocError>
     ensures { IfOk result (λ token. token ≡ record { class = word.now.class; text = word.now.text.now }) }
 {
+    // A text that isn't shared: nothing copies a token, and this one takes memory once.
+    let mut text = Text::new(alloc);
+    text.push_str(word.text)?;
     Ok(Token {
         class: word.class,
-        text: Chars::new(alloc, word.text)?,
+        text,
     })
 }
 
