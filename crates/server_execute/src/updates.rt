@@ -58,6 +58,20 @@ fn clashes_besides(
     Ok(has_another(old, clashing.as_slice()))
 }
 
+/// Whether the new row clashes with one besides the row that it takes the place of, where nothing was changed before.
+#[tactic(auto, using(crate::proofs::ChangedRows::any_among))]
+fn clashes_at_first(
+    alloc: Global,
+    seen: &SeenTable<'_>,
+    new: &Row,
+    old: &Row,
+) -> Result<bool, AllocError>
+    ensures { IfOk result (λ clashes. clashes ≡ clashes_besides seen.now.schema new.now old.now seen.now.rows) }
+{
+    let clashing = seen.displaced(alloc, new)?;
+    Ok(has_another(old, clashing.as_slice()))
+}
+
 /// What the UPDATE makes of one row, where the table is seen through what the changes before wrote.
 fn row_update(
     alloc: Global,
@@ -120,6 +134,29 @@ fn updates(
     Ok(Ok(all))
 }
 
+/// The change of the one row that an UPDATE reaches, or `ER_DUP_ENTRY`. No other row is looked at after it, so what it
+/// writes isn't written down.
+#[tactic(auto, unfolding(server_model::specs::StatementResults::updates))]
+fn update_of_one(
+    alloc: Global,
+    seen: &SeenTable<'_>,
+    sets: &[Option<Value>],
+    old: &Row,
+) -> Result<Checked<Changes>, AllocError>
+    ensures { IfOk result (λ all. all ≡ updates seen.now.schema sets.now (old.now ∷ []) seen.now.rows) }
+{
+    let mut all = Sequence::new(alloc);
+    let new = with_sets(alloc, sets, old.as_slice())?;
+    if old.cmp(&new).is_eq() {
+        return Ok(Ok(all));
+    }
+    if clashes_at_first(alloc, seen, &new, old)? {
+        return Ok(Err(refuses(ER_DUP_ENTRY)));
+    }
+    all.push(Change::Update(old.copy()?, new))?;
+    Ok(Ok(all))
+}
+
 /// As many rows as are changed, or the refusal.
 fn result_or_refusal(alloc: Global, changes: Checked<Changes>) -> ReadyResult
     ensures { as_result result ≡ result_or_refusal changes }
@@ -147,7 +184,10 @@ pub fn updated(
     let met = seen.met(alloc, reach)?;
     match sets {
         Ok(sets) => {
-            let changes = updates(alloc, seen, sets.as_slice(), met.as_slice())?;
+            let changes = match met.as_slice() {
+                [old] => update_of_one(alloc, seen, sets.as_slice(), old)?,
+                met => updates(alloc, seen, sets.as_slice(), met)?,
+            };
             Ok(result_or_refusal(alloc, changes))
         }
         Err(at) => {
