@@ -1,7 +1,8 @@
 -- Tables whose rows are keys.
-use Rattle.std.proofs.Common.{◌≡◌, ℕ, zero, suc, ◌+◌, ◌≤◌, Bool, true, false, ◌||◌, List, [], ◌∷◌, ◌++◌, length, find, cond, is_some, Option, Some, None, Ordering, Less, Equal, Greater, refl, sym, ap, ◌∙◌, subst, arith, length-append, zero-add}
+use Rattle.std.proofs.Common.{◌≡◌, ℕ, zero, suc, ◌+◌, ◌<◌, ◌≤◌, Bool, true, false, ◌||◌, List, [], ◌∷◌, ◌++◌, length, take, get_or, find, cond, is_some, Option, Some, None, Ordering, Less, Equal, Greater, refl, sym, ap, ◌∙◌, subst, arith, length-append, zero-add}
 use Rattle.std.specs.Prelude.{option_to_list}
 use Rattle.std.proofs.lemmas.Bool.{false≢true, true≢false}
+use Rattle.std.proofs.lemmas.List.{take_all, take_more}
 use Rattle.std.specs.Ordering.{is_eq, match_ordering}
 use Rattle.std.specs.List.{AllByRecursion, slice_get}
 use Rattle.base_values.specs.declared.value.Value.{Value}
@@ -64,6 +65,16 @@ counted-more from (suc n) =
 
 pub counted-next : (n : ℕ) → counted 0 n ++ n ∷ [] ≡ counted 0 (n + 1)
 counted-next n = ap (λ (k : ℕ). counted 0 n ++ k ∷ []) (sym (zero-add n)) ∙ counted-more 0 n
+
+-- places that are the first ones, one by one
+pub first_more : (places : List ℕ) (n d : ℕ) → n < length places → get_or places n d ≡ n → take n places ≡ counted 0 n → take (n + 1) places ≡ counted 0 (n + 1)
+first_more places n d lt here so_far =
+    take_more places n d lt ∙ ap (λ (place : ℕ). take n places ++ place ∷ []) here ∙ ap (λ (ps : List ℕ). ps ++ n ∷ []) so_far ∙ counted-next n
+
+pub all_first : (places : List ℕ) (n : ℕ) → length places ≤ n → take n places ≡ counted 0 n → places ≡ counted 0 (length places)
+all_first places n le so_far =
+    let all : places ≡ counted 0 n = sym (take_all n places le) ∙ so_far in
+    all ∙ ap (counted 0) (sym (ap length all ∙ length-counted 0 n))
 
 -- each of the rows is its key
 abbrev pub AreKeys : List ℕ → List Row → Type 0
