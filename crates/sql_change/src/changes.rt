@@ -14,10 +14,10 @@ use crate::columns::{
 use crate::conversions::{is_conversion, is_key_conversion};
 use crate::renames::is_unapproved;
 use crate::so_far::{AlteredSoFar, origin_at, removed};
+use base_values::Name;
 use base_values::gho_schema::{Column, Schema, is_widest};
 use base_values::row_conversion::{ColumnPosition, NewColumn};
 use base_values::schema_rules::is_column_name;
-use base_values::{Duplicate, Name};
 use std::alloc::{AllocError, Global};
 
 fn breaks_counter(column: &Column, written: &NewColumn) -> bool
@@ -31,6 +31,7 @@ fn breaks_counter(column: &Column, written: &NewColumn) -> bool
 }
 
 fn change_reason(
+    alloc: Global,
     schema: &Schema,
     place: usize,
     column: &Column,
@@ -40,7 +41,7 @@ fn change_reason(
     requires { place < length schema.now.columns }
     ensures { IfOk result (λ reason. reason ≡ first_reason (change_reasons schema.now place column.now written.now column_position.now)) }
 {
-    let others = removed(schema.columns.copy()?, place);
+    let others = removed(schema.columns.to_sequence(alloc)?, place);
     let others = others.as_slice();
     let is_in_keys = is_in_keys(schema.uniques.as_slice(), place);
     Ok(if !is_column_position(others, column_position) {
@@ -79,7 +80,7 @@ fn changed_in(
     requires within { place < length standing.now.schema.columns }
     ensures { IfOk result (λ changed. changed ≡ changed_in standing.now place column_position.now column) }
 {
-    let others = removed(standing.schema.columns.copy()?, place);
+    let others = removed(standing.schema.columns.to_sequence(alloc)?, place);
     let to = column_position_place(others.as_slice(), column_position, place);
     standing.moved_to(alloc, place, to, column)
 }
@@ -133,7 +134,8 @@ pub fn changed(
     match column_named(standing.schema.columns.as_slice(), old) {
         None => Err(AlterFault::Refused(AlterCode::UnknownName)),
         Some((place, column)) => {
-            match change_reason(&standing.schema, place, column, written, column_position)? {
+            let schema = &standing.schema;
+            match change_reason(alloc, schema, place, column, written, column_position)? {
                 Some(code) => Err(AlterFault::Refused(code)),
                 None => changed_column(
                     alloc,

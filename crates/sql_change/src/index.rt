@@ -242,12 +242,14 @@ pub fn unindexed(
             if is_clustered(clustered_place(schema), place) {
                 return Err(AlterFault::Refused(AlterCode::ClusteredKeyChange));
             }
-            let uniques = removed(schema.uniques.copy()?, place);
+            let uniques = removed(schema.uniques.to_sequence(alloc)?, place);
+            let uniques = Shared::from_sequence(uniques)?;
             Ok(with_keys(alloc, standing, uniques, schema.indexes.copy()?)?)
         }
         None => match index_place(schema.indexes.as_slice(), name) {
             Some(place) => {
-                let indexes = removed(schema.indexes.copy()?, place);
+                let indexes = removed(schema.indexes.to_sequence(alloc)?, place);
+                let indexes = Shared::from_sequence(indexes)?;
                 Ok(with_keys(alloc, standing, schema.uniques.copy()?, indexes)?)
             }
             None => Err(AlterFault::Refused(AlterCode::UnknownName)),
