@@ -2,3 +2,4 @@
 pub mod Copiers
 pub mod CopierFacts
 pub mod Reaches
+pub mod CopyCalls

@@ -6,5 +6,6 @@ mod copier;
 mod reach;
 mod reader;
 
+pub use calls::CopyCall;
 pub use copier::{Chunk, Copier, CopyRange, CopyStep};
 pub use reach::ReachView;

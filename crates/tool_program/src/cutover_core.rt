@@ -6,6 +6,7 @@ mod cutover;
 mod listing;
 mod stages;
 
+pub use calls::{CutOverCall, exchange};
 pub use cutover::{Clearing, CutOver, Drain, Hold, Leftovers, Phase, Role, Stage};
 pub use listing::{lists_log, lists_new_table, lists_old_table};
 pub use stages::is_bad;

@@ -8,26 +8,17 @@ use Rattle.tool_program.specs.declared.note_writer.notes.NoteStep.TheVariants.{W
 use Rattle.tool_program.specs.declared.note_writer.notes.NoteRow.TheVariants.{Checkpoint}
 use Rattle.tool_program.specs.declared.note_writer.notes.Notes.{Notes}
 use Rattle.tool_program.specs.NoteWriter.Notes.{beats, checkpoint_next, row_or_beat, next}
-use Rattle.tool_program.specs.NoteWriter.NoteRows.{call_of}
+use Rattle.tool_program.specs.NoteWriter.NoteRows.{asked_in}
 
-pub checkpoint_is : (plan : PlanData) (notes : Notes) (row : Option (List Value)) → is_some (checkpoint_next notes.step row) ≡ true → next plan row notes ≡ call_of plan row (Some Checkpoint)
+pub checkpoint_is : (plan : PlanData) (notes : Notes) (row : Option (List Value)) → is_some (checkpoint_next notes.step row) ≡ true → next plan row notes ≡ Some (asked_in plan row Checkpoint)
 unfolding next
 checkpoint_is plan notes row is = by notes.step row is
   where
-    by : (step : NoteStep) (row : Option (List Value)) → is_some (checkpoint_next step row) ≡ true → row_or_beat (checkpoint_next step row) plan notes ≡ call_of plan row (Some Checkpoint)
+    by : (step : NoteStep) (row : Option (List Value)) → is_some (checkpoint_next step row) ≡ true → row_or_beat (checkpoint_next step row) plan notes ≡ Some (asked_in plan row Checkpoint)
     by Checking (Some row) is = refl
     by Checking None is = absurd cc
     by Waiting row is = absurd cc
     by Again row is = absurd cc
-
--- a checkpoint that is written has a row
-pub checkpoint_some : (plan : PlanData) (notes : Notes) (row : Option (List Value)) → is_some (checkpoint_next notes.step row) ≡ true → is_some (next plan row notes) ≡ true
-unfolding next
-checkpoint_some plan notes row is = by (checkpoint_next notes.step row) is
-  where
-    by : (due : Option (List Value)) → is_some due ≡ true → is_some (row_or_beat due plan notes) ≡ true
-    by (Some row) is = refl
-    by None is = absurd cc
 
 pub beat_is : (plan : PlanData) (notes : Notes) (row : Option (List Value)) → is_some (checkpoint_next notes.step row) ≡ false → next plan row notes ≡ beats plan notes
 unfolding next

@@ -1,11 +1,13 @@
 -- What the code's records of setup and operator mean in the words of the program. (This project's rule.)
-use Rattle.std.specs.Prelude.{ℕ, Bool, ◌&&◌, ◌||◌, nat_lt, List, [], ◌∷◌, Option, None}
+use Rattle.std.specs.Prelude.{ℕ, Bool, ◌&&◌, ◌||◌, nat_lt, List, [], ◌∷◌, unwrap_or, Option, None}
 use Rattle.std.specs.List.{flat_map, repeat}
 use Rattle.base_script.specs.declared.operator.Command.{Command}
 use Rattle.base_script.specs.declared.operator.OperatorWord.{OperatorWord}
 use Rattle.server_model.specs.declared.answer.Answer.{Answer}
 use Rattle.server_model.specs.declared.answer.Answer.TheVariants as answers
 use Rattle.server_model.specs.declared.answer.KeyRange.{KeyRange}
+use Rattle.server_model.specs.declared.request.Request.{Request}
+use Rattle.server_model.specs.declared.request.Request.TheVariants as requests
 use Rattle.plan_data.specs.PlanData.{PlanData}
 use Rattle.tool_program.specs.Operators as program
 use Rattle.tool_program.specs.Setups as steps
@@ -33,6 +35,10 @@ setup_of MakingLog = steps.MakingLog
 setup_of MakingGhost = steps.MakingGhost
 setup_of Marking = steps.Marking
 setup_of (Reaching position) = steps.Reaching position
+
+-- what is asked; until it is over the setup has a call
+abbrev pub asked_in : PlanData → Setup → Request
+asked_in plan setup = unwrap_or (steps.setup_call plan (setup_of setup)) requests.ShowTables
 
 -- with the range that was read, where it is over
 abbrev pub took_of : SetupTook → Option KeyRange → steps.Setup

@@ -1,8 +1,9 @@
 //! What the copier asks next.
 
-ghost use Rattle.std.specs.Prelude.{◌≡◌, option_map, is_some, false, IfOk, OnErr};
-ghost use Rattle.tool_program.specs.FreeCalls.{is_free_call};
-ghost use Rattle.tool_program.specs.ChunkCopier.Copiers.{low_end, key_at, copies, call_at, next, starts, unfit_key};
+ghost use Rattle.std.specs.Prelude.{◌≡◌, option_map, false, IfOk, OnErr};
+ghost use Rattle.server_model.specs.Conditions.{is_free};
+ghost use Rattle.tool_program.specs.ChunkCopier.CopyCalls.{asked_in};
+ghost use Rattle.tool_program.specs.ChunkCopier.Copiers.{low_end, key_at, call_at, next, starts, unfit_key};
 
 use crate::chunk_copier::copier::{Copier, CopyRange, CopyStep};
 use crate::chunk_copier::reader::{end_reported, keys_reported};
@@ -10,6 +11,26 @@ use base_values::tool_names::ghost_name;
 use base_values::{Bound, Duplicate, Key, Span, Value};
 use server_model::{Entry, Request};
 use std::alloc::{AllocError, Global};
+
+/// A call of the copier, with what it needs of the range and of the journal.
+#[derive(Clone, Copy)]
+pub enum CopyCall<'a> {
+    /// It asks where the next chunk of the range ends.
+    End(&'a CopyRange),
+    /// It begins a chunk and asks for its keys.
+    Span {
+        /// The range that the chunk is of.
+        range: &'a CopyRange,
+        /// The turn in which the copier got the chunk's end.
+        reported: u64,
+        /// How many rows the chunk has at most.
+        size: u32,
+    },
+    /// It copies the row of this key.
+    Row(&'a Key),
+    /// It commits the chunk.
+    Commit,
+}
 
 impl Copier {
     /// Whether the next call begins a chunk.
@@ -45,80 +66,74 @@ impl Copier {
         }
     }
 
-    /// The copy of the row of this key.
-    fn copies(&self, alloc: Global, key: Option<&Key>) -> Result<Option<Request>, AllocError>
-        ensures request { IfOk result (λ request. request ≡ copies self.now (option_map (λ key. key.now) key.entry)) }
-        ensures costs { OnErr result (is_free_call (copies self.now (option_map (λ key. key.now) key.entry)) ≡ false) }
+    /// What is asked of a range that isn't copied.
+    fn call_in<'a>(&self, journal: &'a [Entry], range: &'a CopyRange) -> Option<CopyCall<'a>>
+        ensures { option_map (asked_in journal.now self.now) result ≡ call_at journal.now self.now range.now self.now.step }
     {
-        let Some(key) = key else {
-            return Ok(None);
-        };
-        Ok(Some(Request::CopyRow {
-            from: self.table.copy()?,
-            into: ghost_name(alloc, &self.table)?,
-            map: self.map.copy()?,
-            key: key.copy()?,
-        }))
+        match self.step {
+            CopyStep::Choosing => Some(CopyCall::End(range)),
+            CopyStep::Spanning { reported, size } => Some(CopyCall::Span {
+                range,
+                reported,
+                size,
+            }),
+            CopyStep::Copying { .. } => self.key(journal).map(CopyCall::Row),
+            CopyStep::Committing(_) => Some(CopyCall::Commit),
+        }
     }
 
-    /// What is asked of a range that isn't copied.
-    fn call_in(
+    /// The next call; none where the range is copied. The journal is that of the turns in which the copier got its keys and the
+    /// chunks' ends.
+    #[tactic(auto, unfolding(crate::specs::ChunkCopier::Copiers::next))]
+    pub fn next_call<'a>(&'a self, journal: &'a [Entry]) -> Option<CopyCall<'a>>
+        ensures { option_map (asked_in journal.now self.now) result ≡ next journal.now self.now }
+    {
+        if self.is_copied {
+            return None;
+        }
+        match &self.range {
+            Some(range) => self.call_in(journal, range),
+            None => None,
+        }
+    }
+
+    /// What is asked in a call. COMMIT takes no memory.
+    pub fn request(
         &self,
         alloc: Global,
         journal: &[Entry],
-        range: &CopyRange,
-    ) -> Result<Option<Request>, AllocError>
-        ensures request { IfOk result (λ request. request ≡ call_at journal.now self.now range.now self.now.step) }
-        ensures costs { OnErr result (is_free_call (call_at journal.now self.now range.now self.now.step) ≡ false) }
+        call: CopyCall<'_>,
+    ) -> Result<Request, AllocError>
+        ensures request { IfOk result (λ request. request ≡ asked_in journal.now self.now call.entry) }
+        ensures costs { OnErr result (is_free (asked_in journal.now self.now call.entry) ≡ false) }
     {
-        match self.step {
-            CopyStep::Choosing => Ok(Some(Request::ChunkEnd {
+        Ok(match call {
+            CopyCall::End(range) => Request::ChunkEnd {
                 table: self.table.copy()?,
                 low: self.low_end(alloc, journal, range)?,
                 top: range.top.copy()?,
                 size: self.size,
-            })),
-            CopyStep::Spanning { reported, size } => Ok(Some(Request::BeginSpan {
+            },
+            CopyCall::Span {
+                range,
+                reported,
+                size,
+            } => Request::BeginSpan {
                 table: self.table.copy()?,
                 span: Span {
                     low: self.low_end(alloc, journal, range)?,
                     high: Bound::Closed(end_reported(alloc, journal, reported)?),
                 },
                 size,
-            })),
-            CopyStep::Copying { .. } => self.copies(alloc, self.key(journal)),
-            CopyStep::Committing(_) => Ok(Some(Request::Commit)),
-        }
-    }
-
-    /// The next call; none where the range is copied. The journal is that of the turns in which the copier got its keys and the
-    /// chunks' ends. COMMIT takes no memory.
-    #[tactic(auto, unfolding(crate::specs::ChunkCopier::Copiers::next))]
-    pub fn next(&self, alloc: Global, journal: &[Entry]) -> Result<Option<Request>, AllocError>
-        ensures request { IfOk result (λ request. request ≡ next journal.now self.now) }
-        ensures costs { OnErr result (is_free_call (next journal.now self.now) ≡ false) }
-    {
-        if self.is_copied {
-            return Ok(None);
-        }
-        match &self.range {
-            Some(range) => self.call_in(alloc, journal, range),
-            None => Ok(None),
-        }
-    }
-
-    /// Whether there is a next call.
-    #[tactic(auto, unfolding(crate::specs::ChunkCopier::Copiers::next))]
-    pub fn has_next(&self, journal: &[Entry]) -> bool
-        ensures { result ≡ is_some (next journal.now self.now) }
-    {
-        if self.is_copied || self.range.is_none() {
-            return false;
-        }
-        match self.step {
-            CopyStep::Copying { .. } => self.key(journal).is_some(),
-            _ => true,
-        }
+            },
+            CopyCall::Row(key) => Request::CopyRow {
+                from: self.table.copy()?,
+                into: ghost_name(alloc, &self.table)?,
+                map: self.map.copy()?,
+                key: key.copy()?,
+            },
+            CopyCall::Commit => Request::Commit,
+        })
     }
 
     /// The clustered key of the row that didn't fit, once an answer said so.

@@ -1,11 +1,14 @@
 //! What each of the three asks next.
 
-ghost use Rattle.std.specs.Prelude.{◌≡◌, Some, false, IfOk, OnErr};
-ghost use Rattle.std.specs.Option.{is_some};
-ghost use Rattle.tool_program.specs.FreeCalls.{is_free_call};
-ghost use Rattle.tool_program.specs.CutoverCore.Attempts.{exchange, locker_at, unlocks, locker_call, writes_hint, inspector_at, is_free, clears, inspector_call, renamer_call, next};
+ghost use Rattle.std.specs.Prelude.{◌≡◌, option_map, ◌∷◌, [], Some, false, IfOk, OnErr};
+ghost use Rattle.base_values.specs.ToolNames.{old_name};
+ghost use Rattle.server_model.specs.Conditions as requests;
+ghost use Rattle.server_model.specs.declared.request.Request.TheVariants.{LockTables};
+ghost use Rattle.tool_program.specs.declared.cutover_core.cutover.CutOver.{CutOver};
+ghost use Rattle.tool_program.specs.CutoverCore.Attempts.{exchange, locker_call, writes_hint, is_free, clears, inspector_call, renamer_call, next};
+ghost use Rattle.tool_program.specs.CutoverCore.CutOverCalls.{asked_in};
 
-use crate::cutover_core::cutover::{Clearing, CutOver, Hold, Phase, Role, Stage};
+use crate::cutover_core::cutover::{Clearing, CutOver, Hold, Leftovers, Phase, Role, Stage};
 use base_script::Statement;
 use base_values::tool_names::{ghost_name, log_name, old_name};
 use base_values::{Duplicate, Name, Sequence};
@@ -14,8 +17,43 @@ use std::alloc::{AllocError, Global};
 use table_store::Pair;
 use tool_changelog::{hint_row, sentry_schema};
 
+/// A call of one of the three.
+#[derive(Clone, Copy)]
+pub enum CutOverCall {
+    /// The sentry is made.
+    MakeSentry,
+    /// The table and the sentry's name are locked.
+    Lock,
+    /// The hint row of the attempt is written.
+    WriteHint,
+    /// The number that the table gives next is asked for.
+    ShowCounter,
+    /// The new table's counter is set to this number.
+    SetCounter(u64),
+    /// The two tables are exchanged by one RENAME.
+    Exchange,
+    /// What waits is looked at.
+    ShowWaiting,
+    /// The sentry is dropped.
+    DropSentry,
+    /// The tables are unlocked.
+    Unlock,
+    /// The tables are looked at.
+    ShowTables,
+    /// The first of those that are left is dropped.
+    DropFirst(Leftovers),
+}
+
+/// The table and the sentry's name are locked.
+fn locks(alloc: Global, table: &Name) -> Result<Request, AllocError>
+    ensures { IfOk result (λ request. request ≡ LockTables (table.now ∷ old_name table.now ∷ [])) }
+{
+    let names = vec![in alloc; table.copy()?, old_name(alloc, table)?]?;
+    Ok(Request::LockTables(Sequence::from_vec(names)))
+}
+
 /// The two tables exchanged as one.
-fn exchange(alloc: Global, table: &Name) -> Result<Request, AllocError>
+pub fn exchange(alloc: Global, table: &Name) -> Result<Request, AllocError>
     ensures { IfOk result (λ request. request ≡ exchange table.now) }
 {
     let away = Pair {
@@ -41,60 +79,26 @@ fn writes_hint(alloc: Global, table: &Name, attempt: u64) -> Result<Request, All
     }))
 }
 
-fn clears(alloc: Global, table: &Name, clearing: Clearing) -> Result<Option<Request>, AllocError>
-    ensures request { IfOk result (λ request. request ≡ clears table.now clearing) }
-    ensures costs { OnErr result (is_free_call (clears table.now clearing) ≡ false) }
+fn clearing_call(clearing: Clearing) -> CutOverCall
+    ensures { (cutover : CutOver) → Some (asked_in cutover result) ≡ clears cutover.table clearing }
 {
     match clearing {
-        Clearing::Looking => Ok(Some(Request::ShowTables)),
-        Clearing::Drops(left) => Ok(Some(Request::Drop(left.first_name(alloc, table)?))),
-    }
-}
-
-/// The locker's call in an attempt that may succeed.
-fn locker_at(alloc: Global, table: &Name, stage: Stage) -> Result<Option<Request>, AllocError>
-    ensures request { IfOk result (λ request. request ≡ locker_at table.now stage) }
-    ensures costs { OnErr result (is_free_call (locker_at table.now stage) ≡ false) }
-{
-    match stage {
-        Stage::Locking => {
-            let names = vec![in alloc; table.copy()?, old_name(alloc, table)?]?;
-            Ok(Some(Request::LockTables(Sequence::from_vec(names))))
-        }
-        Stage::Dropping => Ok(Some(Request::Drop(old_name(alloc, table)?))),
-        Stage::Unlocking => Ok(Some(Request::Unlock)),
-        _ => Ok(None),
+        Clearing::Looking => CutOverCall::ShowTables,
+        Clearing::Drops(left) => CutOverCall::DropFirst(left),
     }
 }
 
 impl CutOver {
-    fn locker_call(&self, alloc: Global) -> Result<Option<Request>, AllocError>
-        ensures request { IfOk result (λ request. request ≡ locker_call self.now self.now.phase) }
-        ensures costs { OnErr result (is_free_call (locker_call self.now self.now.phase) ≡ false) }
+    fn locker_call(&self) -> Option<CutOverCall>
+        ensures { option_map (asked_in self.now) result ≡ locker_call self.now self.now.phase }
     {
         match self.phase {
-            Phase::Resting if !self.is_stopped => {
-                Ok(Some(Request::Create(sentry_schema(alloc, &self.table)?)))
-            }
-            Phase::Attempting(stage) => locker_at(alloc, &self.table, stage),
-            Phase::Ending(_) if matches!(self.hold, Hold::Locks) => Ok(Some(Request::Unlock)),
-            _ => Ok(None),
-        }
-    }
-
-    fn inspector_at(&self, alloc: Global, stage: Stage) -> Result<Option<Request>, AllocError>
-        ensures request { IfOk result (λ request. request ≡ inspector_at self.now stage) }
-        ensures costs { OnErr result (is_free_call (inspector_at self.now stage) ≡ false) }
-    {
-        match stage {
-            Stage::Hinting => Ok(Some(writes_hint(alloc, &self.table, self.attempts)?)),
-            Stage::ReadingCounter(_) => Ok(Some(Request::ShowCounter(self.table.copy()?))),
-            Stage::SettingCounter { number, .. } => Ok(Some(Request::SetCounter {
-                table: ghost_name(alloc, &self.table)?,
-                number,
-            })),
-            Stage::Showing => Ok(Some(Request::ShowWaiting)),
-            _ => Ok(None),
+            Phase::Resting if !self.is_stopped => Some(CutOverCall::MakeSentry),
+            Phase::Attempting(Stage::Locking) => Some(CutOverCall::Lock),
+            Phase::Attempting(Stage::Dropping) => Some(CutOverCall::DropSentry),
+            Phase::Attempting(Stage::Unlocking) => Some(CutOverCall::Unlock),
+            Phase::Ending(_) if matches!(self.hold, Hold::Locks) => Some(CutOverCall::Unlock),
+            _ => None,
         }
     }
 
@@ -105,66 +109,64 @@ impl CutOver {
         matches!(self.hold, Hold::Nothing) && !self.renamer_waits
     }
 
-    fn inspector_call(&self, alloc: Global) -> Result<Option<Request>, AllocError>
-        ensures request { IfOk result (λ request. request ≡ inspector_call self.now self.now.phase) }
-        ensures costs { OnErr result (is_free_call (inspector_call self.now self.now.phase) ≡ false) }
+    fn inspector_call(&self) -> Option<CutOverCall>
+        ensures { option_map (asked_in self.now) result ≡ inspector_call self.now self.now.phase }
     {
         match self.phase {
-            Phase::Attempting(stage) => self.inspector_at(alloc, stage),
-            Phase::Ending(clearing) if self.is_free() => clears(alloc, &self.table, clearing),
-            Phase::Finishing(clearing) => clears(alloc, &self.table, clearing),
-            _ => Ok(None),
+            Phase::Attempting(Stage::Hinting) => Some(CutOverCall::WriteHint),
+            Phase::Attempting(Stage::ReadingCounter(_)) => Some(CutOverCall::ShowCounter),
+            Phase::Attempting(Stage::SettingCounter { number, .. }) => {
+                Some(CutOverCall::SetCounter(number))
+            }
+            Phase::Attempting(Stage::Showing) => Some(CutOverCall::ShowWaiting),
+            Phase::Ending(clearing) if self.is_free() => Some(clearing_call(clearing)),
+            Phase::Finishing(clearing) => Some(clearing_call(clearing)),
+            _ => None,
         }
     }
 
-    fn renamer_call(&self, alloc: Global) -> Result<Option<Request>, AllocError>
-        ensures request { IfOk result (λ request. request ≡ renamer_call self.now self.now.phase) }
-        ensures costs { OnErr result (is_free_call (renamer_call self.now self.now.phase) ≡ false) }
+    fn renamer_call(&self) -> Option<CutOverCall>
+        ensures { option_map (asked_in self.now) result ≡ renamer_call self.now self.now.phase }
     {
         match self.phase {
-            Phase::Attempting(Stage::Drained) => Ok(Some(exchange(alloc, &self.table)?)),
-            _ => Ok(None),
+            Phase::Attempting(Stage::Drained) => Some(CutOverCall::Exchange),
+            _ => None,
         }
     }
 
-    /// The next call of one of the three, where it doesn't wait; none where it has none. UNLOCK TABLES takes no memory.
+    /// The next call of one of the three, where it doesn't wait; none where it has none.
     #[tactic(auto, unfolding(crate::specs::CutoverCore::Attempts::next))]
-    pub fn next(&self, alloc: Global, role: Role) -> Result<Option<Request>, AllocError>
-        ensures request { IfOk result (λ request. request ≡ next role self.now) }
-        ensures costs { OnErr result (is_free_call (next role self.now) ≡ false) }
+    pub fn next_call(&self, role: Role) -> Option<CutOverCall>
+        ensures { option_map (asked_in self.now) result ≡ next role self.now }
     {
         match role {
-            Role::Inspector => self.inspector_call(alloc),
-            Role::Locker => self.locker_call(alloc),
-            Role::Renamer => self.renamer_call(alloc),
+            Role::Inspector => self.inspector_call(),
+            Role::Locker => self.locker_call(),
+            Role::Renamer => self.renamer_call(),
         }
     }
 
-    /// Whether one of the three has a call next.
-    #[tactic(auto, unfolding(crate::specs::CutoverCore::Attempts::next))]
-    pub fn has_next(&self, role: Role) -> bool
-        ensures { result ≡ is_some (next role self.now) }
+    /// What is asked in a call. UNLOCK TABLES takes no memory.
+    pub fn request(&self, alloc: Global, call: CutOverCall) -> Result<Request, AllocError>
+        ensures request { IfOk result (λ request. request ≡ asked_in self.now call) }
+        ensures costs { OnErr result (requests.is_free (asked_in self.now call) ≡ false) }
     {
-        match (role, self.phase) {
-            (Role::Locker, Phase::Resting) => !self.is_stopped,
-            (
-                Role::Locker,
-                Phase::Attempting(Stage::Locking | Stage::Dropping | Stage::Unlocking),
-            ) => true,
-            (Role::Locker, Phase::Ending(_)) => matches!(self.hold, Hold::Locks),
-            (
-                Role::Inspector,
-                Phase::Attempting(
-                    Stage::Hinting
-                    | Stage::ReadingCounter(_)
-                    | Stage::SettingCounter { .. }
-                    | Stage::Showing,
-                ),
-            ) => true,
-            (Role::Inspector, Phase::Ending(_)) => self.is_free(),
-            (Role::Inspector, Phase::Finishing(_)) => true,
-            (Role::Renamer, Phase::Attempting(Stage::Drained)) => true,
-            _ => false,
+        let table = &self.table;
+        match call {
+            CutOverCall::MakeSentry => Ok(Request::Create(sentry_schema(alloc, table)?)),
+            CutOverCall::Lock => locks(alloc, table),
+            CutOverCall::WriteHint => writes_hint(alloc, table, self.attempts),
+            CutOverCall::ShowCounter => Ok(Request::ShowCounter(table.copy()?)),
+            CutOverCall::SetCounter(number) => Ok(Request::SetCounter {
+                table: ghost_name(alloc, table)?,
+                number,
+            }),
+            CutOverCall::Exchange => exchange(alloc, table),
+            CutOverCall::ShowWaiting => Ok(Request::ShowWaiting),
+            CutOverCall::DropSentry => Ok(Request::Drop(old_name(alloc, table)?)),
+            CutOverCall::Unlock => Ok(Request::Unlock),
+            CutOverCall::ShowTables => Ok(Request::ShowTables),
+            CutOverCall::DropFirst(left) => Ok(Request::Drop(left.first_name(alloc, table)?)),
         }
     }
 }

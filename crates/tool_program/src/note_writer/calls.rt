@@ -1,9 +1,9 @@
 //! Which row of a note is written next.
 
-ghost use Rattle.std.specs.Prelude.{◌≡◌, ◌<◌, true, List, Option, IfOk, is_some};
+ghost use Rattle.std.specs.Prelude.{◌≡◌, ◌<◌, true, List, Option, option_map, IfOk, is_some};
 ghost use Rattle.base_values.specs.declared.value.Value.{Value};
 ghost use Rattle.tool_program.specs.NoteWriter.Notes.{may_beat, writes, checkpoint_next, next};
-ghost use Rattle.tool_program.specs.NoteWriter.NoteRows.{is_checking, call_of};
+ghost use Rattle.tool_program.specs.NoteWriter.NoteRows.{is_checking, asked_in};
 
 use crate::note_writer::notes::{NoteRow, NoteStep, Notes};
 use base_script::Statement;
@@ -45,10 +45,9 @@ impl Notes {
     }
 
     /// The row that is written next, where this tells whether a checkpoint comes next and has a row.
-    #[tactic(auto, using(crate::proofs::NoteWriter::Rows::checkpoint_is, crate::proofs::NoteWriter::Rows::checkpoint_some, crate::proofs::NoteWriter::Rows::beat_is))]
+    #[tactic(auto, using(crate::proofs::NoteWriter::Rows::checkpoint_is, crate::proofs::NoteWriter::Rows::beat_is))]
     pub fn next_row(&self, plan: &Plan, has_checkpoint: bool) -> Option<NoteRow>
-        ensures call { (row : Option (List Value)) → is_some (checkpoint_next self.now.step row) ≡ has_checkpoint → call_of plan.now row result ≡ next plan.now row self.now }
-        ensures some { (row : Option (List Value)) → is_some (checkpoint_next self.now.step row) ≡ has_checkpoint → is_some result ≡ is_some (next plan.now row self.now) }
+        ensures { (row : Option (List Value)) → is_some (checkpoint_next self.now.step row) ≡ has_checkpoint → option_map (asked_in plan.now row) result ≡ next plan.now row self.now }
     {
         if has_checkpoint {
             return Some(NoteRow::Checkpoint);

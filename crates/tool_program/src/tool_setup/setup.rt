@@ -1,11 +1,11 @@
 //! The setup: what the inspector does before the copy begins.
 
-ghost use Rattle.std.specs.Prelude.{◌≡◌, ℕ, Some, false, IfOk, OnErr};
+ghost use Rattle.std.specs.Prelude.{◌≡◌, ℕ, false, IfOk, OnErr};
 ghost use Rattle.tool_program.specs.declared.tool_setup.setup.Setup.TheVariants.{Reaching};
 ghost use Rattle.tool_program.specs.declared.tool_setup.setup.SetupTook.TheVariants.{Over};
-ghost use Rattle.tool_program.specs.FreeCalls.{is_free_call};
-ghost use Rattle.tool_program.specs.Setups.{listed, clearing, setup_call, setup_after};
-ghost use Rattle.tool_program.specs.ToolSetup.Meanings.{setup_of, took_of, range_reported};
+ghost use Rattle.server_model.specs.Conditions.{is_free};
+ghost use Rattle.tool_program.specs.Setups.{listed, clearing, setup_after};
+ghost use Rattle.tool_program.specs.ToolSetup.Meanings.{setup_of, asked_in, took_of, range_reported};
 
 use crate::cutover_core::{Leftovers, is_bad, lists_log, lists_new_table, lists_old_table};
 use crate::tool_setup::alters::new_table;
@@ -63,10 +63,10 @@ fn clearing(left: Leftovers) -> Setup
 }
 
 impl Setup {
-    /// The next call.
-    pub fn call(self, alloc: Global, plan: &Plan) -> Result<Request, AllocError>
-        ensures request { IfOk result (λ request. Some request ≡ setup_call plan.now (setup_of self)) }
-        ensures costs { OnErr result (is_free_call (setup_call plan.now (setup_of self)) ≡ false) }
+    /// What is asked next.
+    pub fn request(self, alloc: Global, plan: &Plan) -> Result<Request, AllocError>
+        ensures request { IfOk result (λ request. request ≡ asked_in plan.now self) }
+        ensures costs { OnErr result (is_free (asked_in plan.now self) ≡ false) }
     {
         Ok(match self {
             Setup::Listing => Request::ShowTables,
