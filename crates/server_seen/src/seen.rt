@@ -1,6 +1,6 @@
 //! A table as a transaction sees it.
 
-ghost use Rattle.std.specs.Prelude.{◌≡◌, option_copied, IfOk};
+ghost use Rattle.std.specs.Prelude.{◌≡◌, option_copied, IfOk, IfSome};
 ghost use Rattle.base_values.specs.GhoSchema.Rows.{key_places};
 ghost use Rattle.base_values.specs.GhoSchema.Tables.{Ascends};
 ghost use Rattle.table_store.specs.Databases.{row_at_key};
@@ -75,6 +75,17 @@ impl<'a> SeenTable<'a> {
                 self.table.schema()
             }
             None => self.table.schema(),
+        }
+    }
+
+    /// The table itself, where nothing was written to it.
+    pub fn unwritten_table(&self) -> Option<&'a Table>
+        ensures schema { IfSome (option_copied result) (λ table. table.table.schema ≡ self.now.schema) }
+        ensures rows { IfSome (option_copied result) (λ table. table.table.rows ≡ self.now.rows) }
+    {
+        match self.written {
+            Some(_) => None,
+            None => Some(self.table),
         }
     }
 
