@@ -1,5 +1,5 @@
 -- Where the migration goes, the range is copied and the applier reads, it is frozen.
-use Rattle.std.proofs.Common.{◌≡◌, ◌<◌, ◌≤◌, ℕ, ◌+◌, Bool, true, false, cond, ◌&&◌, List, [], Option, Some, None, refl, sym, ap, ◌∙◌, subst, arith}
+use Rattle.std.proofs.Common.{◌≡◌, ◌<◌, ◌≤◌, ℕ, ◌+◌, Bool, true, false, cond, List, [], Option, Some, None, refl, sym, ap, ◌∙◌, subst, arith}
 use Rattle.std.specs.Prelude.{◌==◌}
 use Rattle.std.proofs.Math.Nat.{le_refl}
 use Rattle.std.proofs.lemmas.Bool.Decides.{nat_tests}
@@ -15,10 +15,8 @@ use Rattle.tool_program.specs.declared.event_applier.applier.ApplyStep.{ApplySte
 use Rattle.tool_program.specs.declared.event_applier.applier.ApplyStep.TheVariants.{Reading}
 use Rattle.tool_program.specs.EventApplier.Appliers as appliers
 use Rattle.tool_program.specs.JournalWords.Journals.{state_at}
-use Rattle.tool_program.specs.JournalWords.Sessions.{live_session, sessions_named}
-use Rattle.tool_program.specs.Operators.{is_throttled}
-use Rattle.tool_program.specs.Programs.{apply_call, copy_call, rolls_back, tool_call}
-use Rattle.tool_program.specs.Tools.{ToolPhase, Migrating, Work, is_reverting, moment}
+use Rattle.tool_program.specs.JournalWords.Sessions.{sessions_named}
+use Rattle.tool_program.specs.Tools.{Migrating, Work, is_reverting, moment}
 use Rattle.proof_journals.specs.Plans.{limits_of, scene_of}
 use Rattle.proof_journals.specs.Scenes.{no_hold}
 use Rattle.server_model.proofs.LockedRows.Tests.{turned}
@@ -30,8 +28,7 @@ use Rattle.proof_journals.specs.Ghost.Tool.{CopyState}
 use Rattle.proof_migration.specs.Migration.Applier.ApplierPlace.{plan_at}
 use Rattle.proof_migration.specs.Migration.Copier.CopierPlace.{copy_state, moment_of}
 use Rattle.proof_journals.specs.Machine.Standings.{standing_of}
-use Rattle.proof_journals.proofs.Machine.Asking.{unless_called}
-use Rattle.proof_journals.proofs.Machine.Journals.{IsTogether, apply_called}
+use Rattle.proof_journals.proofs.Machine.Journals.{IsTogether}
 use Rattle.proof_migration.specs.Migration.Machines.{IsUnbusy, Machines, MigrationStands, hold_at}
 use Rattle.proof_migration.specs.Migration.Machines.MigrationMove.{applier_moves, copier_moves}
 use Rattle.proof_migration.proofs.Migration.Migrating.{moves_keep}
@@ -40,6 +37,7 @@ use Rattle.proof_migration.proofs.ToolPhase.Unaltered.Away.{IsKnownAsked}
 use Rattle.proof_migration.specs.Program.Turns.Goes.{CopyWaits, Goes, machines_in}
 use Rattle.proof_migration.proofs.Program.Turns.ActorStates.{SomeActorStates, new_holds, some_actor_states}
 use Rattle.proof_migration.proofs.Program.Turns.Goes.{rests_own}
+use Rattle.proof_migration.proofs.Program.Turns.NextCalls.{apply_next, copy_next}
 use Rattle.proof_migration.proofs.Stays.{StandsAt}
 use Rattle.proof_migration.proofs.Frozen.{CallsQuiet, Frozen, IsHarmless, IsQuiet, WaitsHarmless}
 
@@ -162,15 +160,8 @@ module _ (plan : PlanData) (m : Migration) (at : Clustered m.schema) (rows : Lis
   -- and the two are asked for nothing but to read the log
   pub copier_quiet : is_reverting (moment plan journal).tool.reason ≡ false → CallsQuiet plan journal Copy
   copier_quiet going request call =
-      absurd (no_next journal work.copier request copied
-      (unless_called (copiers.starts work.copier && is_throttled plan (moment plan journal).server (moment plan journal).tool.operator) (copiers.next journal work.copier) request
-      (ap (λ (b : Bool). cond b (rolls_back (moment plan journal).server (live_session journal Copy)) (copy_call plan (moment plan journal).server journal (moment plan journal).tool work)) (sym going)
-      ∙ ap (λ (c : ToolPhase). tool_call plan (moment plan journal).server journal (moment plan journal).tool c Copy) (sym tool_phase) ∙ call)))
+      absurd (no_next journal work.copier request copied (copy_next plan journal work tool_phase going request call))
 
   pub applier_quiet : is_reverting (moment plan journal).tool.reason ≡ false → CallsQuiet plan journal Apply
   applier_quiet going request call =
-      harmless request
-      (sym
-      (apply_called plan journal work request
-      (ap (λ (b : Bool). cond b (rolls_back (moment plan journal).server (live_session journal Apply)) (apply_call plan (moment plan journal).server journal (moment plan journal).tool work)) (sym going)
-      ∙ ap (λ (c : ToolPhase). tool_call plan (moment plan journal).server journal (moment plan journal).tool c Apply) (sym tool_phase) ∙ call)))
+      harmless request (apply_next plan journal work tool_phase going request call)

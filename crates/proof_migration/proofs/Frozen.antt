@@ -41,7 +41,7 @@ use Rattle.proof_migration.proofs.ToolPhase.Unaltered.Away.{IsKnownAsked, all_as
 use Rattle.proof_migration.specs.Program.Turns.Laws.{IsMigrationOf}
 use Rattle.proof_migration.proofs.Program.Turns.Asked.{gave, waits_with}
 use Rattle.proof_migration.proofs.Program.Turns.Follows.{kept_front, kept_run, kept_scene, unmarked_now}
-use Rattle.proof_migration.proofs.Program.Turns.Goes.{in_scene}
+use Rattle.proof_migration.proofs.Program.Turns.Takes.{in_scene}
 use Rattle.proof_migration.proofs.Program.Turns.Others.{ghost_named, others_away}
 use Rattle.proof_migration.proofs.Stays.{MayStay, StandsAt, applier_stays}
 

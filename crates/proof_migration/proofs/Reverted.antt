@@ -56,7 +56,7 @@ use Rattle.proof_migration.specs.ToolPhase.Waits.{WaitsAreReported}
 use Rattle.proof_migration.specs.Program.Turns.Goes.{Goes}
 use Rattle.proof_migration.specs.Program.Turns.Laws.{GoesSomehow, IsMark, IsMigrationOf}
 use Rattle.proof_migration.proofs.Program.Turns.Follows.{kept_front, kept_run, kept_scene}
-use Rattle.proof_migration.proofs.Program.Turns.Goes.{in_scene}
+use Rattle.proof_migration.proofs.Program.Turns.Takes.{in_scene}
 use Rattle.proof_migration.specs.Program.Laws.{FollowersAlter}
 use Rattle.proof_migration.proofs.Program.Follows.{migration, own_table}
 use Rattle.proof_migration.proofs.Program.Starts.{followers_go}

@@ -4,4 +4,5 @@ pub mod Known
 pub mod Refusals
 pub mod Copies
 pub mod Applies
+pub mod Turns
 pub mod Rows

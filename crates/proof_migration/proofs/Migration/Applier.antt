@@ -6,6 +6,7 @@ pub mod Statements
 pub mod Answers
 pub mod Planning
 pub mod Knowing
+pub mod NextStatement
 pub mod Busy
 pub mod Appliers
 pub mod Stated

@@ -300,7 +300,7 @@ run_after limits scene journal [] run = run
 run_after limits scene journal (Turned entry next ∷ steps) run = run_front limits scene journal (entry ∷ []) (run_after limits scene (journal ++ entry ∷ []) steps run)
 run_after limits scene journal (Moved next ∷ steps) run = run_after limits scene journal steps run
 
-runs_keep : (m : Migration) (at : Clustered m.schema) (rows : List Row) (place : ℕ) → IsPlanned m rows → clustered_place m.new ≡ Some place → FindsRows m → m.new.name ≡ ghost_name m.name → (limits : Limits) (scene : Scene) (journal : List Entry) (now : Machines) (steps : List Step) → IsSceneRun limits scene (journal_after journal steps)
+pub runs_keep : (m : Migration) (at : Clustered m.schema) (rows : List Row) (place : ℕ) → IsPlanned m rows → clustered_place m.new ≡ Some place → FindsRows m → m.new.name ≡ ghost_name m.name → (limits : Limits) (scene : Scene) (journal : List Entry) (now : Machines) (steps : List Step) → IsSceneRun limits scene (journal_after journal steps)
     → MigrationRun m limits scene journal now steps → MigrationStands m at rows limits scene journal now → MigrationStands m at rows limits scene (journal_after journal steps) (machines_after now steps)
 runs_keep m at rows place plan is_place finds named limits scene journal now [] run turns was = was
 runs_keep m at rows place plan is_place finds named limits scene journal now (Turned entry next ∷ steps) run turns was =

@@ -79,13 +79,13 @@ others_new m [] all = tt
 others_new m (name ∷ names) all = (all.0.1, others_new m names all.1)
 
 -- who keeps away leaves both
-leaves_both : (m : Migration) (reported : Option Answer) (request : Request) → KeepsAway m reported request → LeavesName m.name reported request × LeavesName m.new.name reported request
+pub leaves_both : (m : Migration) (reported : Option Answer) (request : Request) → KeepsAway m reported request → LeavesName m.name reported request × LeavesName m.new.name reported request
 leaves_both m reported (requests.Create schema) away = away
 leaves_both m reported (requests.Drop name) away = away
 leaves_both m reported (requests.Rename pairs) away = ((λ done. others_old m (pair_names pairs) (away done)), λ done. others_new m (pair_names pairs) (away done))
 leaves_both m reported request away = (tt, tt)
 
-writes_away : (m : Migration) (reported : Option Answer) (request : Request) → KeepsAway m reported request → WritesAway m request
+pub writes_away : (m : Migration) (reported : Option Answer) (request : Request) → KeepsAway m reported request → WritesAway m request
 writes_away m reported (requests.Do statement) away = away
 writes_away m reported (requests.CopyRow from into map key) away = away
 writes_away m reported request away = tt

@@ -22,7 +22,7 @@ use Rattle.proof_migration.specs.ToolPhase.Runnable.{AlterablePlansAreRunnable, 
 use Rattle.proof_migration.proofs.ToolPhase.Runnable.Plans.{named}
 use Rattle.proof_migration.specs.Program.Turns.Goes.{IsOf}
 use Rattle.proof_migration.specs.Program.Turns.Laws.{IsMigrationOf}
-use Rattle.proof_migration.proofs.Program.Turns.Follows.{marks_are_altered}
+use Rattle.proof_migration.proofs.Program.Turns.GoingOn.{marks_are_altered}
 use Rattle.proof_migration.specs.Program.Laws.{FollowersAlter}
 use Rattle.proof_migration.proofs.Program.Starts.{followers_go}
 

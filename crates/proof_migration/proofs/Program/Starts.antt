@@ -66,7 +66,8 @@ use Rattle.proof_migration.proofs.ToolPhase.Unaltered.Away.{IsKnownAsked, all_as
 use Rattle.proof_migration.specs.Program.Turns.Goes.{ActorStates, machines_in}
 use Rattle.proof_migration.specs.Program.Turns.Laws.{GoesSomehow, IsMigrationOf}
 use Rattle.proof_migration.proofs.Program.Turns.Asked.{about_called, asked_as, gave, waits_with}
-use Rattle.proof_migration.proofs.Program.Turns.Follows.{followers_go_on, kept_front, kept_run, kept_scene}
+use Rattle.proof_migration.proofs.Program.Turns.Follows.{kept_front, kept_run, kept_scene}
+use Rattle.proof_migration.proofs.Program.Turns.GoingOn.{followers_go_on}
 use Rattle.proof_migration.proofs.Program.Turns.Others.{client_name, ghost_named}
 use Rattle.proof_migration.proofs.Program.Turns.Reverting.{going_front}
 use Rattle.proof_migration.proofs.Program.Turns.ActorStates.{new_holds}

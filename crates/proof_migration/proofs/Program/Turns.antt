@@ -4,6 +4,9 @@ pub mod Reverting
 pub mod ActorStates
 pub mod Sizes
 pub mod Asked
+pub mod NextCalls
 pub mod Others
-pub mod Goes
 pub mod Follows
+pub mod Takes
+pub mod Goes
+pub mod GoingOn

@@ -1,5 +1,5 @@
 -- A journal in which the RENAME is done once at most, and finds the altered table, is a run of its plan, and serial.
-use Rattle.std.proofs.Common.{◌≡◌, ◌≤◌, ◌+◌, ℕ, Bool, true, false, cond, ◌||◌, List, [], ◌∷◌, ◌++◌, Option, Some, None, refl, sym, ap, ◌∙◌, subst, arith, append_assoc, append-nil}
+use Rattle.std.proofs.Common.{◌≡◌, ◌≤◌, ◌+◌, ℕ, Bool, true, false, cond, ◌||◌, List, [], ◌∷◌, ◌++◌, Option, Some, None, refl, sym, ap, ◌∙◌, subst, arith}
 use Rattle.std.specs.Prelude.{count_by, fold}
 use Rattle.std.specs.Option.{option_map}
 use Rattle.std.specs.List.{list_any}
@@ -10,7 +10,7 @@ use Rattle.table_store.specs.Databases.{Database, TableRows, find_table, name_ta
 use Rattle.table_store.specs.declared.renames.Pair.{Pair}
 use Rattle.base_script.specs.declared.actor.Actor.{Actor}
 use Rattle.base_script.specs.declared.actor.Actor.TheVariants.{Op, Insp, Copy, Apply, Lock, Ren, Client}
-use Rattle.server_model.specs.Along.{Along, gathered, gathered-more}
+use Rattle.server_model.specs.Along.{Along, Along-keeps, gathered, gathered-more}
 use Rattle.server_model.specs.Answers.{ok}
 use Rattle.server_model.specs.declared.answer.Answer.{Answer}
 use Rattle.server_model.specs.declared.answer.Answer.TheVariants as answers
@@ -27,11 +27,10 @@ use Rattle.tool_program.specs.JournalWords.Histories.{Alter, HistoryItem, adds, 
 use Rattle.tool_program.specs.JournalWords.Journals.{state_at}
 use Rattle.tool_program.specs.Programs.{Follows}
 use Rattle.proof_journals.specs.Plans.{IsSerialPlan, KeepsAway, scene_of}
-use Rattle.proof_journals.proofs.PlanJournals.{takes_lines}
+use Rattle.proof_journals.proofs.PlanJournals.{takes_lines, journals_are_serial}
 use Rattle.proof_journals.specs.Turns.{IsExchange, RenamesSo}
 use Rattle.proof_journals.proofs.Exchanging.{exchange_alters}
 use Rattle.proof_journals.proofs.Naming.{migrated_named}
-use Rattle.proof_journals.proofs.PlanJournals.{journals_are_serial}
 use Rattle.proof_journals.specs.Ghost.Copies.{IsAltered}
 use Rattle.proof_migration.specs.Migration.Planning.{migration_of}
 use Rattle.run_actors.proofs.AlterTurns.{of_client}
@@ -155,21 +154,18 @@ history_counts : (plan : PlanData) (before : List Entry) (entry : Entry) → cou
 unfolding history
 history_counts plan before entry = ap (count_by is_alter) (gathered-more (entry_adds plan) [] before entry) ∙ fold-append counted 0 (gathered (entry_adds plan) [] before) (entry_adds plan before entry)
 
-once_more : (plan : PlanData) (before : List Entry) (entry : Entry) → count_by is_alter (history plan before) ≤ 1 → (list_any is_alter (entry_adds plan before entry) ≡ true → IsUnaltered plan before) → count_by is_alter (history plan (before ++ entry ∷ [])) ≤ 1
+pub once_more : (plan : PlanData) (before : List Entry) (entry : Entry) → count_by is_alter (history plan before) ≤ 1 → (list_any is_alter (entry_adds plan before entry) ≡ true → IsUnaltered plan before) → count_by is_alter (history plan (before ++ entry ∷ [])) ≤ 1
 once_more plan before entry once marked = subst (λ (n : ℕ). n ≤ 1) (sym (history_counts plan before entry)) (by (list_any is_alter (entry_adds plan before entry)) refl) where
   by : (b : Bool) → list_any is_alter (entry_adds plan before entry) ≡ b → fold counted (count_by is_alter (history plan before)) (entry_adds plan before entry) ≤ 1
   by true is = subst (λ (n : ℕ). fold counted n (entry_adds plan before entry) ≤ 1) (sym (none_counted (history plan before) (marked is))) (adds_once plan before entry entry.actor)
   by false is = subst (λ (n : ℕ). n ≤ 1) (sym (none_more (count_by is_alter (history plan before)) (entry_adds plan before entry) is)) once
 
-once : (plan : PlanData) (is : IsAlterable plan) (before journal : List Entry) → count_by is_alter (history plan before) ≤ 1 → Along (IsMarkedAt plan is) before journal → count_by is_alter (history plan (before ++ journal)) ≤ 1
-once plan is before [] most marked = subst (λ (j : List Entry). count_by is_alter (history plan j) ≤ 1) (sym (append-nil before)) most
-once plan is before (entry ∷ journal) most marked =
-    subst (λ (j : List Entry). count_by is_alter (history plan j) ≤ 1) (append_assoc before (entry ∷ []) journal) (once plan is (before ++ entry ∷ []) journal (once_more plan before entry most (λ alters. (marked.0 alters).0)) marked.1)
-
-none_yet : (plan : PlanData) → count_by is_alter (history plan []) ≤ 1
+pub none_yet : (plan : PlanData) → count_by is_alter (history plan []) ≤ 1
 unfolding history
 none_yet plan = omega arith
 
 -- ... and serial
 pub marked_serial : AlterablePlansAreRunnable → MarkedJournalsAreSerial
-marked_serial runnable plan is worded serial journal kept marked = journals_are_serial plan journal (marked_runs runnable plan is worded serial journal kept marked) (once plan is [] journal (none_yet plan) marked)
+marked_serial runnable plan is worded serial journal kept marked =
+    journals_are_serial plan journal (marked_runs runnable plan is worded serial journal kept marked)
+    (Along-keeps (IsMarkedAt plan is) (λ all. count_by is_alter (history plan all) ≤ 1) (λ all entry at once. once_more plan all entry once (λ alters. (at alters).0)) [] journal marked (none_yet plan))

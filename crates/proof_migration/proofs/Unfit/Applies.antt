@@ -1,82 +1,57 @@
--- A turn of the applier's in which a value was refused wrote the row of an event of the migrated table, which has no image there.
-use Rattle.tool_program.specs.JournalWords.Journals.{opens}
-use Rattle.server_model.specs.declared.session.Session.{Session}
-use Rattle.server_model.specs.States.{session_of}
-use Rattle.server_model.specs.States.{is_of_tool}
-use Rattle.server_model.specs.Entries.{is_client}
-use Rattle.proof_migration.proofs.Program.Turns.Follows.{kept_front}
-use Rattle.proof_migration.proofs.ToolServes.{about_uncommanded, tool_serves}
-use Rattle.std.proofs.Common.{◌≡◌, ◌<◌, ℕ, ◌==◌, Bool, true, false, cond, List, [], ◌∷◌, ◌++◌, length, Option, Some, refl, sym, ap, ◌∙◌, subst}
-use Rattle.std.specs.List.{slice_get}
+-- A turn of an applier in which a value was refused, the program's or a new tool's: it wrote the row of an event of the migrated table that
+-- can't be converted.
+use Rattle.std.proofs.Common.{◌≡◌, ℕ, ◌==◌, Bool, true, false, cond, List, [], ◌++◌, length, Option, Some, refl, sym, ap, ◌∙◌, subst}
 use Rattle.std.specs.Option.{option_map}
-use Rattle.base_values.specs.declared.gho_schema.schema.Column.{Column}
-use Rattle.base_values.proofs.SchemaRules.Lists.{All-at}
 use Rattle.base_values.specs.declared.row_conversion.map.MapColumn.{MapColumn}
+use Rattle.base_values.specs.GhoSchema.Rows.{key_of}
 use Rattle.table_store.specs.Databases.{TableRows}
-use Rattle.base_script.specs.declared.actor.Actor.{Actor}
-use Rattle.base_script.specs.declared.actor.Actor.TheVariants.{Apply}
-use Rattle.base_script.specs.declared.statement.Statement.{Statement}
 use Rattle.server_model.specs.declared.answer.Answer.{Answer}
 use Rattle.server_model.specs.declared.answer.Answer.TheVariants as answers
-use Rattle.server_model.specs.declared.entry.Asked.TheVariants.{Cut}
 use Rattle.server_model.specs.declared.entry.Entry.{Entry}
 use Rattle.server_model.specs.declared.outcome.Progress.TheVariants.{Going, TaskDone, Unfit}
 use Rattle.server_model.specs.declared.request.Request.{Request}
 use Rattle.server_model.specs.declared.request.Request.TheVariants as requests
-use Rattle.server_model.specs.Entries.{answer_at}
-use Rattle.server_model.specs.EarlierAnswers.{events_in}
+use Rattle.server_model.specs.declared.session.Session.{Session}
+use Rattle.server_model.specs.States.{is_of_tool, session_of}
 use Rattle.plan_data.specs.PlanData.{PlanData, new_map}
-use Rattle.tool_program.specs.JournalWords.Journals.{state_at}
-use Rattle.tool_program.specs.JournalWords.Sessions.{live_session}
+use Rattle.tool_program.specs.JournalWords.Journals.{opens, state_at}
+use Rattle.tool_program.specs.declared.chunk_copier.copier.Copier.{Copier}
 use Rattle.tool_program.specs.declared.event_applier.applier.Applier.{Applier}
 use Rattle.tool_program.specs.declared.event_applier.applier.ApplyStep.{ApplyStep}
 use Rattle.tool_program.specs.declared.event_applier.applier.ApplyStep.TheVariants.{Reading, Beginning, Applying, Committing}
 use Rattle.tool_program.specs.declared.event_applier.applier.Batch.{Batch}
 use Rattle.tool_program.specs.declared.event_applier.applier.Part.{Part}
-use Rattle.tool_program.specs.declared.event_applier.applier.Part.TheVariants.{Whole, Removal, Return}
-use Rattle.tool_program.specs.EventApplier.Appliers.{Doing, doing_at, doing_in, in_part, progress_at, row_done, statement_result}
-use Rattle.tool_program.specs.EventApplier.Appliers.Doing.{Putting, Removing, Changing}
 use Rattle.tool_program.specs.EventApplier.Appliers as appliers
-use Rattle.tool_program.specs.Failures.{applied_row, concerned}
-use Rattle.tool_program.specs.Programs.{apply_call, given, rolls_back, tool_call}
-use Rattle.tool_program.specs.Tools.{ToolPhase, Migrating, Work, is_reverting, moment}
-use Rattle.tool_program.proofs.OnlineCalls.Machines.{ToolPhaseIsNamed, IsNamed, named}
+use Rattle.tool_program.specs.EventApplier.Appliers.{Doing, doing_at, in_part, progress_at, row_done}
 use Rattle.proof_journals.specs.Plans.{limits_of, scene_of}
+use Rattle.proof_journals.specs.Ghost.HeldKeys.{Clustered}
 use Rattle.proof_journals.specs.Ghost.Rows.Moments.{Row}
 use Rattle.proof_journals.specs.Ghost.Rows.Timelines.{Migration}
-use Rattle.proof_journals.specs.Ghost.Doings.{planned}
-use Rattle.proof_journals.specs.Ghost.HeldKeys.{Clustered}
-use Rattle.proof_journals.specs.Ghost.OwnChanges.{own_changes}
-use Rattle.proof_journals.proofs.Ghost.Running.{any_kept}
-use Rattle.proof_migration.specs.Migration.Applier.ApplierPlace.{IsBatchReported, StepKnows}
-use Rattle.proof_migration.proofs.Migration.Applier.Knowing.{next_at, same_reported}
-use Rattle.proof_migration.proofs.Migration.Applier.Planning.{DoesRows, NextDoing, next_doing, planned_alike, planned_rows}
-use Rattle.proof_migration.proofs.Migration.Applier.Statements.{said, said_is}
-use Rattle.proof_journals.specs.Run.Kept.{IsKept}
-use Rattle.proof_journals.specs.Machine.Standings.{IsAbout, Standing, is_called, is_polled, standing_of}
 use Rattle.proof_journals.specs.Machine.MigrationTables.{schema_of}
-use Rattle.proof_journals.proofs.Machine.Journals.{Asking, apply_called, asking, calls_so, polls_so}
+use Rattle.proof_journals.specs.Machine.Standings.{IsAbout, standing_of}
+use Rattle.proof_journals.proofs.Ghost.Running.{any_kept}
+use Rattle.proof_journals.proofs.Machine.Seated.{IsKnown, IsServed}
 use Rattle.proof_migration.specs.Migration.Machines.{MigrationStands}
-use Rattle.proof_migration.proofs.ToolPhase.ToolPhaseTurns.{gives_asked}
-use Rattle.proof_migration.proofs.ToolPhase.Hearing.{own_answer, opened_tables}
-use Rattle.proof_migration.specs.Program.Turns.Goes.{Goes, machines_in}
+use Rattle.proof_migration.specs.Program.Turns.Goes.{StandsFor, machines_of}
 use Rattle.proof_migration.specs.Program.Turns.Laws.{IsMigrationOf}
+use Rattle.proof_migration.proofs.Migration.Applier.NextStatement.{NextStatement, next_statement}
+use Rattle.proof_migration.proofs.Migration.Applier.Planning.{part_rows}
+use Rattle.proof_migration.proofs.Migration.Applier.Statements.{said}
 use Rattle.proof_migration.proofs.Program.Turns.ActorStates.{SomeActorStates, some_actor_states}
-use Rattle.proof_migration.proofs.Unfit.Known.{IsKnownTurn, known_turn}
+use Rattle.proof_migration.proofs.ToolPhase.Hearing.{opened_tables, own_answer}
 use Rattle.proof_migration.proofs.Unfit.Refusals.{HasNoConvertedRow, RowFits, done_fits}
 
 -- THE ANSWER
 
-abbrev IsRefusal : ApplyStep → Answer → ℕ → ℕ → Type 0
+abbrev pub IsRefusal : ApplyStep → Answer → ℕ → ℕ → Type 0
 IsRefusal (Applying batch done part) (answers.Refused one (Some other)) place number = (one ≡ number) × (other ≡ place)
 IsRefusal step answer place number = ⊥
 
--- what is planned is no row that does not fit
-pub planned_fits : (none : Bool) (place number : ℕ) → cond none TaskDone Going ≡ Unfit place number → ⊥
+planned_fits : (none : Bool) (place number : ℕ) → cond none TaskDone Going ≡ Unfit place number → ⊥
 planned_fits true place number is = cc
 planned_fits false place number is = cc
 
-refusal : (applier : Applier) (step : ApplyStep) (answer : Answer) (place number : ℕ) → progress_at applier step answer ≡ Unfit place number → IsRefusal step answer place number
+pub refusal : (applier : Applier) (step : ApplyStep) (answer : Answer) (place number : ℕ) → progress_at applier step answer ≡ Unfit place number → IsRefusal step answer place number
 refusal applier (Applying batch done part) (answers.Refused one (Some other)) place number is = let a : one ≡ number = cc in let b : other ≡ place = cc in (a, b)
 refusal applier Reading (answers.Events events following) place number is = absurd (planned_fits (length (appliers.planned applier events) == 0) place number is)
 refusal applier (Beginning batch) answers.Lost place number is = absurd cc
@@ -87,162 +62,59 @@ refused : (step : ApplyStep) (answer : Answer) (place number : ℕ) → IsRefusa
 refused (Applying batch done part) (answers.Refused one (Some other)) place number is = ap (λ (n : ℕ). answers.Refused n (Some other)) is.0 ∙ ap (λ (p : ℕ). answers.Refused number (Some p)) is.1
 refused step answer place number is = absurd is
 
--- WHAT IS DONE IN PARTS
-
-part_rows : (columns : List Column) (part : Part) (doing : Doing) → DoesRows columns doing → DoesRows columns (in_part part doing)
-part_rows columns Whole doing fits = fits
-part_rows columns Removal (Putting row) fits = fits
-part_rows columns Removal (Removing row) fits = fits
-part_rows columns Removal (Changing before after) fits = fits.0
-part_rows columns Return (Putting row) fits = fits
-part_rows columns Return (Removing row) fits = fits
-part_rows columns Return (Changing before after) fits = fits.1
-
 -- THE TURN
 
-module _ (plan : PlanData) (m : Migration) (at : Clustered m.schema) (rows : List Row) (of : IsMigrationOf plan m rows) (journal : List Entry) (entry : Entry) (kept : IsKept plan (journal ++ entry ∷ [])) (work : Work) (tool_phase : (moment plan journal).tool.tool_phase ≡ Migrating work)
-    (going : is_reverting (moment plan journal).tool.reason ≡ false) (goes : Goes plan m at rows journal work) (same : entry.actor ≡ Apply) (uncut : entry.asked ≡ Cut → ⊥) (place number : ℕ) (unfit : appliers.progress work.applier entry.answer ≡ Unfit place number) where
-  abbrev has : Actor → Standing
-  has = standing_of plan journal
+-- *What the applier was refused*: the writing of this row, which every longer journal tells
+pub record IsRefusedRow (plan : PlanData) (journal : List Entry) (entry : Entry) (applier : Applier) (place number : ℕ) : Type 0 where
+  pub refused : entry.answer ≡ answers.Refused number (Some place)
+  pub none : HasNoConvertedRow (new_map plan) (row_done (doing_at journal applier applier.step)) place number
+  pub told : (places : List ℕ) (more : List Entry) → appliers.unfit_key (journal ++ more) places applier ≡ appliers.unfit_key journal places applier
 
-  turn : IsKnownTurn plan journal entry
-  turn = known_turn plan of.runs journal entry kept
-
-  is_refusal : IsRefusal work.applier.step entry.answer place number
+module _ (plan : PlanData) (m : Migration) (at : Clustered m.schema) (rows : List Row) (of : IsMigrationOf plan m rows) (journal : List Entry) (entry : Entry) (known : IsKnown plan journal) (served : IsServed plan journal entry) (tool : is_of_tool (session_of entry.session (opens entry (state_at plan journal)).sessions) ≡ true)
+    (copier : Copier) (applier : Applier) (table : applier.table ≡ m.name) (schema : applier.new_schema ≡ m.new) (columns : applier.map ≡ m.columns) (stands_for : StandsFor plan m at rows journal copier applier) (is_about : IsAbout (appliers.next journal applier) (standing_of plan journal entry.actor) entry.asked) (place number : ℕ)
+    (unfit : appliers.progress applier entry.answer ≡ Unfit place number) where
+  is_refusal : IsRefusal applier.step entry.answer place number
   unfolding appliers.progress
-  is_refusal = refusal work.applier work.applier.step entry.answer place number unfit
+  is_refusal = refusal applier applier.step entry.answer place number unfit
 
   answered : entry.answer ≡ answers.Refused number (Some place)
-  answered = refused work.applier.step entry.answer place number is_refusal
-
-  -- it applies so many statements of a batch
-  record AppliesHere : Type 0 where
-    batch : Batch
-    count : ℕ
-    part : Part
-    here : work.applier.step ≡ Applying batch count part
-
-  applies_here : AppliesHere
-  applies_here = by work.applier.step refl is_refusal where
-    by : (step : ApplyStep) → work.applier.step ≡ step → IsRefusal step entry.answer place number → AppliesHere
-    by (Applying batch done part) here is = record { batch = batch; count = done; part = part; here = here }
-    by step here is = absurd is
-
-  abbrev batch : Batch
-  batch = applies_here.batch
-
-  abbrev count : ℕ
-  count = applies_here.count
-
-  abbrev part : Part
-  part = applies_here.part
-
-  abbrev step : ApplyStep
-  step = Applying batch count part
-
-  here : work.applier.step ≡ step
-  here = applies_here.here
+  answered = refused applier.step entry.answer place number is_refusal
 
   -- WHERE THE APPLIER STANDS
 
   some : SomeActorStates journal
-  some = some_actor_states journal turn.together.known.sessions
+  some = some_actor_states journal known.sessions
 
-  stands : MigrationStands m at rows (limits_of plan) (scene_of plan []) journal (machines_in work some.copier some.applier)
-  stands = goes.stands some.copier some.applier some.actor_states
-
-  knows : StepKnows m journal step
-  knows = subst (StepKnows m journal) here stands.applier_knows.step
-
-  reported : IsBatchReported m journal batch
-  reported = knows.0
+  stands : MigrationStands m at rows (limits_of plan) (scene_of plan []) journal (machines_of copier some.copier applier some.applier)
+  stands = stands_for some.copier some.applier some.actor_states
 
   ghost_now : schema_of m.new.name (state_at plan journal).tables ≡ Some m.new
   ghost_now = any_kept (schema_of m.new.name (state_at plan journal).tables ≡ Some m.new) m at rows some.copier some.applier _ (λ apply kept. ap (option_map (λ (table : TableRows). table.schema)) kept.tool.kept.new) stands.tool.stands
 
-  -- WHAT IS DONE
+  -- WHAT WAS REFUSED
 
-  abbrev all_doings : List Doing
-  all_doings = planned m (own_changes m.name reported.events)
+  module _ (batch : Batch) (count : ℕ) (part : Part) (next : NextStatement m journal applier batch count part) where
+    abbrev doing : Doing
+    doing = in_part part next.doing
 
-  next_one : NextDoing all_doings count
-  next_one = next_doing all_doings count (subst (λ (n : ℕ). count < n) reported.counted knows.1)
+    abbrev request : Request
+    request = requests.Do (said m.new m.columns doing)
 
-  abbrev doing : Doing
-  doing = in_part part next_one.doing
+    heard : RowFits m.columns (row_done (Some doing)) entry.answer
+    heard =
+        own_answer (RowFits m.columns (row_done (Some doing))) (record { waits = λ by. tt; timed = λ waited. tt; lost = tt }) plan journal entry known served request (subst (λ (r : Request). IsAbout r (standing_of plan journal entry.actor) entry.asked) next.asks is_about)
+        (λ found is. done_fits m rows of.planned of.finds doing (part_rows m.schema.columns part next.doing next.rows) found entry.session (ap (λ (s : List Session). is_of_tool (session_of entry.session s)) is.sessions ∙ tool) (ap (λ tables. schema_of m.new.name tables) (is.tables ∙ opened_tables plan journal entry) ∙ ghost_now))
 
-  does_rows : DoesRows m.schema.columns doing
-  does_rows = part_rows m.schema.columns part next_one.doing (All-at (DoesRows m.schema.columns) all_doings count next_one.doing (planned_rows m (own_changes m.name reported.events) reported.rows) next_one.there)
+    at_statement : IsRefusedRow plan journal entry applier place number
+    at_statement = record {
+      refused = answered;
+      none = subst (λ (d : Option Doing). HasNoConvertedRow (new_map plan) (row_done d) place number) (sym next.does)
+          (subst (λ (c : List MapColumn). HasNoConvertedRow c (row_done (Some doing)) place number) of.of.columns (subst (RowFits m.columns (row_done (Some doing))) answered heard));
+      told = λ places more. ap (λ (d : Option Doing). key_of places (row_done d)) (next.stays more);
+    }
 
-  code_plan : appliers.planned work.applier (events_in (answer_at journal batch.read)) ≡ all_doings
-  code_plan =
-      let names : IsNamed plan work = subst (ToolPhaseIsNamed plan) tool_phase (named plan journal) in
-      ap (λ (a : Option Answer). appliers.planned work.applier (events_in a)) reported.reported ∙ planned_alike m work.applier reported.events of.finds (names.applier ∙ sym of.of.name) goes.schema goes.apply_map reported.rows
-
-  doing_here : doing_at journal work.applier step ≡ Some doing
-  doing_here = ap (λ (l : List Doing). doing_in part (slice_get l count)) code_plan ∙ ap (doing_in part) next_one.there
-
-  doing_is : doing_at journal work.applier work.applier.step ≡ Some doing
-  doing_is = ap (doing_at journal work.applier) here ∙ doing_here
-
-  -- WHAT IS ASKED
-
-  record ApplyAsks : Type 0 where
-    request : Request
-    is_about : IsAbout request (has Apply) entry.asked
-    next : appliers.next journal work.applier ≡ request
-
-  next_call : (request : Request) → tool_call plan (moment plan journal).server journal (moment plan journal).tool (moment plan journal).tool.tool_phase Apply ≡ Some request → appliers.next journal work.applier ≡ request
-  next_call request call =
-      let unreverted = ap (λ (b : Bool). cond b (rolls_back (moment plan journal).server (live_session journal Apply)) (apply_call plan (moment plan journal).server journal (moment plan journal).tool work)) (sym going) in
-      sym (apply_called plan journal work request (unreverted ∙ ap (λ (c : ToolPhase). tool_call plan (moment plan journal).server journal (moment plan journal).tool c Apply) (sym tool_phase) ∙ call))
-
-  apply_asks : ApplyAsks
-  unfolding given
-  apply_asks = by (asking plan journal Apply entry.asked turn.together.server (subst (λ (a : Actor). given plan journal a ≡ Some entry.asked) same (gives_asked plan journal entry entry.asked turn.run.followed.given refl uncut))) where
-    by : Asking plan journal Apply entry.asked → ApplyAsks
-    by (calls_so request asks idle call) = record { request = request; is_about = is_called asks idle; next = next_call request call }
-    by (polls_so request asks some) = record { request = request; is_about = is_polled asks some; next = goes.apply_waits request some }
-
-  abbrev statement : Statement
-  statement = said m.new m.columns doing
-
-  asked_so : apply_asks.request ≡ requests.Do statement
-  asked_so =
-      sym apply_asks.next ∙ next_at journal work.applier step here ∙ ap (statement_result work.applier) doing_here
-      ∙ ap (λ (s : Statement). requests.Do s) (said_is m work.applier doing goes.schema goes.apply_map)
-
-  is_about : IsAbout (requests.Do statement) (has entry.actor) entry.asked
-  is_about = subst (λ (a : Actor). IsAbout (requests.Do statement) (has a) entry.asked) (sym same) (subst (λ (r : Request). IsAbout r (has Apply) entry.asked) asked_so apply_asks.is_about)
-
-  tool_now : is_of_tool (session_of entry.session (opens entry (state_at plan journal)).sessions) ≡ true
-  tool_now = tool_serves plan journal entry (kept_front plan journal (entry ∷ []) kept) turn.together turn.run (about_uncommanded (requests.Do statement) (has entry.actor) entry.asked is_about) (ap is_client same)
-
-  -- *What was refused*
-  pub row : Row
-  row = row_done (Some doing)
-
-  heard : RowFits m.columns (row_done (Some doing)) entry.answer
-  heard =
-      own_answer (RowFits m.columns (row_done (Some doing))) (record { waits = λ by. tt; timed = λ waited. tt; lost = tt }) plan journal entry turn.together.known turn.served (requests.Do statement) is_about
-      (λ found is. done_fits m rows of.planned of.finds doing does_rows found entry.session (ap (λ (s : List Session). is_of_tool (session_of entry.session s)) is.sessions ∙ tool_now) (ap (λ tables. schema_of m.new.name tables) (is.tables ∙ opened_tables plan journal entry) ∙ ghost_now))
-
-  pub was_refused : entry.answer ≡ answers.Refused number (Some place)
-  was_refused = answered
-
-  pub no_converted_row : HasNoConvertedRow (new_map plan) row place number
-  unfolding row
-  no_converted_row = subst (λ (c : List MapColumn). HasNoConvertedRow c (row_done (Some doing)) place number) of.of.columns (subst (RowFits m.columns (row_done (Some doing))) answered heard)
-
-  pub row_is : row_done (doing_at journal work.applier work.applier.step) ≡ row
-  unfolding row
-  row_is = ap row_done doing_is
-
-  pub row_concerned : (key : Row) → concerned plan journal (moment plan journal) entry.actor key ≡ Some row
-  row_concerned key = ap (λ (a : Actor). concerned plan journal (moment plan journal) a key) same ∙ ap (applied_row journal) tool_phase ∙ ap (λ (r : Row). Some r) row_is
-
-  -- in the longer journal too
-  pub doing_more : (more : List Entry) → doing_at (journal ++ more) work.applier work.applier.step ≡ doing_at journal work.applier work.applier.step
-  doing_more more =
-      ap (doing_at (journal ++ more) work.applier) here ∙ ap (λ (a : Option Answer). doing_in part (slice_get (appliers.planned work.applier (events_in a)) count)) (same_reported m journal more batch reported)
-      ∙ sym (ap (doing_at journal work.applier) here)
+  pub refused_row : IsRefusedRow plan journal entry applier place number
+  refused_row = by applier.step refl is_refusal where
+    by : (step : ApplyStep) → applier.step ≡ step → IsRefusal step entry.answer place number → IsRefusedRow plan journal entry applier place number
+    by (Applying batch done part) here is = at_statement batch done part (next_statement m of.finds journal applier table schema columns stands.applier_knows batch done part here)
+    by step here is = absurd is

@@ -101,7 +101,7 @@ resized_stood Panic tool_phase = refl
 resized_stood Wait tool_phase = refl
 
 -- a loss isn't a refusal
-lost_copies : (step : CopyStep) (place number : ℕ) → copiers.progress_at step answers.Lost ≡ Unfit place number → ⊥
+pub lost_copies : (step : CopyStep) (place number : ℕ) → copiers.progress_at step answers.Lost ≡ Unfit place number → ⊥
 lost_copies Choosing place number is = cc
 lost_copies (Spanning reported size) place number is = cc
 lost_copies (Copying chunk copied) place number is = cc

@@ -1,5 +1,5 @@
 -- *Unfit rows stand.*
-use Rattle.std.proofs.Common.{◌≡◌, ℕ, ◌+◌, ◌-◌, Bool, true, false, cond, List, [], ◌∷◌, ◌++◌, length, take, Option, Some, None, refl, sym, ap, ◌∙◌, subst, arith, append_assoc}
+use Rattle.std.proofs.Common.{◌≡◌, ℕ, ◌+◌, ◌-◌, Bool, true, false, cond, List, [], ◌∷◌, ◌++◌, length, take, Some, refl, sym, ap, ◌∙◌, subst, arith, append_assoc}
 use Rattle.std.specs.Prelude.{unwrap_or}
 use Rattle.std.specs.List.{list_any, slice_get}
 use Rattle.std.proofs.Math.Seq.{take-append_seam}
@@ -9,27 +9,21 @@ use Rattle.base_values.specs.GhoSchema.Rows.{key_of, key_places}
 use Rattle.table_store.specs.Databases.{find_table}
 use Rattle.base_script.specs.declared.actor.Actor.{Actor}
 use Rattle.base_script.specs.declared.actor.Actor.TheVariants.{Copy, Apply}
-use Rattle.server_model.specs.declared.answer.Answer.{Answer}
 use Rattle.server_model.specs.declared.answer.Answer.TheVariants as answers
 use Rattle.server_model.specs.declared.entry.Entry.{Entry}
 use Rattle.server_model.specs.declared.outcome.Cause.{Cause}
 use Rattle.server_model.specs.declared.outcome.Cause.TheVariants as causes
 use Rattle.server_model.specs.declared.outcome.Progress.TheVariants.{Unfit}
 use Rattle.server_model.specs.declared.outcome.Verdict.TheVariants as verdicts
-use Rattle.server_model.specs.Entries.{answer_at}
-use Rattle.server_model.specs.EarlierAnswers.{keys_in}
 use Rattle.server_model.specs.States.{State}
 use Rattle.plan_data.specs.PlanData.{PlanData, new_map, old_schema}
 use Rattle.tool_program.specs.JournalWords.Histories.{history, is_alter}
 use Rattle.tool_program.specs.JournalWords.Journals.{state_at}
-use Rattle.tool_program.proofs.JournalWords.Answers.{answer_more}
 use Rattle.tool_program.specs.ChunkCopier.Copiers as copiers
 use Rattle.tool_program.specs.ChunkCopier.Copiers.{key_at}
-use Rattle.tool_program.specs.declared.chunk_copier.copier.CopyStep.{CopyStep}
-use Rattle.tool_program.specs.declared.chunk_copier.copier.CopyStep.TheVariants.{Choosing, Spanning, Copying, Committing}
 use Rattle.tool_program.specs.EventApplier.Appliers as appliers
-use Rattle.tool_program.specs.EventApplier.Appliers.{Doing, doing_at, row_done, unfit_key}
-use Rattle.tool_program.specs.Failures.{IsUnfit, Stands, concerned, row_in}
+use Rattle.tool_program.specs.EventApplier.Appliers.{doing_at, row_done, unfit_key}
+use Rattle.tool_program.specs.Failures.{IsUnfit, Stands, applied_row, concerned, row_in}
 use Rattle.tool_program.specs.Programs.{Follows}
 use Rattle.tool_program.specs.Tools.{ToolPhase, SettingUp, Migrating, Reason, CopyUnfit, ApplyUnfit, Spent, Panicked, Work, is_reverting, moment}
 use Rattle.tool_program.specs.Verdicts.{apply_key, cause_of, new_column_name, copy_key, ended_so, has_ended, reverted_by, verdict_of}
@@ -50,10 +44,11 @@ use Rattle.proof_migration.proofs.Program.Follows.{migration, own_table}
 use Rattle.proof_migration.proofs.Program.Starts.{followers_go}
 use Rattle.proof_migration.proofs.Attempt.Verdicts.Standing.{IsGround, ground}
 use Rattle.proof_migration.specs.Unfit.{UnfitRowsStand}
-use Rattle.proof_migration.proofs.Unfit.Applies as applies
-use Rattle.proof_migration.proofs.Unfit.Copies.{IsUnfitRow, is_unfit, key, key_is, was_refused}
+use Rattle.proof_migration.proofs.Unfit.Applies.{IsRefusedRow}
+use Rattle.proof_migration.proofs.Unfit.Copies.{IsRefusedCopy}
 use Rattle.proof_migration.proofs.Unfit.Grounds.{GroundStands, HasTurn, IsGrounded, IsUnfitTurn, Stood, all_grounded, stood_at, stood_in}
 use Rattle.proof_migration.proofs.Unfit.Refusals.{HasNoConvertedRow}
+use Rattle.proof_migration.proofs.Unfit.Turns.{apply_refused, copy_refused}
 
 -- THE JOURNAL'S TURN
 
@@ -72,29 +67,16 @@ module _ (journal : List Entry) (turn : ℕ) (front : List Entry) (entry : Entry
   pub front_is : take (turn - 1) journal ≡ front
   front_is = ap (λ (n : ℕ). take n journal) place ∙ ap (take (length front)) has.whole ∙ take-append_seam front (entry ∷ has.rest)
 
--- the key that was told is told in the longer journal
-key_more : (journal more : List Entry) (step : CopyStep) (key : List Value) → key_at journal step ≡ Some key → key_at (journal ++ more) step ≡ Some key
-key_more journal more (Copying chunk copied) key is = by (answer_at journal chunk.reported) refl where
-  by : (answer : Option Answer) → answer_at journal chunk.reported ≡ answer → key_at (journal ++ more) (Copying chunk copied) ≡ Some key
-  by None none = absurd (no (sym (ap (λ (a : Option Answer). slice_get (keys_in a) copied) none) ∙ is)) where
-    no : None ≡ Some key → ⊥
-    no same = cc
-  by (Some answer) some = ap (λ (a : Option Answer). slice_get (keys_in a) copied) (answer_more journal more chunk.reported answer some ∙ sym some) ∙ is
-key_more journal more Choosing key is = absurd cc
-key_more journal more (Spanning reported size) key is = absurd cc
-key_more journal more (Committing chunk) key is = absurd cc
-
-copy_key_is : (journal : List Entry) (tool_phase : ToolPhase) (stood : Stood) (key : List Value) → stood_in tool_phase ≡ Some stood → key_at journal stood.step ≡ Some key → copy_key journal tool_phase ≡ key
-copy_key_is journal (SettingUp setup tries) stood key here is = absurd cc
-copy_key_is journal (Migrating work) stood key here is =
-    let one : stood_at work ≡ stood = cc in ap (λ (k : Option (List Value)). unwrap_or k []) (ap (λ (s : Stood). key_at journal s.step) one ∙ is)
+copy_key_is : (journal : List Entry) (tool_phase : ToolPhase) (stood : Stood) → stood_in tool_phase ≡ Some stood → copy_key journal tool_phase ≡ unwrap_or (key_at journal stood.step) []
+copy_key_is journal (SettingUp setup tries) stood here = absurd cc
+copy_key_is journal (Migrating work) stood here = let one : stood_at work ≡ stood = cc in ap (λ (s : Stood). unwrap_or (key_at journal s.step) []) one
 
 apply_key_is : (plan : PlanData) (journal : List Entry) (tool_phase : ToolPhase) (stood : Stood) → stood_in tool_phase ≡ Some stood → apply_key plan journal tool_phase ≡ unfit_key journal (key_places (old_schema plan)) stood.applier
 apply_key_is plan journal (SettingUp setup tries) stood here = absurd cc
 apply_key_is plan journal (Migrating work) stood here = let one : stood_at work ≡ stood = cc in ap (λ (s : Stood). unfit_key journal (key_places (old_schema plan)) s.applier) one
 
 -- what is reverted has no ALTER in its history
-unaltered_so : (plan : PlanData) (journal : List Entry) (cause : Cause) → verdict_of plan journal ≡ verdicts.Reverted cause → IsUnaltered plan journal
+pub unaltered_so : (plan : PlanData) (journal : List Entry) (cause : Cause) → verdict_of plan journal ≡ verdicts.Reverted cause → IsUnaltered plan journal
 unfolding verdict_of
 unaltered_so plan journal cause is = ended (has_ended plan journal) is where
   altered : (b : Bool) → cond b verdicts.Done (reverted_by plan journal (moment plan journal).tool (moment plan journal).tool.reason) ≡ verdicts.Reverted cause → b ≡ false
@@ -175,64 +157,47 @@ module _ (plan : PlanData) (m : Migration) (at : Clustered m.schema) (rows : Lis
   -- THE COPIER'S
 
   module _ (again : StoresAgain) (same : is.entry.actor ≡ Copy) (unfit : copiers.progress is.work.copier is.entry.answer ≡ Unfit place number) where
-    abbrev own_key : List Value
-    own_key = key again plan m at rows of is.front is.entry turn_kept is.work is.tool_phase going goes same is.uncut place number unfit
+    copied : IsRefusedCopy plan is.front is.entry is.work.copier place number
+    copied = copy_refused plan m at rows of is.front is.entry turn_kept is.work is.tool_phase going goes is.uncut again same place number unfit
 
-    copied : IsUnfitRow plan (state_at plan is.front).tables own_key place number
-    copied = is_unfit again plan m at rows of is.front is.entry turn_kept is.work is.tool_phase going goes same is.uncut place number unfit
-
-    copy_key_now : copy_key journal (moment plan journal).tool.tool_phase ≡ own_key
-    copy_key_now =
-        copy_key_is journal (moment plan journal).tool.tool_phase (stood_at is.work) own_key is.stays
-        (ap (λ (j : List Entry). key_at j is.work.copier.step) is.has.whole
-        ∙ key_more is.front more is.work.copier.step own_key (key_is again plan m at rows of is.front is.entry turn_kept is.work is.tool_phase going goes same is.uncut place number unfit))
-
-    copy_concerned : concerned plan is.front (moment plan is.front) is.entry.actor own_key ≡ Some copied.row
-    copy_concerned =
-        ap (λ (a : Actor). concerned plan is.front (moment plan is.front) a own_key) same ∙ ap (λ (s : State). row_in (find_table plan.table s.tables) own_key) front_server ∙ copied.concerned
+    copy_key_now : copy_key journal (moment plan journal).tool.tool_phase ≡ copied.key
+    copy_key_now = copy_key_is journal (moment plan journal).tool.tool_phase (stood_at is.work) is.stays ∙ ap (λ (j : List Entry). unwrap_or (key_at j is.work.copier.step) []) is.has.whole ∙ copied.told more
 
     pub copy_stands : IsUnfit plan journal turn (copy_key journal (moment plan journal).tool.tool_phase) (new_column_name plan place) number
     copy_stands =
         subst (λ (k : List Value). IsUnfit plan journal turn k (new_column_name plan place) number) (sym copy_key_now)
-        (stands_so own_key
+        (stands_so copied.key
         (record {
-          refused = was_refused again plan m at rows of is.front is.entry turn_kept is.work is.tool_phase going goes same is.uncut place number unfit;
-          row = copied.row;
-          concerned = copy_concerned;
-          keyed = copied.keyed;
-          none = record { fault = copied.fault; refuses = copied.refuses; numbered = copied.numbered };
+          refused = copied.refused;
+          row = copied.row.row;
+          concerned = ap (λ (a : Actor). concerned plan is.front (moment plan is.front) a copied.key) same ∙ ap (λ (s : State). row_in (find_table plan.table s.tables) copied.key) front_server ∙ copied.row.concerned;
+          keyed = copied.row.keyed;
+          none = copied.row.none;
         }))
 
   -- THE APPLIER'S
 
   module _ (same : is.entry.actor ≡ Apply) (unfit : appliers.progress is.work.applier is.entry.answer ≡ Unfit place number) where
-    abbrev applied : List Value
-    applied = applies.row plan m at rows of is.front is.entry turn_kept is.work is.tool_phase going goes same is.uncut place number unfit
+    applied : IsRefusedRow plan is.front is.entry is.work.applier place number
+    applied = apply_refused plan m at rows of is.front is.entry turn_kept is.work is.tool_phase going goes is.uncut same place number unfit
 
     abbrev applied_key : List Value
-    applied_key = key_of (key_places (old_schema plan)) applied
-
-    -- its statement is the same in the whole journal
-    doing_now : doing_at journal is.work.applier is.work.applier.step ≡ doing_at is.front is.work.applier is.work.applier.step
-    doing_now =
-        ap (λ (j : List Entry). doing_at j is.work.applier is.work.applier.step) is.has.whole
-        ∙ applies.doing_more plan m at rows of is.front is.entry turn_kept is.work is.tool_phase going goes same is.uncut place number unfit more
+    applied_key = unfit_key is.front (key_places (old_schema plan)) is.work.applier
 
     apply_key_now : apply_key plan journal (moment plan journal).tool.tool_phase ≡ applied_key
     apply_key_now =
-        apply_key_is plan journal (moment plan journal).tool.tool_phase (stood_at is.work) is.stays ∙ ap (λ (d : Option Doing). key_of (key_places (old_schema plan)) (row_done d)) doing_now
-        ∙ ap (key_of (key_places (old_schema plan))) (applies.row_is plan m at rows of is.front is.entry turn_kept is.work is.tool_phase going goes same is.uncut place number unfit)
+        apply_key_is plan journal (moment plan journal).tool.tool_phase (stood_at is.work) is.stays ∙ ap (λ (j : List Entry). unfit_key j (key_places (old_schema plan)) is.work.applier) is.has.whole ∙ applied.told (key_places (old_schema plan)) more
 
     pub apply_stands : IsUnfit plan journal turn (apply_key plan journal (moment plan journal).tool.tool_phase) (new_column_name plan place) number
     apply_stands =
         subst (λ (k : List Value). IsUnfit plan journal turn k (new_column_name plan place) number) (sym apply_key_now)
         (stands_so applied_key
         (record {
-          refused = applies.was_refused plan m at rows of is.front is.entry turn_kept is.work is.tool_phase going goes same is.uncut place number unfit;
-          row = applied;
-          concerned = applies.row_concerned plan m at rows of is.front is.entry turn_kept is.work is.tool_phase going goes same is.uncut place number unfit applied_key;
+          refused = applied.refused;
+          row = row_done (doing_at is.front is.work.applier is.work.applier.step);
+          concerned = ap (λ (a : Actor). concerned plan is.front (moment plan is.front) a applied_key) same ∙ ap (applied_row is.front) is.tool_phase;
           keyed = refl;
-          none = applies.no_converted_row plan m at rows of is.front is.entry turn_kept is.work is.tool_phase going goes same is.uncut place number unfit;
+          none = applied.none;
         }))
 
 -- such a turn, where the work is as behind the whole journal

@@ -1,4 +1,4 @@
-use Rattle.proof_migration.proofs.Program.Turns.Follows.{followers_go_on}
+use Rattle.proof_migration.proofs.Program.Turns.GoingOn.{followers_go_on}
 use Rattle.law_journals.proofs.program.followers_go_on.Goals as goal
 
 pub returns : goal.returns

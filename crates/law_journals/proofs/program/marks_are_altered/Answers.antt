@@ -1,4 +1,4 @@
-use Rattle.proof_migration.proofs.Program.Turns.Follows.{marks_are_altered}
+use Rattle.proof_migration.proofs.Program.Turns.GoingOn.{marks_are_altered}
 use Rattle.law_journals.proofs.program.marks_are_altered.Goals as goal
 
 pub returns : goal.returns

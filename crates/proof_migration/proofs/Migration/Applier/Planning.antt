@@ -20,7 +20,9 @@ use Rattle.base_values.specs.declared.event.Change.TheVariants.{Write, Update, D
 use Rattle.base_values.specs.declared.event.RowEvent.{RowEvent}
 use Rattle.table_store.specs.RowLists.{is_at}
 use Rattle.tool_program.specs.declared.event_applier.applier.Applier.{Applier}
-use Rattle.tool_program.specs.EventApplier.Appliers.{Doing, given_values}
+use Rattle.tool_program.specs.declared.event_applier.applier.Part.{Part}
+use Rattle.tool_program.specs.declared.event_applier.applier.Part.TheVariants.{Whole, Removal, Return}
+use Rattle.tool_program.specs.EventApplier.Appliers.{Doing, given_values, in_part, row_done}
 use Rattle.tool_program.specs.EventApplier.Appliers as appliers
 use Rattle.tool_program.specs.EventApplier.Appliers.Doing.{Putting, Removing, Changing}
 use Rattle.proof_journals.proofs.Ghost.Rows.Finding.{found_in}
@@ -147,6 +149,21 @@ pub planned_rows : (m : Migration) (changes : List Change) → AllByRecursion (C
 unfolding planned
 planned_rows m [] are = tt
 planned_rows m (change ∷ changes) are = All-append (DoesRows m.schema.columns) (doings m change) (planned m changes) (doings_rows m change are.0) (planned_rows m changes are.1)
+
+-- ... in parts too
+pub part_rows : (columns : List Column) (part : Part) (doing : Doing) → DoesRows columns doing → DoesRows columns (in_part part doing)
+part_rows columns Whole doing fits = fits
+part_rows columns Removal (Putting row) fits = fits
+part_rows columns Removal (Removing row) fits = fits
+part_rows columns Removal (Changing before after) fits = fits.0
+part_rows columns Return (Putting row) fits = fits
+part_rows columns Return (Removing row) fits = fits
+part_rows columns Return (Changing before after) fits = fits.1
+
+pub done_row : (columns : List Column) (doing : Doing) → DoesRows columns doing → IsRow columns (row_done (Some doing))
+done_row columns (Putting row) fits = fits
+done_row columns (Removing row) fits = fits
+done_row columns (Changing before after) fits = fits.1
 
 -- THE NEXT STATEMENT
 

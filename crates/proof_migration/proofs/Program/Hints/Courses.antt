@@ -21,7 +21,6 @@ use Rattle.plan_data.specs.PlanData.{PlanData}
 use Rattle.tool_changelog.specs.Hints.{last_hint}
 use Rattle.base_values.specs.ToolNames.{log_name}
 use Rattle.tool_program.specs.JournalWords.Journals.{opens, state_at}
-use Rattle.tool_program.specs.JournalWords.Sessions.{live_session}
 use Rattle.tool_program.specs.declared.event_applier.applier.ApplyStep.{ApplyStep}
 use Rattle.tool_program.specs.declared.event_applier.applier.ApplyStep.TheVariants.{Reading, Beginning, Applying, Committing}
 use Rattle.tool_program.specs.EventApplier.Appliers as appliers
@@ -32,8 +31,8 @@ use Rattle.tool_program.specs.declared.cutover_core.cutover.Role.TheVariants.{In
 use Rattle.tool_program.specs.declared.cutover_core.cutover.Stage.TheVariants.{Hinting}
 use Rattle.tool_program.specs.CutoverCore.Attempts.{is_clear, without_first}
 use Rattle.tool_program.specs.CutoverCore.CutOvers as cutovers
-use Rattle.tool_program.specs.CutoverCore.CutOvers.{inspector_phase, is_bad, renamer_phase}
-use Rattle.tool_program.specs.Programs.{IsGiven, apply_call, given, rolls_back, tool_call}
+use Rattle.tool_program.specs.CutoverCore.CutOvers.{inspector_phase, renamer_phase}
+use Rattle.tool_program.specs.Programs.{IsGiven, given}
 use Rattle.tool_program.specs.Setups.{Setup, Listing, Clearing, MakingLog, MakingGhost, Marking, Reaching, Ready, clearing, listed, setup_after, setup_call, setup_step}
 use Rattle.tool_program.specs.Tools.{ToolPhase, Migrating, SettingUp, Moment, Tool, Work, actor_took, asked_took, tool_phase_of, drains, is_failure, is_reverting, moment, stopped, took, turn_counts}
 use Rattle.tool_program.proofs.OnlineCalls.Machines.{ToolPhaseIsNamed, named}
@@ -46,7 +45,7 @@ use Rattle.proof_journals.proofs.Ghost.Turns.{run_front}
 use Rattle.proof_journals.specs.Run.Kept.{IsKept}
 use Rattle.proof_journals.specs.Machine.Runnable.{IsRunnable}
 use Rattle.proof_journals.specs.Machine.Standings.{IsAbout, Standing, answered, answers_to, free, is_called, is_polled, needs_names, standing_of}
-use Rattle.proof_journals.proofs.Machine.Journals.{Asking, IsRun, apply_called, asking, calls_so, polls_so}
+use Rattle.proof_journals.proofs.Machine.Journals.{Asking, IsRun, asking, calls_so, polls_so}
 use Rattle.proof_journals.proofs.Machine.Lifting.{attempt_keeps}
 use Rattle.proof_journals.proofs.Machine.Seated.{others_stand, own_fits, own_lost, own_missed, own_stands}
 use Rattle.proof_migration.proofs.ToolPhase.ToolPhaseTurns.{AnswerKeeps, ApplyKeeps, CopyKeeps, CutKeeps, DrainKeeps, Kept, ResizeKeeps, SetupKeeps, TurnKeeps, UnfitKeeps, gives_asked, turn_kept}
@@ -54,6 +53,7 @@ use Rattle.proof_migration.proofs.ToolPhase.Owners.{commands_operator}
 use Rattle.proof_migration.proofs.Program.Said.{log_said}
 use Rattle.proof_migration.proofs.Program.Starts.{grows, NotedIn}
 use Rattle.proof_migration.proofs.Program.Turns.Asked.{about_called}
+use Rattle.proof_migration.proofs.Program.Turns.NextCalls.{apply_next}
 use Rattle.proof_journals.specs.Sentry.Sentries.{IsDraining}
 use Rattle.proof_journals.proofs.Sentry.Draining.{IsRead, Knows, knows_later}
 use Rattle.proof_journals.proofs.Sentry.Hinting.{HintsBelow, none_earlier}
@@ -319,9 +319,7 @@ module _ (plan : PlanData) (runs : IsRunnable plan) (serial : IsSerialPlan plan)
 
     reported : (events : List RowEvent) (next : ℕ) → entry.answer ≡ answers.Events events next → Asking plan journal Apply entry.asked → Reads t then.log work.applier (answers.Events events next)
     reported events next is (calls_so request asks idle call) =
-        let one : request ≡ appliers.next journal work.applier = apply_called plan journal work request
-        (ap (λ (b : Bool). cond b (rolls_back (moment plan journal).server (live_session journal Apply)) (apply_call plan (moment plan journal).server journal (moment plan journal).tool work)) (sym going)
-        ∙ ap (λ (c : ToolPhase). tool_call plan (moment plan journal).server journal (moment plan journal).tool c Apply) (sym tool_phase) ∙ call) in
+        let one : request ≡ appliers.next journal work.applier = sym (apply_next plan journal work tool_phase going request call) in
         called events next is work.applier.step (asks ∙ ap Call one)
         (ap (λ (r : Request). answers_to r (answers.Events events next)) (sym one) ∙ ap (answers_to request) (sym is)
         ∙ own_fits plan journal entry (together plan runs serial journal entry kept off).known (served plan runs serial journal entry kept off) request (subst (λ (a : Actor). IsAbout request (has a) entry.asked) (sym same) (is_called asks idle)))

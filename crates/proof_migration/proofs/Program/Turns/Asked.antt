@@ -35,6 +35,25 @@ use Rattle.proof_migration.specs.ToolPhase.Unaltered.{IsUnaltered}
 use Rattle.proof_migration.proofs.ToolPhase.Unaltered.Asking.{AskedAs, given_asked}
 use Rattle.proof_migration.proofs.ToolPhase.Unaltered.Away.{IsKnownAsked, never_away}
 
+-- WHAT A TURN IS ABOUT WAS CALLED, OR WAITS
+
+module _ (plan : PlanData) (journal : List Entry) (entry : Entry) (together : IsTogether plan journal) (run : IsRun plan journal entry) where
+  abbrev opened : State
+  opened = opens entry (state_at plan journal)
+
+  pub waits_before : is_command entry.asked ≡ false → (request : Request) → request_of (waiting_of entry.session opened.waiting) ≡ Some request → (standing_of plan journal entry.actor).waits ≡ Some request
+  waits_before called request some =
+      sym (own_waiting plan journal entry together.known (record { answered = run.answered; seated = record { session = run.followed.session } }) called)
+      ∙ ap (λ (w : List Waiting). request_of (waiting_of entry.session w)) (sym (opened_waits (is_command entry.asked) (not (is_client entry.actor)) entry.session (state_at plan journal))) ∙ some
+
+  pub about_from : (P : Request → Type 0) → ((request : Request) → entry.asked ≡ Call request → given plan journal entry.actor ≡ Some (Call request) → P request) → ((request : Request) → (standing_of plan journal entry.actor).waits ≡ Some request → P request) → (request : Request) → about opened entry.session entry.asked ≡ Some request → P request
+  about_from P calls waits request is = by entry.asked refl run.followed.given is where
+    by : (asked : Asked) → entry.asked ≡ asked → IsGiven plan journal entry asked → about opened entry.session asked ≡ Some request → P request
+    by (Call called) asks gives is = let one : called ≡ request = cc in subst P one (calls called asks gives)
+    by Poll asks gives is = waits request (waits_before (ap is_command asks) request is)
+    by Cut asks gives is = waits request (waits_before (ap is_command asks) request is)
+    by (Command word) asks gives is = absurd cc
+
 module _ (plan : PlanData) (serial : IsSerialPlan plan) (fit : IsFitting plan) (journal : List Entry) (entry : Entry) (known : IsKnownAsked plan journal) (run : IsRun plan journal entry) (off : IsUnaltered plan (journal ++ entry ∷ [])) where
   abbrev now : State
   now = state_at plan journal
@@ -53,8 +72,7 @@ module _ (plan : PlanData) (serial : IsSerialPlan plan) (fit : IsFitting plan) (
 
   -- what waits before the turn
   pub waits_with : is_command entry.asked ≡ false → (request : Request) → request_of (waiting_of entry.session (opens entry now).waiting) ≡ Some request → (has entry.actor).waits ≡ Some request
-  waits_with called request some =
-      sym (own_waiting plan journal entry together.known served called) ∙ ap (λ (w : List Waiting). request_of (waiting_of entry.session w)) (sym (opened_waits (is_command entry.asked) (not (is_client entry.actor)) entry.session now)) ∙ some
+  waits_with = waits_before plan journal entry together run
 
   -- THE RENAME
 
@@ -103,12 +121,7 @@ module _ (plan : PlanData) (serial : IsSerialPlan plan) (fit : IsFitting plan) (
   -- WHAT THE TURN IS ABOUT
 
   pub asked_as : (request : Request) → about (opens entry now) entry.session entry.asked ≡ Some request → AskedAs plan entry.actor request
-  asked_as request is = by entry.asked refl run.followed.given is where
-    by : (asked : Asked) → entry.asked ≡ asked → IsGiven plan journal entry asked → about (opens entry now) entry.session asked ≡ Some request → AskedAs plan entry.actor request
-    by (Call called) asks gives is = let one : called ≡ request = cc in subst (AskedAs plan entry.actor) one (given_asked plan journal entry.actor called gives)
-    by Poll asks gives is = known.asks entry.actor request (waits_with (ap is_command asks) request is)
-    by Cut asks gives is = known.asks entry.actor request (waits_with (ap is_command asks) request is)
-    by (Command word) asks gives is = absurd cc
+  asked_as = about_from plan journal entry together run (AskedAs plan entry.actor) (λ request asks gives. given_asked plan journal entry.actor request gives) (known.asks entry.actor)
 
   pub about_called : (actor : Actor) (request : Request) → entry.actor ≡ actor → IsAbout request (has actor) entry.asked → about (opens entry now) entry.session entry.asked ≡ Some request
   about_called actor request same (is_called asks none) = ap (about (opens entry now) entry.session) asks

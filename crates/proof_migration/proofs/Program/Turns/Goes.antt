@@ -1,11 +1,9 @@
 -- How the migration stands behind a journal that is kept, and that each turn keeps it so.
-use Rattle.server_model.specs.Entries.{is_client}
 use Rattle.proof_journals.specs.Run.Kept.{IsKept}
-use Rattle.proof_migration.proofs.ToolServes.{tool_serves}
-use Rattle.std.proofs.Common.{◌≡◌, ◌⊎◌, ◌<◌, ℕ, zero, suc, ◌+◌, Bool, true, false, cond, ◌&&◌, List, [], ◌∷◌, ◌++◌, length, Option, Some, None, refl, sym, ap, ◌∙◌, subst, inl, inr}
+use Rattle.proof_migration.proofs.ToolServes.{about_uncommanded}
+use Rattle.std.proofs.Common.{◌≡◌, ◌⊎◌, ◌<◌, ℕ, zero, suc, ◌+◌, Bool, true, false, cond, List, [], ◌∷◌, ◌++◌, length, Option, Some, None, refl, sym, ap, ◌∙◌, subst, inl, inr}
 use Rattle.std.specs.List.{AllByRecursion, slice_get}
 use Rattle.std.proofs.lemmas.Bool.{true≢false}
-use Rattle.base_values.specs.GhoSchema.ClusteredKey.{clustered_place}
 use Rattle.base_script.specs.declared.actor.Actor.{Actor}
 use Rattle.base_script.specs.declared.actor.Actor.TheVariants.{Op, Copy, Apply}
 use Rattle.base_script.specs.declared.operator.OperatorWord.{OperatorWord}
@@ -15,7 +13,6 @@ use Rattle.server_model.specs.declared.answer.Answer.TheVariants as answers
 use Rattle.server_model.specs.declared.entry.Asked.{Asked}
 use Rattle.server_model.specs.declared.entry.Asked.TheVariants.{Call, Poll, Command, Cut}
 use Rattle.server_model.specs.declared.entry.Entry.{Entry}
-use Rattle.server_model.specs.declared.outcome.Progress.TheVariants.{Unfit}
 use Rattle.server_model.specs.declared.request.Request.{Request}
 use Rattle.server_model.specs.declared.session.Limits.{Limits}
 use Rattle.server_model.specs.Entries.{same_actor, is_command, is_cut}
@@ -34,54 +31,50 @@ use Rattle.tool_program.specs.declared.event_applier.applier.Applier.{Applier}
 use Rattle.tool_program.specs.declared.event_applier.applier.ApplyStep.{ApplyStep}
 use Rattle.tool_program.specs.declared.event_applier.applier.ApplyStep.TheVariants as applying
 use Rattle.tool_program.specs.EventApplier.Appliers as appliers
-use Rattle.tool_program.specs.Operators.{is_throttled}
-use Rattle.tool_program.specs.Programs.{apply_call, commands, copy_call, given, IsGiven, rolls_back, tool_call}
-use Rattle.tool_program.specs.Tools.{Work, ToolPhase, Migrating, is_reverting, moment}
-use Rattle.tool_program.proofs.OnlineCalls.Machines.{ToolPhaseIsNamed, IsNamed, named}
-use Rattle.proof_journals.specs.Plans.{IsSerialPlan, limits_of, scene_of}
+use Rattle.tool_program.specs.Programs.{commands, given, IsGiven}
+use Rattle.tool_program.specs.Tools.{Work, Migrating, is_reverting, moment}
+use Rattle.proof_journals.specs.Plans.{limits_of, scene_of}
 use Rattle.proof_journals.specs.Scenes.{Scene, no_hold}
 use Rattle.proof_journals.specs.Holdings.{face_of}
 use Rattle.proof_journals.specs.Turns.{IsSceneRun, about, reported_at}
 use Rattle.proof_journals.proofs.Actors.{Placed, left_own, live_more, placed, same_actor_itself}
-use Rattle.proof_journals.proofs.Journals.{journal_holds, no_command}
+use Rattle.proof_journals.proofs.Journals.{journal_holds}
 use Rattle.proof_journals.specs.Ghost.Rows.Moments.{Row}
-use Rattle.proof_journals.specs.Ghost.Rows.Timelines.{IsPlanned, Migration}
+use Rattle.proof_journals.specs.Ghost.Rows.Timelines.{Migration}
 use Rattle.proof_journals.specs.Ghost.HeldKeys.{Clustered}
 use Rattle.proof_journals.specs.Ghost.ToolTurns.ApplyPlan.{Resting, Planned, Returning}
 use Rattle.proof_journals.specs.Ghost.ToolTurns.{ApplyPlan, ToolMoment, ToolStands}
 use Rattle.proof_journals.specs.Ghost.ToolTurns.ToolStands.{at_rest, at_work, halfway, returns}
 use Rattle.proof_journals.proofs.Ghost.Turns.{run_front}
 use Rattle.proof_journals.proofs.Ghost.Undone.{cuts_are_left}
-use Rattle.proof_migration.specs.Migration.Applier.FoundColumns.{FindsRows}
 use Rattle.proof_migration.specs.Migration.Applier.ApplierPlace.{ApplierKnows, plan_at}
 use Rattle.proof_migration.specs.Migration.Copier.CopierPlace.{CopierKnows}
 use Rattle.proof_migration.proofs.Migration.Applier.Knowing as knowing
 use Rattle.proof_migration.proofs.Migration.Copier.Knowing.{quiet_took}
-use Rattle.proof_journals.specs.Machine.FormedPlans.{IsFitting, SizeFits}
+use Rattle.proof_journals.specs.Machine.FormedPlans.{SizeFits}
 use Rattle.proof_journals.specs.Machine.Machines.{ApplierStands, ToolPhaseStands, Stands, WorkStands, applier_busy, copier_asks, copier_busy}
-use Rattle.proof_journals.specs.Machine.Standings.{IsAbout, MayTake, Standing, answered, free, is_called, is_polled, standing_in, standing_of}
-use Rattle.proof_journals.proofs.Machine.Asking.{idle_stands, unless_called}
-use Rattle.proof_journals.proofs.Machine.Journals.{Asking, IsRun, IsTogether, apply_called, asking, calls_so, polls_so}
+use Rattle.proof_journals.specs.Machine.Standings.{IsAbout, MayTake, Standing, answered, free, standing_in, standing_of}
+use Rattle.proof_journals.proofs.Machine.Asking.{idle_stands}
+use Rattle.proof_journals.proofs.Machine.Journals.{IsRun, IsTogether, applier_had, copier_had}
 use Rattle.proof_journals.proofs.Machine.Marks.{Unmarked}
 use Rattle.proof_journals.proofs.Machine.Seated.{IsServed, others_stand, own_lost, own_session, own_stands}
 use Rattle.proof_migration.specs.Migration.Away.{KeepsAway}
 use Rattle.proof_migration.specs.Migration.Machines.{IsBetween, IsCut, IsUnbusy, Machines, MigrationStands, hold_at}
-use Rattle.proof_migration.specs.Migration.Machines.MigrationMove.{applier_moves, chunks_resize, copier_moves, span_resizes}
-use Rattle.proof_migration.specs.Migration.Machines.MigrationTurn.{applier_is_cut, applier_is_idle, applier_turns, copier_is_cut, copier_is_idle, copier_turns, others_turn}
+use Rattle.proof_migration.specs.Migration.Machines.MigrationMove.{applier_moves, chunks_resize, copier_moves}
+use Rattle.proof_migration.specs.Migration.Machines.MigrationTurn.{applier_is_idle, copier_is_idle, others_turn}
 use Rattle.proof_migration.proofs.Migration.Migrating.{moves_keep, turns_keep}
 use Rattle.proof_migration.specs.ToolPhase.Unaltered.{IsUnaltered}
 use Rattle.proof_migration.proofs.ToolPhase.Unaltered.Away.{IsKnownAsked, asked_more}
-use Rattle.proof_migration.specs.Program.Turns.Goes.{CopyWaits, Goes, IsOf, ActorStates, machines_in}
-use Rattle.proof_migration.proofs.Program.Turns.Asked.{about_called, gave}
+use Rattle.proof_migration.specs.Program.Turns.Goes.{CopyWaits, Goes, ActorStates, machines_in}
+use Rattle.proof_migration.specs.Program.Turns.Laws.{IsMigrationOf}
+use Rattle.proof_migration.proofs.Program.Turns.Follows.{kept_scene}
+use Rattle.proof_migration.proofs.Program.Turns.NextCalls.{ApplyAsks, CopyAsks}
+use Rattle.proof_migration.proofs.Program.Turns.Takes.{applier_before, applier_loses, applier_takes, apply_asks, before_in, copier_before, copier_loses, copier_takes, copy_asks, in_scene}
+use Rattle.proof_migration.proofs.Unfit.Known.{IsKnownTurn, known_turn}
 use Rattle.proof_migration.proofs.Program.Turns.Effects.{Effect, applier_idle, applier_lost, applier_took, copier_idle, copier_lost, copier_took, neither, resizes_so}
 use Rattle.proof_migration.proofs.Program.Turns.Others.{IsThird, ghost_named, others_away}
-use Rattle.proof_migration.proofs.Program.Turns.ActorStates.{SomeActorStates, new_holds, actor_state_apart, actor_state_before, actor_state_own, some_actor_states}
-use Rattle.proof_migration.proofs.Program.Turns.Sizes.{Fixed, Sized, apply_next_more, fixed, fixed_took, map_took, next_more, same_so, sized_took, spans_so}
-use Rattle.server_model.proofs.LockedRows.Tests.{turned}
-
--- whose each session is doesn't matter to it
-pub in_scene : (plan : PlanData) (m : Migration) (at : Clustered m.schema) (rows : List Row) (some other : List Entry) (journal : List Entry) (now : Machines) → MigrationStands m at rows (limits_of plan) (scene_of plan some) journal now → MigrationStands m at rows (limits_of plan) (scene_of plan other) journal now
-in_scene plan m at rows some other journal now is = record { tool = is.tool; copier_knows = is.copier_knows; applier_knows = is.applier_knows; busy = is.busy }
+use Rattle.proof_migration.proofs.Program.Turns.ActorStates.{SomeActorStates, new_holds, actor_state_apart, actor_state_before, some_actor_states}
+use Rattle.proof_migration.proofs.Program.Turns.Sizes.{Fixed, apply_next_more, fixed, fixed_took, map_took, next_more}
 
 between_if : (step : CopyStep) → copier_busy step ≡ false → IsBetween step
 between_if copying.Choosing off = tt
@@ -109,10 +102,9 @@ rests_own m at rows copier applier now rests (returns next old row rest is kept)
 
 -- ONE TURN
 
-module _ (plan : PlanData) (serial : IsSerialPlan plan) (fit : IsFitting plan) (m : Migration) (at : Clustered m.schema) (rows : List Row) (place : ℕ) (planned : IsPlanned m rows) (is_place : clustered_place m.new ≡ Some place) (finds : FindsRows m) (of : IsOf plan m) (journal : List Entry) (entry : Entry)
-    (known : IsKnownAsked plan journal) (run : IsRun plan journal entry) (off : IsUnaltered plan (journal ++ entry ∷ [])) (scene_run : IsSceneRun (limits_of plan) (scene_of plan (journal ++ entry ∷ [])) (journal ++ entry ∷ [])) (work then_work : Work) (tool_phase : (moment plan journal).tool.tool_phase ≡ Migrating work)
+module _ (plan : PlanData) (m : Migration) (at : Clustered m.schema) (rows : List Row) (of : IsMigrationOf plan m rows) (journal : List Entry) (entry : Entry) (kept : IsKept plan (journal ++ entry ∷ [])) (off : IsUnaltered plan (journal ++ entry ∷ [])) (work then_work : Work) (tool_phase : (moment plan journal).tool.tool_phase ≡ Migrating work)
     (unmarked : Unmarked plan journal work) (going : is_reverting (moment plan journal).tool.reason ≡ false) (then_tool_phase : (moment plan (journal ++ entry ∷ [])).tool.tool_phase ≡ Migrating then_work) (then_going : is_reverting (moment plan (journal ++ entry ∷ [])).tool.reason ≡ false)
-    (effect : Effect plan journal entry work then_work) (goes : Goes plan m at rows journal work) (kept : IsKept plan journal) where
+    (effect : Effect plan journal entry work then_work) (goes : Goes plan m at rows journal work) where
   abbrev more : List Entry
   more = journal ++ entry ∷ []
 
@@ -137,23 +129,32 @@ module _ (plan : PlanData) (serial : IsSerialPlan plan) (fit : IsFitting plan) (
   abbrev Following : Machines → Type 0
   Following machines = MigrationStands m at rows limits scene more machines
 
+  turn_known : IsKnownTurn plan journal entry
+  turn_known = known_turn plan of.runs journal entry kept
+
+  known : IsKnownAsked plan journal
+  known = turn_known.known
+
+  run : IsRun plan journal entry
+  run = turn_known.run
+
   together : IsTogether plan journal
-  together = known.marking.tabled.all.tool
+  together = turn_known.together
 
   then_together : IsTogether plan more
   then_together = (asked_more plan journal entry run known).marking.tabled.all.tool
 
   served : IsServed plan journal entry
-  served = record { answered = run.answered; seated = record { session = run.followed.session } }
+  served = turn_known.served
 
   actor_state : Placed journal entry
   actor_state = placed journal entry served.seated
 
-  named_new : m.new.name ≡ ghost_name m.name
-  named_new = ghost_named plan m of ∙ ap ghost_name (sym of.name)
+  scene_run : IsSceneRun limits scene more
+  scene_run = kept_scene plan m rows of more kept off
 
-  names : IsNamed plan work
-  names = subst (ToolPhaseIsNamed plan) tool_phase (named plan journal)
+  named_new : m.new.name ≡ ghost_name m.name
+  named_new = ghost_named plan m of.of ∙ ap ghost_name (sym of.of.name)
 
   work_stands : WorkStands journal (is_reverting (moment plan journal).tool.reason) has work
   work_stands = subst (ToolPhaseStands journal has (is_reverting (moment plan journal).tool.reason)) tool_phase together.stands
@@ -161,68 +162,11 @@ module _ (plan : PlanData) (serial : IsSerialPlan plan) (fit : IsFitting plan) (
   then_stands : WorkStands more (is_reverting (moment plan more).tool.reason) (standing_of plan more) then_work
   then_stands = subst (ToolPhaseStands more (standing_of plan more) (is_reverting (moment plan more).tool.reason)) then_tool_phase then_together.stands
 
-  before_in : (copier applier : ℕ) → ActorStates journal copier applier → Before (machines_in work copier applier)
-  before_in copier applier actor_states = in_scene plan m at rows [] more journal (machines_in work copier applier) (goes.stands copier applier actor_states)
-
   -- what is kept is known of the journal
   some_before : (P : Type 0) → ((machines : Machines) → machines.copier ≡ work.copier → machines.applier ≡ work.applier → Before machines → P) → P
-  some_before P keeps = let some : SomeActorStates journal = some_actor_states journal together.known.sessions in keeps (machines_in work some.copier some.applier) refl refl (before_in some.copier some.applier some.actor_states)
+  some_before P keeps = let some : SomeActorStates journal = some_actor_states journal together.known.sessions in keeps (machines_in work some.copier some.applier) refl refl (before_in plan m at rows of journal entry kept off work tool_phase going goes some.copier some.applier some.actor_states)
 
-  sized : 0 < work.copier.size
-  sized = some_before (0 < work.copier.size) (λ machines copier applier is. subst (λ (c : Copier). 0 < c.size) copier is.copier_knows.sized)
-
-  -- WHAT IS ASKED
-
-  record CopyAsks : Type 0 where
-    request : Request
-    is_about : IsAbout request (has Copy) entry.asked
-    waits : CopyWaits journal work.copier request
-
-  copy_asks : entry.actor ≡ Copy → is_cut entry.asked ≡ false → CopyAsks
-  unfolding given
-  copy_asks same uncut = by (asking plan journal Copy entry.asked together.server (gave plan serial fit journal entry known run off Copy same uncut)) where
-    by : Asking plan journal Copy entry.asked → CopyAsks
-    by (calls_so request asks idle call) =
-        record {
-          request = request;
-          is_about = is_called asks idle;
-          waits = record {
-            size = work.copier.size;
-            some = sized;
-            next =
-                unless_called (copiers.starts work.copier && is_throttled plan (moment plan journal).server (moment plan journal).tool.operator) (copiers.next journal work.copier) request
-                (ap (λ (b : Bool). cond b (rolls_back (moment plan journal).server (live_session journal Copy)) (copy_call plan (moment plan journal).server journal (moment plan journal).tool work)) (sym going)
-                ∙ ap (λ (c : ToolPhase). tool_call plan (moment plan journal).server journal (moment plan journal).tool c Copy) (sym tool_phase) ∙ call);
-          };
-        }
-    by (polls_so request asks some) = record { request = request; is_about = is_polled asks some; waits = goes.copy_waits request some }
-
-  record ApplyAsks : Type 0 where
-    request : Request
-    is_about : IsAbout request (has Apply) entry.asked
-    next : appliers.next journal work.applier ≡ request
-
-  apply_asks : entry.actor ≡ Apply → is_cut entry.asked ≡ false → ApplyAsks
-  unfolding given
-  apply_asks same uncut = by (asking plan journal Apply entry.asked together.server (gave plan serial fit journal entry known run off Apply same uncut)) where
-    by : Asking plan journal Apply entry.asked → ApplyAsks
-    by (calls_so request asks idle call) =
-        record {
-          request = request;
-          is_about = is_called asks idle;
-          next =
-              sym
-              (apply_called plan journal work request
-              (ap (λ (b : Bool). cond b (rolls_back (moment plan journal).server (live_session journal Apply)) (apply_call plan (moment plan journal).server journal (moment plan journal).tool work)) (sym going)
-              ∙ ap (λ (c : ToolPhase). tool_call plan (moment plan journal).server journal (moment plan journal).tool c Apply) (sym tool_phase) ∙ call));
-        }
-    by (polls_so request asks some) = record { request = request; is_about = is_polled asks some; next = goes.apply_waits request some }
-
-  -- THE COPIER'S TURN, IN ITS SESSION
-
-  uncommanded : (actor : Actor) → entry.actor ≡ actor → is_cut entry.asked ≡ false → ((request : Request) → IsAbout request (has actor) entry.asked → is_command entry.asked ≡ false)
-  uncommanded actor same uncut request (is_called asks none) = ap is_command asks
-  uncommanded actor same uncut request (is_polled asks some) = ap is_command asks
+  -- THE TURN OF ONE OF THE TWO
 
   is_cut_by : (session : ℕ) → entry.session ≡ session → entry.asked ≡ Cut → IsCut entry session
   is_cut_by session same asks = record { its = same; cut = ap is_cut asks; side = run.answered.sides (ap may_lose asks) }
@@ -230,84 +174,22 @@ module _ (plan : PlanData) (serial : IsSerialPlan plan) (fit : IsFitting plan) (
   abbrev turn : ℕ
   turn = length journal + 1
 
-  -- where the size was another
-  copier_back : (size applier_session : ℕ) (applier : Applier) → Following (record { copier = copiers.took turn (resized size work.copier) entry.answer; copier_session = entry.session; applier = applier; applier_session = applier_session })
-      → Following (record { copier = copiers.took turn work.copier entry.answer; copier_session = entry.session; applier = applier; applier_session = applier_session })
-  copier_back size applier_session applier was = by (sized_took turn size work.copier entry.answer) where
-    of_copier : Copier → Machines
-    of_copier copier = record { copier = copier; copier_session = entry.session; applier = applier; applier_session = applier_session }
-
-    back : Following (of_copier (resized work.copier.size (copiers.took turn (resized size work.copier) entry.answer)))
-    back = moves_keep m at rows limits scene more (of_copier (copiers.took turn (resized size work.copier) entry.answer)) _ (chunks_resize work.copier.size sized refl) was
-
-    by : Sized (resized work.copier.size (copiers.took turn (resized size work.copier) entry.answer)) (copiers.took turn work.copier entry.answer) → Following (of_copier (copiers.took turn work.copier entry.answer))
-    by (same_so same) = subst (λ (c : Copier). Following (of_copier c)) same back
-    by (spans_so reported old here same) =
-        subst (λ (c : Copier). Following (of_copier c)) (sym same)
-        (moves_keep m at rows limits scene more (of_copier (resized work.copier.size (copiers.took turn (resized size work.copier) entry.answer))) _ (span_resizes reported old work.copier.size here sized refl) back)
-
-  copier_takes : (applier_session : ℕ) → entry.actor ≡ Copy → is_cut entry.asked ≡ false → ((place number : ℕ) → copiers.progress work.copier entry.answer ≡ Unfit place number → ⊥) → Before (machines_in work entry.session applier_session)
-      → Following (record { copier = copiers.took turn work.copier entry.answer; copier_session = entry.session; applier = work.applier; applier_session = applier_session })
-  unfolding copiers.progress
-  copier_takes applier_session same uncut fits was =
-      let asks : CopyAsks = copy_asks same uncut in
-      let before : Machines = record { copier = resized (asks.waits).size work.copier; copier_session = entry.session; applier = work.applier; applier_session = applier_session } in
-      copier_back (asks.waits).size applier_session work.applier
-      (turns_keep m at rows place planned is_place finds named_new limits scene journal entry before _ scene_run
-      (copier_turns
-      (record {
-        its = refl;
-        table = names.copier ∙ sym of.name;
-        map = goes.map;
-        request = asks.request;
-        asked = about_called plan serial fit journal entry known run off Copy asks.request same asks.is_about;
-        tool = tool_serves plan journal entry kept together run (no_command (opens entry now) entry.session entry.asked asks.request (about_called plan serial fit journal entry known run off Copy asks.request same asks.is_about)) (ap is_client same);
-        given = (asks.waits).next;
-        uncut = uncut;
-        fits = fits;
-      }) refl) (moves_keep m at rows limits scene journal (machines_in work entry.session applier_session) before (chunks_resize (asks.waits).size (asks.waits).some refl) was))
-
-  applier_takes : (copier_session : ℕ) → entry.actor ≡ Apply → is_cut entry.asked ≡ false → ((place number : ℕ) → appliers.progress work.applier entry.answer ≡ Unfit place number → ⊥) → Before (machines_in work copier_session entry.session)
-      → Following (record { copier = work.copier; copier_session = copier_session; applier = appliers.took turn work.applier entry.answer; applier_session = entry.session })
-  applier_takes copier_session same uncut fits was =
-      let asks : ApplyAsks = apply_asks same uncut in
-      turns_keep m at rows place planned is_place finds named_new limits scene journal entry (machines_in work copier_session entry.session) _ scene_run
-      (applier_turns
-      (record {
-        its = refl;
-        table = names.applier ∙ sym of.name;
-        schema = goes.schema;
-        map = goes.apply_map;
-        request = asks.request;
-        asked = about_called plan serial fit journal entry known run off Apply asks.request same asks.is_about;
-        tool = tool_serves plan journal entry kept together run (no_command (opens entry now) entry.session entry.asked asks.request (about_called plan serial fit journal entry known run off Apply asks.request same asks.is_about)) (ap is_client same);
-        given = asks.next;
-        uncut = uncut;
-        fits = fits;
-      }) refl) was
-
   -- a session without work has no transaction
   idle_free : (actor : Actor) → entry.actor ≡ actor → entry.asked ≡ Cut → has_work (moment plan journal).server entry.session ≡ false → has actor ≡ free
   idle_free actor same asks rests =
       ap (standing_in now) (ap (live_session journal) (sym same) ∙ own_session plan journal entry together.known served (ap is_cut asks)) ∙ idle_stands now entry.session (ap (λ (s : State). has_work s entry.session) (sym together.server) ∙ rests)
 
-  copier_had : Stands (copier_asks work.copier.step) (copier_busy work.copier.step) [] (has Copy)
-  copier_had = by work_stands.copier where
-    by : (is_reverting (moment plan journal).tool.reason ≡ true) ⊎ Stands (copier_asks work.copier.step) (copier_busy work.copier.step) [] (has Copy) → Stands (copier_asks work.copier.step) (copier_busy work.copier.step) [] (has Copy)
-    by (inl on) = absurd (true≢false (sym on ∙ going))
-    by (inr stands) = stands
+  copier_stood : Stands (copier_asks work.copier.step) (copier_busy work.copier.step) [] (has Copy)
+  copier_stood = copier_had plan journal entry together run work work_stands going
 
-  applier_had : ApplierStands journal work.applier (has Apply)
-  applier_had = by work_stands.applier where
-    by : (is_reverting (moment plan journal).tool.reason ≡ true) ⊎ ApplierStands journal work.applier (has Apply) → ApplierStands journal work.applier (has Apply)
-    by (inl on) = absurd (true≢false (sym on ∙ going))
-    by (inr stands) = stands
+  applier_stood : ApplierStands journal work.applier (has Apply)
+  applier_stood = applier_had plan journal entry together run work work_stands going
 
   copier_between : has Copy ≡ free → IsBetween work.copier.step
-  copier_between is = between_if work.copier.step (sym copier_had.busy ∙ ap (λ (s : Standing). s.busy) is)
+  copier_between is = between_if work.copier.step (sym copier_stood.busy ∙ ap (λ (s : Standing). s.busy) is)
 
   applier_between : has Apply ≡ free → IsUnbusy work.applier.step
-  applier_between is = unbusy_if work.applier.step (sym (applier_had.stands).busy ∙ ap (λ (s : Standing). s.busy) is)
+  applier_between is = unbusy_if work.applier.step (sym (applier_stood.stands).busy ∙ ap (λ (s : Standing). s.busy) is)
 
   -- outside a transaction nothing is held
   free_holds : (actor : Actor) → entry.actor ≡ actor → entry.asked ≡ Cut → has actor ≡ free → hold_at now entry.session ≡ no_hold
@@ -377,25 +259,11 @@ module _ (plan : PlanData) (serial : IsSerialPlan plan) (fit : IsFitting plan) (
   took_gone copier same uncut applier was none =
       rests_own m at rows copier entry.session _
       (ap (λ (s : ApplyStep). plan_at m more s)
-      (ap (λ (a : Applier). a.step) applier ∙ ap (λ (a : Answer). (appliers.took turn work.applier a).step) (lost_answer entry.asked entry.answer entry.session (uncommanded Apply same uncut asks.request asks.is_about) (sym (left_here Apply same) ∙ none)))) was.tool.stands where
-        asks : ApplyAsks
-        asks = apply_asks same uncut
+      (ap (λ (a : Applier). a.step) applier ∙ ap (λ (a : Answer). (appliers.took turn work.applier a).step) (lost_answer entry.asked entry.answer entry.session (about_uncommanded asks.request (has Apply) entry.asked asks.is_about) (sym (left_here Apply same) ∙ none)))) was.tool.stands where
+        asks : ApplyAsks plan journal entry.asked work.applier
+        asks = apply_asks plan m at rows of journal entry kept off work tool_phase going goes same uncut
 
   -- seats before the turn
-  copier_before : (copier applier : ℕ) → entry.actor ≡ Copy → is_command entry.asked ≡ false → ActorStates more copier applier → ActorStates journal entry.session applier
-  copier_before copier applier same called actor_states = record {
-    copy = subst (λ (a : Actor). MayTake journal entry.session (live_session journal a)) same (actor_state_own plan journal entry together.known actor_state called);
-    apply = actor_state_before plan journal entry together.known actor_state Apply applier (ap (λ (a : Actor). same_actor a Apply) same) actor_states.apply;
-    two = turned applier entry.session (actor_state_apart plan journal entry together.known actor_state Apply applier (ap (λ (a : Actor). same_actor a Apply) same) actor_states.apply);
-  }
-
-  applier_before : (copier applier : ℕ) → entry.actor ≡ Apply → is_command entry.asked ≡ false → ActorStates more copier applier → ActorStates journal copier entry.session
-  applier_before copier applier same called actor_states = record {
-    copy = actor_state_before plan journal entry together.known actor_state Copy copier (ap (λ (a : Actor). same_actor a Copy) same) actor_states.copy;
-    apply = subst (λ (a : Actor). MayTake journal entry.session (live_session journal a)) same (actor_state_own plan journal entry together.known actor_state called);
-    two = actor_state_apart plan journal entry together.known actor_state Copy copier (ap (λ (a : Actor). same_actor a Copy) same) actor_states.copy;
-  }
-
   both_before : (copier applier : ℕ) → IsThird entry.actor → ActorStates more copier applier → ActorStates journal copier applier
   both_before copier applier third actor_states = record {
     copy = actor_state_before plan journal entry together.known actor_state Copy copier third.0 actor_states.copy;
@@ -413,21 +281,21 @@ module _ (plan : PlanData) (serial : IsSerialPlan plan) (fit : IsFitting plan) (
 
   others_turned : (copier applier : ℕ) → IsThird entry.actor → ActorStates more copier applier → Following (machines_in work copier applier)
   others_turned copier applier third actor_states =
-      turns_keep m at rows place planned is_place finds named_new limits scene journal entry (machines_in work copier applier) _ scene_run
+      turns_keep m at rows of.place of.planned of.is_place of.finds named_new limits scene journal entry (machines_in work copier applier) _ scene_run
       (others_turn
       (record {
         sides = run.answered.sides;
         no_copier = actor_state_apart plan journal entry together.known actor_state Copy copier third.0 actor_states.copy;
         no_applier = actor_state_apart plan journal entry together.known actor_state Apply applier third.1 actor_states.apply;
         away = λ request is. by entry.asked refl request is;
-      }) refl) (before_in copier applier (both_before copier applier third actor_states)) where
+      }) refl) (before_in plan m at rows of journal entry kept off work tool_phase going goes copier applier (both_before copier applier third actor_states)) where
         by : (asked : Asked) → entry.asked ≡ asked → (request : Request) → about (opens entry now) entry.session entry.asked ≡ Some request → KeepsAway m (reported_at entry.side entry.answer entry.missed) request
         by (Command word) asks request is = absurd (no (sym (ap (about (opens entry now) entry.session) asks) ∙ is)) where
           no : None ≡ Some request → ⊥
           no same = cc
-        by (Call called) asks request is = others_away plan serial m of fit journal entry known run off work tool_phase unmarked (ap is_command asks) third request is
-        by Poll asks request is = others_away plan serial m of fit journal entry known run off work tool_phase unmarked (ap is_command asks) third request is
-        by Cut asks request is = others_away plan serial m of fit journal entry known run off work tool_phase unmarked (ap is_command asks) third request is
+        by (Call called) asks request is = others_away plan of.serial m of.of of.runs.fitting journal entry known run off work tool_phase unmarked (ap is_command asks) third request is
+        by Poll asks request is = others_away plan of.serial m of.of of.runs.fitting journal entry known run off work tool_phase unmarked (ap is_command asks) third request is
+        by Cut asks request is = others_away plan of.serial m of.of of.runs.fitting journal entry known run off work tool_phase unmarked (ap is_command asks) third request is
 
   word_size : (all : List OperatorWord) (column_position : ℕ) (size : ℕ) → AllByRecursion SizeFits all → commands (slice_get all column_position) ≡ Some (Command (ChunkSize size)) → 0 < size
   word_size [] column_position size fits none = absurd cc
@@ -436,7 +304,7 @@ module _ (plan : PlanData) (serial : IsSerialPlan plan) (fit : IsFitting plan) (
 
   op_size : (size : ℕ) → entry.actor ≡ Op → entry.asked ≡ Command (ChunkSize size) → 0 < size
   unfolding given
-  op_size size same asks = word_size (words_of plan) (moment plan journal).tool.operator.taken size fit.commands (subst (λ (a : Actor). given plan journal a ≡ Some (Command (ChunkSize size))) same (by entry.asked asks run.followed.given)) where
+  op_size size same asks = word_size (words_of plan) (moment plan journal).tool.operator.taken size of.runs.fitting.commands (subst (λ (a : Actor). given plan journal a ≡ Some (Command (ChunkSize size))) same (by entry.asked asks run.followed.given)) where
     by : (asked : Asked) → asked ≡ Command (ChunkSize size) → IsGiven plan journal entry asked → given plan journal entry.actor ≡ Some (Command (ChunkSize size))
     by (Command word) one gives = gives ∙ ap Some one
     by (Call request) one gives = absurd cc
@@ -445,33 +313,25 @@ module _ (plan : PlanData) (serial : IsSerialPlan plan) (fit : IsFitting plan) (
 
   stands_then : (copier applier : ℕ) → ActorStates more copier applier → Effect plan journal entry work then_work → Following (machines_in then_work copier applier)
   stands_then copier applier actor_states (copier_took same uncut fits one other) =
-      let asks : CopyAsks = copy_asks same uncut in
-      copier_seated copier applier same actor_states
-      (become _ _ entry.session applier one other (copier_takes applier same uncut fits (before_in entry.session applier (copier_before copier applier same (uncommanded Copy same uncut asks.request asks.is_about) actor_states))))
+      copier_seated copier applier same actor_states (become _ _ entry.session applier one other (copier_takes plan m at rows of journal entry kept off work tool_phase going goes copier applier actor_states same uncut fits))
   stands_then copier applier actor_states (copier_lost same asks one other) =
-      copier_seated copier applier same actor_states
-      (become _ _ entry.session applier one other
-      (turns_keep m at rows place planned is_place finds named_new limits scene journal entry (machines_in work entry.session applier) _ scene_run (copier_is_cut (is_cut_by entry.session refl asks) refl) (before_in entry.session applier (copier_before copier applier same (ap is_command asks) actor_states))))
+      copier_seated copier applier same actor_states (become _ _ entry.session applier one other (copier_loses plan m at rows of journal entry kept off work tool_phase going goes copier applier actor_states same asks))
   stands_then copier applier actor_states (copier_idle same asks rests one other) =
       copier_seated copier applier same actor_states
       (become _ _ entry.session applier one other
-      (turns_keep m at rows place planned is_place finds named_new limits scene journal entry (machines_in work entry.session applier) _ scene_run (copier_is_idle (is_cut_by entry.session refl asks) (copier_between (idle_free Copy same asks rests)) refl)
-      (before_in entry.session applier (copier_before copier applier same (ap is_command asks) actor_states))))
+      (turns_keep m at rows of.place of.planned of.is_place of.finds named_new limits scene journal entry (machines_in work entry.session applier) _ scene_run (copier_is_idle (is_cut_by entry.session refl asks) (copier_between (idle_free Copy same asks rests)) refl)
+      (copier_before plan m at rows of journal entry kept off work tool_phase going goes copier applier actor_states same (ap is_command asks))))
   stands_then copier applier actor_states (applier_took same uncut fits one other) =
-      let asks : ApplyAsks = apply_asks same uncut in
-      let was : Following (machines_in then_work copier entry.session) =
-      become _ _ copier entry.session one other (applier_takes copier same uncut fits (before_in copier entry.session (applier_before copier applier same (uncommanded Apply same uncut asks.request asks.is_about) actor_states))) in
+      let was : Following (machines_in then_work copier entry.session) = become _ _ copier entry.session one other (applier_takes plan m at rows of journal entry kept off work tool_phase going goes copier applier actor_states same uncut fits) in
       applier_seated copier applier same actor_states (took_gone copier same uncut other was) was
   stands_then copier applier actor_states (applier_lost same asks one other) =
-      applier_seated copier applier same actor_states (λ none. cut_gone asks)
-      (become _ _ copier entry.session one other
-      (turns_keep m at rows place planned is_place finds named_new limits scene journal entry (machines_in work copier entry.session) _ scene_run (applier_is_cut (is_cut_by entry.session refl asks) refl) (before_in copier entry.session (applier_before copier applier same (ap is_command asks) actor_states))))
+      applier_seated copier applier same actor_states (λ none. cut_gone asks) (become _ _ copier entry.session one other (applier_loses plan m at rows of journal entry kept off work tool_phase going goes copier applier actor_states same asks))
   stands_then copier applier actor_states (applier_idle same asks rests one other) =
       let none : has Apply ≡ free = idle_free Apply same asks rests in
       applier_seated copier applier same actor_states (λ lost. cut_gone asks)
       (become _ _ copier entry.session one other
-      (turns_keep m at rows place planned is_place finds named_new limits scene journal entry (machines_in work copier entry.session) _ scene_run (applier_is_idle (is_cut_by entry.session refl asks) (free_holds Apply same asks none) (applier_between none) refl)
-      (before_in copier entry.session (applier_before copier applier same (ap is_command asks) actor_states))))
+      (turns_keep m at rows of.place of.planned of.is_place of.finds named_new limits scene journal entry (machines_in work copier entry.session) _ scene_run (applier_is_idle (is_cut_by entry.session refl asks) (free_holds Apply same asks none) (applier_between none) refl)
+      (applier_before plan m at rows of journal entry kept off work tool_phase going goes copier applier actor_states same (ap is_command asks))))
   stands_then copier applier actor_states (neither no_copy no_apply one other) = become _ _ copier applier one other (others_turned copier applier (no_copy, no_apply) actor_states)
   stands_then copier applier actor_states (resizes_so size asks same one other) =
       become _ _ copier applier one other
@@ -515,7 +375,7 @@ module _ (plan : PlanData) (serial : IsSerialPlan plan) (fit : IsFitting plan) (
 
   copy_waits_then : Effect plan journal entry work then_work → (request : Request) → (standing_of plan more Copy).waits ≡ Some request → CopyWaits more then_work.copier request
   copy_waits_then (copier_took same uncut fits one other) request some =
-      let asks : CopyAsks = copy_asks same uncut in
+      let asks : CopyAsks plan journal entry.asked work.copier = copy_asks plan m at rows of journal entry kept off work tool_phase going goes same uncut in
       let quiet = quiet_if request asks.request entry.answer (has Copy) (ap (λ (s : Standing). s.waits) (sym (has_then Copy asks.request same asks.is_about)) ∙ some) in
       as_copier request work.copier (one ∙ quiet.0) (waits_longer request (subst (CopyWaits journal work.copier) quiet.2 asks.waits))
   copy_waits_then (copier_lost same asks one other) request some = absurd (lost_then Copy same asks request some)
@@ -533,7 +393,7 @@ module _ (plan : PlanData) (serial : IsSerialPlan plan) (fit : IsFitting plan) (
 
   apply_waits_then : Effect plan journal entry work then_work → (request : Request) → (standing_of plan more Apply).waits ≡ Some request → appliers.next more then_work.applier ≡ request
   apply_waits_then (applier_took same uncut fits one other) request some =
-      let asks : ApplyAsks = apply_asks same uncut in
+      let asks : ApplyAsks plan journal entry.asked work.applier = apply_asks plan m at rows of journal entry kept off work tool_phase going goes same uncut in
       let quiet = quiet_if request asks.request entry.answer (has Apply) (ap (λ (s : Standing). s.waits) (sym (has_then Apply asks.request same asks.is_about)) ∙ some) in
       as_applier request (other ∙ quiet.1) (asks.next ∙ quiet.2)
   apply_waits_then (applier_lost same asks one other) request some = absurd (lost_then Apply same asks request some)

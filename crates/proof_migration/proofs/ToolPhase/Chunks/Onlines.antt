@@ -70,6 +70,7 @@ use Rattle.proof_migration.specs.ToolPhase.Chunks.{ChunkEndsComeAtOnce, Journals
 use Rattle.proof_migration.proofs.ToolPhase.Chunks.Sparing.{opened_spared, ends_at_once}
 use Rattle.proof_migration.proofs.ToolPhase.Chunks.Sizes.{weight, SpanWaits, SmallStep, IsSmall, FewKeys, keys_few, took_size, small_choosing, small_spanning, small_copying, small_committing, step_after, copied_more, is_counted, uncounted, unsized}
 use Rattle.proof_migration.proofs.ToolPhase.Chunks.Uncopied.{is_uncopied, copy_before, IsUntouched, untouched_more, untouched_begins}
+use Rattle.proof_migration.proofs.Program.Turns.NextCalls.{copy_next}
 
 -- WHERE A CHUNK ENDS IS ANSWERED AT ONCE
 
@@ -438,9 +439,7 @@ module _ (again : StoresAgain) (plan : PlanData) (runs : IsRunnable plan) (journ
 
     step_now : Unfits work.copier.step → Asking plan journal Copy entry.asked → SmallStep copied_now (now_has Copy).waits (copiers.took tool.turns work.copier entry.answer).step
     step_now unfits (calls_so request asks idle call) =
-        let asked_next : copiers.next journal work.copier ≡ Some request = unless_called (copiers.starts work.copier && is_throttled plan now.server now.tool.operator) (copiers.next journal work.copier) request
-        (ap (λ (b : Bool). cond b (rolls_back now.server (live_session journal Copy)) (copy_call plan now.server journal now.tool work)) (sym going) ∙ ap (λ (c : ToolPhase). tool_call plan now.server journal now.tool c Copy) (sym eq) ∙ call) in
-        let found = next_in work.copier request asked_next in
+        let found = next_in work.copier request (copy_next plan journal work eq going request call) in
         subst (λ (a : Asked). SmallStep (copied_after a copied) (now_has Copy).waits (copiers.took tool.turns work.copier entry.answer).step) (sym asks)
         (subst (λ (s : Standing). SmallStep (copied_after (Call request) copied) s.waits (copiers.took tool.turns work.copier entry.answer).step) (sym (has_now request (is_called asks idle)))
         (called_step found.0 work.copier.step refl small.step idle unfits request asks found.1))

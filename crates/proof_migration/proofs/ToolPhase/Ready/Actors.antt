@@ -63,7 +63,7 @@ seated : (plan : PlanData) (before journal : List Entry) → Along (IsFollowed p
 seated plan before [] all = tt
 seated plan before (entry ∷ journal) all = (record { session = all.0.session }, seated plan (before ++ entry ∷ []) journal all.1)
 
-keeps_sessions : (plan : PlanData) (journal : List Entry) → Follows plan journal → KeepsSessions journal
+pub keeps_sessions : (plan : PlanData) (journal : List Entry) → Follows plan journal → KeepsSessions journal
 unfolding Follows KeepsSessions
 keeps_sessions plan journal follows = seated plan [] journal follows
 

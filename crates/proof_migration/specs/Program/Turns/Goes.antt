@@ -8,6 +8,7 @@ use Rattle.tool_program.specs.JournalWords.Sessions.{live_session}
 use Rattle.tool_program.specs.declared.chunk_copier.copier.Copier.{Copier}
 use Rattle.tool_program.specs.ChunkCopier.Copiers as copiers
 use Rattle.tool_program.specs.ChunkCopier.Copiers.{resized}
+use Rattle.tool_program.specs.declared.event_applier.applier.Applier.{Applier}
 use Rattle.tool_program.specs.EventApplier.Appliers as appliers
 use Rattle.tool_program.specs.Tools.{Work}
 use Rattle.proof_journals.specs.Plans.{limits_of, scene_of}
@@ -30,9 +31,17 @@ pub record ActorStates (journal : List Entry) (copier applier : ℕ) : Type 0 wh
   pub apply : MayTake journal applier (live_session journal Apply)
   pub two : (copier == applier) ≡ false
 
--- the two machines of the tool's work, in these sessions
+-- these two machines in these sessions
+abbrev pub machines_of : Copier → ℕ → Applier → ℕ → Machines
+machines_of copier copies applier applies = record { copier = copier; copier_session = copies; applier = applier; applier_session = applies }
+
+-- those of the tool's work
 abbrev pub machines_in : Work → ℕ → ℕ → Machines
-machines_in work copier applier = record { copier = work.copier; copier_session = copier; applier = work.applier; applier_session = applier }
+machines_in work copies applies = machines_of work.copier copies work.applier applies
+
+-- *The migration stands for these machines*, in whatever sessions they go on
+abbrev pub StandsFor : (plan : PlanData) (m : Migration) → Clustered m.schema → List Row → List Entry → Copier → Applier → Type 0
+StandsFor plan m at rows journal copier applier = (copies applies : ℕ) → ActorStates journal copies applies → MigrationStands m at rows (limits_of plan) (scene_of plan []) journal (machines_of copier copies applier applies)
 
 -- the copier's call that waits is its next one, but that the size of chunks may have been another then
 pub record CopyWaits (journal : List Entry) (copier : Copier) (request : Request) : Type 0 where
@@ -42,7 +51,7 @@ pub record CopyWaits (journal : List Entry) (copier : Copier) (request : Request
 
 -- *The migration goes*: it stands in whatever sessions the two machines go on, and what waits is their next call
 pub record Goes (plan : PlanData) (m : Migration) (at : Clustered m.schema) (rows : List Row) (journal : List Entry) (work : Work) : Type 0 where
-  pub stands : (copier applier : ℕ) → ActorStates journal copier applier → MigrationStands m at rows (limits_of plan) (scene_of plan []) journal (machines_in work copier applier)
+  pub stands : StandsFor plan m at rows journal work.copier work.applier
   pub copy_waits : (request : Request) → (standing_of plan journal Copy).waits ≡ Some request → CopyWaits journal work.copier request
   pub apply_waits : (request : Request) → (standing_of plan journal Apply).waits ≡ Some request → appliers.next journal work.applier ≡ request
   pub map : work.copier.map ≡ m.columns
