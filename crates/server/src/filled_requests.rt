@@ -1,15 +1,14 @@
 //! Requests with the number that their statement would draw now.
 
 ghost use Rattle.std.specs.Prelude.{◌≡◌, true, false, unwrap_or, IfOk, IsOk};
-ghost use Rattle.server_model.specs.Drawing.{filled, numbered, offered};
+ghost use Rattle.server_model.specs.Drawing.{filled, offered};
 ghost use Rattle.server_model.specs.States.{is_exclusive};
 ghost use Rattle.server.specs.FilledRequests.{offer_of, IsFilled};
 ghost use Rattle.server.specs.Parts.{state_of};
 
 use base_script::Statement;
-use base_values::Duplicate;
 use server_model::Request;
-use server_prepare::draws;
+use server_prepare::{draws, numbered};
 use server_sessions::live_sessions::Sessions;
 use server_transaction::server_data::Data;
 use server_transaction::table_of;
@@ -33,37 +32,6 @@ impl Filling {
             Some(request) => request,
             None => asked,
         }
-    }
-}
-
-/// The statement with the number that it draws.
-fn numbered(statement: &Statement, number: u64) -> Result<Statement, AllocError>
-    ensures { IfOk result (λ full. full ≡ numbered (Some number) statement.now) }
-{
-    match statement {
-        Statement::Insert {
-            table,
-            columns,
-            values,
-            drawn: _,
-        } => Ok(Statement::Insert {
-            table: table.copy()?,
-            columns: columns.copy()?,
-            values: values.copy()?,
-            drawn: Some(number),
-        }),
-        Statement::Replace {
-            table,
-            columns,
-            values,
-            drawn: _,
-        } => Ok(Statement::Replace {
-            table: table.copy()?,
-            columns: columns.copy()?,
-            values: values.copy()?,
-            drawn: Some(number),
-        }),
-        other => other.copy(),
     }
 }
 

@@ -3,6 +3,7 @@
 #![tactic(auto)]
 
 mod columns;
+mod drawn_numbers;
 mod drawn_rows;
 mod given_values;
 mod keys;
@@ -13,6 +14,7 @@ mod refusals;
 mod rows;
 mod work;
 
+pub use drawn_numbers::numbered;
 pub use drawn_rows::{drawn_row, draws};
 pub use given_values::after_given;
 pub use refusals::{Checked, refuses, refuses_value};
