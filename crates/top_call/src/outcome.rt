@@ -176,41 +176,6 @@ fn reported_after<V: Serve>(alloc: Global, plan: &Plan, left: Left<V>) -> (Optio
     (printed, left.journal)
 }
 
-/// The table that is made anew from the log of a run in which the RENAME was done, and its journal.
-fn rebuilt_after<V: Serve, R: Threads + Sync, G: Gate + Sync>(
-    rt: &R,
-    alloc: Global,
-    plan: &Plan,
-    left: Left<V>,
-    workers: u32,
-    gate: &G,
-) -> (Option<Printed>, Journal)
-    requires workers { AreShards workers }
-    requires read { WasRead plan.now }
-    requires replay { IsSoundReplay plan.now (run_in plan.now left.journal) }
-    requires resumes { Resumes plan.now left.journal }
-    requires logged { left.logged ≡ logged_at_mark plan.now (plan.now.table ∷ []) (run_in plan.now left.journal) }
-    requires end { IfSome left.end (λ end. IsEnd plan.now left.journal end.verdict (V.state end.server) end.sessions) }
-    requires done { IfSome left.end (λ end. end.verdict ≡ verdicts.Done) }
-    ensures printed { IfSome result.0 (IsRunPrinted (rebuild_at plan.now left.journal) plan.now left.journal) }
-    ensures journal { result.1 ≡ left.journal }
-{
-    finishes_tell_the_alter();
-    let Left {
-        journal,
-        logged,
-        end,
-    } = left;
-    match end {
-        // The log is read by one more session: else no number would be left for it.
-        Some(end) if end.sessions < u32::MAX => {
-            let printed = rebuilt(rt, alloc, plan, end.server, logged, workers, gate);
-            (printed, journal)
-        }
-        _ => (None, journal),
-    }
-}
-
 /// What is printed of a run that ended, and its journal: where the RENAME was done, the table that is made anew from the log; else the
 /// report.
 fn rebuilt_or_reported<V: Serve, R: Threads + Sync, G: Gate + Sync>(
@@ -230,10 +195,22 @@ fn rebuilt_or_reported<V: Serve, R: Threads + Sync, G: Gate + Sync>(
     ensures printed { IfSome result.0 (IsRunPrinted (rebuild_at plan.now left.journal) plan.now left.journal) }
     ensures journal { result.1 ≡ left.journal }
 {
-    if is_done(&left.end) {
-        rebuilt_after(rt, alloc, plan, left, workers, gate)
-    } else {
-        reported_after(alloc, plan, left)
+    if !is_done(&left.end) {
+        return reported_after(alloc, plan, left);
+    }
+    finishes_tell_the_alter();
+    let Left {
+        journal,
+        logged,
+        end,
+    } = left;
+    match end {
+        // The log is read by one more session: else no number would be left for it.
+        Some(end) if end.sessions < u32::MAX => {
+            let printed = rebuilt(rt, alloc, plan, end.server, logged, workers, gate);
+            (printed, journal)
+        }
+        _ => (None, journal),
     }
 }
 
