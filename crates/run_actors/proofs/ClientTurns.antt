@@ -2,4 +2,5 @@
 pub mod Drawn
 pub mod DrawnLines
 pub mod DrawnTurns
+pub mod Heard
 pub mod Lines

@@ -1,4 +1,7 @@
+pub mod ActorPlaces
 pub mod AlterTurns
 pub mod Marking
 pub mod More
 pub mod ClientTurns
+pub mod Renamings
+pub mod SameActors

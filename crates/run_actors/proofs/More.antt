@@ -20,7 +20,7 @@ pub live_more : (journal : List Entry) (entry : Entry) (actor : Actor) → live_
 unfolding live_session
 live_more journal entry actor = fold-append (session_in actor) None journal (entry ∷ [])
 
-waits_more : (journal : List Entry) (entry : Entry) (actor : Actor) → request_waiting (journal ++ entry ∷ []) actor ≡ waits_in actor (request_waiting journal actor) entry
+pub waits_more : (journal : List Entry) (entry : Entry) (actor : Actor) → request_waiting (journal ++ entry ∷ []) actor ≡ waits_in actor (request_waiting journal actor) entry
 unfolding request_waiting
 waits_more journal entry actor = fold-append (waits_in actor) None journal (entry ∷ [])
 
@@ -33,7 +33,7 @@ the_actor_state actor session turns renames = record { actor = actor; session = 
 actor_state_as : (actor : Actor) (a b : Option ℕ) (m n : ℕ) (x y : Bool) → a ≡ b → m ≡ n → x ≡ y → the_actor_state actor a m x ≡ the_actor_state actor b n y
 actor_state_as actor a b m n x y one two three = ap (λ s. the_actor_state actor s m x) one ∙ ap (λ t. the_actor_state actor b t x) two ∙ ap (the_actor_state actor b n) three
 
-renames_so : (table : List ℕ) (asked : Asked) (answer : Answer) (old : Option Request) → renames_after table asked answer (renames_away table old) ≡ renames_away table (waits_after asked answer old)
+pub renames_so : (table : List ℕ) (asked : Asked) (answer : Answer) (old : Option Request) → renames_after table asked answer (renames_away table old) ≡ renames_away table (waits_after asked answer old)
 renames_so table (Call request) (answers.Waits by) old = refl
 renames_so table Poll (answers.Waits by) old = refl
 renames_so table asked answer old = refl

@@ -1,2 +1,3 @@
 pub mod ActorStates
 pub mod ClientTurns
+pub mod Renamings

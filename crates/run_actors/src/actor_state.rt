@@ -35,7 +35,7 @@ fn session_left(entry: &Entry) -> Option<u32>
 }
 
 /// Whether the request that waits after a turn takes the table's name away, where the one before it did or didn't.
-fn renames_after(table: &Name, entry: &Entry, old: bool) -> bool
+pub(crate) fn renames_after(table: &Name, entry: &Entry, old: bool) -> bool
     ensures { result ≡ renames_after table.now entry.now.asked entry.now.answer old }
 {
     match (&entry.asked, &entry.answer) {

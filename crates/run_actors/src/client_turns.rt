@@ -1,4 +1,4 @@
-//! How far a client is in its script, and what it asks next.
+//! How far a client is in its script, what became of its line in a turn, and what it asks next.
 
 mod actor_state;
 mod answers;
@@ -9,4 +9,4 @@ mod requests;
 pub use actor_state::ClientState;
 pub use answers::ends;
 pub use drawn_words::word_numbered;
-pub use outcome::LineOutcome;
+pub use outcome::{LineOutcome, heard_answer, line_outcome_of};

@@ -1,8 +1,13 @@
 -- What the code keeps of a client, in the words of how far it is in its script. (This project's rule.)
 use Rattle.std.specs.Prelude.{◌≡◌, ℕ, Bool, true, false, if◌then◌else◌, List, drop, Option, Some, None}
 use Rattle.base_script.specs.declared.script.ScriptLine.{ScriptLine}
+use Rattle.base_script.specs.declared.actor.Side.{Side}
+use Rattle.server_model.specs.Alone.{reply_of}
+use Rattle.server_model.specs.declared.answer.Answer.{Answer}
 use Rattle.server_model.specs.declared.entry.Asked.{Asked}
+use Rattle.server_model.specs.declared.entry.Asked.TheVariants.{Cut}
 use Rattle.server_model.specs.declared.entry.Entry.{Entry}
+use Rattle.server_model.specs.declared.transaction.Reply.{Reply}
 use Rattle.tool_program.specs.JournalWords.Clients as clients
 use Rattle.run_actors.specs.declared.client_turns.actor_state.ClientState.{ClientState}
 use Rattle.run_actors.specs.declared.client_turns.outcome.LineOutcome.{LineOutcome}
@@ -14,6 +19,12 @@ line_outcome_as clients.Nothing = Nothing
 line_outcome_as clients.Waits = Waits
 line_outcome_as (clients.Marked mark reply) = Marked mark
 line_outcome_as clients.Broken = Broken
+
+-- the reply that the client heard in its turn; none where its session was lost
+abbrev pub heard_reply : Asked → Option Side → Answer → Option Reply
+heard_reply Cut side answer = None
+heard_reply asked None answer = reply_of answer
+heard_reply asked (Some side) answer = None
 
 -- the line got a mark in the turn: it was answered, timed out, or its session was lost
 abbrev pub is_marked : clients.Became → Bool

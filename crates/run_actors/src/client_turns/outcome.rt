@@ -1,8 +1,9 @@
 //! What a turn makes of a client's line. Nothing here takes memory.
 
-ghost use Rattle.std.specs.Prelude.{◌≡◌, Some};
+ghost use Rattle.std.specs.Prelude.{◌≡◌, Some, option_and_then};
+ghost use Rattle.server_model.specs.Alone.{reply_of};
 ghost use Rattle.tool_program.specs.JournalWords.Clients.{became_of, was_done, lost_side, became_in};
-ghost use Rattle.run_actors.specs.ClientTurns.ActorStates.{line_outcome_as};
+ghost use Rattle.run_actors.specs.ClientTurns.ActorStates.{heard_reply, line_outcome_as};
 
 use base_script::Side;
 use server_model::{Answer, Asked, Entry, Mark};
@@ -55,7 +56,7 @@ fn lost_side(side: Side, missed: &Option<Answer>) -> Side
 }
 
 /// What became of the client's line in its turn, where it waited before or didn't.
-pub(crate) fn line_outcome_of(waits: bool, entry: &Entry) -> LineOutcome
+pub fn line_outcome_of(waits: bool, entry: &Entry) -> LineOutcome
     ensures { result ≡ line_outcome_as (became_in waits entry.now.asked entry.now.side entry.now.answer entry.now.missed) }
 {
     match (&entry.asked, entry.side) {
@@ -63,5 +64,15 @@ pub(crate) fn line_outcome_of(waits: bool, entry: &Entry) -> LineOutcome
         (Asked::Cut, _) => LineOutcome::Broken,
         (_, None) => line_outcome_of_answer(&entry.answer),
         (_, Some(side)) => LineOutcome::Marked(Mark::Lost(lost_side(side, &entry.missed))),
+    }
+}
+
+/// The answer that the client heard in its turn; none where its session was lost.
+pub fn heard_answer(entry: &Entry) -> Option<&Answer>
+    ensures { option_and_then (λ answer. reply_of answer.now) result ≡ heard_reply entry.now.asked entry.now.side entry.now.answer }
+{
+    match (&entry.asked, entry.side) {
+        (Asked::Cut, _) | (_, Some(_)) => None,
+        (_, None) => Some(&entry.answer),
     }
 }
