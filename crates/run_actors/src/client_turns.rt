@@ -10,3 +10,4 @@ pub use actor_state::ClientState;
 pub use answers::ends;
 pub use drawn_words::word_numbered;
 pub use outcome::{LineOutcome, heard_answer, line_outcome_of};
+pub use requests::ClientCall;

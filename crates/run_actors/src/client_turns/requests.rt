@@ -1,11 +1,12 @@
 //! What a client asks next.
 
-ghost use Rattle.std.specs.Prelude.{◌≡◌, not, false, List, drop, is_some, IfOk, OnErr};
+ghost use Rattle.std.specs.Prelude.{◌≡◌, Some, false, List, drop, option_map, IfOk, OnErr};
 ghost use Rattle.base_script.specs.declared.script.ScriptLine.{ScriptLine};
 ghost use Rattle.server_model.specs.Conditions.{is_free};
 ghost use Rattle.tool_program.specs.FreeCalls.{is_freely_asked};
 ghost use Rattle.tool_program.specs.JournalWords.Clients.{Reached, new_client, word_asks, client_over};
 ghost use Rattle.run_actors.specs.ClientTurns.ActorStates.{IsReached, asks_so};
+ghost use Rattle.run_actors.specs.ClientTurns.ClientCalls.{asked_in};
 
 use crate::client_turns::actor_state::ClientState;
 use base_script::{Script, ScriptLine, ScriptWord};
@@ -24,6 +25,28 @@ fn word_asks(word: &ScriptWord) -> Result<Request, AllocError>
         ScriptWord::Rollback => Request::Rollback,
         ScriptWord::Do(statement) => Request::Do(statement.copy()?),
     })
+}
+
+/// What a client asks next.
+#[derive(Clone, Copy)]
+pub enum ClientCall<'a> {
+    /// Its line waits: it polls.
+    Poll,
+    /// It asks what this line does.
+    Line(&'a ScriptWord),
+}
+
+impl ClientCall<'_> {
+    /// What is asked. A poll, COMMIT and ROLLBACK take no memory.
+    pub fn asked(self) -> Result<Asked, AllocError>
+        ensures asked { IfOk result (λ asked. asked ≡ asked_in self.entry) }
+        ensures costs { OnErr result (is_freely_asked (Some (asked_in self.entry)) ≡ false) }
+    {
+        match self {
+            ClientCall::Poll => Ok(Asked::Poll),
+            ClientCall::Line(word) => Ok(Asked::Call(word_asks(word)?)),
+        }
+    }
 }
 
 impl ClientState {
@@ -51,38 +74,28 @@ impl ClientState {
         }
     }
 
-    /// What the client asks next: its next line, or a poll of the one that waits; none where it is over. A poll, COMMIT and
-    /// ROLLBACK take no memory.
-    pub fn asks(&self, script: &Script) -> Result<Option<Asked>, AllocError>
-        ensures asked { IfOk result (λ asked. (client : Reached) → IsReached script.now self.now client → asked ≡ asks_so client) }
-        ensures costs { OnErr result ((client : Reached) → IsReached script.now self.now client → is_freely_asked (asks_so client) ≡ false) }
+    /// What the client asks next: its next line, or a poll of the one that waits; none where it is over.
+    pub fn next_call<'a>(&self, script: &'a Script) -> Option<ClientCall<'a>>
+        ensures { (client : Reached) → IsReached script.now self.now client → option_map asked_in result ≡ asks_so client }
     {
         if self.is_lost {
-            return Ok(None);
+            return None;
         }
         match self.left(script).split_first() {
-            None => Ok(None),
+            None => None,
             Some((line, _)) => {
                 if self.waits {
-                    Ok(Some(Asked::Poll))
+                    Some(ClientCall::Poll)
                 } else {
-                    Ok(Some(Asked::Call(word_asks(&line.word)?)))
+                    Some(ClientCall::Line(&line.word))
                 }
             }
         }
     }
 
-    /// Whether the client asks something next.
-    pub fn is_ready(&self, script: &Script) -> bool
-        ensures { (client : Reached) → IsReached script.now self.now client → result ≡ is_some (asks_so client) }
-    {
-        !self.is_over(script)
-    }
-
     /// Whether the client is over, by its script's end or its loss.
     pub fn is_over(&self, script: &Script) -> bool
         ensures over { (client : Reached) → IsReached script.now self.now client → result ≡ client_over client }
-        ensures silent { (client : Reached) → IsReached script.now self.now client → result ≡ not (is_some (asks_so client)) }
     {
         if self.is_lost {
             return true;
