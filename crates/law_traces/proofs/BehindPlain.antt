@@ -49,6 +49,7 @@ use Rattle.tool_finish.proofs.Walking.{stage_more}
 use Rattle.tool_finish.specs.Callable.{IsFinishable}
 use Rattle.tool_finish.specs.Finishes.{Asking, IsFinish, IsFinishTurn, applied, applier_from, applying, calls, checkpoint_in, copied, copier_from, copies, copying, counter_read, counting, cuts, dropped_log, first_live, has_read, listed, next, range_from, ranged, rolls_back, stage_behind, took}
 use Rattle.tool_finish.specs.declared.stage.Listed.{Listed}
+use Rattle.tool_finish.specs.declared.stage.Listed.TheVariants.{NotRenamed, Renamed}
 use Rattle.tool_finish.specs.declared.stage.Stage.{Stage}
 use Rattle.tool_finish.specs.declared.stage.Stage.TheVariants.{Losing, Listing, Reading, Clearing, ReadingCounter, SettingCounter, Ranging, Copying, Applying, Exchanging, DroppingLog, DroppingOld, RollingBack, Done, Reverted}
 use Rattle.tool_finish.specs.declared.stage.UnfitRow.{UnfitRow}
@@ -186,11 +187,9 @@ module _ (plan : PlanData) (journal : List Entry) (state : State) (answer : Answ
 
   read_so : (seen : Listed) (found : Option Checkpoint) → PlainStage plan (has_read plan seen found)
   read_so seen None = tt
-  read_so seen (Some found) = by seen.new_table seen.sentry where
-    by : (new sentry : Bool) → PlainStage plan (cond new (cond sentry (Clearing found) (counting plan found)) (DroppingLog (seen.old && plan.options.ok_to_drop_table)))
-    by false sentry = tt
-    by true true = tt
-    by true false = counting_so found
+  read_so (NotRenamed true) (Some found) = tt
+  read_so (NotRenamed false) (Some found) = counting_so found
+  read_so (Renamed old) (Some found) = tt
 
   applying_so : (applier : Applier) → applier.map ≡ new_map plan → PlainStage plan (applying plan state applier)
   applying_so applier is = by (appliers.starts applier && (unread state applier.position (plan.table ∷ log_name plan.table ∷ []) == 0)) where

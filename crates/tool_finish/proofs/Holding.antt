@@ -25,6 +25,7 @@ use Rattle.tool_program.specs.declared.event_applier.applier.Applier.{Applier}
 use Rattle.tool_program.specs.EventApplier.Appliers as appliers
 use Rattle.tool_program.specs.EventApplier.BatchPlans as batches
 use Rattle.tool_finish.specs.declared.stage.Listed.{Listed}
+use Rattle.tool_finish.specs.declared.stage.Listed.TheVariants.{NotRenamed, Renamed}
 use Rattle.tool_finish.specs.declared.stage.Stage.{Stage}
 use Rattle.tool_finish.specs.declared.stage.Stage.TheVariants.{Losing, Listing, Reading, Clearing, ReadingCounter, SettingCounter, Ranging, Copying, Applying, Exchanging, DroppingLog, DroppingOld, RollingBack, Done, Reverted}
 use Rattle.tool_finish.specs.Finishes.{range_from, copier_from, applier_from, Asking, copies, cuts, first_live, next, losing, listed, counting, clearing, checkpoint_in, has_read, counter_read, applying, copying, ranged, copied, applied, dropped_log, took, verdict_in, is_over}
@@ -53,12 +54,9 @@ counting_holds plan journal found = at (has_counter plan)
     at false = tt
 
 clearing_holds : (plan : PlanData) (journal : List Entry) (seen : Listed) (found : Checkpoint) → Holds plan journal (clearing plan seen found)
-clearing_holds plan journal seen found = at seen.new_table seen.sentry
-  where
-    at : (new sentry : Bool) → Holds plan journal (cond new (cond sentry (Clearing found) (counting plan found)) (DroppingLog (seen.old && plan.options.ok_to_drop_table)))
-    at false sentry = tt
-    at true true = tt
-    at true false = counting_holds plan journal found
+clearing_holds plan journal (NotRenamed true) found = tt
+clearing_holds plan journal (NotRenamed false) found = counting_holds plan journal found
+clearing_holds plan journal (Renamed old) found = tt
 
 read_holds : (plan : PlanData) (journal : List Entry) (seen : Listed) (found : Option Checkpoint) → Holds plan journal (has_read plan seen found)
 read_holds plan journal seen None = tt
@@ -224,12 +222,9 @@ counting_goes plan found = at (has_counter plan)
 
 read_goes : (plan : PlanData) (seen : Listed) (found : Option Checkpoint) → Goes (has_read plan seen found)
 read_goes plan seen None = refl
-read_goes plan seen (Some found) = at seen.new_table seen.sentry
-  where
-    at : (new sentry : Bool) → Goes (cond new (cond sentry (Clearing found) (counting plan found)) (DroppingLog (seen.old && plan.options.ok_to_drop_table)))
-    at false sentry = refl
-    at true true = refl
-    at true false = counting_goes plan found
+read_goes plan (NotRenamed true) (Some found) = refl
+read_goes plan (NotRenamed false) (Some found) = counting_goes plan found
+read_goes plan (Renamed old) (Some found) = refl
 
 applying_goes : (plan : PlanData) (state : State) (applier : Applier) → Goes (applying plan state applier)
 applying_goes plan state applier = at (appliers.starts applier && (unread state applier.position (plan.table ∷ log_name plan.table ∷ []) == 0))

@@ -50,6 +50,7 @@ use Rattle.tool_program.specs.CutoverCore.Attempts.{exchange, has_name, has_sent
 use Rattle.tool_program.specs.Orders.{actors}
 use Rattle.tool_program.specs.Verdicts.{new_column_name}
 use Rattle.tool_finish.specs.declared.stage.Listed.{Listed}
+use Rattle.tool_finish.specs.declared.stage.Listed.TheVariants.{NotRenamed, Renamed}
 use Rattle.tool_finish.specs.declared.stage.Refusal.{Refusal}
 use Rattle.tool_finish.specs.declared.stage.UnfitRow.{UnfitRow}
 use Rattle.tool_finish.specs.declared.stage.UnfitRow.TheVariants.{Copied, Applied}
@@ -125,9 +126,9 @@ next plan journal stage = None
 abbrev pub losing : PlanData → List Entry → Stage
 losing plan journal = if is_some (first_live plan journal) then Losing else Listing
 
+-- where the new table isn't listed, the RENAME was done
 abbrev pub listed_in : PlanData → List TableName → Listed
-listed_in plan tables =
-    record { new_table = has_name (ghost_name plan.table) tables; old = has_name (old_name plan.table) tables; sentry = has_sentry plan.table tables }
+listed_in plan tables = if has_name (ghost_name plan.table) tables then NotRenamed (has_sentry plan.table tables) else Renamed (has_name (old_name plan.table) tables)
 
 abbrev pub listed : PlanData → Answer → Stage
 listed plan (answers.Tables tables) = Reading (listed_in plan tables)
@@ -142,8 +143,9 @@ abbrev pub counting : PlanData → Checkpoint → Stage
 counting plan found = if has_counter plan then ReadingCounter found else Ranging found
 
 abbrev pub clearing : PlanData → Listed → Checkpoint → Stage
-clearing plan listed found =
-    if listed.new_table then (if listed.sentry then Clearing found else counting plan found) else dropping plan listed.old
+clearing plan (NotRenamed true) found = Clearing found
+clearing plan (NotRenamed false) found = counting plan found
+clearing plan (Renamed old) found = dropping plan old
 
 abbrev pub checkpoint_in : Answer → Option Checkpoint
 checkpoint_in (answers.Rows (row ∷ rows)) = checkpoint_of row

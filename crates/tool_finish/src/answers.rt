@@ -8,7 +8,7 @@ ghost use Rattle.tool_program.specs.CutoverCore.Attempts.{has_sentry};
 ghost use Rattle.tool_program.specs.EventApplier.Appliers as appliers;
 ghost use Rattle.tool_program.specs.EventApplier.BatchPlans as batches;
 ghost use Rattle.tool_finish.specs.declared.stage.Stage.TheVariants.{Losing, Listing};
-ghost use Rattle.tool_finish.specs.Finishes.{range_from, copier_from, applier_from, listed, dropping, counting, clearing, checkpoint_in, has_read, counter_read, applying, copying, ranged, copied, applied, took};
+ghost use Rattle.tool_finish.specs.Finishes.{range_from, copier_from, applier_from, listed, listed_in, dropping, counting, clearing, checkpoint_in, has_read, counter_read, applying, copying, ranged, copied, applied, took};
 ghost use Rattle.tool_finish.specs.Stages.{FitsStage, wants_memory, IsSeen};
 
 use crate::stage::{Listed, Refusal, Stage, UnfitRow};
@@ -80,15 +80,26 @@ fn lists_sentry(table: &Name, tables: &TableNames) -> bool
     })
 }
 
+fn listed_in(plan: &Plan, tables: &TableNames) -> Listed
+    ensures { result ≡ listed_in plan.now tables.now }
+{
+    let table = plan.table();
+    if lists_new_table(table, tables) {
+        Listed::NotRenamed {
+            sentry: lists_sentry(table, tables),
+        }
+    } else {
+        Listed::Renamed {
+            old: lists_old_table(table, tables),
+        }
+    }
+}
+
 fn listed(plan: &Plan, answer: &Answer) -> Stage
     ensures { result ≡ listed plan.now answer.now }
 {
     match answer {
-        Answer::Tables(tables) => Stage::Reading(Listed {
-            new_table: lists_new_table(plan.table(), tables),
-            old: lists_old_table(plan.table(), tables),
-            sentry: lists_sentry(plan.table(), tables),
-        }),
+        Answer::Tables(tables) => Stage::Reading(listed_in(plan, tables)),
         _ => Stage::Listing,
     }
 }
@@ -114,12 +125,10 @@ fn counting(plan: &Plan, found: Checkpoint) -> Stage
 fn clearing(plan: &Plan, listed: Listed, found: Checkpoint) -> Stage
     ensures { result ≡ clearing plan.now listed found }
 {
-    if !listed.new_table {
-        dropping(plan, listed.old)
-    } else if listed.sentry {
-        Stage::Clearing(found)
-    } else {
-        counting(plan, found)
+    match listed {
+        Listed::NotRenamed { sentry: true } => Stage::Clearing(found),
+        Listed::NotRenamed { sentry: false } => counting(plan, found),
+        Listed::Renamed { old } => dropping(plan, old),
     }
 }
 

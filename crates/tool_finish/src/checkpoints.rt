@@ -2,22 +2,11 @@
 
 ghost use Rattle.std.specs.Prelude.{◌≡◌};
 ghost use Rattle.std.specs.List.{list_any};
-ghost use Rattle.tool_program.specs.NoteWriter.Notes.{is_checkpoint};
 ghost use Rattle.tool_finish.specs.Checkpoints.{asks_checkpoint, was_done, writes_checkpoint};
 
 use base_script::{Actor, Statement};
-use base_values::Value;
 use server_model::{Answer, Asked, Entry, Request};
-
-/// Whether it is the row with id 0.
-fn is_checkpoint(row: &[Value]) -> bool
-    ensures { result ≡ is_checkpoint row.now }
-{
-    match row {
-        [Value::Num(id), ..] => *id == 0,
-        _ => false,
-    }
-}
+use tool_program::note_writer::is_checkpoint;
 
 fn asks_checkpoint(actor: Actor, asked: &Asked) -> bool
     ensures { result ≡ asks_checkpoint actor asked.now }

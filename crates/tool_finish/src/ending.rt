@@ -1,9 +1,6 @@
 //! How the new tool ends, and why. Nothing here takes memory.
 
 ghost use Rattle.std.specs.Prelude.{◌≡◌};
-ghost use Rattle.base_values.specs.GhoSchema.Rows.{key_places};
-ghost use Rattle.plan_data.specs.PlanData.{old_schema};
-ghost use Rattle.tool_program.specs.Verdicts.{new_column_name};
 ghost use Rattle.tool_state.specs.Verdicts.{cause_meant, verdict_meant};
 ghost use Rattle.tool_finish.specs.Finishes.{cause_of, verdict_in, is_over};
 ghost use Rattle.tool_finish.specs.Stages.{ends, verdict_behind};
@@ -11,26 +8,7 @@ ghost use Rattle.tool_finish.specs.Stages.{ends, verdict_behind};
 use crate::stage::{Refusal, Stage, UnfitRow};
 use plan_data::Plan;
 use server_model::Entry;
-use tool_program::event_applier::name_at;
-use tool_state::{CauseView, KeyView, VerdictView};
-
-/// The name of the new column at this place.
-#[tactic(auto, using(tool_program::proofs::ToolSetup::Altered::schema_is))]
-fn new_column_name(plan: &Plan, place: usize) -> &str
-    ensures { result.now ≡ new_column_name plan.now place }
-{
-    name_at(plan.altered().schema.columns.as_slice(), place)
-}
-
-/// The places of the migrated table's clustered key.
-fn old_places(plan: &Plan) -> &[usize]
-    ensures { result.now ≡ key_places (old_schema plan.now) }
-{
-    match plan.tables().find(plan.table()) {
-        Some(table) => table.schema().key_places(),
-        None => &[],
-    }
-}
+use tool_state::{CauseView, KeyView, VerdictView, new_column_name, old_places};
 
 impl UnfitRow {
     /// Why the row is rolled back.

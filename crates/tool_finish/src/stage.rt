@@ -4,15 +4,19 @@ use tool_notes::Checkpoint;
 use tool_program::chunk_copier::Copier;
 use tool_program::event_applier::Applier;
 
-/// Which of the tool's tables are listed.
+/// What the list of tables tells.
 #[derive(Clone, Copy)]
-pub struct Listed {
-    /// The new table: the RENAME wasn't done.
-    pub new_table: bool,
-    /// A table under the old table's name.
-    pub old: bool,
-    /// That one is the sentry.
-    pub sentry: bool,
+pub enum Listed {
+    /// The RENAME wasn't done: the new table is listed.
+    NotRenamed {
+        /// So is the sentry.
+        sentry: bool,
+    },
+    /// It was: the new table isn't listed.
+    Renamed {
+        /// A table under the old table's name is.
+        old: bool,
+    },
 }
 
 /// A new column refused a value.

@@ -20,6 +20,7 @@ use Rattle.tool_program.specs.declared.event_applier.applier.Applier.{Applier}
 use Rattle.tool_program.specs.declared.event_applier.applier.ApplyStep.{ApplyStep}
 use Rattle.tool_program.specs.declared.event_applier.applier.ApplyStep.TheVariants as batches
 use Rattle.tool_finish.specs.declared.stage.Listed.{Listed}
+use Rattle.tool_finish.specs.declared.stage.Listed.TheVariants.{NotRenamed, Renamed}
 use Rattle.tool_finish.specs.declared.stage.Stage.{Stage}
 use Rattle.tool_finish.specs.declared.stage.Stage.TheVariants.{Losing, Listing, Reading, Clearing, ReadingCounter, SettingCounter, Ranging, Copying, Applying, Exchanging, DroppingLog}
 use Rattle.tool_finish.specs.Finishes.{applied, applying, copied, copying, counter_read, counting, dropped_log, has_read, listed}
@@ -125,11 +126,9 @@ module _ (plan : PlanData) (most : ℕ) where
 
     pub read_left : (seen : Listed) (found : Option Checkpoint) → most ≤ turns → LeftAt journal turns (has_read plan seen found)
     read_left seen None few = few
-    read_left seen (Some found) few = by seen.new_table seen.sentry where
-      by : (new sentry : Bool) → LeftAt journal turns (cond new (cond sentry (Clearing found) (counting plan found)) (DroppingLog (seen.old && plan.options.ok_to_drop_table)))
-      by false sentry = tt
-      by true true = few
-      by true false = counting_left found few
+    read_left (NotRenamed true) (Some found) few = few
+    read_left (NotRenamed false) (Some found) few = counting_left found few
+    read_left (Renamed old) (Some found) few = tt
 
     pub counter_left : (found : Checkpoint) (given : Answer) → most ≤ turns → LeftAt journal turns (counter_read found given)
     counter_left found (answers.At number) few = few

@@ -41,6 +41,7 @@ use Rattle.tool_program.specs.declared.event_applier.applier.ApplyStep.{ApplySte
 use Rattle.tool_program.specs.declared.event_applier.applier.ApplyStep.TheVariants as batches
 use Rattle.tool_program.specs.EventApplier.Appliers as appliers
 use Rattle.tool_finish.specs.declared.stage.Listed.{Listed}
+use Rattle.tool_finish.specs.declared.stage.Listed.TheVariants.{NotRenamed, Renamed}
 use Rattle.tool_finish.specs.declared.stage.Stage.{Stage}
 use Rattle.tool_finish.specs.declared.stage.Stage.TheVariants.{Losing, Listing, Reading, Clearing, ReadingCounter, SettingCounter, Ranging, Copying, Applying, Exchanging, DroppingLog, DroppingOld, RollingBack, Done, Reverted}
 use Rattle.tool_finish.specs.Finishes.{applied, applier_from, applying, checkpoint_in, clearing, copied, copier_from, copying, counter_read, counting, dropped_log, first_live, has_read, listed, losing, next, range_from, ranged, rolls_back, took}
@@ -72,7 +73,7 @@ use Rattle.proof_resume.specs.Finish.Callable.{ReachKeyed}
 use Rattle.proof_resume.proofs.Finish.Asks.{applier_comes, copier_comes, copier_quiet, cut_is, keyed_formed, may_call, Asks}
 use Rattle.proof_resume.proofs.Finish.Asks.Asks.{asks_call, asks_cut}
 use Rattle.proof_resume.proofs.Finish.Holders.{any_own, holds_alone, opened_held, IsHeldBy}
-use Rattle.proof_resume.proofs.Finish.Marks.{done_lists}
+use Rattle.proof_resume.proofs.Finish.Marks.{done_lists, lists_new, lists_new_is}
 use Rattle.proof_resume.proofs.Finish.Prompt.{its_actor, its_request, lost_cut, StandsAlone}
 use Rattle.proof_resume.proofs.Finish.Standing.{free_rests, held_locked, held_waits}
 
@@ -134,7 +135,7 @@ module _ (plan : PlanData) (runs : IsRunnable plan) (run : List Entry) where
   abbrev pub CallsAt : List Entry → Stage → Type 0
   CallsAt journal Losing = Tables journal
   CallsAt journal Listing = Tables journal
-  CallsAt journal (Reading seen) = seen.new_table ≡ true → Both journal
+  CallsAt journal (Reading seen) = lists_new seen ≡ true → Both journal
   CallsAt journal (Clearing found) = Both journal
   CallsAt journal (ReadingCounter found) = Both journal
   CallsAt journal (SettingCounter found number) = Both journal
@@ -288,13 +289,11 @@ module _ (plan : PlanData) (runs : IsRunnable plan) (run : List Entry) where
       by true = both
       by false = both
 
-    read_at : (seen : Listed) (found : Option Checkpoint) → (seen.new_table ≡ true → Both more) → CallsAt more (has_read plan seen found)
+    read_at : (seen : Listed) (found : Option Checkpoint) → (lists_new seen ≡ true → Both more) → CallsAt more (has_read plan seen found)
     read_at seen None at = at
-    read_at seen (Some found) at = by seen.new_table seen.sentry at where
-      by : (new sentry : Bool) → (new ≡ true → Both more) → CallsAt more (cond new (cond sentry (Clearing found) (counting plan found)) (DroppingLog (seen.old && plan.options.ok_to_drop_table)))
-      by false sentry at = tt
-      by true true at = at refl
-      by true false at = counting_at found (at refl)
+    read_at (NotRenamed true) (Some found) at = at refl
+    read_at (NotRenamed false) (Some found) at = counting_at found (at refl)
+    read_at (Renamed old) (Some found) at = tt
 
     -- the new table is listed where it exists
     lists : IsHeldBy None before → entry.asked ≡ Call requests.ShowTables → entry.answer ≡ answers.Tables (tables_shown before.tables)
@@ -306,7 +305,7 @@ module _ (plan : PlanData) (runs : IsRunnable plan) (run : List Entry) where
         ∙ ap (λ (d : Database). answers.Tables (tables_shown d)) (ap (λ (s : Stored). s.tables) (stored_opened (is_command entry.asked) (not (is_client entry.actor)) n before))
 
     listed_at : (given : Answer) → given ≡ answers.Tables (tables_shown before.tables) → Called Insp requests.ShowTables → Tables journal → CallsAt more (listed plan given)
-    listed_at (answers.Tables tables) is one was = λ new. by new was where
+    listed_at (answers.Tables tables) is one was = λ new. by (sym (lists_new_is plan tables) ∙ new) was where
       shown : tables ≡ tables_shown before.tables
       shown = cc
 

@@ -40,6 +40,7 @@ use Rattle.tool_program.specs.ChunkCopier.Copiers as copiers
 use Rattle.tool_program.specs.declared.event_applier.applier.Applier.{Applier}
 use Rattle.tool_program.specs.EventApplier.Appliers as appliers
 use Rattle.tool_finish.specs.declared.stage.Listed.{Listed}
+use Rattle.tool_finish.specs.declared.stage.Listed.TheVariants.{NotRenamed, Renamed}
 use Rattle.tool_finish.specs.declared.stage.Stage.{Stage}
 use Rattle.tool_finish.specs.declared.stage.Stage.TheVariants.{Losing, Listing, Reading, Clearing, ReadingCounter, SettingCounter, Ranging, Copying, Applying, Exchanging, DroppingLog, DroppingOld, RollingBack, Done, Reverted}
 use Rattle.tool_finish.specs.Finishes.{applied, applier_from, applying, checkpoint_in, copied, copier_from, copying, counter_read, counting, dropped_log, first_live, has_read, listed, losing, next, ranged, stage_behind, took, Asking, IsFinishTurn}
@@ -213,11 +214,9 @@ module _ (plan : PlanData) (journal : List Entry) (entry : Entry) (in_own : IsSe
     by false = omega arith
 
   clearing_most : (seen : Listed) (found : Checkpoint) → rank plan more (finishes.clearing plan seen found) ≤ 7
-  clearing_most seen found = by seen.new_table seen.sentry where
-    by : (new sentry : Bool) → rank plan more (cond new (cond sentry (Clearing found) (counting plan found)) (DroppingLog (seen.old && plan.options.ok_to_drop_table))) ≤ 7
-    by false sentry = omega arith
-    by true true = omega arith
-    by true false = let most : rank plan more (counting plan found) ≤ 6 = counting_most found in omega (arith, most)
+  clearing_most (NotRenamed true) found = omega arith
+  clearing_most (NotRenamed false) found = let most : rank plan more (counting plan found) ≤ 6 = counting_most found in omega (arith, most)
+  clearing_most (Renamed old) found = omega arith
 
   read_less : (seen : Listed) (found : Option Checkpoint) → is_some found ≡ true → Less (Reading seen) (has_read plan seen found)
   read_less seen None is = absurd (false≢true is)

@@ -20,6 +20,7 @@ use Rattle.tool_program.specs.declared.event_applier.applier.ApplyStep.TheVarian
 use Rattle.tool_program.specs.declared.event_applier.applier.Batch.{Batch}
 use Rattle.tool_program.specs.EventApplier.Appliers as appliers
 use Rattle.tool_finish.specs.declared.stage.Listed.{Listed}
+use Rattle.tool_finish.specs.declared.stage.Listed.TheVariants.{NotRenamed, Renamed}
 use Rattle.tool_finish.specs.declared.stage.Stage.{Stage}
 use Rattle.tool_finish.specs.declared.stage.Stage.TheVariants.{Losing, Listing, Reading, Clearing, ReadingCounter, SettingCounter, Ranging, Copying, Applying, Exchanging, DroppingLog, DroppingOld, RollingBack, Done, Reverted}
 use Rattle.tool_finish.specs.Finishes.{applied, applier_from, applying, checkpoint_in, copied, copier_from, copying, counter_read, counting, dropped_log, has_read, listed, ranged, took}
@@ -103,11 +104,9 @@ module _ (Before After : Type 0) (plan : PlanData) (journal : List Entry) (state
 
   read_knows : (seen : Listed) (found : Option Checkpoint) → KnowsAt After plan (has_read plan seen found)
   read_knows seen None = tt
-  read_knows seen (Some found) = by seen.new_table seen.sentry where
-    by : (new sentry : Bool) → KnowsAt After plan (cond new (cond sentry (Clearing found) (counting plan found)) (DroppingLog (seen.old && plan.options.ok_to_drop_table)))
-    by false sentry = tt
-    by true true = tt
-    by true false = counting_knows found
+  read_knows (NotRenamed true) (Some found) = tt
+  read_knows (NotRenamed false) (Some found) = counting_knows found
+  read_knows (Renamed old) (Some found) = tt
 
   applying_knows : (applier : Applier) → IsApplierOf plan applier → KnowsAt After plan (applying plan state applier)
   applying_knows applier is = by (appliers.starts applier && (unread state applier.position (plan.table ∷ log_name plan.table ∷ []) == 0)) where

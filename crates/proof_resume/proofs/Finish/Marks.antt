@@ -5,7 +5,7 @@ use Rattle.std.specs.List.{list_any}
 use Rattle.std.proofs.lemmas.Bool.{true≢false}
 use Rattle.std.proofs.lemmas.List.Sums.{sum_by-append}
 use Rattle.std.proofs.Math.Seq.{drop-append_seam}
-use Rattle.base_values.specs.ToolNames.{ghost_name, log_name}
+use Rattle.base_values.specs.ToolNames.{ghost_name, log_name, old_name}
 use Rattle.base_script.specs.declared.actor.Actor.{Actor}
 use Rattle.base_script.specs.declared.actor.Actor.TheVariants.{Op, Insp, Copy, Apply, Lock, Ren, Client}
 use Rattle.server_model.specs.Along.{Along, gathered, gathered-more}
@@ -13,6 +13,7 @@ use Rattle.server_model.specs.Entries.{is_client, is_command, is_cut}
 use Rattle.server_model.specs.Listings.{tables_shown}
 use Rattle.server_model.specs.PlainServer.{did, done}
 use Rattle.server_model.specs.States.{State, session_of, unread}
+use Rattle.server_model.specs.declared.listing.TableName.{TableName}
 use Rattle.server_model.specs.declared.answer.Answer.{Answer}
 use Rattle.server_model.specs.declared.answer.Answer.TheVariants as answers
 use Rattle.server_model.specs.declared.entry.Asked.{Asked}
@@ -25,7 +26,7 @@ use Rattle.server_model.specs.declared.request.Request.TheVariants as requests
 use Rattle.plan_data.specs.PlanData.{PlanData, has_counter}
 use Rattle.tool_notes.specs.declared.checkpoint.Checkpoint.{Checkpoint}
 use Rattle.run_actors.proofs.AlterTurns.{of_client}
-use Rattle.tool_program.specs.CutoverCore.Attempts.{has_name}
+use Rattle.tool_program.specs.CutoverCore.Attempts.{has_name, has_sentry}
 use Rattle.tool_program.specs.JournalWords.Histories as histories
 use Rattle.tool_program.specs.JournalWords.Histories.{Alter, HistoryItem, adds, alters, answer_in, asked_about, entry_adds, history, is_alter, renames_away, request_waiting}
 use Rattle.tool_program.specs.JournalWords.Journals.{may_lose, opens, state_at, IsAnswered, IsFaithful}
@@ -42,10 +43,11 @@ use Rattle.tool_program.specs.declared.event_applier.applier.ApplyStep.TheVarian
 use Rattle.tool_program.specs.EventApplier.Appliers.{Doing}
 use Rattle.tool_program.specs.EventApplier.Appliers as appliers
 use Rattle.tool_finish.specs.declared.stage.Listed.{Listed}
+use Rattle.tool_finish.specs.declared.stage.Listed.TheVariants.{NotRenamed, Renamed}
 use Rattle.tool_finish.specs.declared.stage.Stage.{Stage}
 use Rattle.tool_finish.specs.declared.stage.Stage.TheVariants.{Losing, Listing, Reading, Clearing, ReadingCounter, SettingCounter, Ranging, Copying, Applying, Exchanging, DroppingLog, DroppingOld, RollingBack, Done, Reverted}
 use Rattle.tool_finish.specs.declared.stage.UnfitRow.{UnfitRow}
-use Rattle.tool_finish.specs.Finishes.{applied, applying, checkpoint_in, copied, copier_from, applier_from, copying, counter_read, counting, dropped_log, first_live, has_read, listed, losing, next, ranged, rolls_back, stage_behind, took, IsFinish, IsFinishTurn}
+use Rattle.tool_finish.specs.Finishes.{applied, applying, checkpoint_in, copied, copier_from, applier_from, copying, counter_read, counting, dropped_log, first_live, has_read, listed, listed_in, losing, next, ranged, rolls_back, stage_behind, took, IsFinish, IsFinishTurn}
 use Rattle.tool_finish.specs.Finishes as finishes
 use Rattle.tool_finish.proofs.Walking.{stage_more}
 use Rattle.proof_journals.specs.Machine.MigrationTables.{schema_of}
@@ -109,6 +111,25 @@ module _ (plan : PlanData) (runs : IsRunnable plan) (serial : IsSerialPlan plan)
 pub done_lists : (state : State) (number : ℕ) → (done state number requests.ShowTables).answer ≡ answers.Tables (tables_shown state.tables)
 unfolding did
 done_lists state number = rw (nothing_outside state number (session_of number state.sessions) requests.ShowTables refl) refl
+
+-- whether the new table is listed
+abbrev pub lists_new : Listed → Bool
+lists_new (NotRenamed sentry) = true
+lists_new (Renamed old) = false
+
+-- whether the sentry is
+abbrev pub lists_sentry : Listed → Bool
+lists_sentry (NotRenamed sentry) = sentry
+lists_sentry (Renamed old) = false
+
+pub lists_new_is : (plan : PlanData) (tables : List TableName) → lists_new (listed_in plan tables) ≡ has_name (ghost_name plan.table) tables
+lists_new_is plan tables = by (has_name (ghost_name plan.table) tables) where
+  by : (new : Bool) → lists_new (cond new (NotRenamed (has_sentry plan.table tables)) (Renamed (has_name (old_name plan.table) tables))) ≡ new
+  by true = refl
+  by false = refl
+
+pub lists_sentry_is : (plan : PlanData) (tables : List TableName) → has_name (ghost_name plan.table) tables ≡ true → lists_sentry (listed_in plan tables) ≡ has_sentry plan.table tables
+lists_sentry_is plan tables new = ap (λ (b : Bool). lists_sentry (cond b (NotRenamed (has_sentry plan.table tables)) (Renamed (has_name (old_name plan.table) tables)))) new
 
 -- WHAT A TURN ADDS TO THE HISTORY
 
@@ -223,7 +244,7 @@ FirstSo plan journal = IsUnaltered plan journal ⊎ (schema_of (ghost_name plan.
 abbrev pub MarkAt : PlanData → List Entry → Stage → Type 0
 MarkAt plan journal Losing = FirstSo plan journal
 MarkAt plan journal Listing = FirstSo plan journal
-MarkAt plan journal (Reading seen) = IsUnaltered plan journal ⊎ (seen.new_table ≡ false)
+MarkAt plan journal (Reading seen) = IsUnaltered plan journal ⊎ (lists_new seen ≡ false)
 MarkAt plan journal (DroppingLog old) = Unit {0}
 MarkAt plan journal DroppingOld = Unit {0}
 MarkAt plan journal Done = Unit {0}
@@ -273,10 +294,10 @@ module _ (plan : PlanData) (journal : List Entry) (entry : Entry) (in_own : IsSe
   listed_marks : (called : entry.asked ≡ Call requests.ShowTables) → StandsAlone journal now Listing → FirstSo plan journal → MarkAt plan more (listed plan entry.answer)
   listed_marks called held first =
       subst (λ (a : Answer). MarkAt plan more (listed plan a)) (sym (answer_is plan journal entry in_own.session unlost answered owners requests.ShowTables called (any_own (Some entry.session) now held) ∙ done_lists (opens entry now) entry.session)) (by first) where
-        by : FirstSo plan journal → IsUnaltered plan more ⊎ (has_name (ghost_name plan.table) (tables_shown (opens entry now).tables) ≡ false)
+        by : FirstSo plan journal → IsUnaltered plan more ⊎ (lists_new (listed_in plan (tables_shown (opens entry now).tables)) ≡ false)
         by (inl off) = inl (off_more (call_none plan journal entry requests.ShowTables called refl) off)
         by (inr free) =
-            inr (listed_is (ghost_name plan.table) (opens entry now).tables ∙ ap is_some (ap (λ (s : Stored). schema_of (ghost_name plan.table) s.tables) (stored_opened (is_command entry.asked) (not (is_client entry.actor)) entry.session now) ∙ free))
+            inr (lists_new_is plan (tables_shown (opens entry now).tables) ∙ listed_is (ghost_name plan.table) (opens entry now).tables ∙ ap is_some (ap (λ (s : Stored). schema_of (ghost_name plan.table) s.tables) (stored_opened (is_command entry.asked) (not (is_client entry.actor)) entry.session now) ∙ free))
 
   counting_marks : (found : Checkpoint) → IsUnaltered plan more → MarkAt plan more (counting plan found)
   counting_marks found off = by (has_counter plan) where
@@ -284,14 +305,12 @@ module _ (plan : PlanData) (journal : List Entry) (entry : Entry) (in_own : IsSe
     by true = off
     by false = off
 
-  read_marks : (seen : Listed) (found : Option Checkpoint) → IsUnaltered plan more ⊎ (seen.new_table ≡ false) → MarkAt plan more (has_read plan seen found)
+  read_marks : (seen : Listed) (found : Option Checkpoint) → IsUnaltered plan more ⊎ (lists_new seen ≡ false) → MarkAt plan more (has_read plan seen found)
   read_marks seen None so = so
-  read_marks seen (Some found) so = by seen.new_table seen.sentry so where
-    by : (new sentry : Bool) → IsUnaltered plan more ⊎ (new ≡ false) → MarkAt plan more (cond new (cond sentry (Clearing found) (counting plan found)) (DroppingLog (seen.old && plan.options.ok_to_drop_table)))
-    by false sentry so = tt
-    by true true (inl off) = off
-    by true false (inl off) = counting_marks found off
-    by true sentry (inr none) = absurd (true≢false none)
+  read_marks (NotRenamed true) (Some found) (inl off) = off
+  read_marks (NotRenamed false) (Some found) (inl off) = counting_marks found off
+  read_marks (NotRenamed sentry) (Some found) (inr none) = absurd (true≢false none)
+  read_marks (Renamed old) (Some found) so = tt
 
   counter_marks : (found : Checkpoint) (given : Answer) → IsUnaltered plan more → MarkAt plan more (counter_read found given)
   counter_marks found (answers.At number) off = off
@@ -340,7 +359,7 @@ module _ (plan : PlanData) (journal : List Entry) (entry : Entry) (in_own : IsSe
   goes_still : AddsNone → (stage : Stage) → (IsUnaltered plan more → MarkAt plan more stage) → IsUnaltered plan journal → Marks stage
   goes_still none stage marks off = still none stage (marks (off_more none off))
 
-  read_so : (seen : Listed) → AddsNone → MarkAt plan journal (Reading seen) → IsUnaltered plan more ⊎ (seen.new_table ≡ false)
+  read_so : (seen : Listed) → AddsNone → MarkAt plan journal (Reading seen) → IsUnaltered plan more ⊎ (lists_new seen ≡ false)
   read_so seen none (inl off) = inl (off_more none off)
   read_so seen none (inr gone) = inr gone
 

@@ -48,6 +48,7 @@ use Rattle.tool_program.specs.ChunkCopier.Copiers as copiers
 use Rattle.tool_program.specs.declared.event_applier.applier.Applier.{Applier}
 use Rattle.tool_program.specs.EventApplier.Appliers as appliers
 use Rattle.tool_finish.specs.declared.stage.Listed.{Listed}
+use Rattle.tool_finish.specs.declared.stage.Listed.TheVariants.{NotRenamed, Renamed}
 use Rattle.tool_finish.specs.declared.stage.Stage.{Stage}
 use Rattle.tool_finish.specs.declared.stage.Stage.TheVariants.{Losing, Listing, Reading, Clearing, ReadingCounter, SettingCounter, Ranging, Copying, Applying, Exchanging, DroppingLog, DroppingOld, RollingBack, Done, Reverted}
 use Rattle.tool_finish.specs.Checkpoints.{asks_checkpoint, has_checkpoint, is_migrating, was_done, writes_checkpoint}
@@ -323,11 +324,9 @@ module _ (plan : PlanData) (run : List Entry) (leaves : LogReads plan run) (jour
 
   read_log : (seen : Listed) (found : Option Checkpoint) → is_some found ≡ true → Here (has_read plan seen found)
   read_log seen None some = absurd (false≢true some)
-  read_log seen (Some found) some = by seen.new_table seen.sentry where
-    by : (new sentry : Bool) → Here (cond new (cond sentry (Clearing found) (finishes.counting plan found)) (DroppingLog (seen.old && plan.options.ok_to_drop_table)))
-    by false sentry = tt
-    by true true = tt
-    by true false = counting_log found
+  read_log (NotRenamed true) (Some found) some = tt
+  read_log (NotRenamed false) (Some found) some = counting_log found
+  read_log (Renamed old) (Some found) some = tt
 
   -- THE STAGES BEHIND
 

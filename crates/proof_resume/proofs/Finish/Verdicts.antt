@@ -33,7 +33,7 @@ use Rattle.server_model.specs.declared.session.Session.{Session}
 use Rattle.server_model.specs.declared.session.Waiting.{Waiting}
 use Rattle.plan_data.specs.PlanData.{PlanData, has_counter}
 use Rattle.tool_notes.specs.declared.checkpoint.Checkpoint.{Checkpoint}
-use Rattle.tool_program.specs.CutoverCore.Attempts.{exchange}
+use Rattle.tool_program.specs.CutoverCore.Attempts.{exchange, has_name}
 use Rattle.tool_program.specs.CutoverCore.CutOvers.{is_done}
 use Rattle.tool_program.specs.JournalWords.Histories.{Alter, adds, alters, answer_in, asked_about, entry_adds, is_alter, request_waiting}
 use Rattle.tool_program.specs.JournalWords.Journals.{may_lose, opens, state_at, IsAnswered}
@@ -48,6 +48,7 @@ use Rattle.tool_program.specs.declared.event_applier.applier.Applier.{Applier}
 use Rattle.tool_program.specs.EventApplier.Appliers as appliers
 use Rattle.tool_program.proofs.OnlineCalls.Naming.{not_old}
 use Rattle.tool_finish.specs.declared.stage.Listed.{Listed}
+use Rattle.tool_finish.specs.declared.stage.Listed.TheVariants.{NotRenamed, Renamed}
 use Rattle.tool_finish.specs.declared.stage.Stage.{Stage}
 use Rattle.tool_finish.specs.declared.stage.Stage.TheVariants.{Losing, Listing, Reading, Clearing, ReadingCounter, SettingCounter, Ranging, Copying, Applying, Exchanging, DroppingLog, DroppingOld, RollingBack, Done, Reverted}
 use Rattle.tool_finish.specs.Checkpoints.{has_checkpoint, is_migrating, writes_checkpoint}
@@ -79,7 +80,7 @@ use Rattle.proof_migration.proofs.ToolPhase.Unaltered.Away.{all_asked}
 use Rattle.proof_resume.specs.Finish.Prompt.{came_at_once}
 use Rattle.proof_resume.specs.Finish.Verdicts.{was_altered, DoneFinishesAltered, RevertedFinishesDidNot}
 use Rattle.proof_resume.proofs.Finish.Holders.{any_own, opened_held, IsFreeBut, IsHeldBy}
-use Rattle.proof_resume.proofs.Finish.Marks.{applier_quiet, copier_quiet, done_lists, finish_marked, is_quiet_if, marked_more, marked_run, GoesMarked, MarkAt}
+use Rattle.proof_resume.proofs.Finish.Marks.{applier_quiet, copier_quiet, done_lists, finish_marked, is_quiet_if, marked_more, marked_run, GoesMarked, MarkAt, lists_new, lists_new_is, lists_sentry, lists_sentry_is}
 use Rattle.proof_resume.proofs.Finish.Owners.{Owners}
 use Rattle.proof_resume.proofs.Finish.Sentries.{unlisted_free}
 use Rattle.proof_resume.proofs.Finish.Prompt.{after_is, alone_more, answer_is, finish_turns, its_actor, its_request, lost_cut, StandsAlone}
@@ -131,8 +132,8 @@ run_guarded plan run runs kept off migrating = by (moment plan run).tool.tool_ph
 -- the tables as they were listed
 pub record SeenTables (plan : PlanData) (tables : Database) (seen : Listed) : Type 0 where
   exist : TablesExist plan tables
-  new : seen.new_table ≡ true
-  free : seen.sentry ≡ false → IsFree plan tables
+  new : lists_new seen ≡ true
+  free : lists_sentry seen ≡ false → IsFree plan tables
 
 abbrev pub GuardAt : PlanData → List Entry → Stage → Type 0
 GuardAt plan journal Losing = GuardedTables plan (state_at plan journal).tables ⊎ (was_altered plan journal ≡ true)
@@ -227,11 +228,13 @@ module _ (plan : PlanData) (journal : List Entry) (entry : Entry) (in_own : IsSe
 
         by : GuardedTables plan now.tables ⊎ (was_altered plan journal ≡ true) → SeenTables plan after.tables (listed_in plan (tables_shown now.tables)) ⊎ (was_altered plan more ≡ true)
         by (inr marked) = inr (stays_marked marked)
-        by (inl at) = inl (record {
-          exist = stand_stay plan now.tables after.tables stay at.stand;
-          new = listed_is (ghost_name plan.table) now.tables ∙ ap is_some at.stand.ghost;
-          free = λ none. stay (old_name plan.table) ∙ unlisted_free plan now.tables at.sentry none;
-        })
+        by (inl at) =
+            let new : has_name (ghost_name plan.table) (tables_shown now.tables) ≡ true = listed_is (ghost_name plan.table) now.tables ∙ ap is_some at.stand.ghost in
+            inl (record {
+              exist = stand_stay plan now.tables after.tables stay at.stand;
+              new = lists_new_is plan (tables_shown now.tables) ∙ new;
+              free = λ none. stay (old_name plan.table) ∙ unlisted_free plan now.tables at.sentry (sym (lists_sentry_is plan (tables_shown now.tables) new) ∙ none);
+            })
 
   -- THE CHECKPOINT IS READ
 
@@ -249,16 +252,12 @@ module _ (plan : PlanData) (journal : List Entry) (entry : Entry) (in_own : IsSe
 
   read_guard : (seen : Listed) (found : Option Checkpoint) → MarkAt plan more (has_read plan seen found) → SeenTables plan after.tables seen ⊎ (was_altered plan more ≡ true) → GuardAt plan more (has_read plan seen found)
   read_guard seen None marks at = at
-  read_guard seen (Some found) marks (inl at) = by seen.new_table seen.sentry refl refl where
-    by : (new sentry : Bool) → seen.new_table ≡ new → seen.sentry ≡ sentry → GuardAt plan more (cond new (cond sentry (Clearing found) (counting plan found)) (DroppingLog (seen.old && plan.options.ok_to_drop_table)))
-    by false sentry new_is sentry_is = absurd (true≢false (sym at.new ∙ new_is))
-    by true true new_is sentry_is = at.exist
-    by true false new_is sentry_is = counting_guard found (record { stand = at.exist; free = at.free sentry_is })
-  read_guard seen (Some found) marks (inr marked) = by seen.new_table seen.sentry marks where
-    by : (new sentry : Bool) → MarkAt plan more (cond new (cond sentry (Clearing found) (counting plan found)) (DroppingLog (seen.old && plan.options.ok_to_drop_table))) → GuardAt plan more (cond new (cond sentry (Clearing found) (counting plan found)) (DroppingLog (seen.old && plan.options.ok_to_drop_table)))
-    by false sentry off = marked
-    by true true off = absurd (true≢false (sym marked ∙ off))
-    by true false off = absurd (true≢false (sym marked ∙ counting_off found off))
+  read_guard (NotRenamed true) (Some found) marks (inl at) = at.exist
+  read_guard (NotRenamed false) (Some found) marks (inl at) = counting_guard found (record { stand = at.exist; free = at.free refl })
+  read_guard (Renamed old) (Some found) marks (inl at) = absurd (true≢false (sym at.new))
+  read_guard (NotRenamed true) (Some found) off (inr marked) = absurd (true≢false (sym marked ∙ off))
+  read_guard (NotRenamed false) (Some found) off (inr marked) = absurd (true≢false (sym marked ∙ counting_off found off))
+  read_guard (Renamed old) (Some found) marks (inr marked) = marked
 
   seen_more : (seen : Listed) (request : Request) → entry.asked ≡ Call request → is_quiet request ≡ true → IsHeldBy None now → SeenTables plan now.tables seen ⊎ (was_altered plan journal ≡ true) → SeenTables plan after.tables seen ⊎ (was_altered plan more ≡ true)
   seen_more seen request called quiet held (inr marked) = inr (stays_marked marked)

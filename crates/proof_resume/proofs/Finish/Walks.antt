@@ -41,6 +41,7 @@ use Rattle.tool_program.specs.EventApplier.Appliers as appliers
 use Rattle.tool_finish.specs.declared.stage.Stage.{Stage}
 use Rattle.tool_finish.specs.declared.stage.Stage.TheVariants.{Losing, Listing, Reading, Clearing, ReadingCounter, SettingCounter, Ranging, Copying, Applying, Exchanging, DroppingLog, DroppingOld, RollingBack, Done, Reverted}
 use Rattle.tool_finish.specs.declared.stage.Listed.{Listed}
+use Rattle.tool_finish.specs.declared.stage.Listed.TheVariants.{NotRenamed, Renamed}
 use Rattle.tool_finish.specs.Finishes.{applied, applier_from, applying, checkpoint_in, copied, copier_from, copying, counter_read, counting, dropped_log, has_read, listed, next, ranged, stage_behind, took, IsFinish, IsFinishTurn}
 use Rattle.tool_finish.specs.Finishes as finishes
 use Rattle.tool_finish.proofs.Walking.{stage_more}
@@ -280,11 +281,9 @@ module _ (plan : PlanData) (is : IsAlterable plan) (at : Clustered is.table.sche
 
     read_walks : (seen : Listed) (found : Option Checkpoint) → WalksAt more (has_read plan seen found)
     read_walks seen None = tt
-    read_walks seen (Some found) = by seen.new_table seen.sentry where
-      by : (new sentry : Bool) → WalksAt more (cond new (cond sentry (Clearing found) (counting plan found)) (DroppingLog (seen.old && plan.options.ok_to_drop_table)))
-      by false sentry = tt
-      by true true = tt
-      by true false = counting_walks found
+    read_walks (NotRenamed true) (Some found) = tt
+    read_walks (NotRenamed false) (Some found) = counting_walks found
+    read_walks (Renamed old) (Some found) = tt
 
     listed_walks : (given : Answer) → WalksAt more (listed plan given)
     listed_walks (answers.Tables tables) = tt

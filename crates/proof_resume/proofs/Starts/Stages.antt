@@ -42,6 +42,7 @@ use Rattle.tool_program.specs.declared.event_applier.applier.Applier.{Applier}
 use Rattle.tool_program.specs.ChunkCopier.Copiers as copiers
 use Rattle.tool_program.specs.EventApplier.Appliers as appliers
 use Rattle.tool_finish.specs.declared.stage.Listed.{Listed}
+use Rattle.tool_finish.specs.declared.stage.Listed.TheVariants.{NotRenamed, Renamed}
 use Rattle.tool_finish.specs.declared.stage.Stage.{Stage}
 use Rattle.tool_finish.specs.declared.stage.Stage.TheVariants.{Losing, Listing, Reading, Clearing, ReadingCounter, SettingCounter, Ranging, Copying, Applying, Exchanging, DroppingLog, DroppingOld, RollingBack, Done, Reverted}
 use Rattle.tool_finish.specs.Finishes.{Asking, IsFinish, IsFinishTurn, Walk, applied, applier_from, applying, calls, checkpoint_in, clearing, copied, copier_from, copying, counter_read, counting, cuts, dropped_log, dropping, first_live, has_read, listed, losing, next, ranged, reads_checkpoint, stage_behind, took, walked}
@@ -171,11 +172,9 @@ module _ (plan : PlanData) (m : Migration) (rows : List Row) (of : IsMigrationOf
       by false = is
 
     clearing_finds : (listed : Listed) (found : Checkpoint) → IsUnchanged plan run more → IsStored plan run found → StageFinds plan m run more (clearing plan listed found)
-    clearing_finds listed found is stored = by listed.new_table listed.sentry where
-      by : (new sentry : Bool) → StageFinds plan m run more (cond new (cond sentry (Clearing found) (counting plan found)) (dropping plan listed.old))
-      by true true = (is, stored)
-      by true false = counting_finds found (cleared_of more found is stored)
-      by false sentry = tt
+    clearing_finds (NotRenamed true) found is stored = (is, stored)
+    clearing_finds (NotRenamed false) found is stored = counting_finds found (cleared_of more found is stored)
+    clearing_finds (Renamed old) found is stored = tt
 
     dropped_finds : (old : Bool) → StageFinds plan m run more (dropped_log old)
     dropped_finds true = tt

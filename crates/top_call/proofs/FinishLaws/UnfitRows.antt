@@ -30,6 +30,7 @@ use Rattle.tool_program.specs.Tools.{moment}
 use Rattle.tool_program.specs.Verdicts.{new_column_name}
 use Rattle.tool_finish.specs.Checkpoints.{is_migrating}
 use Rattle.tool_finish.specs.declared.stage.Listed.{Listed}
+use Rattle.tool_finish.specs.declared.stage.Listed.TheVariants.{NotRenamed, Renamed}
 use Rattle.tool_finish.specs.declared.stage.Refusal.{Refusal}
 use Rattle.tool_finish.specs.declared.stage.Stage.{Stage}
 use Rattle.tool_finish.specs.declared.stage.Stage.TheVariants.{Losing, Listing, Reading, Clearing, ReadingCounter, SettingCounter, Ranging, Copying, Applying, Exchanging, DroppingLog, DroppingOld, RollingBack, Done, Reverted}
@@ -131,11 +132,9 @@ module _ (plan : PlanData) (run turns : List Entry) (entry : Entry) where
 
   read_at : (seen : Listed) (found : Option Checkpoint) → StandsAt plan run later (has_read plan seen found)
   read_at seen None = tt
-  read_at seen (Some found) = by seen.new_table seen.sentry where
-    by : (new sentry : Bool) → StandsAt plan run later (cond new (cond sentry (Clearing found) (counting plan found)) (DroppingLog (seen.old && plan.options.ok_to_drop_table)))
-    by false sentry = tt
-    by true true = tt
-    by true false = counting_at found
+  read_at (NotRenamed true) (Some found) = tt
+  read_at (NotRenamed false) (Some found) = counting_at found
+  read_at (Renamed old) (Some found) = tt
 
   applying_at : (applier : Applier) → StandsAt plan run later (applying plan after applier)
   applying_at applier = by (appliers.starts applier && (unread after applier.position (plan.table ∷ log_name plan.table ∷ []) == 0)) where
