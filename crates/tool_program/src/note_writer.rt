@@ -4,5 +4,6 @@ mod answers;
 mod calls;
 mod notes;
 
+pub use answers::is_checkpoint;
 pub use calls::writes;
 pub use notes::{NoteRow, NoteStep, Notes};

@@ -16,14 +16,14 @@ use tool_program::event_applier::name_at;
 
 /// The name of the new column at this place.
 #[tactic(auto, using(tool_program::proofs::ToolSetup::Altered::schema_is))]
-fn new_column_name(plan: &Plan, place: usize) -> &str
+pub fn new_column_name(plan: &Plan, place: usize) -> &str
     ensures { result.now ≡ new_column_name plan.now place }
 {
     name_at(plan.altered().schema.columns.as_slice(), place)
 }
 
 /// The places of the migrated table's clustered key.
-fn old_places(plan: &Plan) -> &[usize]
+pub fn old_places(plan: &Plan) -> &[usize]
     ensures { result.now ≡ key_places (old_schema plan.now) }
 {
     match plan.tables().find(plan.table()) {

@@ -15,7 +15,7 @@ mod tool_view;
 mod verdict_view;
 
 pub use calls::commands;
-pub use causes::verdict;
+pub use causes::{new_column_name, old_places, verdict};
 pub use ending::is_over;
 pub use log_read::LogRead;
 pub use tool_view::ToolView;

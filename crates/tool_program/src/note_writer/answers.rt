@@ -9,7 +9,7 @@ use base_values::Value;
 use server_model::{Answer, Asked, Entry, Request};
 
 /// Whether the row is a checkpoint's, whose id is 0.
-fn is_checkpoint(row: &[Value]) -> bool
+pub fn is_checkpoint(row: &[Value]) -> bool
     ensures { result ≡ is_checkpoint row.now }
 {
     match row {
