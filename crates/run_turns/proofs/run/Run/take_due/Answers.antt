@@ -1,5 +1,0 @@
-use Rattle.run_turns.proofs.Steps.{after_moment}
-use Rattle.run_turns.proofs.run.Run.take_due.Goals as goal
-
-pub due-requires-clause-state : goal.due-requires-clause-state
-due-requires-clause-state g c = after_moment c.self.inside.run_state.plan.now c.self.inside.run_state.journal.items (g.V.Serve.state c.self.inside.server) c.self.invariant.server
