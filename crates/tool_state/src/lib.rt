@@ -5,18 +5,17 @@
 mod calls;
 mod causes;
 mod ending;
-mod feed;
 mod log_read;
+mod next_call;
 mod note_calls;
-mod ready;
 mod short_checkpoints;
 pub mod tool_state;
 mod tool_view;
 mod verdict_view;
 
-pub use calls::commands;
 pub use causes::{new_column_name, old_places, verdict};
 pub use ending::is_over;
 pub use log_read::LogRead;
+pub use next_call::NextCall;
 pub use tool_view::ToolView;
 pub use verdict_view::{CauseView, KeyView, VerdictView};
