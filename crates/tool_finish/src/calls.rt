@@ -1,8 +1,7 @@
 //! Which call comes next.
 
 ghost use Rattle.std.specs.Prelude.{◌≡◌, IfOk};
-ghost use Rattle.tool_program.specs.CutoverCore.Attempts.{exchange};
-ghost use Rattle.tool_finish.specs.Finishes.{first_live, calls, copies, cuts, reads_checkpoint, rolls_back, next};
+ghost use Rattle.tool_finish.specs.Finishes.{first_live, calls, cuts, reads_checkpoint, rolls_back, next};
 
 use crate::stage::{Stage, UnfitRow};
 use crate::view::FinishView;
@@ -13,7 +12,7 @@ use plan_data::Plan;
 use server_api::Serve;
 use server_model::{Asked, Request};
 use std::alloc::{AllocError, Global};
-use table_store::Pair;
+use tool_program::cutover_core::exchange;
 
 /// An actor, and what it asks.
 pub type Asking = (Actor, Asked);
@@ -22,15 +21,6 @@ fn calls(actor: Actor, request: Request) -> Option<Asking>
     ensures { result ≡ calls actor request }
 {
     Some((actor, Asked::Call(request)))
-}
-
-fn copies(request: Option<Request>) -> Option<Asking>
-    ensures { result ≡ copies request }
-{
-    match request {
-        Some(request) => calls(Actor::Copy, request),
-        None => None,
-    }
 }
 
 fn cuts(live: Option<Actor>) -> Option<Asking>
@@ -55,21 +45,6 @@ fn reads_checkpoint(alloc: Global, plan: &Plan) -> Result<Request, AllocError>
         shown: Shown::All,
         condition: Condition::Equal(Sequence::from_vec(vec![in alloc; id]?)),
     }))
-}
-
-/// The two tables exchanged as one.
-fn exchange(alloc: Global, table: &Name) -> Result<Request, AllocError>
-    ensures { IfOk result (λ request. request ≡ exchange table.now) }
-{
-    let away = Pair {
-        old: table.copy()?,
-        new: old_name(alloc, table)?,
-    };
-    let into_place = Pair {
-        old: ghost_name(alloc, table)?,
-        new: table.copy()?,
-    };
-    Ok(Request::Rename(Sequence::from_vec(vec![in alloc; away, into_place]?)))
 }
 
 /// Whose row didn't fit.
@@ -110,7 +85,10 @@ impl Stage {
                 },
             ),
             Stage::Ranging(_) => calls(Actor::Insp, Request::Ends(table.copy()?)),
-            Stage::Copying(copier, _) => copies(copier.next(alloc, view.journal)?),
+            Stage::Copying(copier, _) => match copier.next_call(view.journal) {
+                Some(call) => calls(Actor::Copy, copier.request(alloc, view.journal, call)?),
+                None => None,
+            },
             Stage::Applying(applier) => calls(Actor::Apply, applier.next(alloc, view.journal)?),
             Stage::Exchanging => calls(Actor::Ren, exchange(alloc, table)?),
             Stage::DroppingLog(_) => calls(Actor::Insp, Request::Drop(log_name(alloc, table)?)),
