@@ -1,17 +1,31 @@
--- What is given doesn't turn on the numbers of sessions that were made besides.
-use Rattle.std.proofs.Common.{◌≡◌, ℕ, List, Option, Some, None, refl, ap, ◌∙◌}
+-- What is given doesn't turn on the numbers of sessions that were made besides; and what comes next is what is given.
+use Rattle.std.proofs.Common.{◌≡◌, ℕ, false, List, Option, Some, None, refl, ap, ◌∙◌}
 use Rattle.std.specs.Prelude.{if◌then◌else◌, is_some}
+use Rattle.std.specs.Option.{option_map}
 use Rattle.base_script.specs.declared.actor.Actor.{Actor}
 use Rattle.base_script.specs.declared.operator.OperatorWord.{OperatorWord}
 use Rattle.base_script.specs.declared.actor.Actor.TheVariants.{Op, Insp, Copy, Apply, Lock, Ren, Client}
-use Rattle.server_model.specs.declared.entry.Asked.TheVariants.{Poll}
+use Rattle.base_script.specs.declared.script.ScriptWord.{ScriptWord}
+use Rattle.base_script.specs.declared.script.ScriptWord.TheVariants as words
+use Rattle.server_model.specs.declared.entry.Asked.{Asked}
+use Rattle.server_model.specs.declared.entry.Asked.TheVariants.{Call, Command}
+use Rattle.server_model.specs.declared.entry.Asked.TheVariants as asked
 use Rattle.server_model.specs.declared.entry.Entry.{Entry}
 use Rattle.server_model.specs.States.{State, unread}
 use Rattle.plan_data.specs.PlanData.{PlanData}
 use Rattle.tool_program.specs.JournalWords.Sessions.{live_session}
-use Rattle.tool_program.specs.Tools.{ToolPhase, SettingUp, Migrating, Tool, is_reverting, moment}
-use Rattle.tool_program.specs.Programs.{waits, in_transaction, rolls_back, copy_call, tool_call, calls, tool_asks, commands, given}
+use Rattle.tool_program.specs.JournalWords.Clients.{word_asks}
+use Rattle.tool_program.specs.Tools.{Work, ToolPhase, SettingUp, Migrating, Tool, is_reverting, moment}
+use Rattle.tool_program.specs.Programs.{waits, in_transaction, rolls_back, copy_call, tool_call, tool_asks}
+use Rattle.tool_program.specs.Programs as programs
 use Rattle.tool_state.specs.Feeds.{read_in, starts}
+use Rattle.tool_state.specs.NextCalls as calls
+use Rattle.tool_state.specs.declared.next_call.NextCall.{NextCall}
+use Rattle.run_actors.specs.ClientTurns.ClientCalls as clients
+use Rattle.run_actors.specs.declared.client_turns.requests.ClientCall.{ClientCall}
+use Rattle.run_actors.specs.declared.client_turns.requests.ClientCall.TheVariants.{Poll, Line}
+use Rattle.run_state.specs.declared.next_asked.NextAsked.TheVariants as next
+use Rattle.run_state.specs.NextAsked.{asked_in}
 use Rattle.proof_journals.specs.Run.Counts.{numbered, IsAfter}
 
 pub waits_same : (made : ℕ) (state : State) (session : Option ℕ) → waits (numbered made state) session ≡ waits state session
@@ -35,15 +49,15 @@ call_same plan made state journal tool (Migrating work) Op = refl
 call_same plan made state journal tool (Migrating work) Insp = refl
 call_same plan made state journal tool (Migrating work) Copy = ap (λ request. if is_reverting tool.reason then request else copy_call plan state journal tool work) (rolls_same made state (live_session journal Copy))
 call_same plan made state journal tool (Migrating work) Apply =
-    ap (λ request. if is_reverting tool.reason then request else Rattle.tool_program.specs.Programs.apply_call plan state journal tool work) (rolls_same made state (live_session journal Apply))
+    ap (λ request. if is_reverting tool.reason then request else programs.apply_call plan state journal tool work) (rolls_same made state (live_session journal Apply))
 call_same plan made state journal tool (Migrating work) Lock = refl
 call_same plan made state journal tool (Migrating work) Ren = refl
 call_same plan made state journal tool (Migrating work) (Client client) = refl
 
 asks_same : (plan : PlanData) (made : ℕ) (state : State) (journal : List Entry) (tool : Tool) (actor : Actor) → tool_asks plan journal (record { server = numbered made state; tool = tool }) actor ≡ tool_asks plan journal (record { server = state; tool = tool }) actor
 asks_same plan made state journal tool actor =
-    ap (λ b. if b then Some Poll else calls (tool_call plan (numbered made state) journal tool tool.tool_phase actor)) (waits_same made state (live_session journal actor))
-    ∙ ap (λ request. if waits state (live_session journal actor) then Some Poll else calls request) (call_same plan made state journal tool tool.tool_phase actor)
+    ap (λ b. if b then Some asked.Poll else programs.calls (tool_call plan (numbered made state) journal tool tool.tool_phase actor)) (waits_same made state (live_session journal actor))
+    ∙ ap (λ request. if waits state (live_session journal actor) then Some asked.Poll else programs.calls request) (call_same plan made state journal tool tool.tool_phase actor)
 
 -- what an actor of the tool asks, by the server as it is and the tool's record
 pub asks_is : (plan : PlanData) (journal : List Entry) (state : State) (tool : Tool) (actor : Actor) → IsAfter (moment plan journal).server state → tool ≡ (moment plan journal).tool
@@ -53,23 +67,55 @@ asks_is plan journal state tool actor following is =
     ∙ asks_same plan state.made (moment plan journal).server journal tool actor
     ∙ ap (λ (t : Tool). tool_asks plan journal (record { server = (moment plan journal).server; tool = t }) actor) is
 
--- a command is given where one is left
-pub command_left : (word : Option OperatorWord) → is_some word ≡ is_some (commands word)
-command_left None = refl
-command_left (Some word) = refl
+-- WHAT COMES NEXT
 
--- what the applier is given is what the tool asks of it
-pub given_reads : (plan : PlanData) (journal : List Entry) → read_in (tool_asks plan journal (moment plan journal) Apply) ≡ read_in (given plan journal Apply)
-unfolding given
-given_reads plan journal = refl
+pub mapped_some : {A B : Type 0} (f : A → B) (one : Option A) (other : Option B) → option_map f one ≡ other → is_some one ≡ is_some other
+mapped_some f None other is = ap is_some is
+mapped_some f (Some x) other is = ap is_some is
 
--- and so it is of each actor that begins something
-pub given_starts : (plan : PlanData) (journal : List Entry) (actor : Actor) → starts actor (tool_asks plan journal (moment plan journal) actor) ≡ starts actor (given plan journal actor)
-unfolding given
-given_starts plan journal Op = refl
-given_starts plan journal Insp = refl
-given_starts plan journal Copy = refl
-given_starts plan journal Apply = refl
-given_starts plan journal Lock = refl
-given_starts plan journal Ren = refl
-given_starts plan journal (Client client) = refl
+module _ (plan : PlanData) (journal : List Entry) (work : Work) where
+  pub client_asks_so : (call : Option ClientCall) (given : Option Asked) → option_map clients.asked_in call ≡ given → option_map (asked_in plan journal work) (option_map next.Client call) ≡ given
+  client_asks_so None given is = is
+  client_asks_so (Some call) given is = is
+
+  pub tool_asks_so : (call : Option NextCall) (given : Option Asked) → option_map (calls.asked_in plan journal work) call ≡ given → option_map (asked_in plan journal work) (option_map next.Tool call) ≡ given
+  tool_asks_so None given is = is
+  tool_asks_so (Some call) given is = is
+
+-- WHAT READS THE LOG OR BEGINS SOMETHING
+
+pub client_reads : (call : ClientCall) → None ≡ read_in (Some (clients.asked_in call))
+client_reads Poll = refl
+client_reads (Line word) = by word.now where
+  by : (word : ScriptWord) → None ≡ read_in (Some (Call (word_asks word)))
+  by words.Begin = refl
+  by words.Commit = refl
+  by words.Rollback = refl
+  by (words.Do statement) = refl
+
+word_starts : (actor : Actor) (word : ScriptWord) → false ≡ starts actor (Some (Call (word_asks word)))
+word_starts Copy words.Begin = refl
+word_starts Copy words.Commit = refl
+word_starts Copy words.Rollback = refl
+word_starts Copy (words.Do statement) = refl
+word_starts Lock words.Begin = refl
+word_starts Lock words.Commit = refl
+word_starts Lock words.Rollback = refl
+word_starts Lock (words.Do statement) = refl
+word_starts actor word = refl
+
+pub client_starts : (actor : Actor) (call : ClientCall) → false ≡ starts actor (Some (clients.asked_in call))
+client_starts actor (Line word) = word_starts actor word.now
+client_starts Copy Poll = refl
+client_starts Lock Poll = refl
+client_starts actor Poll = refl
+
+pub command_starts : (actor : Actor) (word : OperatorWord) → false ≡ starts actor (Some (Command word))
+command_starts Copy word = refl
+command_starts Lock word = refl
+command_starts actor word = refl
+
+pub none_starts : (actor : Actor) → false ≡ starts actor None
+none_starts Copy = refl
+none_starts Lock = refl
+none_starts actor = refl

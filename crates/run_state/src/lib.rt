@@ -2,11 +2,13 @@
 #![tactic(auto)]
 
 mod losses;
+mod next_asked;
 mod opening;
 mod program;
 mod reader;
 mod run_state;
 pub mod run_state_turns;
 
+pub use next_asked::NextAsked;
 pub use reader::script_of;
 pub use run_state::RunState;

@@ -1,40 +1,36 @@
 //! What the actors ask next, and when the run is over.
 
-ghost use Rattle.std.specs.Prelude.{◌≡◌, false, is_some, slice_get, IfOk, OnErr};
+ghost use Rattle.std.specs.Prelude.{◌≡◌, Some, false, option_map, slice_get, IfOk, OnErr};
 ghost use Rattle.base_script.specs.declared.actor.Actor.TheVariants.{Apply};
-ghost use Rattle.plan_data.specs.PlanData.{PlanData};
 ghost use Rattle.tool_program.specs.FreeCalls.{is_freely_asked};
-ghost use Rattle.tool_program.specs.JournalWords.KeptPlans.{words_of};
 ghost use Rattle.tool_program.specs.JournalWords.Clients.{clients_over};
+ghost use Rattle.tool_program.specs.JournalWords.KeptPlans.{words_of};
 ghost use Rattle.tool_program.specs.Tools.{moment};
 ghost use Rattle.tool_program.specs.Programs.{tool_asks, commands, given};
 ghost use Rattle.tool_program.specs.Orders.{is_ready};
 ghost use Rattle.tool_program.specs.Verdicts.{is_over, has_ended, verdict_of};
 ghost use Rattle.proof_journals.specs.Run.Counts.{IsAfter};
 ghost use Rattle.tool_state.specs.Feeds.{read_in, starts};
-ghost use Rattle.tool_state.specs.ToolState.Meanings.{tool_of};
+ghost use Rattle.tool_state.specs.NextCalls.{asked_in};
+ghost use Rattle.tool_state.specs.ToolState.Meanings.{work_of};
 ghost use Rattle.tool_state.specs.Verdicts.{verdict_meant};
 ghost use Rattle.run_state.specs.Books.{IsRunState};
+ghost use Rattle.run_state.specs.NextAsked.{asked_of};
 
+use crate::next_asked::NextAsked;
 use crate::run_state::RunState;
 use base_script::Actor;
 use server_api::Serve;
 use server_model::Asked;
 use std::alloc::{AllocError, Global};
-use tool_state::{LogRead, ToolView, VerdictView, commands, is_over, verdict};
+use tool_state::{LogRead, NextCall, ToolView, VerdictView, is_over, verdict};
 
 impl RunState<'_> {
     /// What an actor of the tool but the operator asks next.
-    fn tool_asks<V: Serve>(
-        &self,
-        alloc: Global,
-        server: &V,
-        actor: Actor,
-    ) -> Result<Option<Asked>, AllocError>
+    fn tool_call<'b, V: Serve>(&'b self, server: &'b V, actor: Actor) -> Option<NextCall<'b>>
         requires run_state { IsRunState self.now.plan.now self.now.journal.items self.now }
         requires state { IsAfter (moment self.now.plan.now self.now.journal.items).server (V.state server.now) }
-        ensures asked { IfOk result (λ asked. asked ≡ tool_asks self.now.plan.now self.now.journal.items (moment self.now.plan.now self.now.journal.items) actor) }
-        ensures costs { OnErr result (is_freely_asked (tool_asks self.now.plan.now self.now.journal.items (moment self.now.plan.now self.now.journal.items) actor) ≡ false) }
+        ensures { option_map (asked_in self.now.plan.now self.now.journal.items (work_of self.now.tool.work)) result ≡ tool_asks self.now.plan.now self.now.journal.items (moment self.now.plan.now self.now.journal.items) actor }
     {
         let tool_view = ToolView {
             plan: self.plan,
@@ -45,25 +41,58 @@ impl RunState<'_> {
             load: self.load,
             notes: self.notes,
         };
-        tool_view.asks(alloc, actor, self.session(actor))
+        tool_view.next_call(actor, self.session(actor))
     }
 
-    /// Whether an actor of the tool but the operator asks something next.
-    fn is_tool_ready<V: Serve>(&self, server: &V, actor: Actor) -> bool
+    /// What the operator commands next; none where no command is left.
+    fn command(&self) -> Option<NextAsked<'_>>
+        requires { IsRunState self.now.plan.now self.now.journal.items self.now }
+        ensures { option_map (asked_of self.now) result ≡ commands (slice_get (words_of self.now.plan.now) (moment self.now.plan.now self.now.journal.items).tool.operator.taken) }
+    {
+        match self.tool.operator.next(self.plan) {
+            Some(word) => Some(NextAsked::Command(word)),
+            None => None,
+        }
+    }
+
+    /// What the actor asks next; none where it isn't ready. It is found without memory.
+    #[tactic(auto, using(crate::proofs::Givens::client_asks_so, crate::proofs::Givens::tool_asks_so), unfolding(tool_program::specs::Programs::given))]
+    pub fn next<'b, V: Serve>(&'b self, server: &'b V, actor: Actor) -> Option<NextAsked<'b>>
         requires run_state { IsRunState self.now.plan.now self.now.journal.items self.now }
         requires state { IsAfter (moment self.now.plan.now self.now.journal.items).server (V.state server.now) }
-        ensures { result ≡ is_some (tool_asks self.now.plan.now self.now.journal.items (moment self.now.plan.now self.now.journal.items) actor) }
+        ensures { option_map (asked_of self.now) result ≡ given self.now.plan.now self.now.journal.items actor }
     {
-        let tool_view = ToolView {
-            plan: self.plan,
-            journal: self.journal.as_slice(),
-            tool: &self.tool,
-            server,
-            names: &self.names,
-            load: self.load,
-            notes: self.notes,
-        };
-        tool_view.is_ready(actor, self.session(actor))
+        match actor {
+            Actor::Client(client) => self.client_call(client).map(NextAsked::Client),
+            Actor::Op => self.command(),
+            Actor::Insp | Actor::Copy | Actor::Apply | Actor::Lock | Actor::Ren => {
+                self.tool_call(server, actor).map(NextAsked::Tool)
+            }
+        }
+    }
+
+    /// What is asked. Calls alone take memory, but for COMMIT, ROLLBACK and UNLOCK TABLES.
+    pub fn asked(&self, alloc: Global, next: NextAsked<'_>) -> Result<Asked, AllocError>
+        ensures asked { IfOk result (λ asked. asked ≡ asked_of self.now next.entry) }
+        ensures costs { OnErr result (is_freely_asked (Some (asked_of self.now next.entry)) ≡ false) }
+    {
+        match next {
+            NextAsked::Tool(call) => {
+                call.asked(alloc, self.plan, self.journal.as_slice(), &self.tool.work)
+            }
+            NextAsked::Command(word) => Ok(Asked::Command(word)),
+            NextAsked::Client(call) => call.asked(),
+        }
+    }
+
+    /// Whether the actor is ready: something is given to it.
+    #[tactic(auto, using(crate::proofs::Givens::mapped_some))]
+    pub fn is_ready<V: Serve>(&self, server: &V, actor: Actor) -> bool
+        requires run_state { IsRunState self.now.plan.now self.now.journal.items self.now }
+        requires state { IsAfter (moment self.now.plan.now self.now.journal.items).server (V.state server.now) }
+        ensures { result ≡ is_ready self.now.plan.now self.now.journal.items actor }
+    {
+        self.next(server, actor).is_some()
     }
 
     /// The read of the log that the applier asks next; none where it asks something else, or nothing.
@@ -72,78 +101,22 @@ impl RunState<'_> {
         requires state { IsAfter (moment self.now.plan.now self.now.journal.items).server (V.state server.now) }
         ensures { result ≡ read_in (given self.now.plan.now self.now.journal.items Apply) }
     {
-        let tool_view = ToolView {
-            plan: self.plan,
-            journal: self.journal.as_slice(),
-            tool: &self.tool,
-            server,
-            names: &self.names,
-            load: self.load,
-            notes: self.notes,
-        };
-        tool_view.reading(self.session(Actor::Apply))
+        match self.next(server, Actor::Apply) {
+            Some(next) => next.read(&self.tool.work),
+            None => None,
+        }
     }
 
     /// Whether the actor's next call begins a chunk, or an attempt to cut over.
+    #[tactic(auto, using(crate::proofs::Givens::none_starts))]
     pub fn starting<V: Serve>(&self, server: &V, actor: Actor) -> bool
         requires run_state { IsRunState self.now.plan.now self.now.journal.items self.now }
         requires state { IsAfter (moment self.now.plan.now self.now.journal.items).server (V.state server.now) }
         ensures { result ≡ starts actor (given self.now.plan.now self.now.journal.items actor) }
     {
-        let tool_view = ToolView {
-            plan: self.plan,
-            journal: self.journal.as_slice(),
-            tool: &self.tool,
-            server,
-            names: &self.names,
-            load: self.load,
-            notes: self.notes,
-        };
-        tool_view.starting(actor, self.session(actor))
-    }
-
-    /// What the actor asks next; none where it isn't ready. Calls alone take memory, but for COMMIT, ROLLBACK and UNLOCK TABLES.
-    #[tactic(auto, unfolding(tool_program::specs::Programs::given))]
-    pub fn given<V: Serve>(
-        &self,
-        alloc: Global,
-        server: &V,
-        actor: Actor,
-    ) -> Result<Option<Asked>, AllocError>
-        requires run_state { IsRunState self.now.plan.now self.now.journal.items self.now }
-        requires state { IsAfter (moment self.now.plan.now self.now.journal.items).server (V.state server.now) }
-        ensures asked { IfOk result (λ asked. asked ≡ given self.now.plan.now self.now.journal.items actor) }
-        ensures costs { OnErr result (is_freely_asked (given self.now.plan.now self.now.journal.items actor) ≡ false) }
-    {
-        match actor {
-            Actor::Client(client) => self.client_asks(client),
-            Actor::Op => Ok(commands(self.plan, &self.tool)),
-            Actor::Insp | Actor::Copy | Actor::Apply | Actor::Lock | Actor::Ren => {
-                self.tool_asks(alloc, server, actor)
-            }
-        }
-    }
-
-    /// Whether a command is left to the operator.
-    fn has_command(&self) -> bool
-        ensures { result ≡ is_some (commands (slice_get (words_of self.now.plan.now) (tool_of self.now.tool).operator.taken)) }
-    {
-        self.tool.operator.next(self.plan).is_some()
-    }
-
-    /// Whether the actor is ready: something is given to it.
-    #[tactic(auto, unfolding(tool_program::specs::Programs::given))]
-    pub fn is_ready<V: Serve>(&self, server: &V, actor: Actor) -> bool
-        requires run_state { IsRunState self.now.plan.now self.now.journal.items self.now }
-        requires state { IsAfter (moment self.now.plan.now self.now.journal.items).server (V.state server.now) }
-        ensures { result ≡ is_ready self.now.plan.now self.now.journal.items actor }
-    {
-        match actor {
-            Actor::Client(client) => self.is_client_ready(client),
-            Actor::Op => self.has_command(),
-            Actor::Insp | Actor::Copy | Actor::Apply | Actor::Lock | Actor::Ren => {
-                self.is_tool_ready(server, actor)
-            }
+        match self.next(server, actor) {
+            Some(next) => next.starts(actor),
+            None => false,
         }
     }
 

@@ -1,17 +1,16 @@
 //! What the run state says of the actors.
 
-ghost use Rattle.std.specs.Prelude.{◌≡◌, option_map, is_some, false, IfOk, OnErr};
-ghost use Rattle.tool_program.specs.FreeCalls.{is_freely_asked};
+ghost use Rattle.std.specs.Prelude.{◌≡◌, option_map};
 ghost use Rattle.tool_program.specs.JournalWords.Clients.{script_of, client_asks};
 ghost use Rattle.tool_program.specs.JournalWords.Sessions.{live_session};
+ghost use Rattle.run_actors.specs.ClientTurns.ClientCalls.{asked_in};
 ghost use Rattle.run_state.specs.Books.{place_of, actor_state_in, session_of, turns_in, IsRunState};
 
 use crate::run_state::RunState;
 use base_script::{Actor, Script};
 use plan_data::Plan;
+use run_actors::client_turns::ClientCall;
 use run_actors::{ActorState, same_actor};
-use server_model::Asked;
-use std::alloc::AllocError;
 
 /// The actor's place in the fixed order: operator, inspector, copier, applier, locker, renamer, then the clients.
 fn place_of(actor: Actor) -> usize
@@ -80,26 +79,13 @@ impl RunState<'_> {
 
     /// What a client asks next; none where it is over.
     #[tactic(auto, using(crate::proofs::Clients::scripted, crate::proofs::Clients::actor_state_within, crate::proofs::Clients::client_reached, crate::proofs::Clients::stranger_silent, crate::proofs::Clients::asks_is))]
-    pub fn client_asks(&self, client: u32) -> Result<Option<Asked>, AllocError>
+    pub(crate) fn client_call(&self, client: u32) -> Option<ClientCall<'_>>
         requires { IsRunState self.now.plan.now self.now.journal.items self.now }
-        ensures asked { IfOk result (λ asked. asked ≡ client_asks self.now.plan.now self.now.journal.items client) }
-        ensures costs { OnErr result (is_freely_asked (client_asks self.now.plan.now self.now.journal.items client) ≡ false) }
+        ensures { option_map asked_in result ≡ client_asks self.now.plan.now self.now.journal.items client }
     {
         match script_of(self.plan, client) {
-            Some(script) => self.clients[client as usize - 1].asks(script),
-            None => Ok(None),
-        }
-    }
-
-    /// Whether a client asks something next.
-    #[tactic(auto, using(crate::proofs::Clients::scripted, crate::proofs::Clients::actor_state_within, crate::proofs::Clients::client_reached, crate::proofs::Clients::stranger_silent, crate::proofs::Clients::asks_is))]
-    pub fn is_client_ready(&self, client: u32) -> bool
-        requires { IsRunState self.now.plan.now self.now.journal.items self.now }
-        ensures { result ≡ is_some (client_asks self.now.plan.now self.now.journal.items client) }
-    {
-        match script_of(self.plan, client) {
-            Some(script) => self.clients[client as usize - 1].is_ready(script),
-            None => false,
+            Some(script) => self.clients[client as usize - 1].next_call(script),
+            None => None,
         }
     }
 }
