@@ -1,6 +1,6 @@
 -- What a step reads of the server that stands behind the journal.
 use Rattle.std.proofs.Common.{◌≡◌, ◌<◌, ℕ, ◌+◌, Bool, true, false, ◌||◌, List, length, Option, Some, None, refl, sym, ap, ◌∙◌, subst, arith}
-use Rattle.std.specs.Prelude.{is_some, nat_le}
+use Rattle.std.specs.Prelude.{option_map, nat_le}
 use Rattle.std.proofs.lemmas.Bool.{true≢false, leb-false}
 use Rattle.server_model.specs.declared.entry.Entry.{Entry}
 use Rattle.server_model.specs.States.{State}
@@ -22,9 +22,9 @@ after_moment plan journal server following = subst (λ (s : State). IsAfter s se
 pub waits_after : (reported server : State) (session : Option ℕ) → IsAfter reported server → waits server session ≡ waits reported session
 waits_after reported server session following = ap (λ (s : State). waits s session) following.same ∙ waits_same server.made reported session
 
-pub none_some : {A : Type 0} (x : Option A) → is_some x ≡ false → x ≡ None
-none_some None is = refl
-none_some (Some x) is = absurd (true≢false is)
+-- nothing is due where no turn comes next
+pub none_due : {A B : Type 0} (f : A → B) (next : Option A) (due : Option B) → option_map f next ≡ due → next ≡ None → due ≡ None
+none_due f next due is none = sym is ∙ ap (option_map f) none
 
 -- a run that isn't over has room for a turn more
 room_at : (ended : Bool) (count limit : ℕ) → (ended || nat_le limit count) ≡ false → count < limit

@@ -1,54 +1,69 @@
 //! The turn that is due.
 
-ghost use Rattle.std.specs.Prelude.{◌≡◌, is_some, IfOk, OnErr};
+ghost use Rattle.std.specs.Prelude.{◌≡◌, Some, option_map, IfOk, OnErr};
+ghost use Rattle.server_model.specs.States.{State};
 ghost use Rattle.tool_program.specs.Tools.{moment};
 ghost use Rattle.proof_journals.specs.Run.Counts.{IsAfter};
 ghost use Rattle.run_state.specs.Books.{IsRunState};
 ghost use Rattle.run_turns.specs.DueTurns.Due.{due, MayCost};
+ghost use Rattle.run_turns.specs.DueTurns.NextTurns.{turn_in};
 
 use crate::due_turns::migration_run::Turn;
 use base_script::Actor;
-use run_state::RunState;
+use run_state::{NextAsked, RunState};
 use server_api::Serve;
 use server_model::Asked;
 use std::alloc::{AllocError, Global};
 
-/// The turn that is due where the actor is to take one; none where nothing is given to it. A free turn takes no memory here.
-#[tactic(auto, using(crate::proofs::RunTurns::Planned::given_planned, crate::proofs::RunTurns::Costs::given_costs), unfolding(crate::specs::DueTurns::Due::due))]
-pub fn due<V: Serve>(
-    alloc: Global,
-    run_state: &RunState<'_>,
-    server: &V,
+/// What is due where an actor is to take a turn.
+#[derive(Clone, Copy)]
+pub enum NextTurn<'a> {
+    /// The loss of this actor's session between calls.
+    Cut(Actor),
+    /// What the actor asks.
+    Given(NextAsked<'a>),
+}
+
+/// What is due where the actor is to take a turn; none where nothing is given to it.
+#[tactic(auto, using(crate::proofs::RunTurns::Planned::given_turns), unfolding(crate::specs::DueTurns::Due::due))]
+pub fn next_turn<'b, V: Serve>(
+    run_state: &'b RunState<'_>,
+    server: &'b V,
     actor: Actor,
-) -> Result<Option<Turn>, AllocError>
+) -> Option<NextTurn<'b>>
     requires run_state { IsRunState run_state.now.plan.now run_state.now.journal.items run_state.now }
     requires state { IsAfter (moment run_state.now.plan.now run_state.now.journal.items).server (V.state server.now) }
-    ensures turn { IfOk result (λ turn. turn ≡ due run_state.now.plan.now run_state.now.journal.items actor) }
-    ensures costs { OnErr result (MayCost run_state.now.plan.now run_state.now.journal.items (V.state server.now) actor) }
+    ensures { option_map (turn_in run_state.now actor) result ≡ due run_state.now.plan.now run_state.now.journal.items actor }
 {
-    if let Some(other) = run_state.cut_due() {
-        return Ok(Some(Turn {
-            actor: other,
-            side: None,
-            asked: Asked::Cut,
-        }));
-    }
-    match run_state.given(alloc, server, actor)? {
-        None => Ok(None),
-        Some(asked) => Ok(Some(Turn {
-            actor,
-            side: run_state.side_due(actor),
-            asked,
-        })),
+    match run_state.cut_due() {
+        Some(other) => Some(NextTurn::Cut(other)),
+        None => run_state.next(server, actor).map(NextTurn::Given),
     }
 }
 
-/// Whether a turn is due where the actor is to take one.
-#[tactic(auto, using(crate::proofs::RunTurns::Planned::is_due_by), unfolding(crate::specs::DueTurns::Due::due))]
-pub fn is_due<V: Serve>(run_state: &RunState<'_>, server: &V, actor: Actor) -> bool
+/// The turn that is due. A free turn takes no memory here.
+#[tactic(auto, using(crate::proofs::RunTurns::Costs::asked_costs))]
+pub fn turn_of(
+    alloc: Global,
+    run_state: &RunState<'_>,
+    actor: Actor,
+    next: NextTurn<'_>,
+) -> Result<Turn, AllocError>
     requires run_state { IsRunState run_state.now.plan.now run_state.now.journal.items run_state.now }
-    requires state { IsAfter (moment run_state.now.plan.now run_state.now.journal.items).server (V.state server.now) }
-    ensures { result ≡ is_some (due run_state.now.plan.now run_state.now.journal.items actor) }
+    requires due { Some (turn_in run_state.now actor next) ≡ due run_state.now.plan.now run_state.now.journal.items actor }
+    ensures turn { IfOk result (λ turn. turn ≡ turn_in run_state.now actor next.entry) }
+    ensures costs { (server : State) → OnErr result (MayCost run_state.now.plan.now run_state.now.journal.items server actor) }
 {
-    run_state.cut_due().is_some() || run_state.is_ready(server, actor)
+    match next {
+        NextTurn::Cut(other) => Ok(Turn {
+            actor: other,
+            side: None,
+            asked: Asked::Cut,
+        }),
+        NextTurn::Given(next) => Ok(Turn {
+            actor,
+            side: run_state.side_due(actor),
+            asked: run_state.asked(alloc, next)?,
+        }),
+    }
 }

@@ -1,6 +1,6 @@
 //! A run.
 
-ghost use Rattle.std.specs.Prelude.{◌≡◌, ◌≤◌, ◌+◌, ◌<◌, ◌^◌, [], length, is_some, true, false, IfOk, OnOk, OnErr};
+ghost use Rattle.std.specs.Prelude.{◌≡◌, ◌≤◌, ◌+◌, ◌<◌, ◌^◌, [], length, is_some, Some, false, IfOk, OnOk, OnErr};
 ghost use Rattle.std.specs.List.{list_any};
 ghost use Rattle.base_script.specs.declared.actor.Actor.TheVariants.{Apply};
 ghost use Rattle.tool_program.specs.JournalWords.Histories.{history, is_alter};
@@ -19,7 +19,8 @@ ghost use Rattle.run_state.specs.Books.{IsRunState};
 ghost use Rattle.run_turns.specs.RunTurns.Invariants.{IsRun};
 ghost use Rattle.run_turns.specs.Runs.{is_over, TakesTurn, IsUnmoved, Steps};
 
-use crate::due::{due, is_due};
+use crate::due::{next_turn, turn_of};
+use crate::due_turns::migration_run::Turn;
 use crate::run_turns::take;
 use base_script::Actor;
 use plan_data::Plan;
@@ -170,25 +171,22 @@ impl<'a, V: Serve> Run<'a, V> {
     }
 
     /// Takes the turn that is due.
-    #[tactic(auto, using(crate::proofs::Steps::after_moment, crate::proofs::Steps::has_room, crate::proofs::RunTurns::Costs::turn_costs))]
-    fn take_due(&mut self, actor: Actor) -> Result<(), AllocError>
+    #[tactic(auto, using(crate::proofs::Steps::has_room, crate::proofs::RunTurns::Costs::turn_costs))]
+    fn take_due(&mut self, actor: Actor, turn: Turn) -> Result<(), AllocError>
         requires going { is_over self.old.plan self.old.journal ≡ false }
         requires few { length self.old.journal + 1 < 2 ^ 32 }
-        requires due { is_some (due self.old.plan self.old.journal actor) ≡ true }
+        requires due { Some turn ≡ due self.old.plan self.old.journal actor }
         ensures ok { OnOk result (TakesTurn self.old actor self.new) }
         ensures err { OnErr result (IsUnmoved self.old self.new) }
         ensures costs { OnErr result (MayCost self.old.plan self.old.journal self.old.server actor) }
     {
-        match due(self.alloc, &self.run_state, &self.server, actor)? {
-            None => unreachable!(),
-            Some(turn) => take(
-                self.alloc,
-                &mut self.server,
-                &mut self.sessions,
-                &mut self.run_state,
-                turn,
-            ),
-        }
+        take(
+            self.alloc,
+            &mut self.server,
+            &mut self.sessions,
+            &mut self.run_state,
+            turn,
+        )
     }
 
     /// Takes the turn that is due where the actor is to take one: a loss between calls, whosever session it takes, or else
@@ -196,17 +194,20 @@ impl<'a, V: Serve> Run<'a, V> {
     /// have made for the turn and that is lost again; it comes too where the turn is to open a session and the server gave its
     /// last number. It never comes of a free turn: a loss between calls, COMMIT, ROLLBACK, UNLOCK TABLES, and a poll for names of
     /// tables that stays blocked.
-    #[tactic(auto, using(crate::proofs::Steps::after_moment, crate::proofs::Steps::none_some))]
+    #[tactic(auto, using(crate::proofs::Steps::after_moment, crate::proofs::Steps::none_due))]
     pub fn step(&mut self, actor: Actor) -> Stepped
         ensures { Steps self.old actor result self.new }
     {
         if self.is_over() {
             return Stepped::Over;
         }
-        if !is_due(&self.run_state, &self.server, actor) {
+        let Some(next) = next_turn(&self.run_state, &self.server, actor) else {
             return Stepped::Idle;
-        }
-        match self.take_due(actor) {
+        };
+        let Ok(turn) = turn_of(self.alloc, &self.run_state, actor, next) else {
+            return Stepped::NoMemory;
+        };
+        match self.take_due(actor, turn) {
             Ok(()) => Stepped::Took,
             Err(_) => Stepped::NoMemory,
         }

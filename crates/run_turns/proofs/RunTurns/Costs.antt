@@ -19,7 +19,6 @@ use Rattle.server_model.specs.declared.session.Waiting.{Waiting}
 use Rattle.plan_data.specs.PlanData.{PlanData}
 use Rattle.tool_program.specs.FreeCalls.{is_freely_asked}
 use Rattle.tool_program.specs.JournalWords.Journals.{state_at}
-use Rattle.tool_program.specs.JournalWords.KeptPlans.{cut_due}
 use Rattle.tool_program.specs.JournalWords.Sessions.{live_session}
 use Rattle.tool_program.specs.Programs.{tool_call, given}
 use Rattle.tool_program.specs.Setups as setups
@@ -37,7 +36,7 @@ use Rattle.proof_journals.proofs.Machine.Tabling.{tables_exist}
 use Rattle.run_state.specs.declared.run_state.RunState.{RunState}
 use Rattle.run_turns.specs.declared.due_turns.migration_run.turn.Turn.{Turn}
 use Rattle.run_turns.specs.DueTurns.MigrationRun.FreeTurns.{is_free_in, is_free_turn}
-use Rattle.run_turns.specs.DueTurns.Due.{own_turn, given_turn, due_by, due, MayCost}
+use Rattle.run_turns.specs.DueTurns.Due.{own_turn, due, MayCost}
 use Rattle.run_turns.specs.DueTurns.DueCalls.Ranges.{is_reaching, is_inspector, is_heard, reads_range}
 use Rattle.run_turns.specs.RunTurns.Invariants.{IsDue, IsRun}
 use Rattle.run_turns.proofs.DueTurns.Coming.{Comes, Cuts, Gives, comes}
@@ -67,15 +66,11 @@ call_costs server None turn request is costs = ap is_command is
 call_costs server (Some session) turn request is costs = ap (is_free_in server session turn.side) is ∙ call_costs_in server session turn.side request costs
 
 -- *A call that takes memory* makes a turn that does
-pub given_costs : (plan : PlanData) (journal : List Entry) (server : State) (actor : Actor) → cut_due plan journal ≡ None → is_freely_asked (given plan journal actor) ≡ false → MayCost plan journal server actor
-unfolding due
-given_costs plan journal server actor none costs =
-    let call : CostlyCall (given plan journal actor) = costly_call (given plan journal actor) costs in
-    record {
-      turn = own_turn plan journal actor (Call call.request);
-      is_due = ap (due_by plan journal actor) none ∙ ap (given_turn plan journal actor) call.is;
-      costs = call_costs server (live_session journal actor) (own_turn plan journal actor (Call call.request)) call.request refl call.costs;
-    }
+pub asked_costs : (plan : PlanData) (journal : List Entry) (server : State) (actor : Actor) (asked : Asked) → Some (own_turn plan journal actor asked) ≡ due plan journal actor → is_freely_asked (Some asked) ≡ false → MayCost plan journal server actor
+asked_costs plan journal server actor asked is costs =
+    let call : CostlyCall (Some asked) = costly_call (Some asked) costs in
+    let same : asked ≡ Call call.request = cc in
+    record { turn = own_turn plan journal actor asked; is_due = sym is; costs = call_costs server (live_session journal actor) (own_turn plan journal actor asked) call.request same call.costs }
 
 -- a turn that is due costs where it isn't free
 pub turn_costs : {A E : Type 0} (plan : PlanData) (journal : List Entry) (server : State) (actor : Actor) (turn : Turn) (r : Result A E) → Some turn ≡ due plan journal actor → OnErr r (is_free_turn server (live_session journal turn.actor) turn ≡ false) → OnErr r (MayCost plan journal server actor)

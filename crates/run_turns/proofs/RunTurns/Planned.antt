@@ -1,6 +1,6 @@
 -- Who has a turn that is due is an actor of the plan's.
-use Rattle.std.proofs.Common.{◌≡◌, ℕ, true, ◌||◌, List, Option, Some, None, refl, sym, ◌∙◌}
-use Rattle.std.specs.Prelude.{is_some}
+use Rattle.std.proofs.Common.{◌≡◌, ℕ, true, List, Option, Some, None, refl, sym, ap, ◌∙◌}
+use Rattle.std.specs.Prelude.{is_some, option_map}
 use Rattle.base_script.specs.declared.actor.Actor.{Actor}
 use Rattle.base_script.specs.declared.actor.Actor.TheVariants.{Op, Insp, Copy, Apply, Lock, Ren, Client}
 use Rattle.base_script.specs.declared.script.ScriptLine.{ScriptLine}
@@ -8,14 +8,17 @@ use Rattle.server_model.specs.declared.entry.Asked.{Asked}
 use Rattle.server_model.specs.declared.entry.Entry.{Entry}
 use Rattle.plan_data.specs.PlanData.{PlanData}
 use Rattle.tool_program.specs.JournalWords.Clients.{script_of, client_asks}
-use Rattle.tool_program.specs.JournalWords.KeptPlans.{cut_due}
 use Rattle.tool_program.specs.JournalWords.Sessions.{live_session}
-use Rattle.tool_program.specs.Orders.{is_ready}
 use Rattle.tool_program.specs.Programs.{given}
 use Rattle.run_state.specs.Books.{is_planned}
+use Rattle.run_state.specs.declared.next_asked.NextAsked.{NextAsked}
+use Rattle.run_state.specs.declared.run_state.RunState.{RunState}
+use Rattle.run_state.specs.NextAsked.{asked_of}
 use Rattle.run_state.proofs.Clients.{stranger_silent}
 use Rattle.run_turns.specs.declared.due_turns.migration_run.turn.Turn.{Turn}
-use Rattle.run_turns.specs.DueTurns.Due.{given_turn, due_by, due}
+use Rattle.run_turns.specs.DueTurns.Due.{given_turn, own_turn, due}
+use Rattle.run_turns.specs.declared.due.NextTurn.TheVariants.{Given}
+use Rattle.run_turns.specs.DueTurns.NextTurns.{turn_in}
 use Rattle.run_turns.proofs.DueTurns.Coming.{Comes, Cuts, Gives, comes, Lives, cut_lives}
 
 client_planned : (plan : PlanData) (journal : List Entry) (client : ℕ) (asked : Asked) → client_asks plan journal client ≡ Some asked → is_some (script_of client plan) ≡ true
@@ -62,15 +65,10 @@ due_planned plan journal actor turn strangers is = by (comes plan journal actor 
     by (Cuts at none cut) = lives_planned plan journal turn.actor strangers (cut_lives plan journal turn.actor at)
     by (Gives none same gives side) = given_planned plan journal turn.actor turn.asked gives
 
--- whether a turn is due
-pub is_due_by : (plan : PlanData) (journal : List Entry) (actor : Actor) → is_some (due plan journal actor) ≡ (is_some (cut_due plan journal) || is_ready plan journal actor)
-unfolding due
-is_due_by plan journal actor = by (cut_due plan journal) (given plan journal actor)
-  where
-    at : (asked : Option Asked) → is_some (given_turn plan journal actor asked) ≡ is_some asked
-    at None = refl
-    at (Some asked) = refl
+pub own_planned : (plan : PlanData) (journal : List Entry) (actor : Actor) (asked : Asked) → ((client : ℕ) → script_of client plan ≡ None → live_session journal (Client client) ≡ None) → Some (own_turn plan journal actor asked) ≡ due plan journal actor → is_planned plan actor ≡ true
+own_planned plan journal actor asked strangers is = due_planned plan journal actor (own_turn plan journal actor asked) strangers (sym is)
 
-    by : (cut : Option Actor) (asked : Option Asked) → is_some (due_by plan journal actor cut) ≡ (is_some cut || is_ready plan journal actor)
-    by (Some other) asked = refl
-    by None asked = at (given plan journal actor)
+-- what is given makes the turn
+pub given_turns : (run_state : RunState) (actor : Actor) (next : Option NextAsked) (given : Option Asked) → option_map (asked_of run_state) next ≡ given → option_map (turn_in run_state actor) (option_map Given next) ≡ given_turn run_state.plan.now run_state.journal.items actor given
+given_turns run_state actor None given is = ap (given_turn run_state.plan.now run_state.journal.items actor) is
+given_turns run_state actor (Some next) given is = ap (given_turn run_state.plan.now run_state.journal.items actor) is
