@@ -388,10 +388,6 @@ module _ (number rows events : ℕ) (state : State) (serving : IsServing state) 
   result_few true need result says = says
   result_few false need result says = says
 
-  defined_few : (moved : Result Database ℕ) → ((tables : Database) → moved ≡ Ok tables → NoMore state.tables tables) → EffectFew number state (rows + 1) (defined moved)
-  defined_few (Ok tables) more = more tables refl
-  defined_few (Err number) more = tt
-
   within_few : (busy : Bool) (request : Request) → EffectFew number state (rows + 1) (effect_within busy seen state request)
   within_few busy requests.Begin = nothing_few
   within_few busy requests.Commit = nothing_few

@@ -1,5 +1,5 @@
 -- What holds of every journal that is kept of a plain plan: the server and the tool stay plain, and so are all answers.
-use Rattle.std.proofs.Common.{◌≡◌, ℕ, zero, suc, ◌+◌, ◌-◌, ◌*◌, ◌^◌, ◌<◌, ◌≤◌, ◌==◌, Bool, true, false, not, ◌||◌, cond, List, [], ◌∷◌, ◌++◌, length, Option, Some, None, refl, sym, ap, ◌∙◌, subst, arith, lit<}
+use Rattle.std.proofs.Common.{◌≡◌, ℕ, zero, suc, ◌+◌, ◌-◌, ◌*◌, ◌^◌, ◌<◌, ◌≤◌, ◌==◌, Bool, true, false, cond, List, [], ◌∷◌, ◌++◌, length, Option, Some, None, refl, sym, ap, ◌∙◌, subst, arith}
 use Rattle.std.specs.Prelude.{is_some, unwrap_or}
 use Rattle.std.specs.List.{AllByRecursion, flat_map, slice_get}
 use Rattle.std.proofs.lemmas.List.{length-append}
@@ -26,13 +26,13 @@ use Rattle.server_model.specs.Checks.{draws}
 use Rattle.server_model.specs.Counting.{drawn_by, drawn_if, is_answered, offered_inside, offered_to}
 use Rattle.server_model.specs.Drawing.{numbered, offered_in, offered_of}
 use Rattle.server_model.specs.Effects.{is_outside}
-use Rattle.server_model.specs.Entries.{is_client, is_command, same_actor}
+use Rattle.server_model.specs.Entries.{same_actor}
 use Rattle.server_model.specs.Operations.{table_of}
 use Rattle.server_model.specs.PlainServer.{asks_for, drawn_in, given_at, serves}
-use Rattle.server_model.specs.States.{State, connected, counter_of, is_live, is_of_tool, next_of, session_of}
+use Rattle.server_model.specs.States.{State, counter_of, is_of_tool, next_of, session_of}
 use Rattle.plan_data.specs.PlanData.{PlanData}
 use Rattle.tool_program.specs.JournalWords.Clients.{became, client_after, client_asks, client_at, line_asks, lines_drawn, script_of, with_draw, word_numbered, Reached}
-use Rattle.tool_program.specs.JournalWords.Journals.{heard, inner_answer, opening, opens, opens_if, state_after, state_at}
+use Rattle.tool_program.specs.JournalWords.Journals.{inner_answer, opening, opens, state_after, state_at}
 use Rattle.tool_program.specs.JournalWords.KeptPlans.{words_of}
 use Rattle.tool_program.specs.Programs.{IsGiven, commands, given, tool_asks}
 use Rattle.tool_program.specs.Tools.{Tool, moment}
@@ -45,17 +45,17 @@ use Rattle.proof_journals.proofs.Machine.Journals.{Asking, calls_so, polls_so, I
 use Rattle.proof_journals.proofs.Machine.Seated.{state_more}
 use Rattle.proof_journals.proofs.Progress.{lines_stay}
 use Rattle.proof_journals.proofs.Sentry.Inductions.{moment_more}
-use Rattle.proof_journals.proofs.ServerFacts.Calls.{connected_serves}
 use Rattle.proof_migration.proofs.Program.Turns.Follows.{kept_front, kept_run}
 use Rattle.proof_migration.proofs.HeldNames.Holders.{all_held_well}
 use Rattle.proof_migration.proofs.KeptJournals.{each_kept}
 use Rattle.proof_plain.specs.Plain.{BytesAsked, BytesRequest, BytesStatement, IsWrite, NoRows, PlainAnswer, PlainState, SmallCounters, SmallIf}
 use Rattle.proof_plain.specs.Plans.{BytesWord, IsShort, PlainPlan, PlainTool}
-use Rattle.proof_plain.proofs.Counts.{IsFew, connected_few, left_few, opened_few, view_few, view_formed}
+use Rattle.proof_plain.proofs.Counts.{IsFew, opened_few}
 use Rattle.proof_plain.proofs.Machines.{took_plain}
 use Rattle.proof_plain.proofs.Numbers.{counter_small, drawn_small}
+use Rattle.proof_plain.proofs.Opened.{heard_plain, leaves_few, opens_plain, sees_few}
 use Rattle.proof_plain.proofs.Requests.{PlainAnswers, tool_bytes, word_bytes}
-use Rattle.proof_plain.proofs.Serving.{BytesCalled, SeesFew, connected_plain, left_plain, served_bare, served_plain}
+use Rattle.proof_plain.proofs.Serving.{BytesCalled, SeesFew, left_plain, served_bare, served_plain}
 
 -- ---- the opening
 
@@ -65,30 +65,6 @@ counters_small (table ∷ tables) all = All-append (λ (counter : Counter). coun
 
 opening_plain : (plan : PlanData) → PlainPlan plan → PlainState (opening plan)
 opening_plain plan plain = record { client = plain.client; tool = plain.tool; tables = plain.tables; log = tt; waiting = tt; sessions = tt; counters = counters_small plan.tables plain.starts }
-
--- ---- a session that opens
-
-module _ (nothing tool : Bool) (number : ℕ) (state : State) where
-  opened_plain : number < 2 ^ 64 → PlainState state → PlainState (opens_if nothing tool number state)
-  unfolding opens_if
-  opened_plain small plain = by (nothing || is_live state number) where
-    by : (b : Bool) → PlainState (cond b state (connected number tool state))
-    by true = plain
-    by false = connected_plain number tool state small plain
-
-  few_opened : (rows events : ℕ) → IsFew rows events state → IsFew rows events (opens_if nothing tool number state)
-  unfolding opens_if
-  few_opened rows events few = by (nothing || is_live state number) where
-    by : (b : Bool) → IsFew rows events (cond b state (connected number tool state))
-    by true = few
-    by false = connected_few number rows events tool state few
-
-  serving_opened : IsServing state → IsServing (opens_if nothing tool number state)
-  unfolding opens_if
-  serving_opened serving = by (nothing || is_live state number) where
-    by : (b : Bool) → IsServing (cond b state (connected number tool state))
-    by true = serving
-    by false = connected_serves number tool state serving
 
 -- ---- clients
 
@@ -152,28 +128,7 @@ run_begins plan plain = record {
   lines = first_lines plan plain;
 }
 
-products : (n m : ℕ) → n * (m + n) + (m + n + 1) ≤ (n + 1) * (m + (n + 1))
-products n m = grind arith
-
-less_product : (n m : ℕ) → n ≤ m → n * (m + n) ≤ m * (m + m)
-less_product n m less = grind (arith, less)
-
-below : (a b c : ℕ) → a ≤ b → b < c → a < c
-below a b c one two = omega (arith, one, two)
-
-log_short : (n : ℕ) → n ≤ 2 ^ 31 → n * (2 ^ 31 + n) < 2 ^ 64
-log_short n less = below (n * (2 ^ 31 + n)) (2 ^ 31 * (2 ^ 31 + 2 ^ 31)) (2 ^ 64) (less_product n (2 ^ 31) less) (lit< tt)
-
 -- ---- one turn
-
--- an answer that the server gives, as it is heard
-heard_plain : (side : Option Side) (asked : Asked) (answer : Answer) → PlainAnswer answer → PlainAnswer (heard side (given_at side asked answer))
-heard_plain None (Call request) answer plain = plain
-heard_plain None Poll answer plain = plain
-heard_plain None (Command word) answer plain = plain
-heard_plain None Cut answer plain = tt
-heard_plain (Some Before) asked answer plain = tt
-heard_plain (Some After) asked answer plain = tt
 
 drawn_given : (state : State) (number : ℕ) (asked : Asked) (inner : Option Answer) → SmallCounters state.counters → SmallIf (drawn_in state number asked inner)
 drawn_given state number asked None small = tt
@@ -247,24 +202,14 @@ module _ (plan : PlanData) (plain : PlainPlan plan) (runs : IsRunnable plan) (se
   together : IsTogether plan journal
   together = all_together plan journal front.faithful front.follows
 
-  serving : IsServing open_now
-  serving = serving_opened (is_command entry.asked) (not (is_client entry.actor)) entry.session before (all_held_well plan journal runs serial front).serving
+  serves_now : IsServing before
+  serves_now = (all_held_well plan journal runs serial front).serving
 
-  few_now : IsFew (2 ^ 31 + length journal) (length journal * (2 ^ 31 + length journal)) open_now
-  few_now = few_opened (is_command entry.asked) (not (is_client entry.actor)) entry.session before (2 ^ 31 + length journal) (length journal * (2 ^ 31 + length journal)) now.few
+  open_plain : PlainState open_now
+  open_plain = opens_plain plan journal entry turns small now.state now.few serves_now
 
-  pub open_plain : PlainState open_now
-  open_plain = opened_plain (is_command entry.asked) (not (is_client entry.actor)) entry.session before small now.state
-
-  pub sees : SeesFew entry.session open_now
-  sees = record {
-    short =
-        let a = few_now.log in
-        let b = log_short (length journal) (omega (arith, turns)) in
-        below (length open_now.log) (length journal * (2 ^ 31 + length journal)) (2 ^ 64) (omega (arith, a)) b;
-    few = view_few entry.session (2 ^ 31 + length journal) (length journal * (2 ^ 31 + length journal)) open_now (omega (arith, turns)) serving few_now;
-    well_formed = view_formed entry.session open_now serving;
-  }
+  sees : SeesFew entry.session open_now
+  sees = sees_few plan journal entry turns small now.state now.few serves_now
 
   -- what is called
   tool_called : (actor : Actor) (request : Request) → tool_asks plan journal (moment plan journal) actor ≡ Some (Call request) → BytesRequest request
@@ -350,21 +295,6 @@ module _ (plan : PlanData) (plain : PlainPlan plan) (runs : IsRunnable plan) (se
   abbrev more : List Entry
   more = journal ++ entry ∷ []
 
-  long : length more ≡ length journal + 1
-  long = length-append journal (entry ∷ [])
-
-  few_after : IsFew (2 ^ 31 + length journal + 1) (length journal * (2 ^ 31 + length journal) + (2 ^ 31 + length journal + 1)) (state_at plan more)
-  few_after = subst (IsFew (2 ^ 31 + length journal + 1) (length journal * (2 ^ 31 + length journal) + (2 ^ 31 + length journal + 1))) (sym (state_more plan journal entry))
-      (left_few entry.session (2 ^ 31 + length journal) (length journal * (2 ^ 31 + length journal)) open_now serving few_now entry.side entry.asked)
-
-  fewer : (n : ℕ) → n ≡ length journal + 1 → IsFew (2 ^ 31 + n) (n * (2 ^ 31 + n)) (state_at plan more)
-  fewer n is = subst (λ (k : ℕ). IsFew (2 ^ 31 + k) (k * (2 ^ 31 + k)) (state_at plan more)) (sym is) (record {
-    rows = λ name. let a = few_after.rows name in omega (arith, a);
-    log = let a = few_after.log in let b = products (length journal) (2 ^ 31) in at_most a b;
-  }) where
-    at_most : {a b c : ℕ} → a ≤ b → b ≤ c → a ≤ c
-    at_most {a} {b} {c} one two = omega (arith, one, two)
-
   client_after_turn : (c : ℕ) → BytesLines (client_at plan more c).left
   client_after_turn c = subst (λ (client : Reached). BytesLines client.left) (sym (client_more plan journal entry c)) (by (same_actor entry.actor (Client c))) where
     by : (b : Bool) → BytesLines (cond b (client_after (became (client_at plan journal c) entry) (with_draw entry.draw (client_at plan journal c))) (client_at plan journal c)).left
@@ -379,7 +309,7 @@ module _ (plan : PlanData) (plain : PlainPlan plan) (runs : IsRunnable plan) (se
   pub run_goes : PlainRun plan more
   run_goes = record {
     state = subst PlainState (sym (state_more plan journal entry)) (left_plain entry.side entry.session open_now entry.asked small open_plain sees called_bytes);
-    few = fewer (length more) long;
+    few = leaves_few plan journal entry turns small now.state now.few serves_now;
     answers = All-append (λ (one : Entry). PlainAnswer one.answer) journal (entry ∷ []) now.answers (answer_plain, tt);
     tool = tool_after;
     lines = client_after_turn;

@@ -2,6 +2,7 @@ pub mod Counts
 pub mod Journals
 pub mod Machines
 pub mod Numbers
+pub mod Opened
 pub mod Requests
 pub mod Serving
 pub mod Sessions

@@ -289,7 +289,7 @@ call_bytes journal applier (apply_steps.Beginning batch) have all = tt
 call_bytes journal applier (apply_steps.Applying batch done part) have all = said_bytes applier (appliers.doing_at journal applier (apply_steps.Applying batch done part)) have (doing_plain journal applier (apply_steps.Applying batch done part) all)
 call_bytes journal applier (apply_steps.Committing batch) have all = tt
 
-applied_bytes : (journal : List Entry) (applier : Applier) → BytesMap applier.map → PlainAnswers journal → BytesRequest (appliers.next journal applier)
+pub applied_bytes : (journal : List Entry) (applier : Applier) → BytesMap applier.map → PlainAnswers journal → BytesRequest (appliers.next journal applier)
 unfolding appliers.next
 applied_bytes journal applier have all = call_bytes journal applier applier.step have all
 
@@ -309,7 +309,7 @@ unless_bytes : (b : Bool) (one two : Option Request) → BytesAsked one → Byte
 unless_bytes true one two first second = first
 unless_bytes false one two first second = second
 
-copied_bytes : (journal : List Entry) (copier : Copier) → BytesMap copier.map → BytesCopyRange copier.range → PlainAnswers journal → BytesAsked (copiers.next journal copier)
+pub copied_bytes : (journal : List Entry) (copier : Copier) → BytesMap copier.map → BytesCopyRange copier.range → PlainAnswers journal → BytesAsked (copiers.next journal copier)
 unfolding copiers.next
 copied_bytes journal copier have ranged all = unless_bytes copier.is_copied None (copiers.call_in journal copier copier.range) tt (by copier.range ranged) where
   by : (range : Option CopyRange) → BytesCopyRange range → BytesAsked (copiers.call_in journal copier range)

@@ -1,7 +1,7 @@
 -- The key of a row that a verdict of revert names has a value.
-use Rattle.std.proofs.Common.{◌≡◌, ◌<◌, ◌==◌, ℕ, ◌-◌, Bool, true, false, cond, List, [], ◌∷◌, ◌++◌, length, take, Option, Some, None, refl, sym, ap, ◌∙◌, subst, arith}
+use Rattle.std.proofs.Common.{◌≡◌, ◌<◌, ℕ, ◌-◌, true, false, List, [], ◌∷◌, ◌++◌, length, take, Option, Some, None, refl, sym, ap, ◌∙◌, subst, arith}
 use Rattle.std.specs.Prelude.{find, unwrap_or}
-use Rattle.std.specs.List.{AllByRecursion, list_any, slice_get}
+use Rattle.std.specs.List.{AllByRecursion, slice_get}
 use Rattle.std.specs.Option.{option_map, option_to_list}
 use Rattle.base_script.specs.declared.actor.Actor.{Actor}
 use Rattle.base_script.specs.declared.actor.Actor.TheVariants.{Copy, Apply}
@@ -11,69 +11,60 @@ use Rattle.base_values.specs.declared.value.Value.{Value}
 use Rattle.base_values.specs.GhoSchema.ClusteredKey.{is_not_null}
 use Rattle.base_values.specs.GhoSchema.Rows.{key_of, key_places}
 use Rattle.base_values.specs.GhoSchema.Tables.{IsRow}
-use Rattle.base_values.proofs.SchemaRules.Lists.{All-at}
 use Rattle.table_store.specs.Databases.{TableRows, find_table}
 use Rattle.table_store.specs.RowLists.{is_at}
 use Rattle.server_model.specs.declared.answer.Answer.{Answer}
-use Rattle.server_model.specs.declared.answer.Answer.TheVariants as answers
 use Rattle.server_model.specs.declared.entry.Entry.{Entry}
 use Rattle.server_model.specs.declared.outcome.Cause.TheVariants as causes
 use Rattle.server_model.specs.declared.outcome.Progress.TheVariants.{Unfit}
 use Rattle.server_model.specs.declared.outcome.Verdict.TheVariants as verdicts
-use Rattle.server_model.specs.Entries.{answer_at}
-use Rattle.server_model.specs.EarlierAnswers.{events_in}
 use Rattle.server_model.specs.LockedRows.Coverage.{IsWellFormedTable}
 use Rattle.server_model.specs.LockedRows.Databases.{WhereFound}
 use Rattle.server_model.specs.States.{State}
 use Rattle.plan_data.specs.PlanData.{PlanData, no_schema, old_schema}
 use Rattle.tool_program.specs.declared.event_applier.applier.Applier.{Applier}
 use Rattle.tool_program.specs.declared.event_applier.applier.ApplyStep.{ApplyStep}
-use Rattle.tool_program.specs.declared.event_applier.applier.ApplyStep.TheVariants.{Reading, Beginning, Applying, Committing}
+use Rattle.tool_program.specs.declared.event_applier.applier.ApplyStep.TheVariants.{Applying}
+use Rattle.tool_program.specs.declared.event_applier.applier.Batch.{Batch}
 use Rattle.tool_program.specs.declared.event_applier.applier.Part.{Part}
-use Rattle.tool_program.specs.declared.event_applier.applier.Part.TheVariants.{Whole, Removal, Return}
-use Rattle.tool_program.specs.EventApplier.Appliers.{Doing, doing_at, doing_in, in_part, row_done}
-use Rattle.tool_program.specs.EventApplier.Appliers.Doing.{Putting, Removing, Changing}
+use Rattle.tool_program.specs.EventApplier.Appliers.{Doing, doing_at, in_part, row_done}
 use Rattle.tool_program.specs.EventApplier.Appliers as appliers
 use Rattle.tool_program.specs.Failures.{IsUnfit, applied_row, concerned, row_in}
-use Rattle.tool_program.specs.JournalWords.Histories.{history, is_alter}
 use Rattle.tool_program.specs.JournalWords.Journals.{state_at}
 use Rattle.tool_program.specs.Programs.{Follows}
 use Rattle.tool_program.specs.Tools.{Moment, Reason, CopyUnfit, ApplyUnfit, Spent, Panicked, Migrating, Work, is_reverting, moment}
-use Rattle.tool_program.specs.Verdicts.{cause_of, ended_so, has_ended, reverted_by, verdict_of}
+use Rattle.tool_program.specs.Verdicts.{cause_of, verdict_of}
 use Rattle.tool_program.proofs.OnlineCalls.Machines.{IsNamed, ToolPhaseIsNamed, named}
-use Rattle.proof_journals.specs.Ghost.Doings.{planned}
 use Rattle.proof_journals.specs.Ghost.HeldKeys.{Clustered}
-use Rattle.proof_journals.specs.Ghost.OwnChanges.{own_changes}
 use Rattle.proof_journals.specs.Ghost.Rows.Timelines.{Migration}
 use Rattle.proof_journals.specs.Machine.Runnable.{IsRunnable}
-use Rattle.proof_journals.specs.Plans.{IsSerialPlan, limits_of, scene_of}
+use Rattle.proof_journals.specs.Plans.{IsSerialPlan}
 use Rattle.proof_journals.specs.Run.Kept.{IsKept}
 use Rattle.proof_journals.proofs.Ghost.Keys.{clustered}
 use Rattle.proof_journals.proofs.Machine.Journals.{all_runs, all_together}
-use Rattle.proof_migration.specs.Migration.Applier.ApplierPlace.{IsBatchReported, StepKnows}
-use Rattle.proof_migration.specs.Migration.Machines.{MigrationStands}
 use Rattle.proof_migration.specs.Migration.Planning.{migration_of}
-use Rattle.proof_migration.specs.Program.Turns.Goes.{Goes, machines_in}
+use Rattle.proof_migration.specs.Program.Turns.Goes.{Goes}
 use Rattle.proof_migration.specs.Program.Turns.Laws.{GoesSomehow, IsMigrationOf}
 use Rattle.proof_migration.specs.ToolPhase.Runnable.{IsAlterable}
 use Rattle.proof_migration.specs.ToolPhase.Unaltered.{IsUnaltered}
 use Rattle.proof_migration.proofs.Attempt.Verdicts.Standing.{IsGround, ground}
 use Rattle.proof_migration.proofs.HeldNames.Holders.{all_held_well}
 use Rattle.proof_migration.proofs.Migration.Applier.Keys.{ValueAt, value_of}
-use Rattle.proof_migration.proofs.Migration.Applier.Planning.{DoesRows, NextDoing, next_doing, planned_alike, planned_rows}
+use Rattle.proof_migration.proofs.Migration.Applier.NextStatement.{NextStatement, next_statement}
+use Rattle.proof_migration.proofs.Migration.Applier.Planning.{done_row, part_rows}
 use Rattle.proof_migration.proofs.Program.Follows.{migration, own_table}
 use Rattle.proof_migration.proofs.Program.Starts.{followers_go}
 use Rattle.proof_migration.proofs.Program.Turns.ActorStates.{SomeActorStates, some_actor_states}
 use Rattle.proof_migration.proofs.Program.Turns.Follows.{kept_front}
 use Rattle.proof_migration.proofs.ToolPhase.Unaltered.Away.{unaltered_front}
 use Rattle.proof_migration.proofs.Unfit.Grounds.{GroundStands, IsGrounded, IsUnfitTurn, all_grounded, stood_in}
-use Rattle.proof_migration.proofs.Unfit.Applies.{planned_fits}
-use Rattle.proof_migration.proofs.Unfit.Rows.{front_is, stands_there}
+use Rattle.proof_migration.proofs.Unfit.Applies.{IsRefusal, refusal}
+use Rattle.proof_migration.proofs.Unfit.Rows.{front_is, stands_there, unaltered_so}
 
 -- ---- keys of rows
 
 -- the key of a row that fits has a value where the key has columns, none of which may be null
-row_keyed : (columns : List Column) (row : List Value) → IsRow columns row → (places : List ℕ) → 0 < length places → AllByRecursion (λ place. is_not_null (slice_get columns place) ≡ true) places → 0 < length (key_of places row)
+pub row_keyed : (columns : List Column) (row : List Value) → IsRow columns row → (places : List ℕ) → 0 < length places → AllByRecursion (λ place. is_not_null (slice_get columns place) ≡ true) places → 0 < length (key_of places row)
 unfolding key_of
 row_keyed columns row fits [] some full = absurd (let no : ⊥ = omega (arith, some) in no)
 row_keyed columns row fits (place ∷ places) some full = by (slice_get columns place) refl full.0 where
@@ -95,7 +86,7 @@ none_found table well [] fit = refl
 none_found table well (row ∷ rows) fit =
     rw (none_at (key_places table.schema) row (row_keyed table.schema.columns row fit.0 (key_places table.schema) well.keyed.some well.keyed.not_null)) (none_found table well rows fit.1)
 
-found_keyed : (found : Option TableRows) (key row : List Value) → WhereFound IsWellFormedTable found → row_in found key ≡ Some row → 0 < length key
+pub found_keyed : (found : Option TableRows) (key row : List Value) → WhereFound IsWellFormedTable found → row_in found key ≡ Some row → 0 < length key
 found_keyed None key row well is = absurd cc
 found_keyed (Some table) (value ∷ key) row well is = omega (arith)
 found_keyed (Some table) [] row well is = absurd (no (sym (none_found table well table.rows well.is_table.rows_fit) ∙ is)) where
@@ -104,41 +95,10 @@ found_keyed (Some table) [] row well is = absurd (no (sym (none_found table well
 
 -- ---- what the applier does
 
-abbrev IsApplying : ApplyStep → Type 0
-IsApplying (Applying batch done part) = Unit {0}
-IsApplying step = ⊥
-
-step_applies : (applier : Applier) (step : ApplyStep) (answer : Answer) (place number : ℕ) → appliers.progress_at applier step answer ≡ Unfit place number → IsApplying step
-step_applies applier (Applying batch done part) answer place number is = tt
-step_applies applier Reading (answers.Events events following) place number is = absurd (planned_fits (length (appliers.planned applier events) == 0) place number is)
-step_applies applier (Beginning batch) answers.Lost place number is = absurd cc
-step_applies applier (Committing batch) answers.Lost place number is = absurd cc
-step_applies applier step answer place number is = absurd cc
-
-done_rows : (columns : List Column) (part : Part) (doing : Doing) → DoesRows columns doing → IsRow columns (row_done (Some (in_part part doing)))
-done_rows columns Whole (Putting row) fits = fits
-done_rows columns Whole (Removing row) fits = fits
-done_rows columns Whole (Changing before after) fits = fits.1
-done_rows columns Removal (Putting row) fits = fits
-done_rows columns Removal (Removing row) fits = fits
-done_rows columns Removal (Changing before after) fits = fits.0
-done_rows columns Return (Putting row) fits = fits
-done_rows columns Return (Removing row) fits = fits
-done_rows columns Return (Changing before after) fits = fits.1
-
--- ---- the journal's turn
-
--- what is reverted has no ALTER in its history
-unaltered_so : (plan : PlanData) (journal : List Entry) (turn : ℕ) (key : List Value) (column : List ℕ) (number : ℕ) → verdict_of plan journal ≡ verdicts.Reverted (causes.Unfit turn key column number) → IsUnaltered plan journal
-unfolding verdict_of
-unaltered_so plan journal turn key column number is = ended (has_ended plan journal) is where
-  altered : (b : Bool) → cond b verdicts.Done (reverted_by plan journal (moment plan journal).tool (moment plan journal).tool.reason) ≡ verdicts.Reverted (causes.Unfit turn key column number) → b ≡ false
-  altered true same = absurd cc
-  altered false same = refl
-
-  ended : (b : Bool) → cond b (ended_so plan journal (moment plan journal).tool) verdicts.Unfinished ≡ verdicts.Reverted (causes.Unfit turn key column number) → IsUnaltered plan journal
-  ended false same = absurd cc
-  ended true same = altered (list_any is_alter (history plan journal)) same
+-- the row of its next statement fits the migrated table
+pub statement_row : (m : Migration) (journal : List Entry) (applier : Applier) (batch : Batch) (count : ℕ) (part : Part) → NextStatement m journal applier batch count part → IsRow m.schema.columns (row_done (doing_at journal applier applier.step))
+statement_row m journal applier batch count part next =
+    subst (λ (d : Option Doing). IsRow m.schema.columns (row_done d)) (sym next.does) (done_row m.schema.columns (in_part part next.doing) (part_rows m.schema.columns part next.doing next.rows))
 
 module _ (plan : PlanData) (is : IsAlterable plan) (again : StoresAgain) (runs : IsRunnable plan) (serial : IsSerialPlan plan) where
   abbrev m : Migration
@@ -156,24 +116,18 @@ module _ (plan : PlanData) (is : IsAlterable plan) (again : StoresAgain) (runs :
   -- ---- the applier's row
 
   applied_fits : (journal : List Entry) → IsKept plan journal → IsUnaltered plan journal → (work : Work) → (moment plan journal).tool.tool_phase ≡ Migrating work → is_reverting (moment plan journal).tool.reason ≡ false
-      → (step : ApplyStep) → work.applier.step ≡ step → IsApplying step → IsRow m.schema.columns (row_done (doing_at journal work.applier step))
-  applied_fits journal kept off work phase going (Applying batch count part) here applying =
-      let somehow : GoesSomehow plan m at is.table.rows journal = followers_go plan m at is.table.rows of (own_table plan is) journal work kept off going phase in
-      let goes : Goes plan m at is.table.rows journal work = subst (Goes plan m at is.table.rows journal) (same_work somehow.work work (sym somehow.tool_phase ∙ phase)) somehow.goes in
-      let some : SomeActorStates journal = some_actor_states journal (all_together plan journal kept.faithful kept.follows).known.sessions in
-      let stands : MigrationStands m at is.table.rows (limits_of plan) (scene_of plan []) journal (machines_in work some.copier some.applier) = goes.stands some.copier some.applier some.actor_states in
-      let knows : StepKnows m journal (Applying batch count part) = subst (StepKnows m journal) here stands.applier_knows.step in
-      let reported : IsBatchReported m journal batch = knows.0 in
-      let names : IsNamed plan work = subst (ToolPhaseIsNamed plan) phase (named plan journal) in
-      let next_one : NextDoing (planned m (own_changes m.name reported.events)) count = next_doing (planned m (own_changes m.name reported.events)) count (subst (λ (n : ℕ). count < n) reported.counted knows.1) in
-      let code_plan : appliers.planned work.applier (events_in (answer_at journal batch.read)) ≡ planned m (own_changes m.name reported.events) =
-      ap (λ (a : Option Answer). appliers.planned work.applier (events_in a)) reported.reported
-      ∙ planned_alike m work.applier reported.events of.finds (names.applier ∙ sym of.of.name) goes.schema goes.apply_map reported.rows in
-      let there : doing_at journal work.applier (Applying batch count part) ≡ Some (in_part part next_one.doing) = ap (λ (l : List Doing). doing_in part (slice_get l count)) code_plan ∙ ap (doing_in part) next_one.there in
-      let does : DoesRows m.schema.columns next_one.doing =
-      All-at (DoesRows m.schema.columns) (planned m (own_changes m.name reported.events)) count next_one.doing (planned_rows m (own_changes m.name reported.events) reported.rows) next_one.there in
-      subst (λ (d : Option Doing). IsRow m.schema.columns (row_done d)) (sym there) (done_rows m.schema.columns part next_one.doing does)
-  applied_fits journal kept off work phase going step here applying = absurd applying
+      → (answer : Answer) (place number : ℕ) → appliers.progress work.applier answer ≡ Unfit place number → IsRow m.schema.columns (row_done (doing_at journal work.applier work.applier.step))
+  unfolding appliers.progress
+  applied_fits journal kept off work phase going answer place number unfit = by work.applier.step refl (refusal work.applier work.applier.step answer place number unfit) where
+    by : (step : ApplyStep) → work.applier.step ≡ step → IsRefusal step answer place number → IsRow m.schema.columns (row_done (doing_at journal work.applier work.applier.step))
+    by (Applying batch count part) here is_refusal =
+        let somehow : GoesSomehow plan m at is.table.rows journal = followers_go plan m at is.table.rows of (own_table plan is) journal work kept off going phase in
+        let goes : Goes plan m at is.table.rows journal work = subst (Goes plan m at is.table.rows journal) (same_work somehow.work work (sym somehow.tool_phase ∙ phase)) somehow.goes in
+        let some : SomeActorStates journal = some_actor_states journal (all_together plan journal kept.faithful kept.follows).known.sessions in
+        let names : IsNamed plan work = subst (ToolPhaseIsNamed plan) phase (named plan journal) in
+        statement_row m journal work.applier batch count part
+        (next_statement m of.finds journal work.applier (names.applier ∙ sym of.of.name) goes.schema goes.apply_map (goes.stands some.copier some.applier some.actor_states).applier_knows batch count part here)
+    by step here is_refusal = absurd is_refusal
 
   old_is : old_schema plan ≡ m.schema
   old_is = ap (λ (found : Option TableRows). unwrap_or (option_map (λ table. table.schema) found) no_schema) is.found
@@ -213,13 +167,11 @@ module _ (plan : PlanData) (is : IsAlterable plan) (again : StoresAgain) (runs :
         (ap (λ (s : State). row_in (find_table plan.table s.tables) key) (sym server) ∙ concerns Copy place reported here)
 
     applied : (place reported : ℕ) → Turn Apply place reported → 0 < length key
-    unfolding appliers.progress
     applied place reported here =
         let front_kept : IsKept plan here.front = front_kept Apply place reported here in
         let front_off : IsUnaltered plan here.front = unaltered_front plan here.front (here.entry ∷ here.has.rest) (subst (IsUnaltered plan) here.has.whole off) in
-        let applying : IsApplying here.work.applier.step = step_applies here.work.applier here.work.applier.step here.entry.answer place reported here.unfit in
         let fits : IsRow m.schema.columns (row_done (doing_at here.front here.work.applier here.work.applier.step)) =
-        applied_fits here.front front_kept front_off here.work here.tool_phase (ap is_reverting here.going) here.work.applier.step refl applying in
+        applied_fits here.front front_kept front_off here.work here.tool_phase (ap is_reverting here.going) here.entry.answer place reported here.unfit in
         let done : row_done (doing_at here.front here.work.applier here.work.applier.step) ≡ unfit.row =
         same_row _ unfit.row (ap (applied_row here.front) (sym here.tool_phase) ∙ concerns Apply place reported here) in
         subst (λ (k : List Value). 0 < length k) (ap (key_of (key_places (old_schema plan))) done ∙ unfit.keyed) (applied_keyed (row_done (doing_at here.front here.work.applier here.work.applier.step)) fits) where
@@ -237,7 +189,7 @@ module _ (plan : PlanData) (is : IsAlterable plan) (again : StoresAgain) (runs :
     grounded = all_grounded plan journal (all_runs plan [] journal kept.faithful kept.follows)
 
     off : IsUnaltered plan journal
-    off = unaltered_so plan journal turn key column number verdict
+    off = unaltered_so plan journal (causes.Unfit turn key column number) verdict
 
     by : (reason : Reason) → cause_of plan journal (moment plan journal).tool reason ≡ causes.Unfit turn key column number → GroundStands plan journal (stood_in (moment plan journal).tool.tool_phase) (Some reason) → 0 < length key
     by (CopyUnfit other place reported) same here =
