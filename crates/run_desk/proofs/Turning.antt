@@ -1,13 +1,12 @@
 -- What a seat has while its worker takes a turn at the book.
 use Rattle.std.proofs.Common.{◌≡◌, ◌≢◌, ℕ, List, [], ◌∷◌, ◌++◌, length, drop, refl, sym, ap, ◌∙◌, subst}
-use Rattle.std.specs.Prelude.{Option, Some, None}
+use Rattle.std.specs.Prelude.{Bool, true, false, Option, Some, None, Result, Ok, Err, OnErr}
 use Rattle.std.proofs.lemmas.List.Prefix.{front_rest}
 use Rattle.std.proofs.lemmas.List.Elements.{All-head}
 use Rattle.std.proofs.lemmas.Option.{same_Some}
 use Rattle.atomic_table.specs.Table.{Me, rest}
 use Rattle.run_desk.specs.declared.shared_state.Entry.{Entry}
-use Rattle.run_desk.specs.declared.shared_state.Turned.{Turned}
-use Rattle.run_desk.specs.declared.shared_state.Turned.TheVariants.{Took, Over, NoMemory}
+use Rattle.std.specs.declared.alloc.AllocError.{AllocError}
 use Rattle.run_desk.specs.declared.hand.Stage.TheVariants.{Rests, Waits, Holds}
 use Rattle.run_desk.specs.declared.hand.Hand.{Hand}
 use Rattle.run_desk.specs.Boards.{HoldsSharedState, Ends}
@@ -98,17 +97,29 @@ module _ {B O E : Type 0} (opening_of : B → O) (entries_in : B → List (Entry
           let fits = All-head (λ (hand : Hand O E). (opening_of shared_state ≡ hand.opening) × StartsWith (entries_in shared_state) hand.seen) _ [] shows in
           record { entries = entries_in shared_state; held = (ticket, shared_state, (λ i. (views i, slots i)), fits.0, refl); begins = fits.1 }
 
+-- whether a turn was taken
+abbrev pub is_taken : Result Bool AllocError → Bool
+is_taken (Ok taken) = taken
+is_taken (Err error) = false
+
+-- a turn that wasn't taken ends so
+pub ended : {S O E : Type 0} (is_over : O → List (Entry E) → Type 0) (opening : O) (entries : List (Entry E)) (number : ℕ) (own : List (Entry E)) (taken : Result Bool AllocError) (me : Me S (List (Hand O E))) → taken ≢ Ok true → (taken ≡ Ok false → is_over opening entries) → (is_over opening entries → taken ≡ Ok false)
+    → me ≡ (worker_view opening entries number own Rests, []) → Ends is_over opening entries number own taken me
+ended is_over opening entries number own (Ok true) me other over is_end is = absurd (other refl)
+ended is_over opening entries number own (Ok false) me other over is_end is = (is, over refl)
+ended is_over opening entries number own (Err error) me other over is_end is = (is, λ at_end. let no : Err error ≡ Ok false = is_end at_end in absurd cc)
+
 -- what the end of a turn tells the pass
 module _ {S O E : Type 0} (is_over : O → List (Entry E) → Type 0) (opening : O) (entries seen : List (Entry E)) (number : ℕ) (own : List (Entry E)) (begins : StartsWith entries seen) where
   at_rest : (me : Me S (List (Hand O E))) (now mine : List (Entry E)) → me ≡ (worker_view opening now number mine Rests, []) → me ≡ (worker_view opening (seen_of me.0) number (own_of me.0) Rests, [])
   at_rest me now mine is = subst (λ (m : Me S (List (Hand O E))). m ≡ (worker_view opening (seen_of m.0) number (own_of m.0) Rests, [])) (sym is) refl
 
-  pub rests : (turned : Turned) (me : Me S (List (Hand O E))) → Ends is_over opening entries number own turned me → me ≡ (worker_view opening (seen_of me.0) number (own_of me.0) Rests, [])
-  rests Took me (event, is, open_) = at_rest me _ _ is
-  rests Over me (is, over) = at_rest me _ _ is
-  rests NoMemory me (is, open_) = at_rest me _ _ is
+  pub rests : (taken : Result Bool AllocError) (me : Me S (List (Hand O E))) → Ends is_over opening entries number own taken me → me ≡ (worker_view opening (seen_of me.0) number (own_of me.0) Rests, [])
+  rests (Ok true) me (event, is, open_) = at_rest me _ _ is
+  rests (Ok false) me (is, over) = at_rest me _ _ is
+  rests (Err error) me (is, open_) = at_rest me _ _ is
 
-  pub took : (me : Me S (List (Hand O E))) → Ends is_over opening entries number own Took me
+  pub took : (me : Me S (List (Hand O E))) → Ends is_over opening entries number own (Ok true) me
       → (event : E) × (between : List (Entry E)) × (own_of me.0 ≡ own ++ record { worker = number; event = event } ∷ []) × (seen_of me.0 ≡ (seen ++ between) ++ record { worker = number; event = event } ∷ []) × ¬ is_over opening (seen ++ between)
   took me (event, is, open_) = (
     event,
@@ -121,13 +132,14 @@ module _ {S O E : Type 0} (is_over : O → List (Entry E) → Type 0) (opening :
   saw : (me : Me S (List (Hand O E))) → me ≡ (worker_view opening entries number own Rests, []) → (own_of me.0 ≡ own) × StartsWith (seen_of me.0) seen
   saw me is = (ap (λ (m : Me S (List (Hand O E))). own_of m.0) is, (begins.0, ap (λ (m : Me S (List (Hand O E))). seen_of m.0) is ∙ begins.1))
 
-  pub sees : (turned : Turned) (me : Me S (List (Hand O E))) → Ends is_over opening entries number own turned me → turned ≢ Took → (own_of me.0 ≡ own) × StartsWith (seen_of me.0) seen
-  sees Took me ends other = absurd (other refl)
-  sees Over me (is, over) other = saw me is
-  sees NoMemory me (is, open_) other = saw me is
+  pub sees : (taken : Result Bool AllocError) (me : Me S (List (Hand O E))) → Ends is_over opening entries number own taken me → taken ≢ Ok true → (own_of me.0 ≡ own) × StartsWith (seen_of me.0) seen
+  sees (Ok true) me ends other = absurd (other refl)
+  sees (Ok false) me (is, over) other = saw me is
+  sees (Err error) me (is, open_) other = saw me is
 
-  pub over : (me : Me S (List (Hand O E))) → Ends is_over opening entries number own Over me → is_over opening (seen_of me.0)
+  pub over : (me : Me S (List (Hand O E))) → Ends is_over opening entries number own (Ok false) me → is_over opening (seen_of me.0)
   over me (is, at_end) = subst (is_over opening) (sym (ap (λ (m : Me S (List (Hand O E))). seen_of m.0) is)) at_end
 
-  pub no_memory : (me : Me S (List (Hand O E))) → Ends is_over opening entries number own NoMemory me → ¬ is_over opening (seen_of me.0)
-  no_memory me (is, open_) = λ at_end. open_ (subst (is_over opening) (ap (λ (m : Me S (List (Hand O E))). seen_of m.0) is) at_end)
+  pub no_memory : (taken : Result Bool AllocError) (me : Me S (List (Hand O E))) → Ends is_over opening entries number own taken me → OnErr taken (¬ is_over opening (seen_of me.0))
+  no_memory (Ok taken) me ends = tt
+  no_memory (Err error) me (is, open_) = λ at_end. open_ (subst (is_over opening) (ap (λ (m : Me S (List (Hand O E))). seen_of m.0) is) at_end)

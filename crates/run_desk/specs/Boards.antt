@@ -1,11 +1,10 @@
 -- What a seat at the board has, between two steps of a turn.
-use Rattle.std.specs.Prelude.{◌≡◌, ℕ, List, [], ◌∷◌, ◌++◌, Option, Some}
+use Rattle.std.specs.Prelude.{◌≡◌, ℕ, Bool, true, false, List, [], ◌∷◌, ◌++◌, Option, Some, Result, Ok, Err}
+use Rattle.std.specs.declared.alloc.AllocError.{AllocError}
 use Rattle.atomic_table.specs.Table.{Me}
 use Rattle.atomic_table.specs.Seated.{TableId}
 use Rattle.atomic_table.specs.declared.shared.Seat.{Seat}
 use Rattle.run_desk.specs.declared.shared_state.Entry.{Entry}
-use Rattle.run_desk.specs.declared.shared_state.Turned.{Turned}
-use Rattle.run_desk.specs.declared.shared_state.Turned.TheVariants.{Took, Over, NoMemory}
 use Rattle.run_desk.specs.declared.hand.Stage.{Stage}
 use Rattle.run_desk.specs.declared.hand.Stage.TheVariants.{Rests, Holds}
 use Rattle.run_desk.specs.declared.hand.Hand.{Hand}
@@ -43,10 +42,10 @@ module _ {B O E : Type 0} (opening_of : B → O) (entries_in : B → List (Entry
 module _ {S O E : Type 0} (is_over : O → List (Entry E) → Type 0) (opening : O) (entries : List (Entry E)) (number : ℕ) (own : List (Entry E)) where
   -- The worker rests after a turn at a shared state of these entries, and has seen them all, with its own new one where the
   -- turn was taken.
-  abbrev pub Ends : Turned → Me S (List (Hand O E)) → Type 0
-  Ends Took me =
+  abbrev pub Ends : Result Bool AllocError → Me S (List (Hand O E)) → Type 0
+  Ends (Ok true) me =
       (event : E)
       × (me ≡ (worker_view opening (entries ++ record { worker = number; event = event } ∷ []) number (own ++ record { worker = number; event = event } ∷ []) Rests, []))
       × ¬ is_over opening entries
-  Ends Over me = (me ≡ (worker_view opening entries number own Rests, [])) × is_over opening entries
-  Ends NoMemory me = (me ≡ (worker_view opening entries number own Rests, [])) × ¬ is_over opening entries
+  Ends (Ok false) me = (me ≡ (worker_view opening entries number own Rests, [])) × is_over opening entries
+  Ends (Err error) me = (me ≡ (worker_view opening entries number own Rests, [])) × ¬ is_over opening entries

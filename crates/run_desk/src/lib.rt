@@ -21,5 +21,5 @@ mod turn_queue;
 pub mod turn_queue_workers;
 
 pub use pass::{Pass, Passes};
-pub use shared_state::{Entry, SharedState, Turned};
+pub use shared_state::{Entry, SharedState};
 pub use turn_queue::TurnQueue;

@@ -1,22 +1,13 @@
 //! What the workers take turns at.
-ghost use Rattle.std.specs.Prelude.{◌≡◌, ◌≢◌, ◌↔◌, List, [], ◌∷◌, ◌++◌};
+ghost use Rattle.std.specs.Prelude.{◌≡◌, ◌≢◌, ◌↔◌, List, [], ◌∷◌, ◌++◌, true, false, Ok};
+
+use std::alloc::AllocError;
 
 /// One turn in a shared state's list: which worker took it, and what it adds.
 #[derive(Debug, Drop)]
 pub struct Entry<E> {
     pub worker: u32,
     pub event: E,
-}
-
-/// What a shared state answers to a worker that asks for a turn.
-#[derive(Clone, Copy, PartialEq, Eq, Debug)]
-pub enum Turned {
-    /// The turn was taken, and the list has one entry more.
-    Took,
-    /// No turn is left.
-    Over,
-    /// There was no memory for the turn.
-    NoMemory,
 }
 
 /// A list of turns that workers add to, one at a time.
@@ -36,12 +27,13 @@ pub trait SharedState {
 
     ghost is_over: { Self.Opening → List (Entry Self.Event) → Type 0 };
 
-    /// Takes one turn for this worker, where one is left.
-    fn take_turn(&mut self, worker: u32) -> Turned
+    /// Takes one turn for this worker, and says whether it did: `false` where none is left, and an error where there was no memory
+    /// for it. A turn that was taken is one entry more in the list.
+    fn take_turn(&mut self, worker: u32) -> Result<bool, AllocError>
         ensures opening { opening self.new ≡ opening self.old }
-        ensures over { (result ≡ Turned.Over) ↔ is_over (opening self.old) (entries self.old) }
-        ensures took { result ≡ Turned.Took → ((event : Self.Event) × (entries self.new ≡ entries self.old ++ record { worker = worker; event = event } ∷ [])) }
-        ensures others { result ≢ Turned.Took → entries self.new ≡ entries self.old };
+        ensures over { (result ≡ Ok false) ↔ is_over (opening self.old) (entries self.old) }
+        ensures took { result ≡ Ok true → ((event : Self.Event) × (entries self.new ≡ entries self.old ++ record { worker = worker; event = event } ∷ [])) }
+        ensures others { result ≢ Ok true → entries self.new ≡ entries self.old };
 
     ghost stays_over: { (start : Self.Opening) (before after : List (Entry Self.Event)) → is_over start before → is_over start (before ++ after) };
 }

@@ -1,5 +1,5 @@
 //! The steps of a turn, each at one word of the board.
-ghost use Rattle.std.specs.Prelude.{◌≡◌, ℕ, List, ◌%◌, ◌^◌, [], ◌∷◌, ◌++◌, Some};
+ghost use Rattle.std.specs.Prelude.{◌≡◌, ◌≢◌, ℕ, List, ◌%◌, ◌^◌, [], ◌∷◌, ◌++◌, Some, Ok, true, false};
 ghost use Rattle.run_desk.specs.declared.shared_state.Entry.{Entry};
 ghost use Rattle.run_desk.specs.declared.hand.Stage.TheVariants.{Rests, Waits, Holds};
 ghost use Rattle.run_desk.specs.Boards.{IsAt, IsWorkerAt, IsSameSeat, HoldsSharedState, HoldsMore, HoldsAll, Ends};
@@ -8,7 +8,8 @@ ghost use Rattle.run_desk.specs.Views.{staged, recorded};
 
 use crate::plays::{Count, Draw, Look, Serve};
 use crate::rule::{Board, COUNT, Place, SERVING, SHARED_STATE, TICKET};
-use crate::shared_state::{SharedState, Turned};
+use crate::shared_state::SharedState;
+use std::alloc::AllocError;
 use std::sync::Wait;
 use std::thread;
 
@@ -75,27 +76,38 @@ pub(crate) fn serve<B: SharedState>(board: &Board<B>, seat: &mut Place<B>)
     board.wake_all(SERVING);
 }
 
+/// Whether a turn was taken.
+fn was_taken(taken: Result<bool, AllocError>) -> bool
+    ensures took { result ≡ true → taken ≡ Ok true }
+    ensures others { result ≡ false → taken ≢ Ok true }
+{
+    matches!(taken, Ok(true))
+}
+
 /// Takes a turn at the shared state, counts its entry where it was taken, and gives the turn on.
-pub(crate) fn take<B: SharedState>(board: &Board<B>, seat: &mut Place<B>, worker: u32) -> Turned
+pub(crate) fn take<B: SharedState>(
+    board: &Board<B>,
+    seat: &mut Place<B>,
+    worker: u32,
+) -> Result<bool, AllocError>
     requires board { IsAt board.now.table_id seat.old }
     requires holds { (opening : B.Opening) × (entries : List (Entry B.Event)) × (own : List (Entry B.Event)) × HoldsSharedState B.opening B.entries opening entries worker own entries seat.old.me }
     ensures seat { IsSameSeat seat.old seat.new }
-    ensures turned { (opening : B.Opening) (entries own : List (Entry B.Event)) → HoldsSharedState B.opening B.entries opening entries worker own entries seat.old.me → Ends B.is_over opening entries worker own result seat.new.me }
+    ensures taken { (opening : B.Opening) (entries own : List (Entry B.Event)) → HoldsSharedState B.opening B.entries opening entries worker own entries seat.old.me → Ends B.is_over opening entries worker own result seat.new.me }
 {
     let Some(mut shared_state) = board.exchange(seat, SHARED_STATE, None) else {
         unreachable!()
     };
-    let turned = shared_state.take_turn(worker);
+    let taken = shared_state.take_turn(worker);
     // The state goes back before its entry is counted. Both come while the worker holds the turn; so the count, which fixes
     // the turn's place in the list, can be told which entry it counts.
     match board.exchange(seat, SHARED_STATE, Some(shared_state)) {
         None => {}
         Some(_) => unreachable!(),
     }
-    match turned {
-        Turned::Took => count(board, seat),
-        Turned::Over | Turned::NoMemory => {}
+    if was_taken(taken) {
+        count(board, seat);
     }
     serve(board, seat);
-    turned
+    taken
 }

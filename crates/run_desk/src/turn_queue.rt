@@ -1,5 +1,5 @@
 //! The turn queue: workers take turns at one shared state.
-ghost use Rattle.std.specs.Prelude.{◌≡◌, ◌≢◌, ◌≤◌, ◌⊎◌, [], ◌∷◌, ◌++◌, length, All, IfOk, IfErr};
+ghost use Rattle.std.specs.Prelude.{◌≡◌, ◌≢◌, ◌≤◌, ◌⊎◌, [], ◌∷◌, ◌++◌, length, true, false, Ok, All, IfOk, IfErr, OnErr};
 ghost use Rattle.run_desk.specs.Turns.{IsPassOf, IsSamePass, first_passes, StartsWith, longer, TurnQueueList, Takes, Sees};
 
 use crate::close::{gather, taken_out};
@@ -7,7 +7,7 @@ use crate::opening::{deal, lay};
 use crate::pass::{Pass, Passes};
 use crate::plays::{Compare, Gather, Tell};
 use crate::rule::{OwnBoard, SERVING, Start};
-use crate::shared_state::{SharedState, Turned};
+use crate::shared_state::SharedState;
 use crate::steps::{draw, take, wait};
 use std::alloc::{AllocError, Global};
 use std::marker::Model;
@@ -69,13 +69,13 @@ impl<B: SharedState> TurnQueue<B> {
     }
 
     /// Waits until the worker's turn has come, and takes a turn at the shared state. The answer is the shared state's.
-    pub fn turn<R: Wait>(&self, rt: &R, pass: &mut Pass<B>) -> Turned
+    pub fn turn<R: Wait>(&self, rt: &R, pass: &mut Pass<B>) -> Result<bool, AllocError>
         requires { IsPassOf self.now pass.old }
         ensures pass { IsSamePass pass.old pass.new }
-        ensures took { result ≡ Turned.Took → Takes (B.is_over self.now.opening) pass.old pass.new }
-        ensures others { result ≢ Turned.Took → Sees pass.old pass.new }
-        ensures over { result ≡ Turned.Over → B.is_over self.now.opening pass.new.seen }
-        ensures no_memory { result ≡ Turned.NoMemory → ¬ (B.is_over self.now.opening pass.new.seen) }
+        ensures took { result ≡ Ok true → Takes (B.is_over self.now.opening) pass.old pass.new }
+        ensures others { result ≢ Ok true → Sees pass.old pass.new }
+        ensures over { result ≡ Ok false → B.is_over self.now.opening pass.new.seen }
+        ensures no_memory { OnErr result (¬ (B.is_over self.now.opening pass.new.seen)) }
     {
         let board = &self.board.shared;
         let ticket = draw(board, &mut pass.seat);

@@ -2,7 +2,8 @@
 ghost use Rattle.std.specs.Prelude.{All};
 ghost use Rattle.run_desk.specs.Turns.{IsPassOf};
 
-use run_desk::{Entry, Pass, SharedState, TurnQueue, Turned};
+use run_desk::{Entry, Pass, SharedState, TurnQueue};
+use std::alloc::AllocError;
 use std::sync::Wait;
 use std::sync::atomic::{AtomicU64, Ordering};
 use std::test::Fail;
@@ -30,40 +31,38 @@ impl SharedState for Score {
 
     ghost is_over = { λ limit entries. limit ≤ length entries };
 
-    fn take_turn(&mut self, worker: u32) -> Turned {
+    fn take_turn(&mut self, worker: u32) -> Result<bool, AllocError> {
         let event = self.entries.len();
         if event >= self.limit {
-            return Turned::Over;
+            return Ok(false);
         }
         if event == self.short_at {
             self.short_at = self.limit;
-            return Turned::NoMemory;
+            return Err(AllocError);
         }
-        match self.entries.push(Entry { worker, event }) {
-            Ok(()) => Turned::Took,
-            Err(_) => Turned::NoMemory,
-        }
+        self.entries.push(Entry { worker, event })?;
+        Ok(true)
     }
 
     ghost stays_over = { λ limit before after over. Prim.omega (arith, length-append before after) };
 }
 
-// Takes six turns, and says what each was answered.
+// Takes six turns, and says of each whether it was taken; none where there was no memory for it.
 fn six_turns<B: SharedState, R: Wait>(
     rt: &R,
     turn_queue: &TurnQueue<B>,
     pass: &mut Pass<B>,
-) -> [Turned; 6]
+) -> [Option<bool>; 6]
     requires { IsPassOf turn_queue.now pass.old }
     ensures { IsPassOf turn_queue.now pass.new }
 {
     [
-        turn_queue.turn(rt, pass),
-        turn_queue.turn(rt, pass),
-        turn_queue.turn(rt, pass),
-        turn_queue.turn(rt, pass),
-        turn_queue.turn(rt, pass),
-        turn_queue.turn(rt, pass),
+        turn_queue.turn(rt, pass).ok(),
+        turn_queue.turn(rt, pass).ok(),
+        turn_queue.turn(rt, pass).ok(),
+        turn_queue.turn(rt, pass).ok(),
+        turn_queue.turn(rt, pass).ok(),
+        turn_queue.turn(rt, pass).ok(),
     ]
 }
 
@@ -75,17 +74,17 @@ fn memory_is_short_at_the_fifth_turn(rt: HostRuntime) -> Result<(), Fail> {
         entries: Vec::new(rt.alloc()),
     };
     let (turn_queue, mut passes) = TurnQueue::open(rt.alloc(), shared_state, 1)?;
-    let turned = six_turns(&rt, &turn_queue, &mut passes[0]);
+    let taken = six_turns(&rt, &turn_queue, &mut passes[0]);
     let shared_state = turn_queue.close(passes);
     assert_eq!(rt;
-        turned,
+        taken,
         [
-            Turned::Took,
-            Turned::Took,
-            Turned::Took,
-            Turned::Took,
-            Turned::NoMemory,
-            Turned::Took,
+            Some(true),
+            Some(true),
+            Some(true),
+            Some(true),
+            None,
+            Some(true),
         ]
     );
     assert_eq!(rt; shared_state.entries.len(), 5);
@@ -100,8 +99,8 @@ fn work<B: SharedState, R: Wait>(rt: &R, turn_queue: &TurnQueue<B>, pass: &mut P
     let mut taken = 0u64;
     for _ in rt.forever() {
         match turn_queue.turn(rt, pass) {
-            Turned::Took => taken = taken.wrapping_add(1),
-            Turned::Over | Turned::NoMemory => return taken,
+            Ok(true) => taken = taken.wrapping_add(1),
+            Ok(false) | Err(_) => return taken,
         }
     }
     unreachable!()

@@ -1,11 +1,10 @@
 -- The workers of a desk's passes, and of the turns in its list.
 use Rattle.std.proofs.Common.{◌≡◌, ◌<◌, ℕ, zero, suc, ◌+◌, List, [], ◌∷◌, ◌++◌, length, map, get_or, refl, sym, ap, ◌∙◌, subst, arith}
+use Rattle.std.specs.Prelude.{Bool, true}
 use Rattle.std.specs.List.{All, Any, Contains}
 use Rattle.std.proofs.lemmas.List.{get_or-map, length-map}
 use Rattle.std.proofs.lemmas.List.Elements.{All-nil, All-cons, All-map, All-contains, All-weaker, All-get_or}
 use Rattle.run_desk.specs.declared.shared_state.Entry.{Entry}
-use Rattle.run_desk.specs.declared.shared_state.Turned.{Turned}
-use Rattle.run_desk.specs.declared.shared_state.Turned.TheVariants.{Over}
 use Rattle.run_desk.specs.Turns.{StartsWith, numbers_from, TurnQueueView, PassView, IsPassOf, first_pass, first_passes, TurnQueueList}
 use Rattle.run_desk.specs.TurnQueueWorkers.Members.{HasStopped, IsMember}
 
@@ -37,15 +36,15 @@ module _ {O E : Type 0} where
         subst P (get_or-map pass_in workers k d (pass_in d) below) (All-get_or P (map pass_in workers) k (pass_in d) inside (subst (All P) (sym are) all))
 
     -- where a worker found the book over, it is over at the end
-    pub over_found : (is_over : List (Entry E) → Type 0) (stays : (before after : List (Entry E)) → is_over before → is_over (before ++ after)) (answer_in : W → Turned) (workers : List W) (passes : List (PassView O E)) (entries : List (Entry E)) → passes ≡ map pass_in workers
-        → All (λ worker. HasStopped is_over (answer_in worker) (pass_in worker)) workers → TurnQueueList entries passes → Any (λ worker. answer_in worker ≡ Over) workers → is_over entries
-    over_found is_over stays answer_in workers passes entries are stopped list found =
+    pub over_found : (is_over : List (Entry E) → Type 0) (stays : (before after : List (Entry E)) → is_over before → is_over (before ++ after)) (finds_end : W → Bool) (workers : List W) (passes : List (PassView O E)) (entries : List (Entry E)) → passes ≡ map pass_in workers
+        → All (λ worker. HasStopped is_over (finds_end worker) (pass_in worker)) workers → TurnQueueList entries passes → Any (λ worker. finds_end worker ≡ true) workers → is_over entries
+    over_found is_over stays finds_end workers passes entries are stopped list found =
         let k = found.0 in
         let worker = found.1 in
         let below = found.2 in
         let at = found.3 in
         let over = found.4 in
-        let has : HasStopped is_over (answer_in worker) (pass_in worker) = subst (λ (one : W). HasStopped is_over (answer_in one) (pass_in one)) at (stopped k worker below) in
-        let was : is_over (pass_in worker).seen = subst (λ (answer : Turned). HasStopped is_over answer (pass_in worker)) over has in
+        let has : HasStopped is_over (finds_end worker) (pass_in worker) = subst (λ (one : W). HasStopped is_over (finds_end one) (pass_in one)) at (stopped k worker below) in
+        let was : is_over (pass_in worker).seen = subst (λ (found : Bool). HasStopped is_over found (pass_in worker)) over has in
         let front : StartsWith entries (pass_in worker).seen = subst (λ (one : W). StartsWith entries (pass_in one).seen) at (of_workers (λ (pass : PassView O E). StartsWith entries pass.seen) workers passes (sym are) list.seen k worker below) in
         subst is_over (sym front.1) (stays (pass_in worker).seen front.0 was)

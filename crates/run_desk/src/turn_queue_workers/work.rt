@@ -1,14 +1,11 @@
 //! The workers of a turn queue, each in a thread of its own.
 
-ghost use Rattle.std.specs.Prelude.{◌≡◌, ◌≤◌, ◌<◌, ◌^◌, [], length, map, vec_len, vec_capacity, All, Any, IfOk};
-ghost use Rattle.run_desk.specs.declared.shared_state.Turned.TheVariants as turned;
+ghost use Rattle.std.specs.Prelude.{◌≡◌, ◌≤◌, ◌<◌, ◌^◌, [], length, map, true, vec_len, vec_capacity, All, Any, IfOk};
 ghost use Rattle.run_desk.specs.Turns.{TurnQueueList, IsPassOf, IsSamePass};
-ghost use Rattle.run_desk.specs.declared.turn_queue_workers.ending.Ending.TheVariants.{Over};
 ghost use Rattle.run_desk.specs.TurnQueueWorkers.Members.{HasStopped, IsMember};
 
-use crate::turn_queue_workers::ending::{Ending, ending_of};
-use crate::turn_queue_workers::workers::{Worker, Workers, passes_of, workers_of};
-use crate::{Pass, Passes, SharedState, TurnQueue, Turned};
+use crate::turn_queue_workers::workers::{Worker, Workers, is_over, passes_of, workers_of};
+use crate::{Pass, Passes, SharedState, TurnQueue};
 use base_edges::Gate;
 use std::alloc::{AllocError, Global};
 use std::snapshot::Snapshot;
@@ -23,13 +20,13 @@ const WORKERS: usize = 16;
 pub struct Done<B: SharedState> {
     /// The shared state, with the turns of all workers.
     pub shared_state: B,
-    /// How their turns ended.
-    pub ending: Ending,
+    /// Whether a worker found that no turn is left; else there was no memory for one.
+    pub is_over: bool,
     /// The passes with which the turn queue was closed, for contracts alone: each has its worker's turns in their order.
     pub passes: Snapshot<Passes<B>>,
 }
 
-/// Takes turns for one worker until none is left, or there is no memory for one, and gives the last answer. The gate is told
+/// Takes turns for one worker until none is left, or there is no memory for one, and says whether none is left. The gate is told
 /// before and after each, and never while the turn is held.
 fn work<B: SharedState, R: Wait, G: Gate>(
     rt: &R,
@@ -37,7 +34,7 @@ fn work<B: SharedState, R: Wait, G: Gate>(
     gate: &G,
     number: u32,
     pass: &mut Pass<B>,
-) -> Turned
+) -> bool
     requires { IsPassOf turn_queue.now pass.old }
     ensures pass { IsSamePass pass.old pass.new }
     ensures stopped { HasStopped (B.is_over turn_queue.now.opening) result pass.new }
@@ -46,11 +43,12 @@ fn work<B: SharedState, R: Wait, G: Gate>(
     for _ in rt.forever() {
         nth = nth.wrapping_add(1);
         gate.before(number, nth);
-        let turned = turn_queue.turn(rt, pass);
+        let taken = turn_queue.turn(rt, pass);
         gate.after(number, nth);
-        match turned {
-            Turned::Took => {}
-            Turned::Over | Turned::NoMemory => return turned,
+        match taken {
+            Ok(true) => {}
+            Ok(false) => return true,
+            Err(_) => return false,
         }
     }
     unreachable!()
@@ -85,20 +83,20 @@ fn close_turn_queue<B: SharedState + Drop>(
 ) -> Done<B>
     requires all { length workers.items ≡ turn_queue.workers }
     requires members { All (λ worker. IsMember turn_queue worker.pass) workers.items }
-    requires stopped { All (λ worker. HasStopped (B.is_over turn_queue.opening) worker.answer worker.pass) workers.items }
+    requires stopped { All (λ worker. HasStopped (B.is_over turn_queue.opening) worker.found_end worker.pass) workers.items }
     requires room { (room.items ≡ []) × (vec_len room ≡ 0) × (turn_queue.workers ≤ vec_capacity room) }
     ensures opening { B.opening result.shared_state ≡ turn_queue.opening }
     ensures list { TurnQueueList (B.entries result.shared_state) result.passes.value.items }
     ensures members { All (IsMember turn_queue) result.passes.value.items }
     ensures count { length result.passes.value.items ≡ turn_queue.workers }
-    ensures over { result.ending ≡ Over → B.is_over turn_queue.opening (B.entries result.shared_state) }
+    ensures over { result.is_over ≡ true → B.is_over turn_queue.opening (B.entries result.shared_state) }
 {
-    let ending = ending_of(workers.as_slice());
+    let is_over = is_over(workers.as_slice());
     let passes = passes_of(workers, room);
     let reported = Snapshot::of(&passes);
     Done {
         shared_state: turn_queue.close(passes),
-        ending,
+        is_over,
         passes: reported,
     }
 }
@@ -113,7 +111,7 @@ fn work_all<B: SharedState + Send, R: Threads + Wait + Sync, G: Gate + Sync>(
     requires members { All (λ worker. IsMember turn_queue.now worker.pass) workers.old }
     requires few { length workers.old ≤ 16 }
     ensures members { All (λ worker. IsMember turn_queue.now worker.pass) workers.new }
-    ensures stopped { All (λ worker. HasStopped (B.is_over turn_queue.now.opening) worker.answer worker.pass) workers.new }
+    ensures stopped { All (λ worker. HasStopped (B.is_over turn_queue.now.opening) worker.found_end worker.pass) workers.new }
 {
     thread::for_each_mut(
         rt,
@@ -121,8 +119,8 @@ fn work_all<B: SharedState + Send, R: Threads + Wait + Sync, G: Gate + Sync>(
         WORKERS,
         &|place, worker: &mut Worker<B>|
             requires { (place < 2 ^ 32) × IsMember turn_queue.now worker.old.pass }
-            ensures { IsMember turn_queue.entry.now worker.new.pass × HasStopped (B.is_over turn_queue.entry.now.opening) worker.new.answer worker.new.pass }
-        { worker.answer = work(rt, turn_queue, gate, place as u32, &mut worker.pass) },
+            ensures { IsMember turn_queue.entry.now worker.new.pass × HasStopped (B.is_over turn_queue.entry.now.opening) worker.new.found_end worker.new.pass }
+        { worker.found_end = work(rt, turn_queue, gate, place as u32, &mut worker.pass) },
     );
 }
 
@@ -143,7 +141,7 @@ pub fn take_turns<B: SharedState + Drop + Send, R: Threads + Wait + Sync, G: Gat
     ensures numbers { IfOk result (λ done. All (λ pass. pass.worker < workers) done.passes.value.items) }
     ensures count { IfOk result (λ done. length done.passes.value.items ≡ workers) }
     ensures below { IfOk result (λ done. All (λ entry. entry.worker < workers) (B.entries done.shared_state)) }
-    ensures over { IfOk result (λ done. done.ending ≡ Over → B.is_over (B.opening done.shared_state) (B.entries done.shared_state)) }
+    ensures over { IfOk result (λ done. done.is_over ≡ true → B.is_over (B.opening done.shared_state) (B.entries done.shared_state)) }
 {
     let (turn_queue, mut members, room) = open_turn_queue(alloc, shared_state, workers)?;
     work_all(rt, &turn_queue, gate, members.as_mut_slice());

@@ -1,8 +1,8 @@
 //! The workers of a turn queue.
 
-ghost use Rattle.std.specs.Prelude.{◌≡◌, ◌≤◌, [], length, map, vec_len, vec_capacity, IfOk};
+ghost use Rattle.std.specs.Prelude.{◌≡◌, ◌≤◌, [], length, map, true, vec_len, vec_capacity, Any, IfOk};
 
-use crate::{Pass, Passes, SharedState, Turned};
+use crate::{Pass, Passes, SharedState};
 use std::alloc::{AllocError, Global};
 
 /// A worker of a turn queue.
@@ -10,8 +10,8 @@ use std::alloc::{AllocError, Global};
 pub(crate) struct Worker<B: SharedState> {
     /// Its pass.
     pub(crate) pass: Pass<B>,
-    /// What it was answered last; `Took` before its first turn.
-    pub(crate) answer: Turned,
+    /// Whether it found that no turn is left.
+    pub(crate) found_end: bool,
 }
 
 /// The workers of a turn queue.
@@ -28,7 +28,7 @@ pub(crate) fn workers_of<B: SharedState + Drop>(
     for pass in passes {
         workers.push_reserved(Worker {
             pass,
-            answer: Turned::Took,
+            found_end: false,
         });
     }
     Ok(workers)
@@ -46,4 +46,11 @@ pub(crate) fn passes_of<B: SharedState + Drop>(workers: Workers<B>, room: Passes
         passes.push_reserved(worker.pass);
     }
     passes
+}
+
+/// Whether one of the workers found that no turn is left; else there was no memory for any of them.
+pub(crate) fn is_over<B: SharedState>(workers: &[Worker<B>]) -> bool
+    ensures { result ≡ true → Any (λ worker. worker.found_end ≡ true) workers.now }
+{
+    workers.iter().any(|worker| worker.found_end)
 }

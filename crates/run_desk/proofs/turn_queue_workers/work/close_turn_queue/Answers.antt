@@ -1,7 +1,7 @@
 use Rattle.std.proofs.Common.{◌≡◌, sym, ap, ◌∙◌, subst}
 use Rattle.std.specs.List.{All, Any}
 use Rattle.std.proofs.lemmas.List.Elements.{All-map}
-use Rattle.run_desk.specs.declared.shared_state.Turned.TheVariants as turned
+use Rattle.std.specs.Prelude.{true}
 use Rattle.run_desk.specs.Turns.{IsPassOf}
 use Rattle.run_desk.specs.declared.turn_queue_workers.workers.Worker.{Worker}
 use Rattle.run_desk.specs.TurnQueueWorkers.Members.{IsMember}
@@ -21,5 +21,5 @@ returns-clause-members g c =
 pub returns-clause-over : goal.returns-clause-over
 returns-clause-over g c = λ over.
     over_found (λ (worker : Worker g.row.B.Denot g.row.B-Opening.Denot g.row.B-Event.Denot). worker.pass) (g.B.SharedState.is_over c.args.turn_queue.opening) (g.met.B.SharedState.stays_over c.args.turn_queue.opening)
-    (λ (worker : Worker g.row.B.Denot g.row.B-Opening.Denot g.row.B-Event.Denot). worker.answer) c.args.workers.items c.passes_of-passes.result.items (g.B.SharedState.entries c.close.result) c.passes_of-passes.ensures c.requires.stopped c.close.ensures.list
-    (subst (Any (λ (worker : Worker g.row.B.Denot g.row.B-Opening.Denot g.row.B-Event.Denot). worker.answer ≡ turned.Over)) c.as_slice.ensures.value (c.ending_of-ending.ensures.over over))
+    (λ (worker : Worker g.row.B.Denot g.row.B-Opening.Denot g.row.B-Event.Denot). worker.found_end) c.args.workers.items c.passes_of-passes.result.items (g.B.SharedState.entries c.close.result) c.passes_of-passes.ensures c.requires.stopped c.close.ensures.list
+    (subst (Any (λ (worker : Worker g.row.B.Denot g.row.B-Opening.Denot g.row.B-Event.Denot). worker.found_end ≡ true)) c.as_slice.ensures.value (c.is_over-is_over.ensures over))
