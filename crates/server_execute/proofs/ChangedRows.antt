@@ -1,5 +1,5 @@
 -- Rows that are met stand, in order, and stay so while those before them are changed.
-use Rattle.std.proofs.Common.{◌≡◌, ℕ, suc, ◌==◌, arith, Bool, true, false, not, ◌&&◌, ◌||◌, List, [], ◌∷◌, length, filter, cond, Option, Less, refl, sym, ap, ◌∙◌, subst}
+use Rattle.std.proofs.Common.{◌≡◌, ℕ, suc, ◌==◌, ◌≤◌, arith, Bool, true, false, not, ◌&&◌, ◌||◌, List, [], ◌∷◌, length, get_or, filter, find, cond, is_some, Option, Some, Less, refl, sym, ap, ◌∙◌, subst}
 use Rattle.std.proofs.lemmas.Bool.{false≢true, or_right}
 use Rattle.std.proofs.lemmas.Bool.Decides.{nat_tests}
 use Rattle.std.specs.List.{AllByRecursion, list_any}
@@ -7,15 +7,18 @@ use Rattle.base_values.specs.declared.value.Value.{Value}
 use Rattle.base_values.specs.KeyOrder.{compare_keys}
 use Rattle.base_values.specs.declared.gho_schema.schema.Schema.{Schema}
 use Rattle.base_values.specs.GhoSchema.Rows.{key_of, key_places, with_row}
-use Rattle.base_values.specs.GhoSchema.Tables.{Ascends, IsRow, IsTable}
+use Rattle.base_values.specs.GhoSchema.Tables.{Ascends, IsRow, IsTable, clash}
 use Rattle.base_values.specs.declared.event.Change.TheVariants as changes
 use Rattle.table_store.specs.ClusteredKeys.{HasClusteredKey}
+use Rattle.table_store.specs.RowLists.{is_at}
+use Rattle.table_store.specs.Databases.{TableRows, clashing}
 use Rattle.table_store.proofs.Orders.{Row}
 use Rattle.table_store.proofs.Ascending.{all-filter, ascends-filter}
 use Rattle.table_store.proofs.TableLaws.{some_rows}
 use Rattle.server_model.specs.Rows.{same_row, stands, without_row, change_rows}
 use Rattle.server_model.specs.StatementResults.{with_sets, clashes_besides}
 use Rattle.server_model.specs.LockedRows.Coverage.{SetsFit}
+use Rattle.server_model.proofs.LockedRows.OneRow.{same_removal}
 use Rattle.server_model.proofs.LockedRows.Standing.{one_row, same_itself, stands-put, stands-filter, other_row}
 use Rattle.server_model.proofs.LockedRows.WellFormed.{well_formed_put, with_sets_row, none_besides}
 use Rattle.server_seen.specs.FittingChanges.{FitsRows}
@@ -49,6 +52,11 @@ are_met places test rows ascends = record {
   ascends = ascends-filter places test rows ascends;
   stand = all-filter (λ row. stands row rows ≡ true) test rows (all_exist rows);
 }
+
+-- the first of the rows that are met stands
+pub first_met : (places : List ℕ) (met rows : List Row) (old other : Row) → AreMet places met rows → 1 ≤ length met → old ≡ get_or met 0 other → stands old rows ≡ true
+first_met places [] rows old other are le is = absurd (omega (arith, le))
+first_met places (row ∷ met) rows old other are le is = subst (λ (r : Row). stands r rows ≡ true) (sym is) are.stand.0
 
 after_stand : (places : List ℕ) (old : Row) (met rows : List Row) → AllByRecursion (λ other. compare_keys (key_of places old) (key_of places other) ≡ Less) met → AllByRecursion (λ row. stands row rows ≡ true) met → AllByRecursion (λ row. stands row (without_row old rows) ≡ true) met
 after_stand places old [] rows less stood = tt
@@ -101,6 +109,37 @@ any_first : (first second : Row → Bool) (row : Row) (rows : List Row) (b : Boo
     → list_any second (cond b (row ∷ filter first rows) (filter first rows)) ≡ ((b && second row) || list_any (λ r. first r && second r) rows)
 any_first first second row rows true is rest = ap (λ (b : Bool). second row || b) rest
 any_first first second row rows false is rest = rest
+
+-- ... and those that are found
+found_left : (first : Row → Bool) (row : Row) (left : List Row) (found : Option Row) (b c : Bool) → first row ≡ b → is_some found ≡ list_any first left → is_some (cond (b && c) (Some row) found) ≡ list_any first (cond c (row ∷ left) left)
+found_left first row left found true true is rest = sym (ap (λ (b : Bool). b || list_any first left) is)
+found_left first row left found true false is rest = rest
+found_left first row left found false true is rest = rest ∙ sym (ap (λ (b : Bool). b || list_any first left) is)
+found_left first row left found false false is rest = rest
+
+found_among : (first second : Row → Bool) (rows : List Row) → is_some (find (λ row. first row && second row) rows) ≡ list_any first (filter second rows)
+found_among first second [] = refl
+found_among first second (row ∷ rows) = found_left first row (filter second rows) (find (λ r. first r && second r) rows) (first row) (second row) refl (found_among first second rows)
+
+any_left : (first : Row → Bool) (row : Row) (left : List Row) (some b c : Bool) → first row ≡ b → some ≡ list_any first left → ((b && c) || some) ≡ list_any first (cond c (row ∷ left) left)
+any_left first row left some true true is rest = sym (ap (λ (b : Bool). b || list_any first left) is)
+any_left first row left some true false is rest = rest
+any_left first row left some false true is rest = rest ∙ sym (ap (λ (b : Bool). b || list_any first left) is)
+any_left first row left some false false is rest = rest
+
+any_of_left : (first second : Row → Bool) (rows : List Row) → list_any (λ row. first row && second row) rows ≡ list_any first (filter second rows)
+any_of_left first second [] = refl
+any_of_left first second (row ∷ rows) = any_left first row (filter second rows) (list_any (λ r. first r && second r) rows) (first row) (second row) refl (any_of_left first second rows)
+
+-- a new row clashes with one besides a row of a table exactly where it clashes with one besides the row of its key
+besides_by_key : (schema : Schema) (new old : Row) (rows : List Row) → Ascends (key_places schema) rows → stands old rows ≡ true → is_some (clashing (record { schema = schema; rows = rows }) new (Some (key_of (key_places schema) old))) ≡ clashes_besides schema new old rows
+besides_by_key schema new old rows ascends stood =
+    found_among (clash schema.uniques new) (λ other. not (is_at (key_places schema) (key_of (key_places schema) old) other)) rows
+    ∙ ap (list_any (clash schema.uniques new)) (same_removal (key_places schema) old rows ascends stood)
+    ∙ sym (any_of_left (clash schema.uniques new) (λ other. not (same_row old other)) rows)
+
+pub clashes_found : (table : TableRows) (new old key : Row) → key ≡ key_of (key_places table.schema) old → Ascends (key_places table.schema) table.rows → stands old table.rows ≡ true → is_some (clashing table new (Some key)) ≡ clashes_besides table.schema new old table.rows
+clashes_found table new old key is ascends stood = ap (λ (k : Row). is_some (clashing table new (Some k))) is ∙ besides_by_key table.schema new old table.rows ascends stood
 
 pub any_among : (first second : Row → Bool) (rows : List Row) → list_any second (filter first rows) ≡ list_any (λ row. first row && second row) rows
 any_among first second [] = refl

@@ -1,11 +1,11 @@
 //! What an UPDATE says: its rows change one by one, each seen as the changes before have left the table.
 
-ghost use Rattle.std.specs.Prelude.{◌≡◌, ◌++◌, ◌∷◌, [], not, IfOk, OnOk};
+ghost use Rattle.std.specs.Prelude.{◌≡◌, ◌++◌, ◌∷◌, [], not, true, IfOk, OnOk};
 ghost use Rattle.std.specs.List.{list_any};
 ghost use Rattle.base_values.specs.GhoSchema.Rows.{key_places};
 ghost use Rattle.base_values.specs.declared.event.Change.TheVariants as changes;
 ghost use Rattle.server_model.specs.declared.work.Work.TheVariants as works;
-ghost use Rattle.server_model.specs.Rows.{rows_met, same_row};
+ghost use Rattle.server_model.specs.Rows.{rows_met, same_row, stands};
 ghost use Rattle.server_model.specs.StatementResults.{clashes_besides, updates, result_or_refusal, updated};
 ghost use Rattle.server_model.specs.LockedRows.Coverage.{IsWellFormedTable, IsSound, SetsFit};
 ghost use Rattle.server_execute.specs.ReadyResult.{as_result};
@@ -15,6 +15,7 @@ ghost use Rattle.server_seen.specs.Written as writes;
 
 use crate::change_lists::{Changes, ReadyResult, only};
 use crate::statement_work::with_sets;
+use base_values::gho_schema::key_of;
 use base_values::mysql_errors::ER_DUP_ENTRY;
 use base_values::row_conversion::UnfitAt;
 use base_values::{Change, Duplicate, Row, Sequence, Value};
@@ -22,6 +23,7 @@ use server_model::{Answer, ColumnSets, Reach};
 use server_prepare::{Checked, refuses, refuses_value};
 use server_seen::{SeenTable, WrittenRows};
 use std::alloc::{AllocError, Global};
+use table_store::paged_tables::row_pages::Table;
 
 /// What an UPDATE makes of one row.
 #[derive(Drop)]
@@ -58,7 +60,20 @@ fn clashes_besides(
     Ok(has_another(old, clashing.as_slice()))
 }
 
-/// Whether the new row clashes with one besides the row that it takes the place of, where nothing was changed before.
+/// Whether the new row clashes with one of the table besides the row that it takes the place of.
+fn clashes_in(alloc: Global, table: &Table, new: &Row, old: &Row) -> Result<bool, AllocError>
+    requires { stands old.now table.now.table.rows ≡ true }
+    ensures { IfOk result (λ clashes. clashes ≡ clashes_besides table.now.table.schema new.now old.now table.now.table.rows) }
+{
+    let schema = table.schema();
+    let key = key_of(alloc, schema.key_places(), old.as_slice())?;
+    match table.clash(new, Some(&key)) {
+        Some(_) => Ok(true),
+        None => Ok(false),
+    }
+}
+
+/// Whether the new row clashes with one besides the row that it takes the place of, where no row was changed before.
 #[tactic(auto, using(crate::proofs::ChangedRows::any_among))]
 fn clashes_at_first(
     alloc: Global,
@@ -66,8 +81,12 @@ fn clashes_at_first(
     new: &Row,
     old: &Row,
 ) -> Result<bool, AllocError>
+    requires { stands old.now seen.now.rows ≡ true }
     ensures { IfOk result (λ clashes. clashes ≡ clashes_besides seen.now.schema new.now old.now seen.now.rows) }
 {
+    if let Some(table) = seen.unwritten_table() {
+        return clashes_in(alloc, table, new, old);
+    }
     let clashing = seen.displaced(alloc, new)?;
     Ok(has_another(old, clashing.as_slice()))
 }
@@ -143,6 +162,7 @@ fn update_of_one(
     sets: &[Option<Value>],
     old: &Row,
 ) -> Result<Checked<Changes>, AllocError>
+    requires { stands old.now seen.now.rows ≡ true }
     ensures { IfOk result (λ all. all ≡ updates seen.now.schema sets.now (old.now ∷ []) seen.now.rows) }
 {
     let mut all = Sequence::new(alloc);
