@@ -1,6 +1,7 @@
 -- What `trace` gives is audited yes.
 use Rattle.std.proofs.Common.{◌≡◌, ◌≤◌, ℕ, Bool, true, false, not, ◌&&◌, List, [], ◌∷◌, length, Option, Some, Ok, refl, sym, ap, ◌∙◌, subst}
 use Rattle.std.specs.Str.{IsUtf8}
+use Rattle.tool_program.specs.Orders.{WorkerTurn}
 use Rattle.server_model.specs.declared.entry.Entry.{Entry}
 use Rattle.server_model.specs.declared.outcome.Cause.{Cause}
 use Rattle.server_model.specs.declared.outcome.Verdict.{Verdict}
@@ -26,7 +27,6 @@ use Rattle.top_endings.specs.declared.command.PlanCommand.{PlanCommand}
 use Rattle.top_endings.specs.declared.command.PlanCommand.TheVariants as plans
 use Rattle.top_endings.specs.declared.status.Status.{Status}
 use Rattle.top_endings.specs.declared.status.Status.TheVariants.{Done, Reverted, TurnsSpent}
-use Rattle.top_endings.specs.declared.turn.Turn.{Turn}
 use Rattle.top_endings.specs.Endings.{Giving, Taking, asked}
 use Rattle.top_call.specs.Promises.{EndsUnder, PrintsDone, PrintsReport}
 use Rattle.top_call.specs.ResumedRuns.{GoesOn, Resumes, is_resumed}
@@ -71,7 +71,7 @@ its_cause plan journal whole stands cause is = by (has_ended plan (run_in plan j
 
 -- ---- what is printed
 
-module _ (wholes : WholeTracesAreAudited) (texts : WholePrintedTracesAreAudited) (source : Taking) (sink : Giving) (turns : List Turn) (journal : List Entry) where
+module _ (wholes : WholeTracesAreAudited) (texts : WholePrintedTracesAreAudited) (source : Taking) (sink : Giving) (turns : List WorkerTurn) (journal : List Entry) where
   report_audited : (verdict : Verdict) (prints : PrintsReport plans.Trace verdict source sink turns journal) → ((cause : Cause) → verdict ≡ verdicts.Reverted cause → StandsAt prints.runs.plan journal cause) → GivesAudited sink journal
   report_audited verdict prints stands = record { bytes = bytes; plan = plan; accepted = prints.runs.accepted; verdict = verdict; given = prints.given; yes = yes; reads = reads } where
     plan : PlanData

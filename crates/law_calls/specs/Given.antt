@@ -1,6 +1,7 @@
 -- What holds of the text that `trace` gives where it runs the plan to its end. (This project's rule.)
 use Rattle.std.specs.Prelude.{◌≡◌, ◌≤◌, ℕ, List, length, Some, Ok}
 use Rattle.std.specs.Io.KnownBytes.{Appends}
+use Rattle.tool_program.specs.Orders.{WorkerTurn}
 use Rattle.server_model.specs.declared.entry.Entry.{Entry}
 use Rattle.server_model.specs.declared.outcome.Verdict.{Verdict}
 use Rattle.plan_data.specs.PlanData.{PlanData}
@@ -17,7 +18,6 @@ use Rattle.top_words.specs.Commands.{command}
 use Rattle.top_words.specs.declared.command.Command.TheVariants as commands
 use Rattle.top_endings.specs.declared.status.Status.{Status}
 use Rattle.top_endings.specs.declared.status.Status.TheVariants.{Done, Reverted, TurnsSpent}
-use Rattle.top_endings.specs.declared.turn.Turn.{Turn}
 use Rattle.top_endings.specs.Endings.{Giving, Taking}
 use Rattle.top_call.specs.Promises.{EndsUnder}
 use Rattle.law_traces.specs.Printed.{HasPlainNames}
@@ -50,4 +50,4 @@ IsReported status = ⊥
 -- *Given traces are audited yes*: what `trace` gives at those statuses.
 abbrev pub GivenTracesAreAudited : Type 0
 GivenTracesAreAudited =
-    (status : Status) (words : List (List ℕ)) (source : Taking) (sink : Giving) (turns : List Turn) (journal : List Entry) → command words ≡ Some commands.Trace → IsReported status → EndsUnder status words source sink turns journal → GivesAudited sink journal
+    (status : Status) (words : List (List ℕ)) (source : Taking) (sink : Giving) (turns : List WorkerTurn) (journal : List Entry) → command words ≡ Some commands.Trace → IsReported status → EndsUnder status words source sink turns journal → GivesAudited sink journal

@@ -6,4 +6,4 @@ mod place;
 mod replays;
 mod words;
 
-pub use replays::{ReplayOutcome, Replayed, replay};
+pub use replays::{ReplayOutcome, replay};

@@ -5,5 +5,4 @@
 mod runs;
 pub mod worker_run;
 
-pub use run_desk::turn_queue_workers::Ending;
 pub use runs::{Ran, run_by_workers};

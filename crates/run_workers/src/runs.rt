@@ -1,7 +1,6 @@
 //! A run by worker threads.
 
-ghost use Rattle.std.specs.Prelude.{◌≡◌, ◌≤◌, [], true, IfOk};
-ghost use Rattle.run_desk.specs.declared.turn_queue_workers.ending.Ending.TheVariants.{Over};
+ghost use Rattle.std.specs.Prelude.{◌≡◌, ◌≤◌, [], true, vec_capacity, IfOk};
 ghost use Rattle.tool_program.specs.JournalWords.Journals.{opening, state_at};
 ghost use Rattle.tool_program.specs.JournalWords.Sessions.{NumbersSessions};
 ghost use Rattle.tool_program.specs.Orders.{RunOrder};
@@ -10,10 +9,10 @@ ghost use Rattle.run_turns.specs.Runs.{is_over, Stops};
 ghost use Rattle.run_workers.specs.WorkerRun.Workers.{IsGoing};
 ghost use Rattle.run_workers.specs.Passes.{IsByPasses};
 
-use crate::worker_run::{Turns, Worked};
+use crate::worker_run::{Worked, WorkerTurn};
 use base_edges::Gate;
 use run_desk::Passes;
-use run_desk::turn_queue_workers::{Ending, take_turns};
+use run_desk::turn_queue_workers::take_turns;
 use run_turns::{FeedRun, Run};
 use server_api::Serve;
 use std::alloc::{AllocError, Global};
@@ -27,17 +26,17 @@ pub struct Ran<'a, V: Serve> {
     /// The run, with the turns that were taken.
     pub run: Run<'a, V>,
     /// The worker of each of its turns.
-    pub turns: Turns,
-    /// How the workers' turns ended.
-    pub ending: Ending,
+    pub turns: Vec<WorkerTurn>,
+    /// Whether it is over; else there was no memory for a turn.
+    pub is_over: bool,
     /// The passes by which the workers took them, for contracts alone. The turn queue alone makes passes, and a pass gets a
     /// turn only by taking it there: so turns that were taken elsewhere can't be these passes'.
     pub passes: Snapshot<Passes<Worked<'a, V>>>,
 }
 
 /// Lets `workers` workers take the turns of a run with its replica, each in a thread of its own, until it is over or there is no memory for a
-/// turn; what is left is the run, the worker of each of its turns, and the passes by which they were taken. Workers wait for
-/// each other's turns in the turn queue.
+/// turn; what is left is the run, the worker of each of its turns, with room for as many as the plan allows, and the passes by which
+/// they were taken. Workers wait for each other's turns in the turn queue.
 pub fn run_by_workers<'a, V: Serve + Send, R: Threads + Wait + Sync, G: Gate + Sync>(
     rt: &R,
     alloc: Global,
@@ -55,9 +54,10 @@ pub fn run_by_workers<'a, V: Serve + Send, R: Threads + Wait + Sync, G: Gate + S
     ensures numbered { IfOk result (λ ran. NumbersSessions ran.run.journal) }
     ensures stops { IfOk result (λ ran. Stops feed.entry.run.plan ran.run.journal) }
     ensures order { IfOk result (λ ran. RunOrder feed.entry.run.plan ran.run.journal ran.turns.items workers) }
+    ensures room { IfOk result (λ ran. feed.entry.run.plan.options.turn_limit ≤ vec_capacity ran.turns) }
     ensures passes { IfOk result (λ ran. IsByPasses ran.passes.value.items ran.run.journal ran.turns.items workers) }
-    ensures over { IfOk result (λ ran. ran.ending ≡ Over → is_over feed.entry.run.plan ran.run.journal ≡ true) }
-    ensures server { IfOk result (λ ran. ran.ending ≡ Over → ran.run.server ≡ state_at feed.entry.run.plan ran.run.journal) }
+    ensures over { IfOk result (λ ran. ran.is_over ≡ true → is_over feed.entry.run.plan ran.run.journal ≡ true) }
+    ensures server { IfOk result (λ ran. ran.is_over ≡ true → ran.run.server ≡ state_at feed.entry.run.plan ran.run.journal) }
 {
     let worked = Worked::open(alloc, feed, workers)?;
     let done = take_turns(rt, alloc, worked, workers, gate)?;
@@ -65,7 +65,7 @@ pub fn run_by_workers<'a, V: Serve + Send, R: Threads + Wait + Sync, G: Gate + S
     Ok(Ran {
         run,
         turns,
-        ending: done.ending,
+        is_over: done.is_over,
         passes: done.passes,
     })
 }

@@ -1,9 +1,9 @@
 //! The turns of a run that is as one transaction at a time.
 
+use run_workers::worker_run::Turns;
 use std::alloc::{AllocError, Global};
 use test_compare::agrees_with_reference;
 use test_program::{Program, Ran, run};
-use top_endings::Turns;
 
 /// Whether one transaction at a time gives what a run of this plan printed.
 pub fn is_reference_run(alloc: Global, plan: &[u8], ran: &Ran) -> Result<bool, AllocError> {

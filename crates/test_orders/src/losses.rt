@@ -2,10 +2,10 @@
 
 use crate::as_reference::turns_of_reference;
 use base_script::Actor;
+use run_workers::worker_run::WorkerTurn;
 use std::alloc::{AllocError, Global};
 use std::io;
 use test_program::Program;
-use top_endings::Turn;
 
 /// The actors of the plan.
 const ACTORS: [&str; 6] = ["insp", "copy", "apply", "lock", "ren", "c1"];
@@ -31,8 +31,8 @@ fn word_of(actor: Actor) -> &'static str {
 }
 
 /// How many of the turns are this actor's.
-fn turns_of(actor: Actor, turns: &[Turn]) -> usize {
-    turns.iter().filter(|turn| turn.actor == actor).count()
+fn turns_of(actor: Actor, turns: &[WorkerTurn]) -> usize {
+    turns.iter().filter(|turn| turn.actor() == actor).count()
 }
 
 /// Whether the run of a plan with a loss is as one at a time.
@@ -78,7 +78,7 @@ fn run_turn_loss<R: Print + AllocGlobal>(
 }
 
 /// How many of the turns up to this place are this actor's.
-fn number_at(actor: Actor, turns: &[Turn], place: usize) -> usize {
+fn number_at(actor: Actor, turns: &[WorkerTurn], place: usize) -> usize {
     match turns.get(..place) {
         Some(so_far) => turns_of(actor, so_far),
         None => 0,
@@ -90,15 +90,15 @@ fn run_turn_losses<R: Print + AllocGlobal>(
     rt: &R,
     program: &Program,
     plan: &str,
-    turns: &[Turn],
+    turns: &[WorkerTurn],
     count: &mut Count,
 ) -> io::Result<()> {
     let mut place = 0usize;
     for turn in turns {
         place = place.saturating_add(1);
-        let number = number_at(turn.actor, turns, place);
-        run_turn_loss(rt, program, plan, turn.actor, number, "before", count)?;
-        run_turn_loss(rt, program, plan, turn.actor, number, "after", count)?;
+        let number = number_at(turn.actor(), turns, place);
+        run_turn_loss(rt, program, plan, turn.actor(), number, "before", count)?;
+        run_turn_loss(rt, program, plan, turn.actor(), number, "after", count)?;
     }
     Ok(())
 }
@@ -123,7 +123,7 @@ fn run_losses<R: Print + AllocGlobal>(
     rt: &R,
     program: &Program,
     plan: &str,
-    turns: &[Turn],
+    turns: &[WorkerTurn],
 ) -> io::Result<Count> {
     let mut count = Count {
         losses: 0,

@@ -3,10 +3,10 @@
 ghost use Rattle.std.specs.Prelude.{◌<◌};
 
 use crate::as_reference::turns_of_reference;
+use run_workers::worker_run::{Turns, WorkerTurn};
 use std::alloc::{AllocError, Global};
 use std::io;
 use test_program::Program;
-use top_endings::{Turn, Turns};
 
 /// How many orders each plan is run in.
 const ORDERS: u64 = 200;
@@ -61,16 +61,16 @@ fn order_line(alloc: Global, number: u64) -> Result<String, AllocError> {
 }
 
 /// Whether two runs took turns in the same order.
-fn are_the_same(turns: &[Turn], others: &[Turn]) -> bool {
+fn are_the_same(turns: &[WorkerTurn], others: &[WorkerTurn]) -> bool {
     turns.len() == others.len()
         && turns
             .iter()
             .zip(others)
-            .all(|(turn, other)| turn.actor == other.actor)
+            .all(|(turn, other)| turn.actor() == other.actor())
 }
 
 /// Whether these turns are unlike all of the earlier ones.
-fn is_new(earlier: &[Turns], turns: &[Turn]) -> bool {
+fn is_new(earlier: &[Turns], turns: &[WorkerTurn]) -> bool {
     !earlier
         .iter()
         .any(|others| are_the_same(others.as_slice(), turns))

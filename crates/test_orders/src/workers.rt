@@ -1,10 +1,10 @@
 //! Runs by worker threads, and replays in the orders that they print; and rebuilds by two threads.
 
 use crate::as_reference::is_reference_run;
+use run_workers::worker_run::WorkerTurn;
 use std::alloc::{AllocError, Global};
 use std::io;
 use test_program::{Meeting, Program, Ran, SOUND, run, run_between};
-use top_endings::Turn;
 
 /// How many workers each plan is run by.
 const WORKERS: [&str; 4] = ["1", "2", "4", "16"];
@@ -82,9 +82,9 @@ fn count_replayed(alloc: Global, program: &Program, plan: &str) -> Result<u64, A
 }
 
 /// Whether these are the turns of two workers.
-fn are_of_two(turns: &[Turn]) -> bool {
+fn are_of_two(turns: &[WorkerTurn]) -> bool {
     match turns {
-        [one, other] => one.worker != other.worker,
+        [one, other] => one.worker() != other.worker(),
         _ => false,
     }
 }

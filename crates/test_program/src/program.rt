@@ -2,8 +2,8 @@
 
 use crate::meeting::Meeting;
 use base_edges::{BytesSink, BytesSource};
+use run_workers::worker_run::Turns;
 use server_model::Journal;
-use top_endings::Turns;
 use top_words::Line;
 
 /// How a call of the program ended.

@@ -3,8 +3,8 @@
 use crate::meeting::Meeting;
 use crate::program::{Ended, Program};
 use base_edges::{BytesSink, BytesSource};
+use run_workers::worker_run::Turns;
 use std::alloc::{AllocError, Global};
-use top_endings::Turns;
 use top_words::Line;
 
 /// Where the source and the sink of a call fail, if they do.

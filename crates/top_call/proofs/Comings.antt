@@ -5,6 +5,7 @@ use Rattle.base_values.specs.SchemaRules.Results.{◌>>=◌}
 use Rattle.std.specs.Io.KnownBytes.{Consumes}
 use Rattle.base_edges.specs.Edges.{Rose}
 use Rattle.base_edges.specs.Whole.{ReadsWhole}
+use Rattle.tool_program.specs.Orders.{WorkerTurn}
 use Rattle.server_model.specs.declared.entry.Entry.{Entry}
 use Rattle.plan_data.specs.PlanData.{PlanData}
 use Rattle.plan_reader.specs.declared.fault.PlanRefusal.{PlanRefusal}
@@ -20,7 +21,6 @@ use Rattle.top_endings.specs.declared.command.PlanCommand.TheVariants as plans
 use Rattle.top_endings.specs.declared.printed.Printed.{Printed}
 use Rattle.top_endings.specs.declared.refusals.Refusal.TheVariants as refusals
 use Rattle.top_endings.specs.declared.status.Status.TheVariants as statuses
-use Rattle.top_endings.specs.declared.turn.Turn.{Turn}
 use Rattle.top_endings.specs.Endings.{Taking, IsUsage, IsReadFault}
 use Rattle.top_endings.specs.Checks.{IsSchema}
 use Rattle.top_endings.specs.Rebuilt.{has_second_unique}
@@ -71,7 +71,7 @@ pub accepted_by : (source : Taking) (plan : PlanData) (bytes : List ℕ) → Rea
 accepted_by source plan bytes whole accepted = record { whole = whole; accepted = accepted }
 
 -- its bytes are a plan, of which this comes under the command
-of_plan : (chosen : PlanCommand) (source : Taking) (bytes : List ℕ) (plan : PlanData) (printed : Option Printed) (turns : List Turn) (journal : List Entry) → IsAccepted source bytes plan → Comes chosen bytes (Ok plan) printed turns journal → TellsPlan chosen source printed turns journal
+of_plan : (chosen : PlanCommand) (source : Taking) (bytes : List ℕ) (plan : PlanData) (printed : Option Printed) (turns : List WorkerTurn) (journal : List Entry) → IsAccepted source bytes plan → Comes chosen bytes (Ok plan) printed turns journal → TellsPlan chosen source printed turns journal
 of_plan chosen source bytes plan printed turns journal was comes = inl (record {
   bytes = bytes;
   whole = was.whole;
@@ -81,13 +81,13 @@ of_plan chosen source bytes plan printed turns journal was comes = inl (record {
 pub schema_reported : (source : Taking) (bytes : List ℕ) (plan : PlanData) (printed : Option Printed) → IsAccepted source bytes plan → IfSome printed (IsSchema plan) → TellsPlan plans.Check source printed [] []
 schema_reported source bytes plan printed was shows = of_plan plans.Check source bytes plan printed [] [] was (record { untaken = no_turn; shows = shows })
 
-pub replay_reported : (source : Taking) (bytes : List ℕ) (plan : PlanData) (printed : Option Printed) (turns : List Turn) (journal : List Entry) → IsAccepted source bytes plan → IsTaken plans.Replay plan (report_at plan journal) printed turns journal → TellsPlan plans.Replay source printed turns journal
+pub replay_reported : (source : Taking) (bytes : List ℕ) (plan : PlanData) (printed : Option Printed) (turns : List WorkerTurn) (journal : List Entry) → IsAccepted source bytes plan → IsTaken plans.Replay plan (report_at plan journal) printed turns journal → TellsPlan plans.Replay source printed turns journal
 replay_reported source bytes plan printed turns journal was taken = of_plan plans.Replay source bytes plan printed turns journal was taken
 
-pub run_reported : (workers : ℕ) (source : Taking) (bytes : List ℕ) (plan : PlanData) (printed : Option Printed) (turns : List Turn) (journal : List Entry) → IsAccepted source bytes plan → IsTaken (plans.Run workers) plan (report_at plan journal) printed turns journal → TellsPlan (plans.Run workers) source printed turns journal
+pub run_reported : (workers : ℕ) (source : Taking) (bytes : List ℕ) (plan : PlanData) (printed : Option Printed) (turns : List WorkerTurn) (journal : List Entry) → IsAccepted source bytes plan → IsTaken (plans.Run workers) plan (report_at plan journal) printed turns journal → TellsPlan (plans.Run workers) source printed turns journal
 run_reported workers source bytes plan printed turns journal was taken = of_plan (plans.Run workers) source bytes plan printed turns journal was taken
 
-pub trace_reported : (source : Taking) (bytes : List ℕ) (plan : PlanData) (printed : Option Printed) (turns : List Turn) (journal : List Entry) → IsAccepted source bytes plan → IsTaken plans.Trace plan (trace_at bytes plan journal) printed turns journal → TellsPlan plans.Trace source printed turns journal
+pub trace_reported : (source : Taking) (bytes : List ℕ) (plan : PlanData) (printed : Option Printed) (turns : List WorkerTurn) (journal : List Entry) → IsAccepted source bytes plan → IsTaken plans.Trace plan (trace_at bytes plan journal) printed turns journal → TellsPlan plans.Trace source printed turns journal
 trace_reported source bytes plan printed turns journal was taken = of_plan plans.Trace source bytes plan printed turns journal was taken
 
 -- a rebuild refuses a plan whose altered schema has a second unique key, and takes another
@@ -95,7 +95,7 @@ pub second_unique_reported : (workers : ℕ) (source : Taking) (bytes : List ℕ
 second_unique_reported workers source bytes plan printed was more shows =
     of_plan (plans.Rebuild workers) source bytes plan printed [] [] was (subst (λ (b : Bool). RebuildComes b workers bytes plan printed [] []) (sym more) (record { untaken = no_turn; shows = shows }))
 
-pub rebuild_reported : (workers : ℕ) (source : Taking) (bytes : List ℕ) (plan : PlanData) (printed : Option Printed) (turns : List Turn) (journal : List Entry) → IsAccepted source bytes plan → has_second_unique plan ≡ false → IsTaken (plans.Rebuild workers) plan (rebuild_at plan journal) printed turns journal → TellsPlan (plans.Rebuild workers) source printed turns journal
+pub rebuild_reported : (workers : ℕ) (source : Taking) (bytes : List ℕ) (plan : PlanData) (printed : Option Printed) (turns : List WorkerTurn) (journal : List Entry) → IsAccepted source bytes plan → has_second_unique plan ≡ false → IsTaken (plans.Rebuild workers) plan (rebuild_at plan journal) printed turns journal → TellsPlan (plans.Rebuild workers) source printed turns journal
 rebuild_reported workers source bytes plan printed turns journal was one taken =
     of_plan (plans.Rebuild workers) source bytes plan printed turns journal was (subst (λ (b : Bool). RebuildComes b workers bytes plan printed turns journal) (sym one) taken)
 
@@ -149,28 +149,28 @@ nothing_comes (Some Audit) left faults = no_trace_reported (Unmoved left faults)
 nothing_comes (Some (Rebuild workers)) left faults = nothing_reported (Unmoved left faults) (plans.Rebuild workers)
 
 -- what comes under the commands that read a plan
-pub check_comes : (source : Taking) (printed : Option Printed) (turns : List Turn) (journal : List Entry) → TellsPlan plans.Check source printed turns journal → ComesTo (Some Check) source printed turns journal
+pub check_comes : (source : Taking) (printed : Option Printed) (turns : List WorkerTurn) (journal : List Entry) → TellsPlan plans.Check source printed turns journal → ComesTo (Some Check) source printed turns journal
 unfolding ComesTo
 check_comes source printed turns journal tells = tells
 
-pub replay_comes : (source : Taking) (printed : Option Printed) (turns : List Turn) (journal : List Entry) → TellsPlan plans.Replay source printed turns journal → ComesTo (Some Replay) source printed turns journal
+pub replay_comes : (source : Taking) (printed : Option Printed) (turns : List WorkerTurn) (journal : List Entry) → TellsPlan plans.Replay source printed turns journal → ComesTo (Some Replay) source printed turns journal
 unfolding ComesTo
 replay_comes source printed turns journal tells = tells
 
-pub trace_comes : (source : Taking) (printed : Option Printed) (turns : List Turn) (journal : List Entry) → TellsPlan plans.Trace source printed turns journal → ComesTo (Some Trace) source printed turns journal
+pub trace_comes : (source : Taking) (printed : Option Printed) (turns : List WorkerTurn) (journal : List Entry) → TellsPlan plans.Trace source printed turns journal → ComesTo (Some Trace) source printed turns journal
 unfolding ComesTo
 trace_comes source printed turns journal tells = tells
 
-pub audit_comes : (source : Taking) (printed : Option Printed) (turns : List Turn) (journal : List Entry) → TellsTrace source printed turns journal → ComesTo (Some Audit) source printed turns journal
+pub audit_comes : (source : Taking) (printed : Option Printed) (turns : List WorkerTurn) (journal : List Entry) → TellsTrace source printed turns journal → ComesTo (Some Audit) source printed turns journal
 unfolding ComesTo
 audit_comes source printed turns journal tells = tells
 
-pub rebuild_comes : (workers : ℕ) (source : Taking) (printed : Option Printed) (turns : List Turn) (journal : List Entry) → TellsPlan (plans.Rebuild workers) source printed turns journal → ComesTo (Some (Rebuild workers)) source printed turns journal
+pub rebuild_comes : (workers : ℕ) (source : Taking) (printed : Option Printed) (turns : List WorkerTurn) (journal : List Entry) → TellsPlan (plans.Rebuild workers) source printed turns journal → ComesTo (Some (Rebuild workers)) source printed turns journal
 unfolding ComesTo
 rebuild_comes workers source printed turns journal tells = tells
 
 -- under words that ask for a run
-pub run_comes : (words : List (List ℕ)) (workers : ℕ) (source : Taking) (printed : Option Printed) (turns : List Turn) (journal : List Entry) → command words ≡ Some (Run workers) → TellsPlan (plans.Run workers) source printed turns journal → ComesTo (command words) source printed turns journal
+pub run_comes : (words : List (List ℕ)) (workers : ℕ) (source : Taking) (printed : Option Printed) (turns : List WorkerTurn) (journal : List Entry) → command words ≡ Some (Run workers) → TellsPlan (plans.Run workers) source printed turns journal → ComesTo (command words) source printed turns journal
 unfolding ComesTo
 run_comes words workers source printed turns journal is tells = subst (λ (chosen : Option Command). ComesTo chosen source printed turns journal) (sym is) tells
 

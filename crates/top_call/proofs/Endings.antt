@@ -3,6 +3,7 @@ use Rattle.std.proofs.Common.{◌≡◌, ◌≢◌, ℕ, Bool, true, false, cond
 use Rattle.std.specs.Io.KnownBytes.{Appends}
 use Rattle.std.specs.Str.{IsUtf8}
 use Rattle.base_edges.specs.Whole.{ReadsWhole}
+use Rattle.tool_program.specs.Orders.{WorkerTurn}
 use Rattle.server_model.specs.declared.entry.Entry.{Entry}
 use Rattle.server_model.specs.declared.outcome.Verdict.{Verdict}
 use Rattle.server_model.specs.declared.outcome.Verdict.TheVariants as verdicts
@@ -26,7 +27,6 @@ use Rattle.top_endings.specs.declared.refusals.Refusal.{Refusal}
 use Rattle.top_endings.specs.declared.refusals.Refusal.TheVariants as refusals
 use Rattle.top_endings.specs.declared.status.Status.{Status}
 use Rattle.top_endings.specs.declared.status.Status.TheVariants as statuses
-use Rattle.top_endings.specs.declared.turn.Turn.{Turn}
 use Rattle.top_endings.specs.Endings.{Taking, Giving, IsReadFault, IsUsage, IsWorkload, Gives, asked, reads_source}
 use Rattle.top_endings.specs.Audits.{IsAnswer, answer_status, answer_text}
 use Rattle.top_endings.specs.Checks.{IsSchema}
@@ -45,7 +45,7 @@ use Rattle.top_call.proofs.Taken.{sound_of, resumes_of, ends_as, is_taken, tells
 
 -- WHAT IS PRINTED WHOLE
 
-module _ (words : List (List ℕ)) (source : Taking) (sink : Giving) (turns : List Turn) (journal : List Entry) where
+module _ (words : List (List ℕ)) (source : Taking) (sink : Giving) (turns : List WorkerTurn) (journal : List Entry) where
   abbrev Under : Status → Type 0
   Under status = EndsUnder status words source sink turns journal
 

@@ -1,5 +1,5 @@
 -- A run to its end: the journal's two parts, and how it ended.
-use Rattle.std.proofs.Common.{◌≡◌, ℕ, ◌≤◌, nat_le, Bool, true, false, not, ◌&&◌, ◌||◌, if◌then◌else◌, is_some, List, [], ◌∷◌, ◌++◌, length, take, drop, Option, Some, None, IfSome, Result, Ok, Err, OnOk, is_err, refl, sym, ap, ◌∙◌, subst, take_all, append-nil, append_assoc, take-append-drop, arith}
+use Rattle.std.proofs.Common.{◌≡◌, ℕ, ◌+◌, ◌≤◌, nat_le, Bool, true, false, not, ◌&&◌, ◌||◌, if◌then◌else◌, is_some, List, [], ◌∷◌, ◌++◌, length, take, drop, Option, Some, None, IfSome, Result, Ok, Err, OnOk, is_err, refl, sym, ap, ◌∙◌, subst, take_all, append-nil, append_assoc, length-append, take-append-drop, arith}
 use Rattle.std.specs.List.{list_any}
 use Rattle.std.proofs.Math.Seq.{take-append_seam, drop-append_seam}
 use Rattle.std.proofs.lemmas.Bool.{true≢false}
@@ -361,11 +361,10 @@ module _ (tell : FinishesTellTheAlter) (plan : PlanData) (journal : List Entry) 
 -- THE NEW TOOL'S TURNS
 
 -- so many were taken, with the server behind them, and there is room for them
-pub record Finishing (start now : FinishRun) (taken room : ℕ) : Type 0 where
+pub record Finishing (start now : FinishRun) (room : ℕ) : Type 0 where
   pub plan : now.plan ≡ start.plan
   pub run : now.run ≡ start.run
   pub server : now.server ≡ state_at now.plan (now.run ++ now.turns)
-  pub none : taken ≡ 0
   pub space : length (now.run ++ now.turns) ≤ room
 
 pub server_more : (before after : FinishRun) → TakesNext before after → before.server ≡ state_at before.plan (before.run ++ before.turns) → after.server ≡ state_at after.plan (after.run ++ after.turns)
@@ -375,14 +374,17 @@ server_more before after takes is =
     ap (λ (f : FinishRun). f.server) takes.taken ∙ ap (λ (s : State). after_entry s takes.entry) is ∙ sym (state_more (opening before.plan) journal takes.entry) ∙ ap (state_at before.plan) (sym added)
     ∙ ap (λ (f : FinishRun). state_at f.plan (f.run ++ f.turns)) (sym takes.taken)
 
-pub finishing_more : (start before after : FinishRun) (taken room taken_then room_then : ℕ) → Finishing start before taken room → TakesNext before after → taken_then ≡ taken → length (after.run ++ after.turns) ≤ room_then → Finishing start after taken_then room_then
-finishing_more start before after taken room taken_then room_then was takes len space = record {
+pub finishing_more : (start before after : FinishRun) (room room_then : ℕ) → Finishing start before room → TakesNext before after → length (after.run ++ after.turns) ≤ room_then → Finishing start after room_then
+finishing_more start before after room room_then was takes space = record {
   plan = ap (λ (f : FinishRun). f.plan) takes.taken ∙ was.plan;
   run = ap (λ (f : FinishRun). f.run) takes.taken ∙ was.run;
   server = server_more before after takes was.server;
-  none = len ∙ was.none;
   space = space;
 }
+
+-- a journal to its end is no shorter than its run's
+pub whole_longer : (plan : PlanData) (run journal : List Entry) (count : ℕ) → IsWholeRun plan run journal → count ≤ length run → count ≤ length journal
+whole_longer plan run journal count whole few = let longer : length journal ≡ length run + length whole.turns = ap length whole.journal_is ∙ length-append run whole.turns in omega (arith, longer, few)
 
 -- WHAT THE NEW TOOL LEAVES
 

@@ -3,6 +3,7 @@ use Rattle.std.proofs.Common.{◌≡◌, ℕ, suc, ◌==◌, ◌≤◌, ◌<◌,
 use Rattle.std.specs.List.{list_any}
 use Rattle.std.proofs.lemmas.Bool.{or_parts, true≢false}
 use Rattle.std.proofs.lemmas.Bool.Decides.{nat_tests}
+use Rattle.tool_program.specs.Orders.{WorkerTurn}
 use Rattle.server_model.specs.declared.entry.Entry.{Entry}
 use Rattle.server_model.specs.declared.outcome.Cause.{Cause}
 use Rattle.server_model.specs.declared.outcome.Verdict.{Verdict}
@@ -23,7 +24,6 @@ use Rattle.top_call.specs.ResumedRuns.{Resumes, TellsAlterAt, finish_in, has_end
 use Rattle.top_call.specs.WholeReplays.SoundRuns.{IsSoundRun, EndsInTime}
 use Rattle.top_endings.specs.declared.command.PlanCommand.{PlanCommand}
 use Rattle.top_endings.specs.declared.command.PlanCommand.TheVariants.{Check, Replay, Run, Trace, Rebuild}
-use Rattle.top_endings.specs.declared.turn.Turn.{Turn}
 use Rattle.top_call.specs.Outcomes.{Takes}
 use Rattle.top_call.specs.Promises.{Completes, EndsBy, IsDoneWhereSmooth, IsDoneWithRoom}
 use Rattle.top_call.specs.TopLaws.{Laws}
@@ -33,7 +33,7 @@ pub tells_alter : Laws → (plan : PlanData) (journal : List Entry) → WasRead 
 tells_alter laws plan journal was faithful follows ended = laws.tell plan journal (laws.runnable plan was).fitting (laws.runnable plan was).stands faithful follows ended
 
 -- the run whose turns a command takes is sound, whichever it is
-pub sound_of : (chosen : PlanCommand) (plan : PlanData) (turns : List Turn) (journal : List Entry) → Takes chosen plan turns journal → IsSoundRun plan (run_in plan journal)
+pub sound_of : (chosen : PlanCommand) (plan : PlanData) (turns : List WorkerTurn) (journal : List Entry) → Takes chosen plan turns journal → IsSoundRun plan (run_in plan journal)
 sound_of Check plan turns journal taken = absurd taken
 sound_of Replay plan turns journal taken = taken.run.sound
 sound_of (Run workers) plan turns journal taken = taken.run.sound
@@ -41,7 +41,7 @@ sound_of Trace plan turns journal taken = taken.run.sound
 sound_of (Rebuild workers) plan turns journal taken = taken.0.run.sound
 
 -- and behind it are a new tool's where one comes
-pub resumes_of : (chosen : PlanCommand) (plan : PlanData) (turns : List Turn) (journal : List Entry) → Takes chosen plan turns journal → Resumes plan journal
+pub resumes_of : (chosen : PlanCommand) (plan : PlanData) (turns : List WorkerTurn) (journal : List Entry) → Takes chosen plan turns journal → Resumes plan journal
 resumes_of Check plan turns journal taken = absurd taken
 resumes_of Replay plan turns journal taken = taken.resumes
 resumes_of (Run workers) plan turns journal taken = taken.resumes

@@ -16,7 +16,6 @@ use Rattle.top_endings.specs.declared.command.PlanCommand.TheVariants.{Check, Re
 use Rattle.top_endings.specs.declared.printed.Printed.{Printed}
 use Rattle.top_endings.specs.declared.status.Status.{Status}
 use Rattle.top_endings.specs.declared.status.Status.TheVariants as statuses
-use Rattle.top_endings.specs.declared.turn.Turn.{Turn}
 use Rattle.top_endings.specs.Checks.{IsSchema}
 use Rattle.top_endings.specs.Rebuilt.{has_second_unique}
 use Rattle.top_endings.specs.Texts.{IsRefusal}
@@ -33,29 +32,25 @@ status_of (verdicts.Reverted cause) = statuses.Reverted
 status_of verdicts.Unfinished = statuses.TurnsSpent
 
 -- whose turns a replay's journal has, or a new tool's: all are of worker 0
-abbrev pub turns_of : List Entry → List Turn
+abbrev pub turns_of : List Entry → List WorkerTurn
 turns_of journal = map (λ entry. record { worker = 0; actor = entry.actor }) journal
 
--- whose turns a run by workers has
-abbrev pub worker_turns : List Turn → List WorkerTurn
-worker_turns turns = map (λ turn. record { worker = turn.worker; actor = turn.actor }) turns
-
 -- the turns of a sound replay, and those of a new tool behind it where one comes
-pub record IsReplayTaken (plan : PlanData) (turns : List Turn) (journal : List Entry) : Type 0 where
+pub record IsReplayTaken (plan : PlanData) (turns : List WorkerTurn) (journal : List Entry) : Type 0 where
   pub run : IsSoundReplay plan (run_in plan journal)
   pub resumes : Resumes plan journal
   pub turns_are : turns ≡ turns_of journal
 
 -- the turns of a sound run by this many workers, and those of a new tool behind it where one comes
-pub record IsRunTaken (workers : ℕ) (plan : PlanData) (turns : List Turn) (journal : List Entry) : Type 0 where
-  pub run : IsSoundRunByWorkers plan (run_in plan journal) (worker_turns (take plan.options.turn_limit turns)) workers
+pub record IsRunTaken (workers : ℕ) (plan : PlanData) (turns : List WorkerTurn) (journal : List Entry) : Type 0 where
+  pub run : IsSoundRunByWorkers plan (run_in plan journal) (take plan.options.turn_limit turns) workers
   pub resumes : Resumes plan journal
   pub turns_are : drop plan.options.turn_limit turns ≡ turns_of (finish_in plan journal)
 
 -- *Takes*: what holds of the turns that a command takes of a plan: they are those of a sound replay, or of a sound run by this
 -- many workers, and those of a new tool behind it where one comes; `check` takes none, and `rebuild` none of a plan whose altered
 -- schema has a second unique key
-abbrev pub Takes : PlanCommand → PlanData → List Turn → List Entry → Type 0
+abbrev pub Takes : PlanCommand → PlanData → List WorkerTurn → List Entry → Type 0
 Takes Check plan turns journal = ⊥
 Takes Replay plan turns journal = IsReplayTaken plan turns journal
 Takes (Run workers) plan turns journal = IsRunTaken workers plan turns journal
@@ -63,12 +58,12 @@ Takes Trace plan turns journal = IsReplayTaken plan turns journal
 Takes (Rebuild workers) plan turns journal = IsReplayTaken plan turns journal × (has_second_unique plan ≡ false)
 
 -- no turn was taken
-pub record IsUntaken (turns : List Turn) (journal : List Entry) : Type 0 where
+pub record IsUntaken (turns : List WorkerTurn) (journal : List Entry) : Type 0 where
   pub no_turns : turns ≡ []
   pub no_journal : journal ≡ []
 
 -- no turn was taken, and this is printed, or nothing where memory ran out
-pub record TakesNone (Shows : Printed → Type 0) (printed : Option Printed) (turns : List Turn) (journal : List Entry) : Type 0 where
+pub record TakesNone (Shows : Printed → Type 0) (printed : Option Printed) (turns : List WorkerTurn) (journal : List Entry) : Type 0 where
   pub untaken : IsUntaken turns journal
   pub shows : IfSome printed Shows
 
@@ -102,18 +97,18 @@ pub record IsRunPrinted (text : Verdict → List ℕ) (plan : PlanData) (journal
 
 -- These are the turns of a sound replay of the plan, or of a sound run of it by this many workers, and those of a new tool behind it
 -- where one comes. Its text is printed, and then it is over; or nothing is where memory ran out, and then the turns are those that were taken until then.
-pub record IsTaken (chosen : PlanCommand) (plan : PlanData) (text : Verdict → List ℕ) (printed : Option Printed) (turns : List Turn) (journal : List Entry) : Type 0 where
+pub record IsTaken (chosen : PlanCommand) (plan : PlanData) (text : Verdict → List ℕ) (printed : Option Printed) (turns : List WorkerTurn) (journal : List Entry) : Type 0 where
   pub was_read : WasRead plan
   pub takes : Takes chosen plan turns journal
   pub reports : IfSome printed (IsRunPrinted text plan journal)
 
 -- what comes of a plan under `rebuild`, whose altered schema has a second unique key, or hasn't
-abbrev pub RebuildComes : Bool → ℕ → List ℕ → PlanData → Option Printed → List Turn → List Entry → Type 0
+abbrev pub RebuildComes : Bool → ℕ → List ℕ → PlanData → Option Printed → List WorkerTurn → List Entry → Type 0
 RebuildComes true workers bytes plan printed turns journal = TakesNone (IsRefusal refusals.SecondUnique) printed turns journal
 RebuildComes false workers bytes plan printed turns journal = IsTaken (Rebuild workers) plan (run_text (Rebuild workers) bytes plan journal) printed turns journal
 
 -- What comes of bytes that say this under a command: the plan's altered schema, or its replay or run, or the refusal.
-abbrev pub Comes : PlanCommand → List ℕ → Result PlanData PlanRefusal → Option Printed → List Turn → List Entry → Type 0
+abbrev pub Comes : PlanCommand → List ℕ → Result PlanData PlanRefusal → Option Printed → List WorkerTurn → List Entry → Type 0
 Comes Check bytes (Ok plan) printed turns journal = TakesNone (IsSchema plan) printed turns journal
 Comes Replay bytes (Ok plan) printed turns journal = IsTaken Replay plan (run_text Replay bytes plan journal) printed turns journal
 Comes (Run workers) bytes (Ok plan) printed turns journal = IsTaken (Run workers) plan (run_text (Run workers) bytes plan journal) printed turns journal

@@ -4,6 +4,7 @@ use Rattle.std.specs.Io.KnownBytes.{Appends, Consumes}
 use Rattle.std.specs.Str.{IsUtf8}
 use Rattle.base_edges.specs.Edges.{Rose}
 use Rattle.base_edges.specs.Whole.{ReadsWhole, GivesPart}
+use Rattle.tool_program.specs.Orders.{WorkerTurn}
 use Rattle.server_model.specs.declared.entry.Entry.{Entry}
 use Rattle.server_model.specs.declared.outcome.Cause.{Cause}
 use Rattle.server_model.specs.declared.outcome.Verdict.{Verdict}
@@ -35,7 +36,6 @@ use Rattle.top_endings.specs.declared.refusals.Refusal.{Refusal}
 use Rattle.top_endings.specs.declared.refusals.Refusal.TheVariants as refusals
 use Rattle.top_endings.specs.declared.status.Status.{Status}
 use Rattle.top_endings.specs.declared.status.Status.TheVariants.{Done, Usage, Refused, Reverted, ReadFault, WriteFault, NoMemory, TurnsSpent, No}
-use Rattle.top_endings.specs.declared.turn.Turn.{Turn}
 use Rattle.top_endings.specs.Audits.{answer_text}
 use Rattle.top_endings.specs.Checks.{IsSchemaText}
 use Rattle.top_endings.specs.Endings.{Taking, Giving, asked, reads_source, status_number}
@@ -63,7 +63,7 @@ IsDoneWithRoom plan journal = bound plan ≤ plan.options.turn_limit → IsSmoot
 -- *The headline*, of the turns that a call leaves: the source was read whole, its bytes are an accepted plan, whose table has a text for
 -- its name, and the turns are those of a sound replay of the plan, or of a sound run of it by this many workers, as the command says, and
 -- those of a new tool behind it where one comes.
-pub record Runs (chosen : PlanCommand) (source : Taking) (turns : List Turn) (journal : List Entry) : Type 0 where
+pub record Runs (chosen : PlanCommand) (source : Taking) (turns : List WorkerTurn) (journal : List Entry) : Type 0 where
   pub bytes : List ℕ
   pub whole : ReadsWhole PLAN_LIMIT source.before source.after bytes
   pub plan : PlanData
@@ -75,7 +75,7 @@ pub record Runs (chosen : PlanCommand) (source : Taking) (turns : List Turn) (jo
   pub roomy : IsDoneWithRoom plan (run_in plan journal)
 
 -- the same of the command that the words are
-pub record RunsBy (words : List (List ℕ)) (source : Taking) (turns : List Turn) (journal : List Entry) : Type 0 where
+pub record RunsBy (words : List (List ℕ)) (source : Taking) (turns : List WorkerTurn) (journal : List Entry) : Type 0 where
   pub chosen : PlanCommand
   pub command_is : command words ≡ Some (asked chosen)
   pub runs : Runs chosen source turns journal
@@ -90,7 +90,7 @@ EndsBy plan journal verdict = has_ended_at plan journal ≡ true
 -- The report is given, or what the command prints in its place: turns were taken, the run is over as this verdict says, which is that of the journal and tells whether
 -- the ALTER was done; what is given is the text of the run, of the verdict and of the tables at its end, in UTF-8. The server numbered its sessions
 -- with 32 bits.
-pub record PrintsReport (chosen : PlanCommand) (verdict : Verdict) (source : Taking) (sink : Giving) (turns : List Turn) (journal : List Entry) : Type 0 where
+pub record PrintsReport (chosen : PlanCommand) (verdict : Verdict) (source : Taking) (sink : Giving) (turns : List WorkerTurn) (journal : List Entry) : Type 0 where
   pub runs : Runs chosen source turns journal
   pub taken : (length journal == 0) ≡ false
   pub over : EndsBy runs.plan journal verdict
@@ -101,7 +101,7 @@ pub record PrintsReport (chosen : PlanCommand) (verdict : Verdict) (source : Tak
   pub made : (state_at runs.plan journal).made < 2 ^ 32
 
 -- Status 0 of `check`: the text of the schema that the ALTER of an accepted plan leaves is given.
-pub record PrintsSchema (source : Taking) (sink : Giving) (turns : List Turn) (journal : List Entry) : Type 0 where
+pub record PrintsSchema (source : Taking) (sink : Giving) (turns : List WorkerTurn) (journal : List Entry) : Type 0 where
   pub bytes : List ℕ
   pub whole : ReadsWhole PLAN_LIMIT source.before source.after bytes
   pub plan : PlanData
@@ -112,14 +112,14 @@ pub record PrintsSchema (source : Taking) (sink : Giving) (turns : List Turn) (j
   pub untaken : IsUntaken turns journal
 
 -- Status 0 of `generate`: the plan of the number is given, and nothing is taken.
-pub record PrintsWorkload (number : ℕ) (source : Taking) (sink : Giving) (turns : List Turn) (journal : List Entry) : Type 0 where
+pub record PrintsWorkload (number : ℕ) (source : Taking) (sink : Giving) (turns : List WorkerTurn) (journal : List Entry) : Type 0 where
   pub untaken : IsUntaken turns journal
   pub takes_none : Consumes source.before source.after []
   pub given : Appends sink.before sink.after (workload number)
 
 -- `audit`: the source was read whole, its bytes are a trace of an accepted plan, and the answer of its audit is given. No turn is
 -- taken.
-pub record PrintsAnswer (answer : Audit) (source : Taking) (sink : Giving) (turns : List Turn) (journal : List Entry) : Type 0 where
+pub record PrintsAnswer (answer : Audit) (source : Taking) (sink : Giving) (turns : List WorkerTurn) (journal : List Entry) : Type 0 where
   pub bytes : List ℕ
   pub whole : ReadsWhole TRACE_LIMIT source.before source.after bytes
   pub plan : PlanData
@@ -130,7 +130,7 @@ pub record PrintsAnswer (answer : Audit) (source : Taking) (sink : Giving) (turn
   pub untaken : IsUntaken turns journal
 
 -- Status 0, command by command
-abbrev pub PrintsDone : Option Command → Taking → Giving → List Turn → List Entry → Type 0
+abbrev pub PrintsDone : Option Command → Taking → Giving → List WorkerTurn → List Entry → Type 0
 PrintsDone None source sink turns journal = ⊥
 PrintsDone (Some commands.Check) source sink turns journal = PrintsSchema source sink turns journal
 PrintsDone (Some commands.Replay) source sink turns journal = PrintsReport plans.Replay verdicts.Done source sink turns journal
@@ -141,7 +141,7 @@ PrintsDone (Some commands.Audit) source sink turns journal = PrintsAnswer Yes so
 PrintsDone (Some (commands.Rebuild workers)) source sink turns journal = PrintsReport (plans.Rebuild workers) verdicts.Done source sink turns journal
 
 -- Status 1: the words are no command; the usage is given, and nothing is taken.
-pub record PrintsUsage (words : List (List ℕ)) (source : Taking) (sink : Giving) (turns : List Turn) (journal : List Entry) : Type 0 where
+pub record PrintsUsage (words : List (List ℕ)) (source : Taking) (sink : Giving) (turns : List WorkerTurn) (journal : List Entry) : Type 0 where
   pub faulty : command words ≡ None
   pub untaken : IsUntaken turns journal
   pub takes_none : Consumes source.before source.after []
@@ -172,7 +172,7 @@ refusal_of bytes (Some commands.Audit) = trace_refusal (read_trace bytes)
 refusal_of bytes chosen = plan_refusal (read bytes) chosen
 
 -- Status 2: the first refusal of the bytes is given.
-pub record PrintsRefusal (words : List (List ℕ)) (source : Taking) (sink : Giving) (turns : List Turn) (journal : List Entry) : Type 0 where
+pub record PrintsRefusal (words : List (List ℕ)) (source : Taking) (sink : Giving) (turns : List WorkerTurn) (journal : List Entry) : Type 0 where
   pub reads : reads_source (command words) ≡ true
   pub bytes : List ℕ
   pub whole : ReadsWhole (limit_of (command words)) source.before source.after bytes
@@ -183,7 +183,7 @@ pub record PrintsRefusal (words : List (List ℕ)) (source : Taking) (sink : Giv
 
 -- Status 3: the report, or the trace, says why the migration was reverted, and that cause is in the journal: a row that didn't fit, tries that
 -- failed, or panic.
-pub record PrintsRevert (words : List (List ℕ)) (source : Taking) (sink : Giving) (turns : List Turn) (journal : List Entry) : Type 0 where
+pub record PrintsRevert (words : List (List ℕ)) (source : Taking) (sink : Giving) (turns : List WorkerTurn) (journal : List Entry) : Type 0 where
   pub chosen : PlanCommand
   pub command_is : command words ≡ Some (asked chosen)
   pub cause : Cause
@@ -191,39 +191,39 @@ pub record PrintsRevert (words : List (List ℕ)) (source : Taking) (sink : Givi
   pub stands : StandsAt prints.runs.plan journal cause
 
 -- Status 4: the source's fault count increased, and that is said.
-pub record PrintsReadFault (words : List (List ℕ)) (source : Taking) (sink : Giving) (turns : List Turn) (journal : List Entry) : Type 0 where
+pub record PrintsReadFault (words : List (List ℕ)) (source : Taking) (sink : Giving) (turns : List WorkerTurn) (journal : List Entry) : Type 0 where
   pub reads : reads_source (command words) ≡ true
   pub untaken : IsUntaken turns journal
   pub rose : Rose source.faults_before source.faults_after
   pub given : Appends sink.before sink.after read_fault_text
 
 -- Status 5: the sink's fault count increased, and what is given is a prefix of what the words and the source come to.
-pub record PrintsPrefix (words : List (List ℕ)) (source : Taking) (sink : Giving) (turns : List Turn) (journal : List Entry) : Type 0 where
+pub record PrintsPrefix (words : List (List ℕ)) (source : Taking) (sink : Giving) (turns : List WorkerTurn) (journal : List Entry) : Type 0 where
   pub printed : Printed
   pub comes : ComesTo (command words) source (Some printed) turns journal
   pub given : GivesPart sink.before sink.after printed.text
   pub rose : Rose sink.faults_before sink.faults_after
 
 -- Status 6: memory ran out, and nothing is given. Where turns were taken, the journal is that of the turns until then.
-pub record PrintsNone (words : List (List ℕ)) (source : Taking) (sink : Giving) (turns : List Turn) (journal : List Entry) : Type 0 where
+pub record PrintsNone (words : List (List ℕ)) (source : Taking) (sink : Giving) (turns : List WorkerTurn) (journal : List Entry) : Type 0 where
   pub comes : ComesTo (command words) source None turns journal
   pub given : Appends sink.before sink.after []
 
 -- Status 7: the report, or the trace, is given of a run that hasn't ended, has as many turns as the plan allows, and isn't resumed.
-pub record PrintsUnfinished (words : List (List ℕ)) (source : Taking) (sink : Giving) (turns : List Turn) (journal : List Entry) : Type 0 where
+pub record PrintsUnfinished (words : List (List ℕ)) (source : Taking) (sink : Giving) (turns : List WorkerTurn) (journal : List Entry) : Type 0 where
   pub chosen : PlanCommand
   pub command_is : command words ≡ Some (asked chosen)
   pub prints : PrintsReport chosen verdicts.Unfinished source sink turns journal
 
 -- Status 8: the trace breaks a rule, and the first is given.
-pub record PrintsNo (words : List (List ℕ)) (source : Taking) (sink : Giving) (turns : List Turn) (journal : List Entry) : Type 0 where
+pub record PrintsNo (words : List (List ℕ)) (source : Taking) (sink : Giving) (turns : List WorkerTurn) (journal : List Entry) : Type 0 where
   pub command_is : command words ≡ Some commands.Audit
   pub answer : Audit
   pub no : answer ≢ Yes
   pub prints : PrintsAnswer answer source sink turns journal
 
 -- what stands after a call that ended so
-abbrev pub EndsUnder : Status → List (List ℕ) → Taking → Giving → List Turn → List Entry → Type 0
+abbrev pub EndsUnder : Status → List (List ℕ) → Taking → Giving → List WorkerTurn → List Entry → Type 0
 EndsUnder Done words source sink turns journal = PrintsDone (command words) source sink turns journal
 EndsUnder Usage words source sink turns journal = PrintsUsage words source sink turns journal
 EndsUnder Refused words source sink turns journal = PrintsRefusal words source sink turns journal
@@ -235,7 +235,7 @@ EndsUnder TurnsSpent words source sink turns journal = PrintsUnfinished words so
 EndsUnder No words source sink turns journal = PrintsNo words source sink turns journal
 
 -- *Ends*: the number is that of a status under which this stands.
-pub record Ends (words : List (List ℕ)) (source : Taking) (sink : Giving) (turns : List Turn) (journal : List Entry) (number : ℕ) : Type 0 where
+pub record Ends (words : List (List ℕ)) (source : Taking) (sink : Giving) (turns : List WorkerTurn) (journal : List Entry) (number : ℕ) : Type 0 where
   pub status : Status
   pub number_is : number ≡ status_number status
   pub under : EndsUnder status words source sink turns journal

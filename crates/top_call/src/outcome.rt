@@ -14,20 +14,20 @@ ghost use Rattle.top_call.specs.Outcomes.{IsRunPrinted, IsTaken, Takes, rebuild_
 use crate::finishes::finishes_tell_the_alter;
 use crate::plan_rebuilds::rebuilt;
 use crate::plan_works::work_plan;
-use crate::resumed_runs::End;
+use crate::resumed_runs::{End, RunResult};
 use crate::status::status_of;
-use crate::turns::{turns_in, turns_of_workers};
-use crate::whole_replays::{Left, open_plan, replay_plan};
+use crate::whole_replays::{Replay, open_plan, replay_plan};
 use base_edges::Gate;
 use base_values::{Sequence, Text};
 use plan_data::Plan;
+use run_workers::worker_run::Turns;
 use server::final_server::FinalServer;
 use server_api::Serve;
 use server_model::{Journal, Verdict};
 use std::alloc::{AllocError, Global};
 use std::sync::Wait;
 use std::thread::Threads;
-use top_endings::{Printed, Turns};
+use top_endings::Printed;
 use top_report::report;
 use top_trace::print_trace;
 
@@ -108,20 +108,17 @@ fn traced<V: Serve>(
     }
 }
 
-/// The replay of a plan, and whose turns it took. Where there is no memory for the list of turns, or for the server, no turn is
-/// taken.
-fn replayed(alloc: Global, plan: &Plan) -> Result<(Left<FinalServer>, Turns), AllocError>
+/// The replay of a plan. Where there is no memory for the list of turns, or for the server, no turn is taken.
+fn replayed(alloc: Global, plan: &Plan) -> Result<Replay<FinalServer>, AllocError>
     requires { WasRead plan.now }
-    ensures takes { IfOk result (λ replayed. Takes plans.Replay plan.now replayed.1 replayed.0.journal) }
-    ensures logged { IfOk result (λ replayed. replayed.0.logged ≡ logged_at_mark plan.now (plan.now.table ∷ []) (run_in plan.now replayed.0.journal)) }
-    ensures end { IfOk result (λ replayed. IfSome replayed.0.end (λ end. IsEnd plan.now replayed.0.journal end.verdict end.server.state end.sessions)) }
+    ensures takes { IfOk result (λ left. Takes plans.Replay plan.now left.run.turns left.run.journal) }
+    ensures logged { IfOk result (λ left. left.logged ≡ logged_at_mark plan.now (plan.now.table ∷ []) (run_in plan.now left.run.journal)) }
+    ensures end { IfOk result (λ left. IfSome left.run.end (λ end. IsEnd plan.now left.run.journal end.verdict end.server.state end.sessions)) }
 {
     // The room for the turns is made before the first, so that none that was taken is thrown away.
-    let mut room = Vec::with_capacity(alloc, plan.options().turn_limit as usize)?;
+    let room = Vec::with_capacity(alloc, plan.options().turn_limit as usize)?;
     let server = open_plan(alloc, plan)?;
-    let left = replay_plan(alloc, plan, server, &mut room)?;
-    let turns = turns_in(room, left.journal.as_slice());
-    Ok((left, turns))
+    replay_plan(alloc, plan, server, room)
 }
 
 /// What comes of the replay of a plan.
@@ -129,10 +126,13 @@ pub(crate) fn plan_replayed(alloc: Global, plan: &Plan) -> Result<Outcome, Alloc
     requires { WasRead plan.now }
     ensures { IfOk result (λ outcome. IsTaken plans.Replay plan.now (report_at plan.now outcome.journal) outcome.printed outcome.turns outcome.journal) }
 {
-    let (left, turns) = replayed(alloc, plan)?;
+    let Replay {
+        run: left,
+        logged: _,
+    } = replayed(alloc, plan)?;
     Ok(Outcome {
         printed: reported(alloc, plan, &left.journal, &left.end),
-        turns,
+        turns: left.turns,
         journal: left.journal,
     })
 }
@@ -146,10 +146,13 @@ pub(crate) fn plan_traced(
     requires { WasRead plan.now }
     ensures { IfOk result (λ outcome. IsTaken plans.Trace plan.now (trace_at plan_text.now plan.now outcome.journal) outcome.printed outcome.turns outcome.journal) }
 {
-    let (left, turns) = replayed(alloc, plan)?;
+    let Replay {
+        run: left,
+        logged: _,
+    } = replayed(alloc, plan)?;
     Ok(Outcome {
         printed: traced(alloc, plan_text, plan, &left.journal, &left.end),
-        turns,
+        turns: left.turns,
         journal: left.journal,
     })
 }
@@ -165,52 +168,90 @@ fn is_done<V: Serve>(end: &Option<End<V>>) -> bool
     }
 }
 
-/// The report of a run that ended, and its journal.
-fn reported_after<V: Serve>(alloc: Global, plan: &Plan, left: Left<V>) -> (Option<Printed>, Journal)
+/// What comes of a run in which the RENAME wasn't done: its report.
+fn reported_after<V: Serve>(alloc: Global, plan: &Plan, left: RunResult<V>) -> Outcome
     requires end { IfSome left.end (λ end. IsEnd plan.now left.journal end.verdict (V.state end.server) end.sessions) }
     requires undone { IfSome left.end (λ end. end.verdict ≢ verdicts.Done) }
-    ensures printed { IfSome result.0 (IsRunPrinted (rebuild_at plan.now left.journal) plan.now left.journal) }
-    ensures journal { result.1 ≡ left.journal }
+    ensures printed { IfSome result.printed (IsRunPrinted (rebuild_at plan.now left.journal) plan.now left.journal) }
+    ensures turns { result.turns ≡ left.turns }
+    ensures journal { result.journal ≡ left.journal }
 {
     let printed = reported(alloc, plan, &left.journal, &left.end);
-    (printed, left.journal)
+    Outcome {
+        printed,
+        turns: left.turns,
+        journal: left.journal,
+    }
 }
 
-/// What is printed of a run that ended, and its journal: where the RENAME was done, the table that is made anew from the log; else the
-/// report.
-fn rebuilt_or_reported<V: Serve, R: Threads + Sync, G: Gate + Sync>(
+/// What comes of a run in which the RENAME was done: the table that is made anew from the log.
+fn rebuilt_after<V: Serve, R: Threads + Sync, G: Gate + Sync>(
     rt: &R,
     alloc: Global,
     plan: &Plan,
-    left: Left<V>,
+    left: Replay<V>,
     workers: u32,
     gate: &G,
-) -> (Option<Printed>, Journal)
+) -> Outcome
     requires workers { AreShards workers }
     requires read { WasRead plan.now }
-    requires replay { IsSoundReplay plan.now (run_in plan.now left.journal) }
-    requires resumes { Resumes plan.now left.journal }
-    requires logged { left.logged ≡ logged_at_mark plan.now (plan.now.table ∷ []) (run_in plan.now left.journal) }
-    requires end { IfSome left.end (λ end. IsEnd plan.now left.journal end.verdict (V.state end.server) end.sessions) }
-    ensures printed { IfSome result.0 (IsRunPrinted (rebuild_at plan.now left.journal) plan.now left.journal) }
-    ensures journal { result.1 ≡ left.journal }
+    requires replay { IsSoundReplay plan.now (run_in plan.now left.run.journal) }
+    requires resumes { Resumes plan.now left.run.journal }
+    requires logged { left.logged ≡ logged_at_mark plan.now (plan.now.table ∷ []) (run_in plan.now left.run.journal) }
+    requires end { IfSome left.run.end (λ end. IsEnd plan.now left.run.journal end.verdict (V.state end.server) end.sessions) }
+    requires done { IfSome left.run.end (λ end. end.verdict ≡ verdicts.Done) }
+    ensures printed { IfSome result.printed (IsRunPrinted (rebuild_at plan.now left.run.journal) plan.now left.run.journal) }
+    ensures turns { result.turns ≡ left.run.turns }
+    ensures journal { result.journal ≡ left.run.journal }
 {
-    if !is_done(&left.end) {
-        return reported_after(alloc, plan, left);
-    }
     finishes_tell_the_alter();
-    let Left {
+    let Replay { run, logged } = left;
+    let RunResult {
         journal,
-        logged,
+        turns,
         end,
-    } = left;
+    } = run;
     match end {
         // The log is read by one more session: else no number would be left for it.
         Some(end) if end.sessions < u32::MAX => {
             let printed = rebuilt(rt, alloc, plan, end.server, logged, workers, gate);
-            (printed, journal)
+            Outcome {
+                printed,
+                turns,
+                journal,
+            }
         }
-        _ => (None, journal),
+        _ => Outcome {
+            printed: None,
+            turns,
+            journal,
+        },
+    }
+}
+
+/// What comes of a run: where the RENAME was done, the table that is made anew from the log; else the report.
+fn rebuilt_or_reported<V: Serve, R: Threads + Sync, G: Gate + Sync>(
+    rt: &R,
+    alloc: Global,
+    plan: &Plan,
+    left: Replay<V>,
+    workers: u32,
+    gate: &G,
+) -> Outcome
+    requires workers { AreShards workers }
+    requires read { WasRead plan.now }
+    requires replay { IsSoundReplay plan.now (run_in plan.now left.run.journal) }
+    requires resumes { Resumes plan.now left.run.journal }
+    requires logged { left.logged ≡ logged_at_mark plan.now (plan.now.table ∷ []) (run_in plan.now left.run.journal) }
+    requires end { IfSome left.run.end (λ end. IsEnd plan.now left.run.journal end.verdict (V.state end.server) end.sessions) }
+    ensures printed { IfSome result.printed (IsRunPrinted (rebuild_at plan.now left.run.journal) plan.now left.run.journal) }
+    ensures turns { result.turns ≡ left.run.turns }
+    ensures journal { result.journal ≡ left.run.journal }
+{
+    if is_done(&left.run.end) {
+        rebuilt_after(rt, alloc, plan, left, workers, gate)
+    } else {
+        reported_after(alloc, plan, left.run)
     }
 }
 
@@ -227,18 +268,12 @@ pub(crate) fn plan_rebuilt<R: Threads + Sync, G: Gate + Sync>(
     requires single { has_second_unique plan.now ≡ false }
     ensures { IfOk result (λ outcome. IsTaken (plans.Rebuild workers) plan.now (rebuild_at plan.now outcome.journal) outcome.printed outcome.turns outcome.journal) }
 {
-    let (left, turns) = replayed(alloc, plan)?;
-    let (printed, journal) = rebuilt_or_reported(rt, alloc, plan, left, workers, gate);
-    Ok(Outcome {
-        printed,
-        turns,
-        journal,
-    })
+    let left = replayed(alloc, plan)?;
+    Ok(rebuilt_or_reported(rt, alloc, plan, left, workers, gate))
 }
 
 /// What comes of the run of a plan by `workers` workers. Where there is no memory for the list of turns, for the server or for
 /// the turn queue, no turn is taken.
-#[tactic(auto, using(crate::proofs::Worked::few_turns))]
 pub(crate) fn plan_worked<R: Threads + Wait + Sync, G: Gate + Sync>(
     rt: &R,
     alloc: Global,
@@ -251,12 +286,11 @@ pub(crate) fn plan_worked<R: Threads + Wait + Sync, G: Gate + Sync>(
     requires read { WasRead plan.now }
     ensures { IfOk result (λ outcome. IsTaken (plans.Run workers) plan.now (report_at plan.now outcome.journal) outcome.printed outcome.turns outcome.journal) }
 {
-    let mut room = Vec::with_capacity(alloc, plan.options().turn_limit as usize)?;
     let server = open_plan(alloc, plan)?;
-    let left = work_plan(rt, alloc, plan, server, workers, gate, &mut room)?;
+    let left = work_plan(rt, alloc, plan, server, workers, gate)?;
     Ok(Outcome {
         printed: reported(alloc, plan, &left.journal, &left.end),
-        turns: turns_of_workers(room, left.turns.as_slice(), left.journal.as_slice()),
+        turns: left.turns,
         journal: left.journal,
     })
 }

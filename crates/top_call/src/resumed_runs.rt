@@ -1,23 +1,25 @@
 //! A run to its end: where the plan has `resume`, and the run left a checkpoint when its turns were spent, a new tool finishes it.
 
 ghost use Rattle.std.specs.Prelude.{◌≡◌, ◌≤◌, ◌&&◌, not, [], ◌++◌, drop, length, is_some, true, false, Some, None, IfSome, OnOk, OnErr};
-ghost use Rattle.std.specs.Vec.{vec_len, vec_capacity};
+ghost use Rattle.std.specs.Vec.{vec_capacity};
 ghost use Rattle.tool_program.specs.JournalWords.Journals.{state_at};
 ghost use Rattle.tool_program.specs.Verdicts.{has_ended, verdict_of};
 ghost use Rattle.tool_finish.specs.Finishes.{finish_verdict, is_over as is_finished, stage_behind};
 ghost use Rattle.proof_plans.specs.ReadPlans.Laws.{WasRead};
 ghost use Rattle.run_turns.specs.Runs as runs;
 ghost use Rattle.run_finish.specs.FinishRuns.{is_ended, TakesNext, IsUnmoved};
+ghost use Rattle.top_call.specs.Outcomes.{turns_of};
 ghost use Rattle.top_call.specs.ResumedRuns.{FinishesRun, IsEnd, IsEndOf, IsWholeRun};
 ghost use Rattle.top_call.specs.WholeReplays.SoundRuns.{IsSoundRun};
 
 use crate::finishes::{finishes_are_sound, finishes_may_call};
+use crate::turns::turns_in;
 use run_finish::{Finish, FinishFault};
 use run_turns::{Run, Stepped};
+use run_workers::worker_run::{Turns, WorkerTurn};
 use server_api::Serve;
 use server_model::{Journal, Verdict};
 use std::alloc::{AllocError, Global};
-use top_endings::Turn;
 
 /// How a run ended, or the new tool behind it.
 #[derive(Drop)]
@@ -32,9 +34,11 @@ pub struct End<V: Serve> {
 
 /// What a run leaves, and the new tool behind it where one comes.
 #[derive(Drop)]
-pub struct WholeRun<V: Serve> {
+pub struct RunResult<V: Serve> {
     /// The run's turns, and the new tool's behind them.
     pub journal: Journal,
+    /// Whose turns they are.
+    pub turns: Turns,
     /// How it ended; none where memory ran out before.
     pub end: Option<End<V>>,
 }
@@ -55,12 +59,12 @@ fn end_with<V: Serve>(verdict: Option<Verdict>, server: V, sessions: u32) -> Opt
 }
 
 /// A run for whose next turn, or the new tool's first, there is no memory.
-fn short_run<V: Serve>(run: Run<'_, V>) -> WholeRun<V>
-    ensures journal { result.journal ≡ run.entry.journal }
-    ensures end { result.end ≡ None }
+fn short_run<V: Serve>(run: Run<'_, V>) -> (Journal, Option<End<V>>)
+    ensures journal { result.0 ≡ run.entry.journal }
+    ensures end { result.1 ≡ None }
 {
     let (_server, journal) = run.stop();
-    WholeRun { journal, end: None }
+    (journal, None)
 }
 
 /// The verdict of a run, unless there is no memory for the copy that outlives it.
@@ -82,27 +86,25 @@ fn finish_verdict<V: Serve>(alloc: Global, finish: &Finish<'_, V>, is_over: bool
 }
 
 /// A run behind which no new tool comes.
-fn run_alone<V: Serve>(alloc: Global, run: Run<'_, V>) -> WholeRun<V>
+fn run_alone<V: Serve>(alloc: Global, run: Run<'_, V>) -> (Journal, Option<End<V>>)
     requires server { run.server ≡ state_at run.plan run.journal }
-    ensures journal { result.journal ≡ run.entry.journal }
-    ensures end { IfSome result.end (λ end. IsEndOf (verdict_of run.entry.plan run.entry.journal) (state_at run.entry.plan run.entry.journal) end.verdict (V.state end.server) end.sessions) }
+    ensures journal { result.0 ≡ run.entry.journal }
+    ensures end { IfSome result.1 (λ end. IsEndOf (verdict_of run.entry.plan run.entry.journal) (state_at run.entry.plan run.entry.journal) end.verdict (V.state end.server) end.sessions) }
 {
     let verdict = run_verdict(alloc, &run);
     let sessions = run.sessions();
     let (server, journal) = run.stop();
-    WholeRun {
-        journal,
-        end: end_with(verdict, server, sessions),
-    }
+    (journal, end_with(verdict, server, sessions))
 }
 
 /// Takes the new tool's next turn. The room for it in the list of turns is made before, so that none that was taken is thrown away.
-fn take_turn<V: Serve>(finish: &mut Finish<'_, V>, room: &mut Vec<Turn>) -> Result<(), AllocError>
+fn take_turn<V: Serve>(
+    finish: &mut Finish<'_, V>,
+    room: &mut Vec<WorkerTurn>,
+) -> Result<(), AllocError>
     requires going { is_ended finish.old ≡ false }
-    requires none { vec_len room.old ≡ 0 }
     requires capacity { length (finish.old.run ++ finish.old.turns) ≤ vec_capacity room.old }
     ensures items { room.new.items ≡ room.old.items }
-    ensures len { vec_len room.new ≡ vec_len room.old }
     ensures capacity { length (finish.new.run ++ finish.new.turns) ≤ vec_capacity room.new }
     ensures ok { OnOk result (TakesNext finish.old finish.new) }
     ensures err { OnErr result (IsUnmoved finish.old finish.new) }
@@ -115,14 +117,12 @@ fn take_turn<V: Serve>(finish: &mut Finish<'_, V>, room: &mut Vec<Turn>) -> Resu
 }
 
 /// Takes the new tool's turns until it is over, and says whether it is: where there is no memory for a turn, those before it stay.
-fn take_turns<V: Serve>(finish: &mut Finish<'_, V>, room: &mut Vec<Turn>) -> bool
-    requires none { vec_len room.old ≡ 0 }
+fn take_turns<V: Serve>(finish: &mut Finish<'_, V>, room: &mut Vec<WorkerTurn>) -> bool
     requires capacity { length (finish.old.run ++ finish.old.turns) ≤ vec_capacity room.old }
     requires server { finish.old.server ≡ state_at finish.old.plan (finish.old.run ++ finish.old.turns) }
     ensures plan { finish.new.plan ≡ finish.old.plan }
     ensures run { finish.new.run ≡ finish.old.run }
     ensures items { room.new.items ≡ room.old.items }
-    ensures len { vec_len room.new ≡ vec_len room.old }
     ensures capacity { length (finish.new.run ++ finish.new.turns) ≤ vec_capacity room.new }
     ensures over { result ≡ true → is_ended finish.new ≡ true }
     ensures server { result ≡ true → finish.new.server ≡ state_at finish.new.plan (finish.new.run ++ finish.new.turns) }
@@ -140,27 +140,26 @@ fn take_turns<V: Serve>(finish: &mut Finish<'_, V>, room: &mut Vec<Turn>) -> boo
 }
 
 /// A run that a new tool goes on with until it is over.
-fn finished_run<V: Serve>(alloc: Global, finish: Finish<'_, V>, room: &mut Vec<Turn>) -> WholeRun<V>
+fn finished_run<V: Serve>(
+    alloc: Global,
+    finish: Finish<'_, V>,
+    room: &mut Vec<WorkerTurn>,
+) -> (Journal, Option<End<V>>)
     requires fresh { finish.turns ≡ [] }
     requires server { finish.server ≡ state_at finish.plan finish.run }
-    requires none { vec_len room.old ≡ 0 }
     requires capacity { length finish.run ≤ vec_capacity room.old }
-    ensures finish { FinishesRun finish.entry.plan finish.entry.run result.journal }
-    ensures end { IfSome result.end (λ end. IsEndOf (finish_verdict finish.entry.plan finish.entry.run (drop (length finish.entry.run) result.journal)) (state_at finish.entry.plan result.journal) end.verdict (V.state end.server) end.sessions) }
-    ensures over { IfSome result.end (λ end. is_finished (stage_behind finish.entry.plan finish.entry.run (drop (length finish.entry.run) result.journal)) ≡ true) }
+    ensures finish { FinishesRun finish.entry.plan finish.entry.run result.0 }
+    ensures end { IfSome result.1 (λ end. IsEndOf (finish_verdict finish.entry.plan finish.entry.run (drop (length finish.entry.run) result.0)) (state_at finish.entry.plan result.0) end.verdict (V.state end.server) end.sessions) }
+    ensures over { IfSome result.1 (λ end. is_finished (stage_behind finish.entry.plan finish.entry.run (drop (length finish.entry.run) result.0)) ≡ true) }
     ensures items { room.new.items ≡ room.old.items }
-    ensures len { vec_len room.new ≡ vec_len room.old }
-    ensures capacity { length result.journal ≤ vec_capacity room.new }
+    ensures capacity { length result.0 ≤ vec_capacity room.new }
 {
     let mut finish = finish;
     let is_over = take_turns(&mut finish, room);
     let verdict = finish_verdict(alloc, &finish, is_over);
     let sessions = finish.sessions();
     let (server, journal) = finish.stop();
-    WholeRun {
-        journal,
-        end: end_with(verdict, server, sessions),
-    }
+    (journal, end_with(verdict, server, sessions))
 }
 
 /// Whether a new tool may come behind a run that is over: the plan has `resume`, and the run hasn't ended.
@@ -170,25 +169,23 @@ fn may_resume<V: Serve>(run: &Run<'_, V>) -> bool
     run.plan().options().resume && !run.ended()
 }
 
-/// A run to its end: where it is over and is resumed, with the new tool's turns behind it. It is short where it isn't over, since
-/// there was no memory for a turn. The room for the list of turns grows with them.
-pub fn whole_run<V: Serve>(
+/// The journal of a run to its end: where it is over and is resumed, with the new tool's turns behind it; and how it ended. It is
+/// short where it isn't over, since there was no memory for a turn. The room for the list of turns grows with them.
+fn resumed_run<V: Serve>(
     alloc: Global,
     run: Run<'_, V>,
     is_over: bool,
-    room: &mut Vec<Turn>,
-) -> WholeRun<V>
+    room: &mut Vec<WorkerTurn>,
+) -> (Journal, Option<End<V>>)
     requires read { WasRead run.plan }
     requires sound { IsSoundRun run.plan run.journal }
     requires over { is_over ≡ true → runs.is_over run.plan run.journal ≡ true }
     requires server { is_over ≡ true → run.server ≡ state_at run.plan run.journal }
-    requires none { vec_len room.old ≡ 0 }
     requires capacity { length run.journal ≤ vec_capacity room.old }
-    ensures whole { IsWholeRun run.entry.plan run.entry.journal result.journal }
-    ensures end { IfSome result.end (λ end. IsEnd run.entry.plan result.journal end.verdict (V.state end.server) end.sessions) }
+    ensures whole { IsWholeRun run.entry.plan run.entry.journal result.0 }
+    ensures end { IfSome result.1 (λ end. IsEnd run.entry.plan result.0 end.verdict (V.state end.server) end.sessions) }
     ensures items { room.new.items ≡ room.old.items }
-    ensures len { vec_len room.new ≡ vec_len room.old }
-    ensures capacity { length result.journal ≤ vec_capacity room.new }
+    ensures capacity { length result.0 ≤ vec_capacity room.new }
 {
     finishes_may_call();
     finishes_are_sound();
@@ -202,5 +199,32 @@ pub fn whole_run<V: Serve>(
         Ok(finish) => finished_run(alloc, finish, room),
         Err((run, FinishFault::NoCheckpoint)) => run_alone(alloc, run),
         Err((run, FinishFault::Memory)) => short_run(run),
+    }
+}
+
+/// What a run leaves, and the new tool behind it where one comes. The turns that workers took are the first of the list.
+#[tactic(auto, using(crate::proofs::ResumedRuns::whole_longer))]
+pub fn whole_run<V: Serve>(
+    alloc: Global,
+    run: Run<'_, V>,
+    is_over: bool,
+    taken: Vec<WorkerTurn>,
+) -> RunResult<V>
+    requires read { WasRead run.plan }
+    requires sound { IsSoundRun run.plan run.journal }
+    requires over { is_over ≡ true → runs.is_over run.plan run.journal ≡ true }
+    requires server { is_over ≡ true → run.server ≡ state_at run.plan run.journal }
+    requires few { length taken.items ≤ length run.journal }
+    requires capacity { length run.journal ≤ vec_capacity taken }
+    ensures whole { IsWholeRun run.entry.plan run.entry.journal result.journal }
+    ensures turns { result.turns ≡ taken.entry.items ++ turns_of (drop (length taken.entry.items) result.journal) }
+    ensures end { IfSome result.end (λ end. IsEnd run.entry.plan result.journal end.verdict (V.state end.server) end.sessions) }
+{
+    let mut turns = taken;
+    let (journal, end) = resumed_run(alloc, run, is_over, &mut turns);
+    RunResult {
+        turns: turns_in(turns, journal.as_slice()),
+        journal,
+        end,
     }
 }

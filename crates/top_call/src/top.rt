@@ -25,12 +25,13 @@ use law_journals::plans::{read_options_allow, read_plans_are_runnable, read_plan
 use plan_data::Plan;
 use plan_reader::{PLAN_LIMIT, PlanFault};
 use proof_plans::read_accepted_plan;
+use run_workers::worker_run::Turns;
 use server_model::Journal;
 use std::alloc::Global;
 use std::sync::Wait;
 use std::thread::Threads;
 use top_endings::{
-    Refusal, Turns, give, has_second_unique, plan_checked, read_fault_shown, refused, usage_shown,
+    Refusal, give, has_second_unique, plan_checked, read_fault_shown, refused, usage_shown,
     workload_shown,
 };
 use top_trace_reader::TRACE_LIMIT;

@@ -1,55 +1,32 @@
 //! Whose turns a run took.
 
-ghost use Rattle.std.specs.Prelude.{◌≡◌, ◌≤◌, ◌+◌, [], ◌++◌, take, drop, length};
+ghost use Rattle.std.specs.Prelude.{◌≡◌, ◌≤◌, ◌+◌, ◌++◌, drop, length};
 ghost use Rattle.std.specs.Vec.{vec_len, vec_capacity};
-ghost use Rattle.top_call.specs.Outcomes.{turns_of, worker_turns};
+ghost use Rattle.top_call.specs.Outcomes.{turns_of};
 
 use base_values::Sequence;
-use run_workers::worker_run::WorkerTurn;
+use run_workers::worker_run::{Turns, WorkerTurn};
 use server_model::Entry;
-use top_endings::{Turn, Turns};
 
 /// Adds turns that no worker took: a replay's, or a new tool's. They are of worker 0.
-fn push_turns(turns: &mut Vec<Turn>, entries: &[Entry])
+fn push_turns(turns: &mut Vec<WorkerTurn>, entries: &[Entry])
     requires capacity { vec_len turns.old + length entries.now ≤ vec_capacity turns.old }
     ensures { turns.new.items ≡ turns.old.items ++ turns_of entries.now }
 {
     for entry in entries {
-        turns.push_reserved(Turn {
-            worker: 0,
-            actor: entry.actor,
-        });
+        turns.push_reserved(WorkerTurn::new(0, entry.actor));
     }
 }
 
-/// Whose turns a replay's journal has, a new tool's among them, in the room that was made for them.
-pub(crate) fn turns_in(room: Vec<Turn>, journal: &[Entry]) -> Turns
-    requires empty { room.items ≡ [] }
-    requires none { vec_len room ≡ 0 }
-    requires capacity { length journal.now ≤ vec_capacity room }
-    ensures { result ≡ turns_of journal.now }
+/// Whose turns a journal has, the first of them those that workers took; the others are a replay's, or a new tool's. There is room
+/// for them.
+pub(crate) fn turns_in(taken: Vec<WorkerTurn>, journal: &[Entry]) -> Turns
+    requires few { length taken.items ≤ length journal.now }
+    requires capacity { length journal.now ≤ vec_capacity taken }
+    ensures { result ≡ taken.items ++ turns_of (drop (length taken.items) journal.now) }
 {
-    let mut turns = room;
-    push_turns(&mut turns, journal);
-    Sequence::from_vec(turns)
-}
-
-/// Whose turns a run by workers has, and the new tool behind it, in the room that was made for them.
-pub(crate) fn turns_of_workers(room: Vec<Turn>, taken: &[WorkerTurn], journal: &[Entry]) -> Turns
-    requires empty { room.items ≡ [] }
-    requires none { vec_len room ≡ 0 }
-    requires run { length taken.now ≤ length journal.now }
-    requires capacity { length journal.now ≤ vec_capacity room }
-    ensures run { worker_turns (take (length taken.now) result) ≡ taken.now }
-    ensures finish { drop (length taken.now) result ≡ turns_of (drop (length taken.now) journal.now) }
-{
-    let mut turns = room;
-    for turn in taken {
-        turns.push_reserved(Turn {
-            worker: turn.worker(),
-            actor: turn.actor(),
-        });
-    }
-    push_turns(&mut turns, &journal[taken.len()..]);
+    let mut turns = taken;
+    let count = turns.as_slice().len();
+    push_turns(&mut turns, &journal[count..]);
     Sequence::from_vec(turns)
 }

@@ -7,4 +7,4 @@ mod replays;
 
 pub use laws::kept_runs_are_sound;
 pub use opening::open_plan;
-pub use replays::{Left, migrated_in, replay_plan};
+pub use replays::{Replay, migrated_in, replay_plan};

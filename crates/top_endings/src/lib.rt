@@ -9,7 +9,6 @@ mod printed;
 mod rebuilt;
 mod refusals;
 mod status;
-mod turn;
 
 pub use audits::answer_shown;
 pub use checks::plan_checked;
@@ -19,4 +18,3 @@ pub use printed::{Printed, read_fault_shown, usage_shown, workload_shown};
 pub use rebuilt::{has_second_unique, rebuilt_shown, unfit_shown};
 pub use refusals::{Refusal, refused};
 pub use status::Status;
-pub use turn::{Turn, Turns};

@@ -5,7 +5,7 @@ ghost use Rattle.tool_program.specs.JournalWords.Journals.{state_at};
 ghost use Rattle.tool_program.specs.JournalWords.KeptPlans.{cut_due};
 ghost use Rattle.tool_program.specs.Orders.{next_actor, IsReplay};
 ghost use Rattle.run_turns.specs.Runs.{is_over, Stops};
-ghost use Rattle.run_replay.specs.declared.whole_replay.replays.Replayed.TheVariants as replayed;
+ghost use Rattle.run_turns.specs.declared.run.Stepped.TheVariants as stepped;
 ghost use Rattle.run_replay.specs.WholeReplay.Marks.{counted, logged_at_mark};
 ghost use Rattle.run_replay.specs.WholeReplay.Replays.{IsFresh, IsReplaying, Passes, IsStalled};
 
@@ -16,32 +16,22 @@ use base_values::Names;
 use run_turns::{FeedRun, Run, Stepped};
 use server_api::Serve;
 
-/// What became of a replay.
-#[derive(Clone, Copy)]
-pub enum Replayed {
-    /// The run has ended, or has as many turns as the plan allows.
-    Over,
-    /// Nobody may go, and no loss between calls is due.
-    Stalled,
-    /// There was no memory for a turn.
-    NoMemory,
-}
-
 /// How a replay went.
 #[derive(Clone, Copy)]
 pub struct ReplayOutcome {
-    /// What became of it.
-    pub replayed: Replayed,
+    /// What its last step answered: `Over`, or `Idle` where nobody may go and no loss between calls is due, or `NoMemory`. It's never
+    /// `Took`.
+    pub stepped: Stepped,
     /// How many events of the tables that were asked for the log had when the RENAME was done; none where it wasn't.
     pub logged: Option<u64>,
 }
 
 impl ReplayOutcome {
     /// A replay that went so.
-    fn new(replayed: Replayed, logged: Option<u64>) -> ReplayOutcome
-        ensures { result ≡ record { replayed = replayed; logged = logged } }
+    fn new(stepped: Stepped, logged: Option<u64>) -> ReplayOutcome
+        ensures { result ≡ record { stepped = stepped; logged = logged } }
     {
-        ReplayOutcome { replayed, logged }
+        ReplayOutcome { stepped, logged }
     }
 }
 
@@ -92,9 +82,10 @@ pub fn replay<V: Serve>(feed: &mut FeedRun<'_, V>, tables: &Names) -> ReplayOutc
     ensures plan { feed.new.run.plan ≡ feed.old.run.plan }
     ensures replay { IsReplay feed.new.run.plan feed.new.run.journal }
     ensures stops { Stops feed.new.run.plan feed.new.run.journal }
-    ensures over { result.replayed ≡ replayed.Over → is_over feed.new.run.plan feed.new.run.journal ≡ true }
-    ensures stalled { result.replayed ≡ replayed.Stalled → IsStalled feed.new.run.plan feed.new.run.journal }
-    ensures server { result.replayed ≢ replayed.NoMemory → feed.new.run.server ≡ state_at feed.new.run.plan feed.new.run.journal }
+    ensures stopped { result.stepped ≢ stepped.Took }
+    ensures over { result.stepped ≡ stepped.Over → is_over feed.new.run.plan feed.new.run.journal ≡ true }
+    ensures stalled { result.stepped ≡ stepped.Idle → IsStalled feed.new.run.plan feed.new.run.journal }
+    ensures server { result.stepped ≢ stepped.NoMemory → feed.new.run.server ≡ state_at feed.new.run.plan feed.new.run.journal }
     ensures logged { result.logged ≡ logged_at_mark feed.new.run.plan tables.now feed.new.run.journal }
 {
     let mut logged = None;
@@ -107,10 +98,10 @@ pub fn replay<V: Serve>(feed: &mut FeedRun<'_, V>, tables: &Names) -> ReplayOutc
     for _turn in 0..limit {
         match pass(feed, &mut place) {
             Stepped::Took => logged = counted(feed.run(), tables, logged),
-            Stepped::Over => return ReplayOutcome::new(Replayed::Over, logged),
-            Stepped::Idle => return ReplayOutcome::new(Replayed::Stalled, logged),
-            Stepped::NoMemory => return ReplayOutcome::new(Replayed::NoMemory, logged),
+            Stepped::Over => return ReplayOutcome::new(Stepped::Over, logged),
+            Stepped::Idle => return ReplayOutcome::new(Stepped::Idle, logged),
+            Stepped::NoMemory => return ReplayOutcome::new(Stepped::NoMemory, logged),
         }
     }
-    ReplayOutcome::new(Replayed::Over, logged)
+    ReplayOutcome::new(Stepped::Over, logged)
 }

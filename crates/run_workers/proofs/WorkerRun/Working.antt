@@ -1,6 +1,7 @@
 -- A run by workers stays one with a turn more.
 use Rattle.std.proofs.Common.{◌≡◌, ◌⊎◌, ◌≤◌, ◌<◌, ℕ, zero, suc, ◌+◌, ◌-◌, ◌==◌, ◌%◌, Bool, true, false, List, [], ◌∷◌, ◌++◌, length, replicate, Option, Some, None, refl, sym, ap, ◌∙◌, subst, inl, inr, arith}
-use Rattle.std.specs.Prelude.{◌↔◌, slice_index, nat_le}
+use Rattle.std.specs.Prelude.{◌↔◌, slice_index, nat_le, Result, Ok, Err}
+use Rattle.std.specs.declared.alloc.AllocError.{AllocError}
 use Rattle.std.specs.Option.{option_map}
 use Rattle.std.specs.List.{slice_get}
 use Rattle.std.proofs.lemmas.Bool.{true≢false, leb-false, or_parts}
@@ -26,8 +27,6 @@ use Rattle.run_turns.specs.DueTurns.Due.{due, next_entry}
 use Rattle.run_turns.proofs.DueTurns.Coming.{Comes, Cuts, Gives, comes}
 use Rattle.run_turns.proofs.DueTurns.Keeping.{turns_kept, turns_numbered}
 use Rattle.run_desk.specs.declared.shared_state.Entry.{Entry as Taken}
-use Rattle.run_desk.specs.declared.shared_state.Turned.{Turned}
-use Rattle.run_desk.specs.declared.shared_state.Turned.TheVariants.{Over}
 use Rattle.run_turns.specs.declared.run.Stepped.{Stepped}
 use Rattle.run_turns.specs.declared.run.Stepped.TheVariants.{Idle}
 use Rattle.run_turns.specs.declared.run.Stepped.TheVariants as stepping
@@ -247,6 +246,14 @@ worked_begins run workers used spare places going none server some many room are
 
 -- WHAT A TURN FINDS
 
+abbrev was_taken : Result Bool AllocError → Bool
+was_taken (Ok taken) = taken
+was_taken (Err error) = true
+
+-- it was taken, or there was no memory for it
+pub not_over : (taken : Result Bool AllocError) → was_taken taken ≡ true → taken ≡ Ok false → ⊥
+not_over taken was over = true≢false (sym was ∙ ap was_taken over)
+
 none_by : (run : RunView) → is_over run.plan run.journal ≡ false → (has_ended run.plan run.journal ≡ false) × (nat_le run.plan.options.turn_limit (length run.journal) ≡ false)
 unfolding is_over
 none_by run going = or_parts (has_ended run.plan run.journal) (nat_le run.plan.options.turn_limit (length run.journal)) going
@@ -259,15 +266,11 @@ module _ (run : RunView) (workers : ℕ) (noted : List WorkerTurn) (used spare :
   kept_so = subst (IsKept run.plan) is.journal is.worked.kept
 
   -- it isn't over on the list where the run isn't
-  pub not_over_on : (before : WorkedView) (turned : Turned) → seen ≡ before → (turned ≡ Over → ⊥) → is_over run.plan run.journal ≡ false → (turned ≡ Over) ↔ WasOver before.plan (journal_of before.list)
-  not_over_on before turned same none going = (
+  pub not_over_on : (before : WorkedView) (taken : Result Bool AllocError) → seen ≡ before → (taken ≡ Ok false → ⊥) → is_over run.plan run.journal ≡ false → (taken ≡ Ok false) ↔ WasOver before.plan (journal_of before.list)
+  not_over_on before taken same none going = (
     λ over. absurd (none over),
     λ was. absurd (true≢false (sym (was_over run.plan workers (listed noted run.journal) is.worked.rule (subst (λ (v : WorkedView). WasOver v.plan (journal_of v.list)) (sym same) was)) ∙ ap (is_over run.plan) is.journal ∙ going)),
   )
-
-  -- it is where the run is
-  pub over_on : (before : WorkedView) → seen ≡ before → is_over run.plan run.journal ≡ true → (Over ≡ Over) ↔ WasOver before.plan (journal_of before.list)
-  over_on before same over = (λ one. subst (λ (v : WorkedView). WasOver v.plan (journal_of v.list)) same (subst (WasOver run.plan) (sym is.journal) (over_now run.plan run.journal over)), λ was. refl)
 
   -- there is room for a turn
   pub has_room : is_over run.plan run.journal ≡ false → used < spare

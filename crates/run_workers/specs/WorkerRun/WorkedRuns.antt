@@ -1,6 +1,7 @@
 -- *Worked run*: a plan's turns, taken one by one by workers, each that of the actor that the rule gives its worker. (This
 -- project's rule.)
-use Rattle.std.specs.Prelude.{◌≡◌, ◌≤◌, ◌<◌, ℕ, Bool, true, false, List, [], ◌∷◌, ◌++◌, map, length, slice_index, Some}
+use Rattle.std.specs.Prelude.{◌≡◌, ◌≤◌, ◌<◌, ℕ, Bool, true, false, List, [], ◌∷◌, ◌++◌, map, length, slice_index, Some, Result, Ok, Err}
+use Rattle.std.specs.declared.alloc.AllocError.{AllocError}
 use Rattle.std.specs.List.{zip}
 use Rattle.std.proofs.Common.{ap, ◌∙◌, append_assoc}
 use Rattle.std.proofs.lemmas.List.{map-append}
@@ -16,8 +17,6 @@ use Rattle.proof_journals.specs.Run.Kept.{IsKept}
 use Rattle.run_turns.specs.declared.due_turns.migration_run.turn.Turn.{Turn}
 use Rattle.run_turns.specs.DueTurns.Due.{due, next_entry}
 use Rattle.run_desk.specs.declared.shared_state.Entry.{Entry as Taken}
-use Rattle.run_desk.specs.declared.shared_state.Turned.{Turned}
-use Rattle.run_desk.specs.declared.shared_state.Turned.TheVariants.{Took, Over, NoMemory}
 use Rattle.run_turns.specs.Runs.{RunView, is_over}
 use Rattle.run_workers.specs.WorkerRun.Workers.{IsGoing, GoesOnFrom}
 
@@ -92,10 +91,10 @@ pub record TakesOne (before : WorkedView) (worker : ℕ) (after : WorkedView) : 
   pub taken : after ≡ record before { list = before.list ++ record { worker = worker; event = next_entry (journal_of before.list) (state_at before.plan (journal_of before.list)) turn } ∷ [] }
 
 -- *Works*: what a turn of a worker answers, and what it leaves
-abbrev pub Works : WorkedView → ℕ → Turned → WorkedView → Type 0
-Works before worker Took after = TakesOne before worker after
-Works before worker Over after = after ≡ before
-Works before worker NoMemory after = after ≡ record before { is_short = true }
+abbrev pub Works : WorkedView → ℕ → Result Bool AllocError → WorkedView → Type 0
+Works before worker (Ok true) after = TakesOne before worker after
+Works before worker (Ok false) after = after ≡ before
+Works before worker (Err error) after = after ≡ record before { is_short = true }
 
 -- WHAT IS KEPT
 

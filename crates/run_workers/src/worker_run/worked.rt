@@ -1,17 +1,16 @@
 //! A run whose turns workers take.
 
-ghost use Rattle.std.specs.Prelude.{◌≡◌, ◌≢◌, ◌≤◌, ◌↔◌, ◌-◌, [], length, slice_get, Some, true, false, IfOk};
+ghost use Rattle.std.specs.Prelude.{◌≡◌, ◌≢◌, ◌≤◌, ◌↔◌, ◌-◌, [], length, slice_get, Some, Ok, true, false, vec_capacity, IfOk};
 ghost use Rattle.tool_program.specs.JournalWords.Journals.{opening, state_at};
-ghost use Rattle.run_desk.specs.declared.shared_state.Turned.TheVariants as turned;
 ghost use Rattle.run_workers.specs.WorkerRun.Workers.{IsGoing};
 ghost use Rattle.run_workers.specs.WorkerRun.WorkedRuns.{journal_of, listed, turns_of, WasOver, Works, IsWorkersRun};
 ghost use Rattle.run_turns.specs.Runs.{is_over};
 
 use crate::worker_run::choice::pick;
 use crate::worker_run::members::Member;
-use crate::worker_run::worker_turns::{Turns, note, place_from};
+use crate::worker_run::worker_turns::{WorkerTurn, note, place_from};
 use plan_data::Plan;
-use run_desk::{SharedState, Turned};
+use run_desk::SharedState;
 use run_turns::{FeedRun, Run, Stepped};
 use server_api::Serve;
 use server_model::Entry;
@@ -33,7 +32,7 @@ pub struct Opening {
 pub struct Worked<'a, V: Serve> {
     feed: FeedRun<'a, V>,
     workers: u32,
-    turns: Turns,
+    turns: Vec<WorkerTurn>,
     places: Vec<usize>,
     is_short: bool,
 }
@@ -86,17 +85,17 @@ impl<'a, V: Serve> Worked<'a, V> {
     }
 
     /// Takes one turn for this worker, unless the run is over: after the catch-up, where one is due, a loss between calls that is
-    /// due, whosever session it takes, or else the turn of the actor that the rule gives the worker. Once there was no memory for a
-    /// turn, none is taken any more.
-    pub fn take(&mut self, worker: u32) -> Turned
-        ensures over { (result ≡ turned.Over) ↔ WasOver self.old.plan (journal_of self.old.list) }
+    /// due, whosever session it takes, or else the turn of the actor that the rule gives the worker; and says whether it did. Once
+    /// there was no memory for a turn, none is taken any more.
+    pub fn take(&mut self, worker: u32) -> Result<bool, AllocError>
+        ensures over { (result ≡ Ok false) ↔ WasOver self.old.plan (journal_of self.old.list) }
         ensures works { Works self.old worker result self.new }
     {
         if self.feed.run().is_over() {
-            return Turned::Over;
+            return Ok(false);
         }
         if self.is_short {
-            return Turned::NoMemory;
+            return Err(AllocError);
         }
         let member = Member {
             workers: self.workers,
@@ -117,23 +116,24 @@ impl<'a, V: Serve> Worked<'a, V> {
                     candidate,
                     entry,
                 );
-                Turned::Took
+                Ok(true)
             }
             Stepped::NoMemory => {
                 // The server may have made a session for this turn that is lost again. Another turn would leave a number
                 // out.
                 self.is_short = true;
-                Turned::NoMemory
+                Err(AllocError)
             }
             Stepped::Idle | Stepped::Over => unreachable!(),
         }
     }
 
     /// The run, and the worker of each of its turns.
-    pub fn stop(self) -> (Run<'a, V>, Turns)
+    pub fn stop(self) -> (Run<'a, V>, Vec<WorkerTurn>)
         ensures plan { result.0.plan ≡ self.entry.plan }
         ensures journal { result.0.journal ≡ journal_of self.entry.list }
         ensures turns { result.1.items ≡ turns_of self.entry.list }
+        ensures room { result.0.plan.options.turn_limit ≤ vec_capacity result.1 }
         ensures worked { IsWorkersRun self.entry.plan self.entry.workers self.entry.list }
         ensures list { listed result.1.items result.0.journal ≡ self.entry.list }
         ensures server { is_over result.0.plan result.0.journal ≡ true → result.0.server ≡ state_at result.0.plan result.0.journal }
@@ -155,7 +155,7 @@ impl<'a, V: Serve> SharedState for Worked<'a, V> {
 
     ghost is_over = { λ opening list. WasOver opening.plan (journal_of list) };
 
-    fn take_turn(&mut self, worker: u32) -> Turned {
+    fn take_turn(&mut self, worker: u32) -> Result<bool, AllocError> {
         self.take(worker)
     }
 

@@ -6,6 +6,7 @@ ghost use Rattle.run_workers.specs.WorkerRun.Workers.{places_after};
 
 use crate::worker_run::members::{Candidate, Member};
 use base_script::Actor;
+use base_values::Sequence;
 use server_model::{Asked, Entry};
 use std::marker::Model;
 
@@ -25,10 +26,17 @@ impl Model for WorkerTurn {
 }
 
 /// The turns of a run, in order.
-pub type Turns = Vec<WorkerTurn>;
+pub type Turns = Sequence<WorkerTurn>;
 
 impl WorkerTurn {
-    /// The number of the worker that took it, from 0.
+    /// The turn that this worker took for this actor.
+    pub fn new(worker: u32, actor: Actor) -> WorkerTurn
+        ensures { result ≡ record { worker = worker; actor = actor } }
+    {
+        WorkerTurn { worker, actor }
+    }
+
+    /// The number of the worker that took it, from 0; 0 where no workers did, as in a replay.
     pub fn worker(&self) -> u32
         ensures { result ≡ self.now.worker }
     {
@@ -59,7 +67,7 @@ fn is_cut(entry: &Entry) -> bool
 
 /// Notes the worker's turn; after an own actor's, but for a loss between calls, its rotation goes on from the next place.
 pub(crate) fn note(
-    turns: &mut Turns,
+    turns: &mut Vec<WorkerTurn>,
     places: &mut [usize],
     member: Member,
     candidate: Candidate,

@@ -17,8 +17,8 @@ use Rattle.proof_plans.specs.Laws.{AcceptedRunsGoOn}
 use Rattle.run_turns.specs.Runs.{RunView, is_over, Stops}
 use Rattle.run_replay.specs.WholeReplay.Marks.{logged_at_mark}
 use Rattle.run_replay.specs.WholeReplay.Replays.{IsStalled}
-use Rattle.run_replay.specs.declared.whole_replay.replays.Replayed.{Replayed}
-use Rattle.run_replay.specs.declared.whole_replay.replays.Replayed.TheVariants as answers
+use Rattle.run_turns.specs.declared.run.Stepped.{Stepped}
+use Rattle.run_turns.specs.declared.run.Stepped.TheVariants as answers
 use Rattle.top_call.specs.ResumedRuns.{IsWholeRun, Resumes, run_in}
 use Rattle.top_call.specs.WholeReplays.SoundRuns.{KeptRunsAreSound}
 use Rattle.top_call.specs.WholeReplays.Replays.{IsSoundReplay}
@@ -73,10 +73,11 @@ stalled_over goes plan journal was kept stalled = by (has_ended plan journal) re
   by false is = absurd (let going = someone_may_go plan journal (goes plan journal was kept is) in let none = nobody_goes plan journal stalled.nobody in cc)
 
 -- *Replays end over*
-pub over_after : AcceptedRunsGoOn → (plan : PlanData) (journal : List Entry) (answer : Replayed) → WasRead plan → IsReplay plan journal → KeepsSessions journal → answer ≢ answers.NoMemory → (answer ≡ answers.Over → is_over plan journal ≡ true) → (answer ≡ answers.Stalled → IsStalled plan journal) → is_over plan journal ≡ true
-over_after goes plan journal answers.Over was replay sessions memory over stalled = over refl
-over_after goes plan journal answers.Stalled was replay sessions memory over stalled = stalled_over goes plan journal was (kept_of plan journal replay sessions) (stalled refl)
-over_after goes plan journal answers.NoMemory was replay sessions memory over stalled = absurd (memory refl)
+pub over_after : AcceptedRunsGoOn → (plan : PlanData) (journal : List Entry) (answer : Stepped) → WasRead plan → IsReplay plan journal → KeepsSessions journal → answer ≢ answers.NoMemory → answer ≢ answers.Took → (answer ≡ answers.Over → is_over plan journal ≡ true) → (answer ≡ answers.Idle → IsStalled plan journal) → is_over plan journal ≡ true
+over_after goes plan journal answers.Over was replay sessions memory stopped over stalled = over refl
+over_after goes plan journal answers.Idle was replay sessions memory stopped over stalled = stalled_over goes plan journal was (kept_of plan journal replay sessions) (stalled refl)
+over_after goes plan journal answers.NoMemory was replay sessions memory stopped over stalled = absurd (memory refl)
+over_after goes plan journal answers.Took was replay sessions memory stopped over stalled = absurd (stopped refl)
 
 -- OF THE RUN THAT A REPLAY LEFT
 
@@ -95,9 +96,9 @@ module _ (plan : PlanData) (replayed run : RunView) (run_is : run ≡ replayed) 
   pub logged_so : (tables : List (List ℕ)) (logged : Option ℕ) → tables ≡ plan.table ∷ [] → logged ≡ logged_at_mark replayed.plan tables replayed.journal → logged ≡ logged_at_mark plan (plan.table ∷ []) run.journal
   logged_so tables logged tables_are counted = of_run (λ (p : PlanData) (r : RunView). logged ≡ logged_at_mark p tables r.journal) counted ∙ ap (λ (t : List (List ℕ)). logged_at_mark plan t run.journal) tables_are
 
-  pub over_so : AcceptedRunsGoOn → (answer : Replayed) → WasRead plan → IsReplay replayed.plan replayed.journal → KeepsSessions run.journal → (answer ≡ answers.Over → is_over replayed.plan replayed.journal ≡ true) → (answer ≡ answers.Stalled → IsStalled replayed.plan replayed.journal) → answer ≢ answers.NoMemory → is_over plan run.journal ≡ true
-  over_so goes answer was replay sessions over stalled memory =
-      over_after goes plan run.journal answer was (of_run (λ (p : PlanData) (r : RunView). IsReplay p r.journal) replay) sessions memory (λ is. of_run (λ (p : PlanData) (r : RunView). is_over p r.journal ≡ true) (over is)) (λ is. of_run (λ (p : PlanData) (r : RunView). IsStalled p r.journal) (stalled is))
+  pub over_so : AcceptedRunsGoOn → (answer : Stepped) → WasRead plan → IsReplay replayed.plan replayed.journal → KeepsSessions run.journal → answer ≢ answers.Took → (answer ≡ answers.Over → is_over replayed.plan replayed.journal ≡ true) → (answer ≡ answers.Idle → IsStalled replayed.plan replayed.journal) → answer ≢ answers.NoMemory → is_over plan run.journal ≡ true
+  over_so goes answer was replay sessions stopped over stalled memory =
+      over_after goes plan run.journal answer was (of_run (λ (p : PlanData) (r : RunView). IsReplay p r.journal) replay) sessions memory stopped (λ is. of_run (λ (p : PlanData) (r : RunView). is_over p r.journal ≡ true) (over is)) (λ is. of_run (λ (p : PlanData) (r : RunView). IsStalled p r.journal) (stalled is))
 
   pub server_so : replayed.server ≡ state_at replayed.plan replayed.journal → run.server ≡ state_at plan run.journal
   server_so is = of_run (λ (p : PlanData) (r : RunView). r.server ≡ state_at p r.journal) is

@@ -1,4 +1,6 @@
-use Rattle.std.proofs.Common.{ap, ◌∙◌}
+use Rattle.std.proofs.Common.{◌≤◌, ap, ◌∙◌, subst}
+use Rattle.std.specs.Prelude.{vec_capacity}
+use Rattle.plan_data.specs.PlanData.{PlanData}
 use Rattle.run_workers.specs.declared.worker_run.worked.Opening.{Opening}
 use Rattle.run_workers.specs.WorkerRun.WorkedRuns.{WorkedView}
 use Rattle.run_workers.proofs.Ordering.{ran_ordered, ran_over, ran_stopped, ran_stands}
@@ -28,3 +30,7 @@ returns-clause-server g c = λ over.
     let plan_is = ap (λ (o : Opening). o.plan) c.in_ok-done.ensures.opening ∙ ap (λ (v : WorkedView). v.plan) c.in_ok-worked.ensures in
     ran_stands c.stop-run.result.0 c.args.feed.run.plan (c.stop-run.ensures.plan ∙ plan_is) c.stop-run.ensures.server
     (ran_over c.in_ok-done.done.shared_state c.args.feed.run.plan c.stop-run.result.0.journal c.stop-run.ensures.worked plan_is c.stop-run.ensures.journal (c.in_ok-done.ensures.over over))
+
+pub returns-clause-room : goal.returns-clause-room
+returns-clause-room g c =
+    subst (λ (plan : PlanData). plan.options.turn_limit ≤ vec_capacity c.stop-run.result.1) (c.stop-run.ensures.plan ∙ ap (λ (o : Opening). o.plan) c.in_ok-done.ensures.opening ∙ ap (λ (v : WorkedView). v.plan) c.in_ok-worked.ensures) c.stop-run.ensures.room

@@ -1,4 +1,5 @@
 use Rattle.std.proofs.Common.{◌≡◌, ◌≤◌, true, sym, ap, subst, ◌∙◌}
+use Rattle.std.specs.Prelude.{vec_capacity}
 use Rattle.plan_data.specs.PlanData.{PlanData}
 use Rattle.tool_program.specs.JournalWords.Journals.{state_at}
 use Rattle.run_turns.specs.Runs.{RunView, is_over}
@@ -32,3 +33,7 @@ returns-clause-over g c = λ ended.
 pub returns-clause-server : goal.returns-clause-server
 returns-clause-server g c = λ ended.
     of_run c.args.plan.now c.in_ok-feed.feed.run.plan c.in_ok-ran.ran.run (ap (λ (run : RunView). run.plan) (c.in_ok-feed.ensures.run ∙ c.in_ok-opened.ensures)) c.in_ok-ran.ensures.plan (λ (p : PlanData). c.in_ok-ran.ran.run.server ≡ state_at p c.in_ok-ran.ran.run.journal) (c.in_ok-ran.ensures.server ended)
+
+pub returns-clause-room : goal.returns-clause-room
+returns-clause-room g c =
+    subst (λ (run : RunView). run.plan.options.turn_limit ≤ vec_capacity c.in_ok-ran.ran.turns) (c.in_ok-feed.ensures.run ∙ c.in_ok-opened.ensures) c.in_ok-ran.ensures.room

@@ -24,8 +24,8 @@ returns-clause-logged g c =
 
 pub returns-clause-over : goal.returns-clause-over
 returns-clause-over g c = λ memory.
-    over_so c.args.plan.now c.replay-outcome.new.feed.run c.stop-run.result c.stop-run.ensures (c.replay-outcome.ensures.plan ∙ ap (λ (run : RunView). run.plan) (c.in_ok-feed.ensures.run ∙ c.in_ok-opened.ensures)) c.accepted_runs_go_on.ensures.going c.replay-outcome.result.replayed c.requires.read
-    c.replay-outcome.ensures.replay c.journal-in_sessions.ensures.sessions c.replay-outcome.ensures.over c.replay-outcome.ensures.stalled memory
+    over_so c.args.plan.now c.replay-outcome.new.feed.run c.stop-run.result c.stop-run.ensures (c.replay-outcome.ensures.plan ∙ ap (λ (run : RunView). run.plan) (c.in_ok-feed.ensures.run ∙ c.in_ok-opened.ensures)) c.accepted_runs_go_on.ensures.going c.replay-outcome.result.stepped c.requires.read
+    c.replay-outcome.ensures.replay c.journal-in_sessions.ensures.sessions c.replay-outcome.ensures.stopped c.replay-outcome.ensures.over c.replay-outcome.ensures.stalled memory
 
 pub returns-clause-server : goal.returns-clause-server
 returns-clause-server g c = λ memory.

@@ -1,20 +1,18 @@
-use Rattle.std.proofs.Common.{ℕ, Bool, false, List, drop, length, sym, ap, ◌∙◌, subst}
+use Rattle.std.proofs.Common.{ℕ, Bool, true, false, List, Ok, Err, alloc_error, drop, length, refl, sym, ap, ◌∙◌, subst}
 use Rattle.std.specs.Prelude.{vec_len, vec_capacity, slice_index}
 use Rattle.std.proofs.lemmas.List.{take_at}
 use Rattle.server_model.specs.Entries.{is_cut}
-use Rattle.run_desk.specs.declared.shared_state.Turned.TheVariants.{Took, NoMemory}
 use Rattle.run_turns.specs.Runs.{RunView, is_over}
 use Rattle.run_workers.specs.declared.worker_run.members.Member.{Member}
 use Rattle.run_workers.specs.WorkerRun.Workers.{places_after}
 use Rattle.run_workers.specs.WorkerRun.WorkedRuns.{listed, WorkedView, TakesOne, IsWorked}
 use Rattle.run_workers.proofs.WorkerRun.Rotating.{length-places_after}
-use Rattle.run_workers.proofs.WorkerRun.Working.{worked_more, takes_one, not_over_on, has_room, goes_from, finds_someone, takes_or_short}
+use Rattle.run_workers.proofs.WorkerRun.Working.{worked_more, takes_one, not_over, not_over_on, has_room, goes_from, finds_someone, takes_or_short}
 use Rattle.run_workers.proofs.worker_run.worked.Worked.take.Goals as goal
 
 pub returns-then-self-clause-over : goal.returns-then-self-clause-over
 returns-then-self-clause-over g c =
-    not_over_on c.self.inside.feed.run c.self.inside.workers c.self.inside.turns.items (vec_len c.self.inside.turns) (vec_capacity c.self.inside.turns) c.self.inside.places.items c.self.inside.is_short c.self.invariant c.args.self.now NoMemory c.self.view_is
-    (λ same. cc) (ap (λ (r : RunView). is_over r.plan r.journal) (sym c.run.ensures) ∙ sym c.is_over.ensures.over ∙ c.if-is_over.false)
+    not_over_on c.self.inside.feed.run c.self.inside.workers c.self.inside.turns.items (vec_len c.self.inside.turns) (vec_capacity c.self.inside.turns) c.self.inside.places.items c.self.inside.is_short c.self.invariant c.args.self.now (Err alloc_error) c.self.view_is (not_over (Err alloc_error) refl) (ap (λ (r : RunView). is_over r.plan r.journal) (sym c.run.ensures) ∙ sym c.is_over.ensures.over ∙ c.if-is_over.false)
 
 pub unreachable-requires : goal.unreachable-requires
 unreachable-requires g c =
@@ -48,8 +46,7 @@ unreachable-requires-in-Idle g c = takes_or_short c.choose.new.self.run c.in-Som
 
 pub returns-in-Took-clause-over : goal.returns-in-Took-clause-over
 returns-in-Took-clause-over g c =
-    not_over_on c.self.inside.feed.run c.self.inside.workers c.self.inside.turns.items (vec_len c.self.inside.turns) (vec_capacity c.self.inside.turns) c.self.inside.places.items c.self.inside.is_short c.self.invariant c.args.self.now Took c.self.view_is
-    (λ same. cc) (ap (λ (r : RunView). is_over r.plan r.journal) (sym c.run.ensures) ∙ sym c.is_over.ensures.over ∙ c.if-is_over.false)
+    not_over_on c.self.inside.feed.run c.self.inside.workers c.self.inside.turns.items (vec_len c.self.inside.turns) (vec_capacity c.self.inside.turns) c.self.inside.places.items c.self.inside.is_short c.self.invariant c.args.self.now (Ok true) c.self.view_is (not_over (Ok true) refl) (ap (λ (r : RunView). is_over r.plan r.journal) (sym c.run.ensures) ∙ sym c.is_over.ensures.over ∙ c.if-is_over.false)
 
 pub returns-in-Took-clause-works : goal.returns-in-Took-clause-works
 returns-in-Took-clause-works g c =
@@ -68,5 +65,4 @@ returns-in-Took-clause-works g c =
 
 pub returns-in-NoMemory-clause-over : goal.returns-in-NoMemory-clause-over
 returns-in-NoMemory-clause-over g c =
-    not_over_on c.self.inside.feed.run c.self.inside.workers c.self.inside.turns.items (vec_len c.self.inside.turns) (vec_capacity c.self.inside.turns) c.self.inside.places.items c.self.inside.is_short c.self.invariant c.args.self.now NoMemory c.self.view_is
-    (λ same. cc) (ap (λ (r : RunView). is_over r.plan r.journal) (sym c.run.ensures) ∙ sym c.is_over.ensures.over ∙ c.if-is_over.false)
+    not_over_on c.self.inside.feed.run c.self.inside.workers c.self.inside.turns.items (vec_len c.self.inside.turns) (vec_capacity c.self.inside.turns) c.self.inside.places.items c.self.inside.is_short c.self.invariant c.args.self.now (Err alloc_error) c.self.view_is (not_over (Err alloc_error) refl) (ap (λ (r : RunView). is_over r.plan r.journal) (sym c.run.ensures) ∙ sym c.is_over.ensures.over ∙ c.if-is_over.false)
