@@ -36,7 +36,7 @@ use Rattle.run_turns.specs.FeedRuns.{FeedSteps}
 use Rattle.run_workers.specs.declared.worker_run.members.Member.{Member}
 use Rattle.run_workers.specs.declared.worker_run.members.Candidate.{Candidate}
 use Rattle.run_workers.specs.WorkerRun.Workers.{IsGoing, GoesOnFrom, places_after}
-use Rattle.run_workers.specs.WorkerRun.WorkedRuns.{turn_of, turns_of, journal_of, paired_of, listed, IsByRule, IsWorkersRun, WasOver, WorkedView, TakesOne, IsWorked}
+use Rattle.run_workers.specs.WorkerRun.WorkedRuns.{turn_of, turns_of, journal_of, paired_of, listed, IsByRule, IsWorkersRun, WasOver, WorkedView, TakesOne, Works, IsWorked}
 use Rattle.run_workers.proofs.WorkerRun.Listing.{journal_more, turns_more, paired_more, paired_entries, listed_length, listed_more, was_over, over_now}
 use Rattle.run_workers.proofs.WorkerRun.Picking.{someone_picked}
 use Rattle.run_workers.proofs.WorkerRun.Rotating.{last_more, begins_at, length-places_after, rotated}
@@ -250,6 +250,10 @@ abbrev was_taken : Result Bool AllocError → Bool
 was_taken (Ok taken) = taken
 was_taken (Err error) = true
 
+abbrev took_one : Result Bool AllocError → Bool
+took_one (Ok taken) = taken
+took_one (Err error) = false
+
 -- it was taken, or there was no memory for it
 pub not_over : (taken : Result Bool AllocError) → was_taken taken ≡ true → taken ≡ Ok false → ⊥
 not_over taken was over = true≢false (sym was ∙ ap was_taken over)
@@ -301,6 +305,22 @@ takes_or_short before actor stepping.Took after steps going goes (inl is) = cc
 takes_or_short before actor stepping.Took after steps going goes (inr is) = cc
 takes_or_short before actor stepping.NoMemory after steps going goes (inl is) = cc
 takes_or_short before actor stepping.NoMemory after steps going goes (inr is) = cc
+
+-- what a worker's turn leaves
+pub works_opening : (before : WorkedView) (worker : ℕ) (taken : Result Bool AllocError) (after : WorkedView) → Works before worker taken after → (after.plan ≡ before.plan) × (after.workers ≡ before.workers)
+works_opening before worker (Ok true) after works = (ap (λ (v : WorkedView). v.plan) works.taken, ap (λ (v : WorkedView). v.workers) works.taken)
+works_opening before worker (Ok false) after works = (ap (λ (v : WorkedView). v.plan) works, ap (λ (v : WorkedView). v.workers) works)
+works_opening before worker (Err error) after works = (ap (λ (v : WorkedView). v.plan) works, ap (λ (v : WorkedView). v.workers) works)
+
+pub works_took : (before : WorkedView) (worker : ℕ) (taken : Result Bool AllocError) (after : WorkedView) → Works before worker taken after → taken ≡ Ok true → (event : Entry) × (after.list ≡ before.list ++ record { worker = worker; event = event } ∷ [])
+works_took before worker (Ok true) after works is = (next_entry (journal_of before.list) (state_at before.plan (journal_of before.list)) works.turn, ap (λ (v : WorkedView). v.list) works.taken)
+works_took before worker (Ok false) after works is = absurd (true≢false (sym (ap took_one is)))
+works_took before worker (Err error) after works is = absurd (true≢false (sym (ap took_one is)))
+
+pub works_else : (before : WorkedView) (worker : ℕ) (taken : Result Bool AllocError) (after : WorkedView) → Works before worker taken after → (taken ≡ Ok true → ⊥) → after.list ≡ before.list
+works_else before worker (Ok true) after works other = absurd (other refl)
+works_else before worker (Ok false) after works other = ap (λ (v : WorkedView). v.list) works
+works_else before worker (Err error) after works other = ap (λ (v : WorkedView). v.list) works
 
 -- where there was no memory for a turn
 pub worked_short : (before after : RunView) (workers : ℕ) (noted : List WorkerTurn) (used spare : ℕ) (places : List ℕ) → IsWorked before workers noted used spare places false → is_over before.plan before.journal ≡ false → after.plan ≡ before.plan → after.journal ≡ before.journal → IsWorked after workers noted used spare places true

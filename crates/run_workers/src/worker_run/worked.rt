@@ -155,6 +155,7 @@ impl<'a, V: Serve> SharedState for Worked<'a, V> {
 
     ghost is_over = { λ opening list. WasOver opening.plan (journal_of list) };
 
+    #[tactic(auto, using(crate::proofs::WorkerRun::Working::works_opening, crate::proofs::WorkerRun::Working::works_took, crate::proofs::WorkerRun::Working::works_else))]
     fn take_turn(&mut self, worker: u32) -> Result<bool, AllocError> {
         self.take(worker)
     }
