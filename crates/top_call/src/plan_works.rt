@@ -3,4 +3,4 @@
 
 mod work;
 
-pub use work::{Left, work_plan};
+pub use work::work_plan;

@@ -217,7 +217,7 @@ pub fn whole_run<V: Serve>(
     requires few { length taken.items ≤ length run.journal }
     requires capacity { length run.journal ≤ vec_capacity taken }
     ensures whole { IsWholeRun run.entry.plan run.entry.journal result.journal }
-    ensures turns { result.turns ≡ taken.entry.items ++ turns_of (drop (length taken.entry.items) result.journal) }
+    ensures turns { result.turns ≡ taken.items ++ turns_of (drop (length taken.items) result.journal) }
     ensures end { IfSome result.end (λ end. IsEnd run.entry.plan result.journal end.verdict (V.state end.server) end.sessions) }
 {
     let mut turns = taken;
