@@ -158,9 +158,6 @@ waits_undone (Ending clearing) undone = undone
 waits_undone (Finishing clearing) undone = undone
 waits_undone Finished undone = undone
 
-guard_rests : (answer : Answer) (renames : Bool) → (renames ≡ true → ⊥) → renames ≡ true → RestsOrLocks (hold_of_guard answer)
-guard_rests answer renames off on = absurd (off on)
-
 under_rests : (phase : Phase) (answer : Answer) → RestsOrLocks (cutovers.hold_under phase answer)
 under_rests (Attempting Dropping) answer = by (is_bad answer) where
   by : (b : Bool) → RestsOrLocks (cond b Nothing Locks)

@@ -77,12 +77,6 @@ pub record About (plan : PlanData) (journal : List Entry) (entry : Entry) : Type
   pub request : Request
   pub is : IsAbout request (standing_of plan journal entry.actor) entry.asked
 
-waits_only : (request : Request) (answer : Answer) (old : Standing) → is_some (answered request answer old).waits ≡ true → (one : ℕ) × (answer ≡ answers.Waits one)
-waits_only request (answers.Waits by) old some = (by, refl)
-waits_only request answers.Lost old some = absurd (false≢true some)
-waits_only request (answers.TimedOut waited) old some = absurd (false≢true some)
-waits_only request answer old some = absurd (false≢true some)
-
 waits_none : (request : Request) (answer : Answer) (old : Standing) → ((one : ℕ) → answer ≡ answers.Waits one → ⊥) → (answered request answer old).waits ≡ None
 waits_none request (answers.Waits by) old heard = absurd (heard by refl)
 waits_none request answers.Lost old heard = refl

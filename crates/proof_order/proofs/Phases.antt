@@ -1,5 +1,5 @@
 -- What each phase of the cut-over says of what the journal tells.
-use Rattle.std.proofs.Common.{◌≡◌, ◌⊎◌, ℕ, ◌+◌, ◌<◌, ◌==◌, Bool, true, false, cond, not, ◌&&◌, ◌||◌, List, ◌++◌, refl, sym, ap, ◌∙◌, inl, inr, arith}
+use Rattle.std.proofs.Common.{◌≡◌, ◌⊎◌, ℕ, ◌+◌, ◌<◌, ◌==◌, Bool, true, false, cond, not, ◌&&◌, ◌||◌, List, refl, sym, ap, ◌∙◌, inl, inr, arith}
 use Rattle.std.specs.List.{list_any}
 use Rattle.std.specs.Str.{bytes_eq}
 use Rattle.std.proofs.lemmas.Bool.{true≢false, false≢true}
@@ -173,13 +173,6 @@ begun_order plan passed renaming listed attempts asked (answers.Waits by) off = 
 begun_order plan passed renaming listed attempts asked answer off = record { counted = tt; passes = tt; shows = tt; holds = λ on. absurd (off on); drops = tt }
 
 -- THE RENAMER
-
-held_failed : (phase : Phase) (asked : Bool) → is_held phase asked ≡ true → is_held (failed phase) true ≡ true
-held_failed (Attempting stage) asked is = refl
-held_failed (Ending clearing) asked is = refl
-held_failed (Finishing clearing) asked is = refl
-held_failed Finished asked is = refl
-held_failed Resting asked is = is
 
 held_still : (phase : Phase) (asked : Bool) → is_held phase asked ≡ true → is_held phase true ≡ true
 held_still (Attempting stage) asked is = refl

@@ -297,10 +297,6 @@ called_done answers.Lost hold renamed = tt
 called_done (answers.TimedOut waited) hold renamed = tt
 called_done answer hold renamed = tt
 
-more_renamed : (answer : Answer) (renamed : Bool) → renamed ≡ true → renamed_after Ren answer renamed ≡ true
-more_renamed (answers.Ok count) renamed is = refl
-more_renamed answer renamed is = is
-
 waits_done : (phase : Phase) (hold : Hold) (waits renamed : Bool) → DoneAt phase hold waits renamed → DoneAt (waits_phase phase) hold waits renamed
 waits_done (Attempting Drained) hold waits renamed done = tt
 waits_done (Attempting stage) hold waits renamed done = done

@@ -35,14 +35,16 @@ use Rattle.tool_program.specs.JournalWords.Journals.{opens, state_at}
 use Rattle.tool_program.specs.NoteWriter.Notes.{notes_of, writes}
 use Rattle.tool_program.specs.declared.cutover_core.cutover.Clearing.{Clearing as Cleared}
 use Rattle.tool_program.specs.declared.cutover_core.cutover.Clearing.TheVariants.{Looking, Drops}
+use Rattle.tool_program.specs.declared.cutover_core.cutover.CutOver.{CutOver}
 use Rattle.tool_program.specs.declared.cutover_core.cutover.Leftovers.{Leftovers}
 use Rattle.tool_program.specs.declared.cutover_core.cutover.Phase.{Phase}
 use Rattle.tool_program.specs.declared.cutover_core.cutover.Phase.TheVariants.{Resting, Attempting, Ending, Finishing, Finished}
+use Rattle.tool_program.specs.declared.cutover_core.cutover.Role.TheVariants.{Inspector}
 use Rattle.tool_program.specs.declared.cutover_core.cutover.Stage.TheVariants.{Hinting, ReadingCounter, SettingCounter, Showing}
 use Rattle.tool_program.specs.CutoverCore.Attempts as attempts
 use Rattle.tool_program.specs.CutoverCore.Attempts.{clears, is_clear, is_free, without_first, writes_hint}
 use Rattle.tool_program.specs.CutoverCore.CutOvers.{applier_turn, is_resting}
-use Rattle.tool_program.specs.Programs.{reach_in, tool_call, given}
+use Rattle.tool_program.specs.Programs.{reach_in, tool_call}
 use Rattle.tool_program.specs.Setups.{Setup, Listing, Clearing, MakingLog, MakingGhost, Marking, Reaching, Ready, clearing, listed, setup_call, setup_after, setup_step}
 use Rattle.tool_program.specs.Tools.{Work, ToolPhase, SettingUp, Migrating, Tool, Moment, stopped, is_reverting, tool_phase_of, moment}
 use Rattle.tool_program.proofs.OnlineCalls.Machines.{ToolPhaseIsNamed, named}
@@ -54,7 +56,7 @@ use Rattle.proof_journals.specs.Machine.Standings.{Standing, standing_of}
 use Rattle.proof_journals.proofs.Actors.{same_actor_is}
 use Rattle.proof_journals.proofs.Machine.Asking.{some_request, unless_called}
 use Rattle.proof_journals.proofs.Machine.Inspecting.{Inspects, inspects, notes_so, cuts_so}
-use Rattle.proof_journals.proofs.Machine.Journals.{IsRun, IsTogether, Asking, calls_so, polls_so, asking}
+use Rattle.proof_journals.proofs.Machine.Journals.{IsRun, IsTogether}
 use Rattle.proof_journals.proofs.Machine.Seated.{IsKnown, IsServed}
 use Rattle.proof_migration.specs.Program.Hints.{IsBegun, is_unhinted}
 use Rattle.proof_migration.specs.ToolPhase.Unaltered.{IsUnaltered}
@@ -69,7 +71,8 @@ use Rattle.proof_migration.proofs.Program.InspectorTurns.Keeping.{past_log}
 use Rattle.proof_migration.proofs.Program.Turns.Asked.{asked_as, waits_with}
 use Rattle.proof_migration.proofs.ToolPhase.Unaltered.Asking.{AskedAs}
 use Rattle.proof_migration.proofs.Program.Turns.Follows.{kept_front, kept_run}
-use Rattle.proof_migration.proofs.ToolPhase.ToolPhaseTurns.{Kept, SetupKeeps, AnswerKeeps, ResizeKeeps, turn_kept, gives_asked}
+use Rattle.proof_migration.proofs.Program.Turns.NextCalls.{insp_called}
+use Rattle.proof_migration.proofs.ToolPhase.ToolPhaseTurns.{Kept, SetupKeeps, AnswerKeeps, ResizeKeeps, turn_kept}
 use Rattle.proof_migration.proofs.ToolPhase.Unaltered.Away.{unaltered_front}
 use Rattle.proof_migration.proofs.KeptJournals.{each_kept}
 use Rattle.proof_bounds.proofs.Attempts.{attempts_few}
@@ -87,7 +90,7 @@ use Rattle.proof_bounds.proofs.AttemptTurns.NoteTurns.{unrenamed}
 
 -- THE CHANGELOG WAS MADE
 
-abbrev is_past : ToolPhase → Bool
+abbrev pub is_past : ToolPhase → Bool
 is_past (SettingUp setup tries) = past_log setup
 is_past (Migrating work) = true
 
@@ -118,16 +121,16 @@ step_past table (Ready position range) answer past = inl refl
 
 -- a row of the changelog comes next: a note's, or the hint row
 
-abbrev writes_log : Phase → Bool
+abbrev pub writes_log : Phase → Bool
 writes_log Resting = true
 writes_log (Attempting Hinting) = true
 writes_log phase = false
 
-abbrev is_writing : ToolPhase → Bool
+abbrev pub is_writing : ToolPhase → Bool
 is_writing (SettingUp setup tries) = false
 is_writing (Migrating work) = writes_log work.cutover.phase
 
-writes_so : (phase : Phase) → writes_log phase ≡ true → (phase ≡ Resting) ⊎ (phase ≡ Attempting Hinting)
+pub writes_so : (phase : Phase) → writes_log phase ≡ true → (phase ≡ Resting) ⊎ (phase ≡ Attempting Hinting)
 writes_so Resting writes = inl refl
 writes_so (Attempting Hinting) writes = inr refl
 writes_so (Attempting stage) writes = absurd (false≢true writes)
@@ -139,6 +142,35 @@ writes_so Finished writes = absurd (false≢true writes)
 note_fits : (plan : PlanData) (journal : List Entry) (tool : Tool) (work : Work) (request : Request) → plan.options.notes ≤ most_notes → Inspects plan journal tool work request → work.cutover.phase ≡ Resting → (row : List Value) × IsFitNote row × (request ≡ writes plan.table row)
 note_fits plan journal tool work request most (cuts_so off next) resting = absurd (true≢false (sym (ap is_resting resting) ∙ off))
 note_fits plan journal tool work request most (notes_so note at onward next) resting = let one = next_row plan work.applier.position (reach_in journal work.copier) (notes_of journal) request next in (one.row, one.fits most, one.is)
+
+-- the cut-over's request writes no row but the hint
+pub call_away : (t : List ℕ) (cutover : CutOver) → (cutover.phase ≡ Attempting Hinting → ⊥) → (request : Request) → attempts.next Inspector cutover ≡ Some request → WritesAway (watched t) request
+unfolding attempts.next
+call_away t cutover unhinted request call = by cutover.phase refl call where
+  cleared : (one : Cleared) → clears cutover.table one ≡ Some request → WritesAway (watched t) request
+  cleared Looking call = some_request (WritesAway (watched t)) _ request call tt
+  cleared (Drops left) call = some_request (WritesAway (watched t)) _ request call tt
+
+  ends : (b : Bool) (one : Cleared) → cond b (clears cutover.table one) None ≡ Some request → WritesAway (watched t) request
+  ends true one call = cleared one call
+  ends false one call = absurd cc
+
+  by : (phase : Phase) → cutover.phase ≡ phase → attempts.inspector_call cutover phase ≡ Some request → WritesAway (watched t) request
+  by (Attempting Hinting) at call = absurd (unhinted at)
+  by (Attempting (ReadingCounter drain)) at call = some_request (WritesAway (watched t)) _ request call tt
+  by (Attempting (SettingCounter number drain)) at call = some_request (WritesAway (watched t)) _ request call tt
+  by (Attempting Showing) at call = some_request (WritesAway (watched t)) _ request call tt
+  by (Attempting stage) at call = absurd cc
+  by (Ending one) at call = ends (is_free cutover.hold cutover.renamer_waits) one call
+  by (Finishing one) at call = cleared one call
+  by Resting at call = absurd cc
+  by Finished at call = absurd cc
+
+-- the hint row is what it calls for where it is next
+pub asked_hint : (t : List ℕ) (cutover : CutOver) (request : Request) → cutover.table ≡ t → cutover.phase ≡ Attempting Hinting → attempts.next Inspector cutover ≡ Some request → request ≡ writes_hint t cutover.attempts
+unfolding attempts.next
+asked_hint t cutover request own hinting next =
+    some_request (λ (r : Request). r ≡ writes_hint t cutover.attempts) (writes_hint cutover.table cutover.attempts) request (ap (attempts.inspector_call cutover) (sym hinting) ∙ next) (ap (λ (name : List ℕ). writes_hint name cutover.attempts) own)
 
 -- ONE TURN
 
@@ -250,7 +282,7 @@ module _ (plan : PlanData) (runs : IsRunnable plan) (serial : IsSerialPlan plan)
   resize_so size (SettingUp setup tries) eq = same_past (SettingUp setup tries) eq
   resize_so size (Migrating work) eq = λ past. inl (ap is_past eq)
 
-  was_made : is_past (moment plan more).tool.tool_phase ≡ true → Was
+  pub was_made : is_past (moment plan more).tool.tool_phase ≡ true → Was
   was_made =
       turn_kept plan New back journal entry drain
       (record {
@@ -263,7 +295,7 @@ module _ (plan : PlanData) (runs : IsRunnable plan) (serial : IsSerialPlan plan)
 
   -- A TURN THAT WRITES NO HINT ROW
 
-  module _ (off : IsUnaltered plan more) (is : IsNumbered plan journal) where
+  module _ (off : IsUnaltered plan more) where
     none : NoneWrote t before
     none = (hints_go plan journal runs serial kept (unaltered_front plan journal (entry ∷ []) off)).none
 
@@ -276,8 +308,8 @@ module _ (plan : PlanData) (runs : IsRunnable plan) (serial : IsSerialPlan plan)
     in_scene : IsSceneRun (limits_of plan) (scene_of plan more) more
     in_scene = scene_run plan runs serial journal entry kept_more off
 
-    quiet : ((request : Request) → About request → WritesAway (watched t) request) → IsNumbered plan more
-    quiet writes past table found = by (left_rows t (λ schema. About (requests.Create schema)) before.tables after.tables (log_left plan serial journal entry in_scene asks_as run.answered.sides none writes) table found) where
+    quiet : IsNumbered plan journal → ((request : Request) → About request → WritesAway (watched t) request) → IsNumbered plan more
+    quiet is writes past table found = by (left_rows t (λ schema. About (requests.Create schema)) before.tables after.tables (log_left plan serial journal entry in_scene asks_as run.answered.sides none writes) table found) where
       same_hint : last_hint t 0 after.log ≡ last_hint t 0 before.log
       same_hint =
           let logs = logs_left plan serial journal entry in_scene asks_as run.answered.sides none writes in
@@ -295,36 +327,15 @@ module _ (plan : PlanData) (runs : IsRunnable plan) (serial : IsSerialPlan plan)
     insp_waits : entry.actor ≡ Insp → (request : Request) → (has entry.actor).waits ≡ Some request → WritesAway (watched t) request
     insp_waits same request waits = setting_is plan (WritesAway (watched t)) (λ number. tt) (moment plan journal).tool.tool_phase request (waits_to_set plan journal request runs serial kept (ap (λ (a : Actor). (has a).waits) (sym same) ∙ waits))
 
-    uncalled : entry.actor ≡ Insp → is_command entry.asked ≡ false → (request : Request) → about open_now entry.session Poll ≡ Some request → WritesAway (watched t) request
+    pub uncalled : entry.actor ≡ Insp → is_command entry.asked ≡ false → (request : Request) → about open_now entry.session Poll ≡ Some request → WritesAway (watched t) request
     uncalled same called request is_about = insp_waits same request (waits_with plan serial runs.fitting journal entry (known plan runs serial journal entry kept_more off) run off called request is_about)
 
-    call_away : (work : Work) → (work.cutover.phase ≡ Attempting Hinting → ⊥) → (request : Request) → attempts.inspector_call work.cutover work.cutover.phase ≡ Some request → WritesAway (watched t) request
-    call_away work unhinted request call = by work.cutover.phase refl call where
-      cleared : (one : Cleared) → clears work.cutover.table one ≡ Some request → WritesAway (watched t) request
-      cleared Looking call = some_request (WritesAway (watched t)) _ request call tt
-      cleared (Drops left) call = some_request (WritesAway (watched t)) _ request call tt
-
-      ends : (b : Bool) (one : Cleared) → cond b (clears work.cutover.table one) None ≡ Some request → WritesAway (watched t) request
-      ends true one call = cleared one call
-      ends false one call = absurd cc
-
-      by : (phase : Phase) → work.cutover.phase ≡ phase → attempts.inspector_call work.cutover phase ≡ Some request → WritesAway (watched t) request
-      by (Attempting Hinting) at call = absurd (unhinted at)
-      by (Attempting (ReadingCounter drain)) at call = some_request (WritesAway (watched t)) _ request call tt
-      by (Attempting (SettingCounter number drain)) at call = some_request (WritesAway (watched t)) _ request call tt
-      by (Attempting Showing) at call = some_request (WritesAway (watched t)) _ request call tt
-      by (Attempting stage) at call = absurd cc
-      by (Ending one) at call = ends (is_free work.cutover.hold work.cutover.renamer_waits) one call
-      by (Finishing one) at call = cleared one call
-      by Resting at call = absurd cc
-      by Finished at call = absurd cc
-
-    insp_away : entry.actor ≡ Insp → ((work : Work) → now.tool.tool_phase ≡ Migrating work → writes_log work.cutover.phase ≡ false) → (request : Request) → About request → WritesAway (watched t) request
-    unfolding attempts.next
+    -- where no row of the changelog comes next it writes none
+    pub insp_away : entry.actor ≡ Insp → ((work : Work) → now.tool.tool_phase ≡ Migrating work → writes_log work.cutover.phase ≡ false) → (request : Request) → About request → WritesAway (watched t) request
     insp_away same away request is_about =
         insp_from plan runs serial journal entry kept_more off (WritesAway (watched t) request) request same is_about (λ call. by now.tool.tool_phase refl call) (λ waits. insp_waits same request (ap (λ (a : Actor). (has a).waits) same ∙ waits)) where
           inspected : (work : Work) → writes_log work.cutover.phase ≡ false → Inspects plan journal now.tool work request → WritesAway (watched t) request
-          inspected work none (cuts_so off_rest next) = call_away work (λ hinting. true≢false (sym (ap writes_log hinting) ∙ none)) request next
+          inspected work none (cuts_so off_rest next) = call_away t work.cutover (λ hinting. true≢false (sym (ap writes_log hinting) ∙ none)) request next
           inspected work none (notes_so note resting onward next) = absurd (true≢false (sym (ap writes_log resting) ∙ none))
 
           by : (tool_phase : ToolPhase) → now.tool.tool_phase ≡ tool_phase → tool_call plan now.server journal now.tool tool_phase Insp ≡ Some request → WritesAway (watched t) request
@@ -391,16 +402,13 @@ module _ (plan : PlanData) (runs : IsRunnable plan) (serial : IsSerialPlan plan)
 
   -- EVERY TURN
 
-  asked_hint : (work : Work) → work.cutover.table ≡ t → work.cutover.phase ≡ Attempting Hinting → (request : Request) → Inspects plan journal now.tool work request → request ≡ writes_hint t work.cutover.attempts
-  unfolding attempts.next
-  asked_hint work own hinting request (cuts_so off next) =
-      some_request (λ (r : Request). r ≡ writes_hint t work.cutover.attempts) (writes_hint work.cutover.table work.cutover.attempts) request (ap (attempts.inspector_call work.cutover) (sym hinting) ∙ next) (ap (λ (name : List ℕ). writes_hint name work.cutover.attempts) own)
-  asked_hint work own hinting request (notes_so note resting onward next) = absurd (resting_hints (sym resting ∙ hinting)) where
+  hinted : (work : Work) → work.cutover.table ≡ t → work.cutover.phase ≡ Attempting Hinting → (request : Request) → Inspects plan journal now.tool work request → request ≡ writes_hint t work.cutover.attempts
+  hinted work own hinting request (cuts_so off next) = asked_hint t work.cutover request own hinting next
+  hinted work own hinting request (notes_so note resting onward next) = absurd (resting_hints (sym resting ∙ hinting)) where
     resting_hints : Resting ≡ Attempting Hinting → ⊥
     resting_hints both = cc
 
   numbered_more : IsUnaltered plan more → IsNumbered plan journal → IsNumbered plan more
-  unfolding given
   numbered_more off is = by (same_actor entry.actor Insp) refl where
     off_now : IsUnaltered plan journal
     off_now = unaltered_front plan journal (entry ∷ []) off
@@ -409,27 +417,18 @@ module _ (plan : PlanData) (runs : IsRunnable plan) (serial : IsSerialPlan plan)
     away none work eq = sym (ap is_writing eq) ∙ none
 
     polled : entry.actor ≡ Insp → is_command entry.asked ≡ false → ((request : Request) → about open_now entry.session entry.asked ≡ Some request → about open_now entry.session Poll ≡ Some request) → IsNumbered plan more
-    polled same called waits = quiet off is (λ request is_about. uncalled off is same called request (waits request is_about))
+    polled same called waits = quiet off is (λ request is_about. uncalled off same called request (waits request is_about))
 
     written : entry.actor ≡ Insp → (request : Request) → entry.asked ≡ Call request → (tool_phase : ToolPhase) → now.tool.tool_phase ≡ tool_phase → is_writing tool_phase ≡ true → IsNumbered plan more
     written same request asks (SettingUp setup tries) eq none = absurd (false≢true none)
-    written same request asks (Migrating work) eq some_row = with (asking plan journal Insp entry.asked going.standing.tabled.all.tool.server (subst (λ (a : Actor). given plan journal a ≡ Some entry.asked) same (gives_asked plan journal entry entry.asked run.followed.given refl (λ cut. no (sym asks ∙ cut))))) where
-      no : Call request ≡ Cut → ⊥
-      no both = cc
-
-      by_phase : (other : Request) → entry.asked ≡ Call other → Inspects plan journal now.tool work other → (work.cutover.phase ≡ Resting) ⊎ (work.cutover.phase ≡ Attempting Hinting) → IsNumbered plan more
-      by_phase other asks_it call (inl resting) = let note = note_fits plan journal now.tool work other notes call resting in note_more off_now is work eq same note.0 note.1 (asks_it ∙ ap Call note.2)
-      by_phase other asks_it call (inr hinting) = hint_more off_now is work eq hinting same (asks_it ∙ ap Call (asked_hint work (subst (ToolPhaseIsNamed plan) eq (named plan journal)).cutover hinting other call))
-
-      with : Asking plan journal Insp entry.asked → IsNumbered plan more
-      with (polls_so other asks_it waits) = absurd (no_poll (sym asks_it ∙ asks)) where
-        no_poll : Poll ≡ Call request → ⊥
-        no_poll both = cc
-      with (calls_so other asks_it idle call) =
-          by_phase other asks_it (inspects plan journal now.tool work other (ap (λ (c : ToolPhase). tool_call plan now.server journal now.tool c Insp) (sym eq) ∙ call)) (writes_so work.cutover.phase some_row)
+    written same request asks (Migrating work) eq some_row =
+        by_phase (inspects plan journal now.tool work request (ap (λ (c : ToolPhase). tool_call plan now.server journal now.tool c Insp) (sym eq) ∙ insp_called plan journal entry together run same request asks)) (writes_so work.cutover.phase some_row) where
+          by_phase : Inspects plan journal now.tool work request → (work.cutover.phase ≡ Resting) ⊎ (work.cutover.phase ≡ Attempting Hinting) → IsNumbered plan more
+          by_phase call (inl resting) = let note = note_fits plan journal now.tool work request notes call resting in note_more off_now is work eq same note.0 note.1 (asks ∙ ap Call note.2)
+          by_phase call (inr hinting) = hint_more off_now is work eq hinting same (asks ∙ ap Call (hinted work (subst (ToolPhaseIsNamed plan) eq (named plan journal)).cutover hinting request call))
 
     called_so : entry.actor ≡ Insp → (request : Request) → entry.asked ≡ Call request → (b : Bool) → is_writing now.tool.tool_phase ≡ b → IsNumbered plan more
-    called_so same request asks false none = quiet off is (insp_away off is same (away none))
+    called_so same request asks false none = quiet off is (insp_away off same (away none))
     called_so same request asks true some_row = written same request asks now.tool.tool_phase refl some_row
 
     own : entry.actor ≡ Insp → (asked : Asked) → entry.asked ≡ asked → IsNumbered plan more
@@ -439,7 +438,7 @@ module _ (plan : PlanData) (runs : IsRunnable plan) (serial : IsSerialPlan plan)
     own same (Command word) asks = quiet off is (λ request is_about. absurd (none-some request (subst (λ (a : Asked). about open_now entry.session a ≡ Some request) asks is_about)))
 
     by : (b : Bool) → same_actor entry.actor Insp ≡ b → IsNumbered plan more
-    by false differ = quiet off is (others_away plan serial journal entry (in_scene off is) (asks_as off is) differ)
+    by false differ = quiet off is (others_away plan serial journal entry (in_scene off) (asks_as off) differ)
     by true same = own (same_actor_is entry.actor Insp same) entry.asked refl
 
 -- EVERY JOURNAL

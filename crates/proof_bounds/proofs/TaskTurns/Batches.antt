@@ -467,10 +467,6 @@ module _ (defined : DefinitionsAreDone) (plan : PlanData) (runs : IsRunnable pla
         stands : Working (altered journal) on_now journal (log_of journal) turns waited tries work.applier
         stands = subst (Holding (altered journal) journal (log_of journal) turns waited on_now) eq is.stands
 
-        -- with the log after the turn
-        later_so : Working (altered more) on_now more (log_of more) turns waited tries work.applier
-        later_so = work_later (altered journal) (altered more) on_now tries work.applier was_unaltered refl stands
-
         few : altered journal ≡ false → on_now ≡ false → tries < bound
         few off going =
             let room = (subst (ToolPhaseRoom plan on_now) eq (tries_few plan journal some)) (not_done work eq off) in

@@ -1,15 +1,13 @@
 -- The applying goes on: each call of the applier's is done, but what waits, a row that doesn't fit, and an UPDATE that another row's key
 -- refuses.
 use Rattle.proof_migration.proofs.ToolServes.{tool_serves}
-use Rattle.std.proofs.Common.{◌≡◌, ◌≤◌, ◌<◌, ℕ, ◌+◌, ◌*◌, Bool, true, false, cond, not, List, [], ◌∷◌, ◌++◌, drop, Option, Some, None, refl, sym, ap, ◌∙◌, subst, arith}
+use Rattle.std.proofs.Common.{◌≡◌, ◌≤◌, ℕ, ◌+◌, ◌*◌, Bool, true, false, not, List, [], ◌∷◌, ◌++◌, Option, Some, None, refl, sym, ap, ◌∙◌, subst, arith}
 use Rattle.std.specs.List.{list_any, slice_get}
 use Rattle.std.proofs.lemmas.Bool.{true≢false, false≢true}
 use Rattle.std.proofs.lemmas.Option.{none-some}
 use Rattle.base_script.specs.declared.actor.Actor.{Actor}
 use Rattle.base_script.specs.declared.actor.Actor.TheVariants.{Apply}
 use Rattle.base_script.specs.declared.actor.Side.{Side}
-use Rattle.base_script.specs.declared.statement.Statement.{Statement}
-use Rattle.base_values.proofs.SchemaRules.Lists.{All-at}
 use Rattle.base_values.specs.Laws.{StoresAgain}
 use Rattle.base_values.specs.ToolNames.{log_name}
 use Rattle.base_values.specs.declared.event.RowEvent.{RowEvent}
@@ -34,27 +32,24 @@ use Rattle.plan_data.specs.PlanData.{PlanData}
 use Rattle.tool_program.specs.JournalWords.Bounds.{measures}
 use Rattle.tool_program.specs.JournalWords.Histories.{history, is_alter}
 use Rattle.tool_program.specs.JournalWords.Journals.{opens, state_at}
-use Rattle.tool_program.specs.JournalWords.Sessions.{live_session}
-use Rattle.tool_program.specs.EventApplier.Appliers.{Doing, Putting, Removing, Changing, call_at, doing_at, doing_in, in_part, planned, statement_result}
+use Rattle.tool_program.specs.EventApplier.Appliers.{Doing, Changing, call_at, in_part, planned}
 use Rattle.tool_program.specs.EventApplier.Appliers as appliers
-use Rattle.tool_program.specs.Programs.{apply_call, given, rolls_back, tool_asks, tool_call}
-use Rattle.tool_program.specs.Tools.{Migrating, ToolPhase, Work, is_reverting, moment}
+use Rattle.tool_program.specs.Programs.{apply_call, given, tool_asks, tool_call}
+use Rattle.tool_program.specs.Tools.{Migrating, Work, is_reverting, moment}
 use Rattle.tool_program.specs.declared.event_applier.applier.ApplyStep.{ApplyStep}
 use Rattle.tool_program.specs.declared.event_applier.applier.ApplyStep.TheVariants.{Reading, Beginning, Applying, Committing}
 use Rattle.tool_program.specs.declared.event_applier.applier.Batch.{Batch}
 use Rattle.tool_program.specs.declared.event_applier.applier.Part.{Part}
 use Rattle.tool_program.specs.declared.event_applier.applier.Part.TheVariants.{Whole, Removal, Return}
 use Rattle.tool_program.proofs.OnlineCalls.Machines.{IsNamed, ToolPhaseIsNamed, named}
-use Rattle.proof_journals.specs.Ghost.Doings.{planned as row_doings}
 use Rattle.proof_journals.specs.Ghost.HeldKeys.{Clustered}
-use Rattle.proof_journals.specs.Ghost.OwnChanges.{own_changes}
 use Rattle.proof_journals.specs.Ghost.Rows.Moments.{Row}
 use Rattle.proof_journals.specs.Ghost.Rows.Timelines.{Migration}
 use Rattle.proof_journals.specs.Holdings.{Face, face_in, face_of}
 use Rattle.proof_journals.specs.Machine.Machines.{ApplierStands, ToolPhaseStands, WorkStands}
 use Rattle.proof_journals.specs.Machine.MigrationTables.{schema_of}
 use Rattle.proof_journals.specs.Machine.Runnable.{IsRunnable}
-use Rattle.proof_journals.specs.Machine.Standings.{IsAbout, Standing, answers_to, is_called, is_polled, standing_of}
+use Rattle.proof_journals.specs.Machine.Standings.{IsAbout, Standing, answers_to, is_called, standing_of}
 use Rattle.proof_journals.specs.Plans.{IsSerialPlan, limits_of, scene_of}
 use Rattle.proof_journals.specs.Run.Kept.{IsKept}
 use Rattle.proof_journals.specs.Scenes.{Stored}
@@ -70,7 +65,7 @@ use Rattle.proof_journals.proofs.Machine.Seated.{IsOpen, IsServed, is_open, own_
 use Rattle.proof_journals.proofs.Sentry.Draining.{IsRead}
 use Rattle.proof_journals.proofs.Sentry.Knowing.{Reads}
 use Rattle.proof_migration.specs.CutOver.{JournalsAreTurned}
-use Rattle.proof_migration.specs.Migration.Applier.ApplierPlace.{IsBatchReported, IsUpdate, PartKnows, StepKnows}
+use Rattle.proof_migration.specs.Migration.Applier.ApplierPlace.{IsUpdate, PartKnows}
 use Rattle.proof_migration.specs.Migration.Machines.{MigrationStands}
 use Rattle.proof_migration.specs.Program.Turns.Goes.{Goes, machines_in}
 use Rattle.proof_migration.specs.Migration.Planning.{migration_of}
@@ -79,16 +74,17 @@ use Rattle.proof_migration.specs.ToolPhase.Runnable.{IsAlterable}
 use Rattle.proof_migration.specs.ToolPhase.Unaltered.{IsUnaltered}
 use Rattle.proof_migration.specs.ToolPhase.Waits.{WaitsAreReported}
 use Rattle.proof_migration.proofs.Migration.Applier.Answers.{TableSeen}
-use Rattle.proof_migration.proofs.Migration.Applier.Knowing.{next_at}
-use Rattle.proof_migration.proofs.Migration.Applier.Planning.{DoesRows, NextDoing, next_doing, planned_alike, planned_rows}
-use Rattle.proof_migration.proofs.Migration.Applier.Statements.{said, said_is}
+use Rattle.proof_migration.proofs.Migration.Applier.Statements.{said}
 use Rattle.proof_migration.proofs.Program.Follows.{migration, own_table}
 use Rattle.proof_migration.proofs.Program.Starts.{followers_go}
 use Rattle.proof_migration.proofs.Program.Hints.Courses.{applier_reads}
 use Rattle.proof_migration.proofs.Program.Hints.Known.{hints_go}
 use Rattle.proof_migration.proofs.Program.Hints.States.{BatchIs, HintsGo, batch_is}
 use Rattle.proof_migration.proofs.Program.Turns.ActorStates.{SomeActorStates, some_actor_states}
+use Rattle.proof_migration.proofs.Program.Turns.Asked.{gave}
 use Rattle.proof_migration.proofs.Program.Turns.Follows.{kept_front}
+use Rattle.proof_migration.proofs.Program.Turns.NextCalls.{ApplyAsks, apply_asked, apply_calls}
+use Rattle.proof_migration.proofs.Migration.Applier.NextStatement.{NextStatement, next_statement}
 use Rattle.proof_migration.proofs.ToolPhase.CopyAnswers.{not_outside}
 use Rattle.proof_migration.proofs.ToolPhase.Hearing.{IsFoundBy, opened_tables, own_answer}
 use Rattle.proof_migration.proofs.Unfit.Known.{IsKnownTurn, known_turn}
@@ -136,7 +132,7 @@ is_change doing rest update = let same : doing ≡ Changing update.old update.ne
   first : (doing : Doing) (rest : List Doing) (old new : Row) (more : List Doing) → doing ∷ rest ≡ Changing old new ∷ more → doing ≡ Changing old new
   first doing rest old new more same = cc
 
-part_so : (part : Part) (doing : Doing) (rest : List Doing) → PartKnows part (doing ∷ rest) → PartFits part (Some doing)
+pub part_so : (part : Part) (doing : Doing) (rest : List Doing) → PartKnows part (doing ∷ rest) → PartFits part (Some doing)
 part_so Whole doing rest knows = tt
 part_so Removal doing rest knows = is_change doing rest knows
 part_so Return doing rest knows = is_change doing rest knows
@@ -199,21 +195,11 @@ module _ (defined : DefinitionsAreDone) (plan : PlanData) (m : Migration) (at : 
 
   -- WHAT IS ASKED
 
-  record ApplyAsks : Type 0 where
-    request : Request
-    is_about : IsAbout request (has Apply) entry.asked
-    next : appliers.next journal work.applier ≡ request
-
   call_here : (request : Request) → tool_call plan (moment plan journal).server journal (moment plan journal).tool (moment plan journal).tool.tool_phase Apply ≡ Some request → apply_call plan (moment plan journal).server journal (moment plan journal).tool work ≡ Some request
-  call_here request call =
-      ap (λ (b : Bool). cond b (rolls_back (moment plan journal).server (live_session journal Apply)) (apply_call plan (moment plan journal).server journal (moment plan journal).tool work)) (sym going)
-      ∙ ap (λ (c : ToolPhase). tool_call plan (moment plan journal).server journal (moment plan journal).tool c Apply) (sym eq) ∙ call
+  call_here = apply_calls plan journal work eq going
 
-  apply_asks : ApplyAsks
-  apply_asks = by asks where
-    by : Asking plan journal Apply entry.asked → ApplyAsks
-    by (calls_so request asks_so idle call) = record { request = request; is_about = is_called asks_so idle; next = sym (apply_called plan journal work request (call_here request call)) }
-    by (polls_so request asks_so some) = record { request = request; is_about = is_polled asks_so some; next = goes.apply_waits request some }
+  apply_asks : ApplyAsks plan journal entry.asked work.applier
+  apply_asks = apply_asked plan m at rows journal entry.asked together work eq going goes (gave plan of.serial runs.fitting journal entry turn.known turn.run off_more Apply who uncut)
 
   about_own : (request : Request) → IsAbout request (has Apply) entry.asked → IsAbout request (has entry.actor) entry.asked
   about_own request is_about = subst (λ (a : Actor). IsAbout request (has a) entry.asked) (sym who) is_about
@@ -326,43 +312,17 @@ module _ (defined : DefinitionsAreDone) (plan : PlanData) (m : Migration) (at : 
     stands : MigrationStands m at rows (limits_of plan) (scene_of plan []) journal (machines_in work some.copier some.applier)
     stands = goes.stands some.copier some.applier some.actor_states
 
-    knows : StepKnows m journal (Applying batch count part)
-    knows = subst (StepKnows m journal) here stands.applier_knows.step
-
-    reported : IsBatchReported m journal batch
-    reported = knows.0
-
     ghost_now : schema_of m.new.name now.tables ≡ Some m.new
     ghost_now = any_kept (schema_of m.new.name now.tables ≡ Some m.new) m at rows some.copier some.applier _ (λ apply kept. ap (Rattle.std.specs.Option.option_map (λ (table : TableRows). table.schema)) kept.tool.kept.new) stands.tool.stands
 
-    abbrev all_doings : List Doing
-    all_doings = row_doings m (own_changes m.name reported.events)
-
-    next_one : NextDoing all_doings count
-    next_one = next_doing all_doings count (subst (λ (n : ℕ). count < n) reported.counted knows.1)
-
-    does_rows : DoesRows m.schema.columns next_one.doing
-    does_rows = All-at (DoesRows m.schema.columns) all_doings count next_one.doing (planned_rows m (own_changes m.name reported.events) reported.rows) next_one.there
+    next_one : NextStatement m journal work.applier batch count part
+    next_one = next_statement m of.finds journal work.applier (names.applier ∙ sym of.of.name) goes.schema goes.apply_map stands.applier_knows batch count part here
 
     parted : PartFits part (Some next_one.doing)
-    parted =
-        part_so part next_one.doing (drop (count + 1) all_doings)
-        (subst (PartKnows part) (ap (λ (a : Option Answer). drop count (row_doings m (own_changes m.name (events_in a)))) reported.reported ∙ next_one.is) knows.2)
-
-    code_plan : planned work.applier (events_in (answer_at journal batch.read)) ≡ all_doings
-    code_plan = ap (λ (a : Option Answer). planned work.applier (events_in a)) reported.reported ∙ planned_alike m work.applier reported.events of.finds (names.applier ∙ sym of.of.name) goes.schema goes.apply_map reported.rows
-
-    abbrev statement : Statement
-    statement = said m.new m.columns (in_part part next_one.doing)
-
-    asked_so : apply_asks.request ≡ requests.Do (said m.new m.columns (in_part part next_one.doing))
-    asked_so =
-        sym apply_asks.next ∙ next_at journal work.applier (Applying batch count part) here
-        ∙ ap (statement_result work.applier) (ap (λ (l : List Doing). doing_in part (slice_get l count)) code_plan ∙ ap (doing_in part) next_one.there)
-        ∙ ap (λ (s : Statement). requests.Do s) (said_is m work.applier (in_part part next_one.doing) goes.schema goes.apply_map)
+    parted = part_so part next_one.doing _ next_one.knows
 
     about_statement : IsAbout (requests.Do (said m.new m.columns (in_part part next_one.doing))) (has Apply) entry.asked
-    about_statement = subst (λ (r : Request). IsAbout r (has Apply) entry.asked) asked_so apply_asks.is_about
+    about_statement = subst (λ (r : Request). IsAbout r (has Apply) entry.asked) (sym apply_asks.next ∙ next_one.asks) apply_asks.is_about
 
     -- the new table, as the session sees it
     well : IsHeldWell plan journal
@@ -390,13 +350,13 @@ module _ (defined : DefinitionsAreDone) (plan : PlanData) (m : Migration) (at : 
     said_so : StatementAnswer part next_one.doing entry.answer
     said_so =
         own_answer (StatementAnswer part next_one.doing) (record { waits = λ by. tt; timed = λ waited. tt; lost = tt }) plan journal entry together.known served (requests.Do (said m.new m.columns (in_part part next_one.doing))) (about_own (requests.Do (said m.new m.columns (in_part part next_one.doing))) about_statement)
-        (λ found is. done_so m rows of.planned of.finds found entry.session (ap (λ sessions. is_of_tool (session_of entry.session sessions)) is.sessions ∙ tool_now) (subst (TableSeen m) (sym (same_view found is)) seen_table) part next_one.doing does_rows parted
+        (λ found is. done_so m rows of.planned of.finds found entry.session (ap (λ sessions. is_of_tool (session_of entry.session sessions)) is.sessions ∙ tool_now) (subst (TableSeen m) (sym (same_view found is)) seen_table) part next_one.doing next_one.rows parted
         (ap (λ sessions. is_outside (session_of entry.session sessions) (requests.Do (said m.new m.columns (in_part part next_one.doing)))) is.sessions ∙ unlocked (requests.Do (said m.new m.columns (in_part part next_one.doing)))))
 
     applied : BatchAnswer (statements_most plan) plan.table log_now work.applier.position (plans_of work.applier) (planned work.applier (events_in (answer_at journal batch.read))) (Applying batch count part) entry.answer
     applied =
         statement_answered (statements_most plan) plan.table log_now work.applier.position (plans_of work.applier) (planned work.applier (events_in (answer_at journal batch.read))) batch count part next_one.doing entry.answer
-        (ap (λ (l : List Doing). slice_get l count) code_plan ∙ next_one.there) said_so
+        next_one.planned_so said_so
 
   answered_by : (step : ApplyStep) → work.applier.step ≡ step → BatchAnswer (statements_most plan) plan.table log_now work.applier.position (plans_of work.applier) (doings_at journal work.applier step) step entry.answer
   unfolding appliers.next

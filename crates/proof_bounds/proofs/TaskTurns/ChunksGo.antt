@@ -1,5 +1,5 @@
 -- The copy goes on: each call of the copier's is done, but what waits, and a row that doesn't fit.
-use Rattle.std.proofs.Common.{◌≡◌, ◌≤◌, ℕ, zero, suc, Bool, true, false, cond, ◌&&◌, List, [], ◌∷◌, ◌++◌, length, take, Option, Some, None, refl, sym, ap, ◌∙◌, subst, arith}
+use Rattle.std.proofs.Common.{◌≡◌, ◌≤◌, ℕ, zero, suc, Bool, true, false, cond, List, [], ◌∷◌, ◌++◌, length, take, Option, Some, None, refl, sym, ap, ◌∙◌, subst, arith}
 use Rattle.std.specs.Option.{option_map}
 use Rattle.std.proofs.lemmas.Bool.{true≢false, false≢true}
 use Rattle.std.proofs.lemmas.Option.{none-some}
@@ -27,14 +27,11 @@ use Rattle.server_model.specs.declared.entry.Entry.{Entry}
 use Rattle.server_model.specs.declared.request.Request.{Request}
 use Rattle.server_model.specs.declared.request.Request.TheVariants as requests
 use Rattle.plan_data.specs.PlanData.{PlanData, new_map, old_schema}
-use Rattle.tool_program.specs.ChunkCopier.Copiers as copiers
 use Rattle.tool_program.specs.CutoverCore.CutOvers.{is_wait}
 use Rattle.tool_program.specs.JournalWords.Bounds.{keys, measures}
 use Rattle.tool_program.specs.JournalWords.Journals.{opens, state_at}
-use Rattle.tool_program.specs.Operators.{is_throttled}
-use Rattle.tool_program.specs.Programs.{copy_call, given, rolls_back, tool_asks, tool_call}
-use Rattle.tool_program.specs.JournalWords.Sessions.{live_session}
-use Rattle.tool_program.specs.Tools.{Migrating, ToolPhase, Work, is_reverting, moment}
+use Rattle.tool_program.specs.Programs.{given, tool_asks}
+use Rattle.tool_program.specs.Tools.{Migrating, Work, is_reverting, moment}
 use Rattle.tool_program.specs.declared.chunk_copier.copier.CopyStep.{CopyStep}
 use Rattle.tool_program.specs.declared.chunk_copier.copier.CopyStep.TheVariants.{Choosing, Spanning, Copying, Committing}
 use Rattle.proof_journals.specs.Holdings.{face_in}
@@ -46,12 +43,13 @@ use Rattle.proof_journals.specs.Machine.TableKeys.{IsKeyed}
 use Rattle.proof_journals.specs.Plans.{IsSerialPlan}
 use Rattle.proof_journals.specs.Run.Kept.{IsKept}
 use Rattle.proof_journals.specs.ServerTurns.Others.{DefinitionsAreDone}
-use Rattle.proof_journals.proofs.Machine.Asking.{copier_next, unless_called, waits_asks}
+use Rattle.proof_journals.proofs.Machine.Asking.{copier_next, waits_asks}
 use Rattle.proof_journals.proofs.Machine.Journals.{Asking, IsRun, IsTogether, calls_so, copier_had, polls_so}
 use Rattle.proof_journals.proofs.Machine.Keyed.{IsKeyedAll, all_keyed, copy_called}
 use Rattle.proof_journals.proofs.Machine.Seated.{IsOpen, IsServed, is_open, own_fits}
 use Rattle.proof_journals.proofs.Machine.Staying.{tables_stay}
 use Rattle.proof_migration.proofs.Program.Turns.Follows.{kept_front, kept_run}
+use Rattle.proof_migration.proofs.Program.Turns.NextCalls.{copy_next}
 use Rattle.proof_migration.proofs.ToolPhase.Chunks.Onlines.{all_untouched, ends_turn}
 use Rattle.proof_migration.proofs.ToolPhase.Chunks.Uncopied.{IsUntouched}
 use Rattle.proof_migration.proofs.ToolPhase.CopyAnswers.{CopyFits, not_outside, own_copy}
@@ -171,11 +169,7 @@ module _ (again : StoresAgain) (defined : DefinitionsAreDone) (plan : PlanData) 
     by (calls_so request asks idle call) = record {
       request = request;
       is_about = is_called asks idle;
-      kind =
-          copier_next journal work.copier request
-          (unless_called (copiers.starts work.copier && is_throttled plan (moment plan journal).server (moment plan journal).tool.operator) (copiers.next journal work.copier) request
-          (ap (λ (b : Bool). cond b (rolls_back (moment plan journal).server (live_session journal Copy)) (copy_call plan (moment plan journal).server journal (moment plan journal).tool work)) (sym going)
-          ∙ ap (λ (c : ToolPhase). tool_call plan (moment plan journal).server journal (moment plan journal).tool c Copy) (sym eq) ∙ call));
+      kind = copier_next journal work.copier request (copy_next plan journal work eq going request call);
       keys_so = copy_called plan journal request (moment plan journal).tool.tool_phase keyed.tool_phase call;
     }
     by (polls_so request asks some) = record { request = request; is_about = is_polled asks some; kind = waits_asks (copier_asks work.copier.step) (has Copy).waits request stood.waits some; keys_so = keyed.waits Copy request some refl }

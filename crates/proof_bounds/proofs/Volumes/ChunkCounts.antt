@@ -1,6 +1,6 @@
 -- After every journal that is kept, until the RENAME is done: the chunks that were committed end at different keys that the
 -- migrated table ever had.
-use Rattle.std.proofs.Common.{◌≡◌, ◌≤◌, ◌⊎◌, inl, inr, ℕ, ◌+◌, Bool, true, false, cond, ◌&&◌, List, [], ◌∷◌, ◌++◌, length, Option, Some, None, refl, sym, ap, ◌∙◌, subst, arith, append_assoc, append-nil}
+use Rattle.std.proofs.Common.{◌≡◌, ◌≤◌, ℕ, ◌+◌, Bool, true, false, cond, List, [], ◌∷◌, ◌++◌, length, Option, Some, None, refl, sym, ap, ◌∙◌, subst, arith, append_assoc, append-nil}
 use Rattle.std.specs.Prelude.{option_map, unwrap_or}
 use Rattle.std.proofs.lemmas.Bool.{false≢true, true≢false}
 use Rattle.base_script.specs.declared.actor.Actor.{Actor}
@@ -36,9 +36,7 @@ use Rattle.tool_program.specs.ChunkCopier.Copiers.{low_end, took}
 use Rattle.tool_program.specs.CutoverCore.Attempts.{is_clear, without_first}
 use Rattle.tool_program.specs.JournalWords.Bounds.{measures, events}
 use Rattle.tool_program.specs.JournalWords.Journals.{opens, state_at}
-use Rattle.tool_program.specs.JournalWords.Sessions.{live_session}
-use Rattle.tool_program.specs.Operators.{is_throttled}
-use Rattle.tool_program.specs.Programs.{IsGiven, copy_call, given, rolls_back, tool_call}
+use Rattle.tool_program.specs.Programs.{IsGiven, given, tool_call}
 use Rattle.tool_program.specs.Setups.{Setup, Listing, Clearing, MakingLog, MakingGhost, Marking, Reaching, Ready, clearing, listed, setup_call, setup_step}
 use Rattle.tool_program.specs.Tools.{Tool, ToolPhase, Migrating, SettingUp, Work, is_reverting, moment, new_work, stopped, tool_phase_of}
 use Rattle.tool_program.proofs.JournalWords.Answers.{answer_here}
@@ -54,7 +52,7 @@ use Rattle.proof_journals.specs.Run.Kept.{IsKept}
 use Rattle.proof_journals.specs.ServerTurns.Others.{TurnOf, asks_names}
 use Rattle.proof_journals.specs.Turns.{about}
 use Rattle.proof_journals.proofs.Machine.Asking.{copier_next, unless_called, waits_asks}
-use Rattle.proof_journals.proofs.Machine.Journals.{Asking, asking, calls_so, polls_so}
+use Rattle.proof_journals.proofs.Machine.Journals.{Asking, asking, calls_so, copier_had, polls_so}
 use Rattle.proof_journals.proofs.Machine.Keyed.{IsKeyedAll, all_keyed}
 use Rattle.proof_journals.proofs.Machine.Seated.{others_stand, own_lost, own_stands}
 use Rattle.proof_journals.proofs.Machine.Staying.{tables_stay}
@@ -67,6 +65,8 @@ use Rattle.proof_migration.proofs.ToolPhase.Owners.{commands_operator}
 use Rattle.proof_migration.proofs.ToolPhase.ToolPhaseTurns.{AnswerKeeps, ApplyKeeps, CopyKeeps, CutKeeps, DrainKeeps, Kept, ResizeKeeps, SetupKeeps, UnfitKeeps, gives_asked, turn_kept}
 use Rattle.proof_migration.proofs.ToolPhase.Unaltered.Away.{unaltered_front}
 use Rattle.proof_migration.proofs.ToolPhase.Unaltered.Runs.{unaltered_runs}
+use Rattle.proof_migration.proofs.Program.Turns.NextCalls.{copy_next}
+use Rattle.proof_migration.proofs.Unfit.Grounds.{lost_copies}
 use Rattle.proof_migration.proofs.Unfit.Known.{IsKnownTurn, known_turn}
 use Rattle.proof_journals.specs.Ghost.Rows.Counts.{all_keys}
 use Rattle.proof_migration.proofs.HeldNames.Holders.{all_held_well}
@@ -193,19 +193,11 @@ module _ (plan : PlanData) (runs : IsRunnable plan) (serial : IsSerialPlan plan)
     unfolding took copiers.progress
     lost_so cut = record {
       reverting = λ is. reverted_old (is_reverting tool.reason) (Migrating work) (at_work work eq);
-      unfit = λ going place number is. absurd (never place number is);
+      unfit = λ going place number is. absurd (lost_copies work.copier.step place number is);
       took = λ going fits tries. (counted_now (record (work.copier) { step = Choosing }) (again journal entry keys new_keys work.copier work.copier.range counted), λ still. idle_waits none (record (work.copier) { step = Choosing }));
     } where
       none : now_has Copy ≡ free
       none = subst (λ (a : Actor). now_has a ≡ free) same (own_lost plan journal entry turn.together.known turn.served cut)
-
-      never : (place number : ℕ) → copiers.progress work.copier answers.Lost ≡ Unfit place number → ⊥
-      never place number is = by work.copier.step is where
-        by : (step : CopyStep) → copiers.progress_at step answers.Lost ≡ Unfit place number → ⊥
-        by Choosing is = cc
-        by (Spanning reported size) is = cc
-        by (Copying chunk copied) is = cc
-        by (Committing chunk) is = cc
 
     module _ (uncut : entry.asked ≡ Cut → ⊥) (going : is_reverting tool.reason ≡ false) where
       work_tables : WorkTables plan now.tables has work
@@ -214,11 +206,8 @@ module _ (plan : PlanData) (runs : IsRunnable plan) (serial : IsSerialPlan plan)
       stands : WorkStands journal (is_reverting tool.reason) has work
       stands = subst (ToolPhaseStands journal has (is_reverting tool.reason)) eq turn.together.stands
 
-      copier_had : Stands (copier_asks work.copier.step) (copier_busy work.copier.step) [] (has Copy)
-      copier_had = by stands.copier where
-        by : (is_reverting tool.reason ≡ true) ⊎ Stands (copier_asks work.copier.step) (copier_busy work.copier.step) [] (has Copy) → Stands (copier_asks work.copier.step) (copier_busy work.copier.step) [] (has Copy)
-        by (inl on) = absurd (true≢false (sym on ∙ going))
-        by (inr is) = is
+      stood : Stands (copier_asks work.copier.step) (copier_busy work.copier.step) [] (has Copy)
+      stood = copier_had plan journal entry turn.together turn.run work stands going
 
       -- what its turn is about
       record CopyAsks : Type 0 where
@@ -236,10 +225,7 @@ module _ (plan : PlanData) (runs : IsRunnable plan) (serial : IsSerialPlan plan)
       copy_asks = by (asking plan journal Copy entry.asked turn.together.server (subst (λ (a : Actor). given plan journal a ≡ Some entry.asked) same (gives_asked plan journal entry entry.asked turn.run.followed.given refl uncut))) where
         by : Asking plan journal Copy entry.asked → CopyAsks
         by (calls_so request asks idle call) =
-            let next : copiers.next journal work.copier ≡ Some request =
-            unless_called (copiers.starts work.copier && is_throttled plan (moment plan journal).server (moment plan journal).tool.operator) (copiers.next journal work.copier) request
-            (ap (λ (b : Bool). cond b (rolls_back (moment plan journal).server (live_session journal Copy)) (copy_call plan (moment plan journal).server journal (moment plan journal).tool work)) (sym going)
-            ∙ ap (λ (c : ToolPhase). tool_call plan (moment plan journal).server journal (moment plan journal).tool c Copy) (sym eq) ∙ call) in
+            let next : copiers.next journal work.copier ≡ Some request = copy_next plan journal work eq going request call in
             let asks_here : Asks journal work.copier request = asks_at journal work.copier request next in
             record {
               request = request;
@@ -254,7 +240,7 @@ module _ (plan : PlanData) (runs : IsRunnable plan) (serial : IsSerialPlan plan)
         by (polls_so request asks some) = record {
           request = request;
           is_about = is_polled asks some;
-          kind = waits_asks (copier_asks work.copier.step) (has Copy).waits request copier_had.waits some;
+          kind = waits_asks (copier_asks work.copier.step) (has Copy).waits request stood.waits some;
           uncopied = off_so work.copier.is_copied refl;
           so = λ range ranged. (at_work work eq).1 going range request ranged some;
         } where

@@ -1,5 +1,5 @@
 -- After the RENAME, which is done where all rows are copied, no chunk is begun.
-use Rattle.std.proofs.Common.{◌≡◌, ◌≤◌, ℕ, ◌+◌, Bool, true, false, cond, ◌&&◌, ◌||◌, List, [], ◌∷◌, ◌++◌, Some, None, refl, sym, ap, ◌∙◌, subst}
+use Rattle.std.proofs.Common.{◌≡◌, ◌≤◌, ℕ, ◌+◌, Bool, true, false, cond, ◌||◌, List, [], ◌∷◌, ◌++◌, Some, None, refl, sym, ap, ◌∙◌, subst}
 use Rattle.std.specs.List.{list_any}
 use Rattle.std.proofs.lemmas.Bool.{false≢true, true≢false}
 use Rattle.base_script.specs.declared.actor.Actor.{Actor}
@@ -8,19 +8,14 @@ use Rattle.server_model.specs.declared.answer.Answer.{Answer}
 use Rattle.server_model.specs.declared.answer.Answer.TheVariants as answers
 use Rattle.server_model.specs.declared.entry.Asked.TheVariants.{Cut}
 use Rattle.server_model.specs.declared.entry.Entry.{Entry}
-use Rattle.server_model.specs.declared.outcome.Progress.TheVariants.{Unfit}
 use Rattle.plan_data.specs.PlanData.{PlanData}
-use Rattle.tool_program.specs.declared.chunk_copier.copier.CopyStep.{CopyStep}
-use Rattle.tool_program.specs.declared.chunk_copier.copier.CopyStep.TheVariants.{Choosing, Spanning, Copying, Committing}
 use Rattle.tool_program.specs.declared.cutover_core.cutover.Role.{Role}
 use Rattle.tool_program.specs.declared.cutover_core.cutover.Role.TheVariants.{Inspector, Locker, Renamer}
 use Rattle.tool_program.specs.ChunkCopier.Copiers as copiers
 use Rattle.tool_program.specs.JournalWords.Bounds.{events, measures}
 use Rattle.tool_program.specs.JournalWords.Histories.{entry_adds, history, is_alter}
 use Rattle.tool_program.specs.JournalWords.Journals.{state_at}
-use Rattle.tool_program.specs.JournalWords.Sessions.{live_session}
-use Rattle.tool_program.specs.Operators.{is_throttled}
-use Rattle.tool_program.specs.Programs.{copy_call, given, rolls_back, tool_call}
+use Rattle.tool_program.specs.Programs.{given}
 use Rattle.tool_program.specs.Tools.{Tool, ToolPhase, Migrating, SettingUp, Work, is_reverting, moment, stopped}
 use Rattle.proof_journals.specs.Machine.MigrationTables.{ToolPhaseTables, WorkTables}
 use Rattle.proof_journals.specs.Machine.Runnable.{IsRunnable}
@@ -28,7 +23,6 @@ use Rattle.proof_journals.specs.Machine.Standings.{standing_of}
 use Rattle.proof_journals.specs.Plans.{IsSerialPlan}
 use Rattle.proof_journals.specs.Run.Kept.{IsKept}
 use Rattle.proof_journals.specs.ServerTurns.Others.{DefinitionsAreDone, ExclusiveIsAlone}
-use Rattle.proof_journals.proofs.Machine.Asking.{unless_called}
 use Rattle.proof_journals.proofs.Machine.Journals.{Asking, asking, calls_so, polls_so}
 use Rattle.proof_journals.proofs.Machine.Marks.{history_more, is_marked}
 use Rattle.proof_migration.specs.CutOver.{JournalsAreTurned}
@@ -36,6 +30,8 @@ use Rattle.proof_migration.specs.ToolPhase.Waits.{WaitsAreReported}
 use Rattle.proof_migration.proofs.CutOver.Renames.{Found, renames_found}
 use Rattle.proof_migration.proofs.Migration.Copier.Knowing.{asks_at}
 use Rattle.proof_migration.proofs.ToolPhase.ToolPhaseTurns.{AnswerKeeps, ApplyKeeps, CopyKeeps, CutKeeps, DrainKeeps, Kept, ResizeKeeps, gives_asked, turn_kept}
+use Rattle.proof_migration.proofs.Program.Turns.NextCalls.{copy_next}
+use Rattle.proof_migration.proofs.Unfit.Grounds.{lost_copies}
 use Rattle.proof_migration.proofs.Unfit.Known.{IsKnownTurn, known_turn}
 use Rattle.proof_migration.proofs.KeptJournals.{each_kept}
 use Rattle.proof_bounds.specs.Volumes.Laws.{ChunksStayFew}
@@ -95,12 +91,7 @@ module _ (plan : PlanData) (runs : IsRunnable plan) (journal : List Entry) (entr
 
     by : Asking plan journal Copy entry.asked → ⊥
     by (calls_so request asks idle call) =
-        true≢false
-        (sym copied
-        ∙ (asks_at journal work.copier request
-        (unless_called (copiers.starts work.copier && is_throttled plan (moment plan journal).server (moment plan journal).tool.operator) (copiers.next journal work.copier) request
-        (ap (λ (b : Bool). cond b (rolls_back (moment plan journal).server (live_session journal Copy)) (copy_call plan (moment plan journal).server journal (moment plan journal).tool work)) (sym going)
-        ∙ ap (λ (c : ToolPhase). tool_call plan (moment plan journal).server journal (moment plan journal).tool c Copy) (sym eq) ∙ call))).going)
+        true≢false (sym copied ∙ (asks_at journal work.copier request (copy_next plan journal work eq going request call)).going)
     by (polls_so request asks some) = no (sym (tables.copied copied) ∙ some) where
       no : None ≡ Some request → ⊥
       no both = cc
@@ -110,12 +101,7 @@ module _ (plan : PlanData) (runs : IsRunnable plan) (journal : List Entry) (entr
 
   copy_lost : (work : Work) → (moment plan journal).tool.tool_phase ≡ Migrating work → CopyKeeps New answers.Lost tool work
   unfolding copiers.took copiers.progress
-  copy_lost work eq = record { reverting = λ is. at_work work eq true; unfit = λ going place number is. absurd (never work.copier.step place number is); took = λ going fits tries. at_work work eq false } where
-    never : (step : CopyStep) (place number : ℕ) → copiers.progress_at step answers.Lost ≡ Unfit place number → ⊥
-    never Choosing place number is = cc
-    never (Spanning reported size) place number is = cc
-    never (Copying chunk copied) place number is = cc
-    never (Committing chunk) place number is = cc
+  copy_lost work eq = record { reverting = λ is. at_work work eq true; unfit = λ going place number is. absurd (lost_copies work.copier.step place number is); took = λ going fits tries. at_work work eq false }
 
   apply_so : (answer : Answer) (work : Work) → (moment plan journal).tool.tool_phase ≡ Migrating work → ApplyKeeps New answer tool work
   apply_so answer work eq = record { reverting = λ is. at_work work eq true; unfit = λ going place number is. record { renamed = λ done. at_work work eq false; reverts = at_work work eq true }; took = λ going fits tries. at_work work eq false }

@@ -1,28 +1,24 @@
 -- No task is spent before the turn in which the cause of a verdict stands.
-use Rattle.std.proofs.Common.{◌≡◌, ◌⊎◌, ◌≤◌, ◌<◌, ℕ, zero, suc, ◌+◌, ◌-◌, ◌==◌, Bool, true, false, List, [], ◌∷◌, ◌++◌, length, take, Option, Some, None, refl, sym, ap, ◌∙◌, subst, inl, inr, arith, append_assoc}
+use Rattle.std.proofs.Common.{◌≡◌, ◌⊎◌, ◌≤◌, ◌<◌, ℕ, zero, suc, ◌+◌, ◌-◌, ◌==◌, Bool, true, false, List, [], ◌∷◌, ◌++◌, length, take, Option, Some, None, refl, sym, ap, ◌∙◌, subst, inl, inr, arith}
 use Rattle.std.specs.Prelude.{filter, reverse}
 use Rattle.std.specs.List.{slice_get, AllByRecursion}
 use Rattle.std.proofs.lemmas.Bool.Decides.{nat_tests}
-use Rattle.std.proofs.lemmas.List.{take-append-le, length-append, length-take-le}
+use Rattle.std.proofs.lemmas.List.{take-append-le, length-append}
 use Rattle.std.proofs.lemmas.Option.{slice_get_within}
 use Rattle.server_model.specs.declared.entry.Entry.{Entry}
-use Rattle.server_model.specs.declared.outcome.Cause.{Cause}
 use Rattle.server_model.specs.declared.outcome.Task.{Task}
 use Rattle.server_model.specs.declared.outcome.Task.TheVariants as tasks
-use Rattle.server_model.specs.declared.outcome.Verdict.TheVariants.{Reverted}
 use Rattle.server_model.proofs.LockedRows.Tests.{are_one}
 use Rattle.plan_data.specs.PlanData.{PlanData}
 use Rattle.tool_program.specs.Failures.{is_actor_of, IsTurn, waited_for, IsUndrained, has_passed, IsBad, IsFailedTry, IsSpent}
 use Rattle.tool_program.specs.Tools.{Reason, Moment, is_renamed, is_reverting, moment}
-use Rattle.tool_program.specs.Verdicts.{verdict_of}
 use Rattle.proof_journals.specs.Machine.Runnable.{IsRunnable}
 use Rattle.proof_journals.specs.Plans.{IsSerialPlan}
 use Rattle.proof_journals.specs.Run.Kept.{IsKept}
 use Rattle.proof_migration.proofs.KeptJournals.{each_kept}
 use Rattle.proof_migration.proofs.Attempt.Verdicts.Tries.{Rises}
-use Rattle.proof_order.specs.LeastCauses.{last_of, last_turn}
+use Rattle.proof_order.specs.LeastCauses.{last_of}
 use Rattle.proof_order.proofs.Grounds.{Follows, reason_more}
-use Rattle.proof_order.proofs.Least.{late_at, unrenamed}
 use Rattle.proof_order.proofs.LeastCauses.CountedTries.{tries_of, HasTry, IsCounted, not_over}
 use Rattle.proof_order.proofs.LeastCauses.LastTurns.{still_counted, last_counted}
 use Rattle.proof_order.proofs.LeastCauses.Positions.{ReadsRise}
@@ -165,26 +161,3 @@ module _ (plan : PlanData) (runs : IsRunnable plan) (serial : IsSerialPlan plan)
       by : (reason : Option Reason) → (moment plan front).tool.reason ≡ reason → is_reverting (moment plan front).tool.reason ≡ true
       by None calm = absurd (none calm)
       by (Some reason) is = ap is_reverting is
-
-    -- *Spent tasks are late*
-    pub spent_late : (journal : List Entry) (task : Task) (turns : List ℕ) (cause : Cause) → IsKept plan journal → IsSpent plan journal task turns → verdict_of plan journal ≡ Reverted cause → last_turn cause ≤ last_of turns
-    spent_late journal task turns cause kept spent verdict =
-        late_at plan journal (last_of turns) last.entry cause kept last.is.from_one last.is.stands verdict
-        (λ rest whole front_kept. reverted rest (whole ∙ sym (append_assoc before (last.entry ∷ []) rest)) front_kept) where
-          last : IsFailedTry plan journal task (last_of turns)
-          last = of_last (IsFailedTry plan journal task) turns (let all = spent.all in omega (arith, all, some)) spent.each
-
-          before : List Entry
-          before = take (last_of turns - 1) journal
-
-          long : length before + 1 ≡ last_of turns
-          long =
-              let within = slice_get_within journal (last_of turns - 1) last.entry last.is.stands in
-              let taken = length-take-le (last_of turns - 1) journal (omega (arith, within)) in
-              let one = last.is.from_one in
-              omega (arith, taken, one)
-
-          reverted : (rest : List Entry) → journal ≡ (before ++ last.entry ∷ []) ++ rest → IsKept plan (before ++ last.entry ∷ []) → is_reverting (moment plan (before ++ last.entry ∷ [])).tool.reason ≡ true
-          reverted rest whole front_kept =
-              spent_reverts task turns before last.entry rest front_kept long (subst (λ (j : List Entry). IsSpent plan j task turns) whole spent)
-              (unrenamed plan (before ++ last.entry ∷ []) rest cause runs.fitting runs.stands front_kept.faithful front_kept.follows (ap (verdict_of plan) (sym whole) ∙ verdict))
