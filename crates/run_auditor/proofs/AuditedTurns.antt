@@ -357,7 +357,7 @@ taken plan before line old between now is goes has same_seen sees same_clients s
   clients = subst (λ (clients : Vec TraceClient Global). AreFollowed plan (before ++ line ∷ []) clients.items) (sym same_clients) has.clients;
   judge = subst (IsJudging plan (judged plan (before ++ line ∷ []))) (sym same_judge) (subst (λ (items : List Judged). IsJudging plan items between.judge) (sym (judged_next plan before line is.straight goes)) has.judge);
   sound = subst IsSound (sym same_judge) has.sound;
-  planned = λ none. subst (λ (judge : Judge). IsPlanned plan (database judge.store.tables)) (sym same_judge) (has.planned none);
+  planned = λ none. subst (λ (judge : Judge). IsPlanned plan (database judge.storage.tables)) (sym same_judge) (has.planned none);
   straight = straight_next plan before line is.straight goes;
 }
 
@@ -408,7 +408,7 @@ tool_alters plan before line turn old now same is tool alters number judging sou
 -- a client's turn that ended a transaction
 pub client_ended : (plan : PlanData) (before : List TraceLine) (line : TraceLine) (number : ℕ) (txn : RepliedTxn) (old now : Auditing) → IsAuditing plan before old → line.actor ≡ Client number → AreFollowed plan (before ++ line ∷ []) now.clients.items → AreJudged (judged_in plan before line (Client number)) (Some txn)
     → ((some : PlanData) (items more : List Judged) → IsJudging some items old.judge → AreJudged more (Some txn) → IsJudging some (items ++ more) now.judge) → IsSound now.judge
-    → ((some : PlanData) → IsPlanned some (database old.judge.store.tables) → IsPlanned some (database now.judge.store.tables)) → HasJudged plan before line now
+    → ((some : PlanData) → IsPlanned some (database old.judge.storage.tables) → IsPlanned some (database now.judge.storage.tables)) → HasJudged plan before line now
 client_ended plan before line number txn old now is actor followed ends judging sound planned = record {
   clients = followed;
   judge = subst (λ (a : Actor). IsJudging plan (judged plan before ++ judged_in plan before line a) now.judge) (sym actor) (judging plan (judged plan before) (judged_in plan before line (Client number)) is.judge ends);
@@ -429,12 +429,12 @@ client_goes plan before line number old now is actor followed ends same = record
   clients = followed;
   judge = subst (λ (judge : Judge). IsJudging plan (judged plan before ++ judged_in plan before line line.actor) judge) (sym same) (none_ends plan (judged plan before) (judged_in plan before line line.actor) old.judge (ap (judged_in plan before line) actor ∙ no_items (judged_in plan before line (Client number)) ends) is.judge);
   sound = subst IsSound (sym same) is.sound;
-  planned = λ none. subst (λ (judge : Judge). IsPlanned plan (database judge.store.tables)) (sym same) (is.planned (none_altered before line none).0);
+  planned = λ none. subst (λ (judge : Judge). IsPlanned plan (database judge.storage.tables)) (sym same) (is.planned (none_altered before line none).0);
 }
 
 -- ---- before the first turn
 
-pub begins_auditing : (plan : PlanData) (auditing : Auditing) → IsSeen [] auditing.seen → AreFollowed plan [] auditing.clients.items → IsJudging plan [] auditing.judge → IsSound auditing.judge → IsPlanned plan (database auditing.judge.store.tables) → IsAuditing plan [] auditing
+pub begins_auditing : (plan : PlanData) (auditing : Auditing) → IsSeen [] auditing.seen → AreFollowed plan [] auditing.clients.items → IsJudging plan [] auditing.judge → IsSound auditing.judge → IsPlanned plan (database auditing.judge.storage.tables) → IsAuditing plan [] auditing
 begins_auditing plan auditing seen clients judge sound planned = record {
   seen = seen;
   clients = clients;

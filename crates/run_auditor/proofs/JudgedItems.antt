@@ -64,7 +64,7 @@ stops-append plan tables (Altered turn ∷ items) more = stops_altered plan item
 
 -- ---- nothing yet
 
-pub none_judged : (plan : PlanData) (judge : Judge) → judge.worst ≡ None → database judge.store.tables ≡ opening_tables plan → judge.is_over ≡ false → IsJudging plan [] judge
+pub none_judged : (plan : PlanData) (judge : Judge) → judge.worst ≡ None → database judge.storage.tables ≡ opening_tables plan → judge.is_over ≡ false → IsJudging plan [] judge
 unfolding wrong_turns tables_reached stops
 none_judged plan judge worst tables over = record { worst = worst ∙ sym least-nil; tables = tables; over = over }
 
@@ -86,8 +86,8 @@ over_judging plan items more judge is over =
 abbrev more_wrong : PlanData → List Judged → Database → List Judged → List ℕ
 more_wrong plan items reached more = wrong_turns plan (opening_tables plan) items ++ wrong_turns plan reached more
 
-going_judging : (plan : PlanData) (items more : List Judged) (old now : Judge) → IsJudging plan items old → old.is_over ≡ false → now.worst ≡ least (more_wrong plan items (database old.store.tables) more) → database now.store.tables ≡ tables_reached plan (database old.store.tables) more
-    → now.is_over ≡ stops plan (database old.store.tables) more → IsJudging plan (items ++ more) now
+going_judging : (plan : PlanData) (items more : List Judged) (old now : Judge) → IsJudging plan items old → old.is_over ≡ false → now.worst ≡ least (more_wrong plan items (database old.storage.tables) more) → database now.storage.tables ≡ tables_reached plan (database old.storage.tables) more
+    → now.is_over ≡ stops plan (database old.storage.tables) more → IsJudging plan (items ++ more) now
 going_judging plan items more old now is over worst tables stopped =
     let goes : stops plan (opening_tables plan) items ≡ false = sym is.over ∙ over in
     record {
@@ -116,13 +116,13 @@ one_stops plan reached past turns = refl
 abbrev wrong_of : List ℕ → List ℕ → List Reply → List Reply → Option ℕ
 wrong_of all turns given alone = least (mismatches turns given alone ++ option_to_list (least all))
 
-pub ended_judging : (plan : PlanData) (items more : List Judged) (old now : Judge) (txn : RepliedTxn) (replies : List Reply) → IsJudging plan items old → old.is_over ≡ false → AreJudged more (Some txn) → replies ≡ (alone (database old.store.tables) txn.lines).replies
-    → database now.store.tables ≡ (alone (database old.store.tables) txn.lines).tables → now.worst ≡ least (mismatches (turns_of txn.replies) (replies_of txn.replies) replies ++ option_to_list old.worst) → now.is_over ≡ false → IsJudging plan (items ++ more) now
+pub ended_judging : (plan : PlanData) (items more : List Judged) (old now : Judge) (txn : RepliedTxn) (replies : List Reply) → IsJudging plan items old → old.is_over ≡ false → AreJudged more (Some txn) → replies ≡ (alone (database old.storage.tables) txn.lines).replies
+    → database now.storage.tables ≡ (alone (database old.storage.tables) txn.lines).tables → now.worst ≡ least (mismatches (turns_of txn.replies) (replies_of txn.replies) replies ++ option_to_list old.worst) → now.is_over ≡ false → IsJudging plan (items ++ more) now
 ended_judging plan items [] old now txn replies is over judged said tables worst goes = absurd judged
 ended_judging plan items (Altered turn ∷ more) old now txn replies is over judged said tables worst goes = absurd judged
 ended_judging plan items (Ended past turns ∷ (other ∷ more)) old now txn replies is over judged said tables worst goes = absurd judged
 ended_judging plan items (Ended past turns ∷ []) old now txn replies is over judged said tables worst goes =
-    let reached : Database = database old.store.tables in
+    let reached : Database = database old.storage.tables in
     let alone_replies : replies ≡ (alone reached past.txn.lines).replies = said ∙ ap (λ (lines : List TxnLine). (alone reached lines).replies) (sym judged.0) in
     going_judging plan items (Ended past turns ∷ []) old now is over
     (worst ∙ ap (λ (w : Option ℕ). least (mismatches (turns_of txn.replies) (replies_of txn.replies) replies ++ option_to_list w)) is.worst
@@ -148,18 +148,18 @@ altered_stops : (plan : PlanData) (reached : Database) (turn : ℕ) (found : Opt
 unfolding stops
 altered_stops plan reached turn found is = ap (or_stops (λ after. false)) is
 
-pub altered_judging : (plan : PlanData) (items : List Judged) (turn : ℕ) (old now : Judge) (after : Database) → IsJudging plan items old → old.is_over ≡ false → altered_database plan (database old.store.tables) ≡ Some after → database now.store.tables ≡ after → now.worst ≡ old.worst → now.is_over ≡ false
+pub altered_judging : (plan : PlanData) (items : List Judged) (turn : ℕ) (old now : Judge) (after : Database) → IsJudging plan items old → old.is_over ≡ false → altered_database plan (database old.storage.tables) ≡ Some after → database now.storage.tables ≡ after → now.worst ≡ old.worst → now.is_over ≡ false
     → IsJudging plan (items ++ Altered turn ∷ []) now
 altered_judging plan items turn old now after is over altered tables worst goes =
-    let reached : Database = database old.store.tables in
+    let reached : Database = database old.storage.tables in
     going_judging plan items (Altered turn ∷ []) old now is over
     (worst ∙ is.worst ∙ ap least (sym (ap (λ (all : List ℕ). wrong_turns plan (opening_tables plan) items ++ all) (altered_wrong plan reached turn (Some after) altered) ∙ append-nil (wrong_turns plan (opening_tables plan) items))))
     (tables ∙ sym (altered_reached plan reached turn (Some after) altered)) (goes ∙ sym (altered_stops plan reached turn (Some after) altered))
 
-pub unaltered_judging : (plan : PlanData) (items : List Judged) (turn : ℕ) (old now : Judge) → IsJudging plan items old → old.is_over ≡ false → altered_database plan (database old.store.tables) ≡ None → database now.store.tables ≡ database old.store.tables → now.worst ≡ least_with turn old.worst
+pub unaltered_judging : (plan : PlanData) (items : List Judged) (turn : ℕ) (old now : Judge) → IsJudging plan items old → old.is_over ≡ false → altered_database plan (database old.storage.tables) ≡ None → database now.storage.tables ≡ database old.storage.tables → now.worst ≡ least_with turn old.worst
     → now.is_over ≡ true → IsJudging plan (items ++ Altered turn ∷ []) now
 unaltered_judging plan items turn old now is over altered tables worst stopped =
-    let reached : Database = database old.store.tables in
+    let reached : Database = database old.storage.tables in
     going_judging plan items (Altered turn ∷ []) old now is over
     (worst ∙ ap (least_with turn) is.worst ∙ sym (least_more (wrong_turns plan (opening_tables plan) items) turn) ∙ ap (λ (all : List ℕ). least (wrong_turns plan (opening_tables plan) items ++ all)) (sym (altered_wrong plan reached turn None altered)))
     (tables ∙ sym (altered_reached plan reached turn None altered)) (stopped ∙ sym (altered_stops plan reached turn None altered))

@@ -1,3 +1,4 @@
+pub mod AloneSessions
 pub mod AlteredDatabases
 pub mod AuditedTurns
 pub mod EachClient

@@ -1,6 +1,6 @@
 -- An audit after some turns. (This project's rule.)
 use Rattle.std.specs.Prelude.{◌≡◌, ◌<◌, ◌-◌, ◌^◌, ℕ, Bool, true, false, not, nat_lt, ◌&&◌, ◌||◌, List, [], ◌∷◌, ◌++◌, length}
-use Rattle.table_store.specs.Databases.{database}
+use Rattle.server_storage.specs.Storage.{committed}
 use Rattle.plan_data.specs.PlanData.{PlanData}
 use Rattle.server_model.specs.Along.{gathered}
 use Rattle.run_audit.specs.declared.line.TraceLine.{TraceLine}
@@ -30,7 +30,7 @@ pub record IsReady (plan : PlanData) (line : TraceLine) (auditing : Auditing) : 
   pub count : length auditing.clients.items ≡ length plan.clients
   pub few : auditing.seen.turns < 2 ^ 64 - 1
   pub sound : IsSound auditing.judge
-  pub planned : auditing.seen.has_altered ≡ false → IsPlanned plan (database auditing.judge.store.tables)
+  pub planned : auditing.seen.has_altered ≡ false → IsPlanned plan (committed auditing.judge.storage)
   pub alters : AltersTables plan
 
 -- *Auditing*: what is kept is what these turns say, none of which is astray
@@ -39,7 +39,7 @@ pub record IsAuditing (plan : PlanData) (before : List TraceLine) (auditing : Au
   pub clients : AreFollowed plan before auditing.clients.items
   pub judge : IsJudging plan (judged plan before) auditing.judge
   pub sound : IsSound auditing.judge
-  pub planned : has_altered before ≡ false → IsPlanned plan (database auditing.judge.store.tables)
+  pub planned : has_altered before ≡ false → IsPlanned plan (committed auditing.judge.storage)
   pub straight : straight_lines plan [] before ≡ before
 
 -- what ended with a turn was judged
@@ -47,4 +47,4 @@ pub record HasJudged (plan : PlanData) (before : List TraceLine) (line : TraceLi
   pub clients : AreFollowed plan (before ++ line ∷ []) auditing.clients.items
   pub judge : IsJudging plan (judged plan before ++ judged_in plan before line line.actor) auditing.judge
   pub sound : IsSound auditing.judge
-  pub planned : has_altered (before ++ line ∷ []) ≡ false → IsPlanned plan (database auditing.judge.store.tables)
+  pub planned : has_altered (before ++ line ∷ []) ≡ false → IsPlanned plan (committed auditing.judge.storage)

@@ -1,11 +1,11 @@
 -- What is judged, one at a time, over the tables that were reached. (This project's rule.)
 use Rattle.std.specs.Prelude.{◌≡◌, ℕ, Bool, true, false, if◌then◌else◌, List, [], ◌∷◌, ◌++◌, Option, Some, None}
 use Rattle.base_values.specs.declared.gho_schema.schema.Schema.{Schema}
-use Rattle.table_store.specs.Databases.{TableRows, Database, database, is_named}
+use Rattle.table_store.specs.Databases.{TableRows, Database, is_named}
 use Rattle.server_model.specs.Alone.{alone}
 use Rattle.server_model.specs.LockedRows.Coverage.{IsWellFormedTable}
 use Rattle.server_model.specs.LockedRows.Databases.{IsWellFormedDatabase}
-use Rattle.server_storage.specs.OpenTxns.Open.{written_of}
+use Rattle.server_storage.specs.Storage.{committed, written}
 use Rattle.plan_data.specs.PlanData.{PlanData}
 use Rattle.proof_journals.specs.Machine.MigrationTables.{schema_of}
 use Rattle.tool_program.specs.JournalWords.AlteredTables.{plan_altered_table}
@@ -60,10 +60,10 @@ stops plan tables (Altered turn ∷ items) = or_stops (λ after. stops plan afte
 -- *Judging*: what is kept is what is wrong, and the tables that are reached, where these were judged
 pub record IsJudging (plan : PlanData) (items : List Judged) (judge : Judge) : Type 0 where
   pub worst : judge.worst ≡ least (wrong_turns plan (opening_tables plan) items)
-  pub tables : database judge.store.tables ≡ tables_reached plan (opening_tables plan) items
+  pub tables : committed judge.storage ≡ tables_reached plan (opening_tables plan) items
   pub over : judge.is_over ≡ stops plan (opening_tables plan) items
 
 -- the tables are well formed, and nobody has written to them
 pub record IsSound (judge : Judge) : Type 0 where
-  pub fresh : (session : ℕ) → written_of session judge.store.txns ≡ []
-  pub formed : IsWellFormedDatabase (database judge.store.tables)
+  pub fresh : (session : ℕ) → written judge.storage session ≡ []
+  pub formed : IsWellFormedDatabase (committed judge.storage)

@@ -1,4 +1,5 @@
 pub mod AllClients
+pub mod AloneSessions
 pub mod Auditing
 pub mod Judging
 pub mod PrintedTables

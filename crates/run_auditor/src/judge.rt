@@ -5,17 +5,17 @@ ghost use Rattle.plan_data.specs.PlanData.{PlanData};
 ghost use Rattle.run_audit.specs.Audits.{Judged, Altered, opening_tables};
 ghost use Rattle.server_model.specs.LockedRows.Databases.{IsWellFormedDatabase};
 ghost use Rattle.table_store.specs.Databases.{database};
+ghost use Rattle.server_storage.specs.Storage.{committed};
 ghost use Rattle.run_auditor.specs.Judging.{AltersTables, IsJudging, IsPlanned, IsSound};
 ghost use Rattle.run_judge.specs.TraceClients.{AreJudged};
 
+use crate::alone::run_alone;
 use crate::altered_tables::altered_tables;
 use plan_data::Plan;
-use run_judge::alone::run_alone;
 use run_judge::least::least_with;
 use run_judge::replies::least_mismatch;
 use run_judge::trace_client::RepliedTxn;
-use server_storage::server_store::Store;
-use server_transaction::server_data::Data;
+use server_storage::Storage;
 use std::alloc::{AllocError, Global};
 use table_store::paged_tables::Tables;
 
@@ -23,7 +23,7 @@ use table_store::paged_tables::Tables;
 #[derive(Drop)]
 pub struct Judge {
     /// The tables that were reached.
-    pub store: Store,
+    pub storage: Storage,
     /// The least turn that is wrong.
     pub worst: Option<u64>,
     /// Whether the ALTER couldn't be done, after which nothing is judged.
@@ -37,10 +37,10 @@ impl Judge {
         requires { IsWellFormedDatabase (database tables) }
         ensures judging { (plan : PlanData) → database tables ≡ opening_tables plan → IsJudging plan [] result }
         ensures sound { IsSound result }
-        ensures tables { database result.store.tables ≡ database tables }
+        ensures tables { committed result.storage ≡ database tables }
     {
         Judge {
-            store: Store::new(alloc, tables),
+            storage: Storage::new(alloc, tables),
             worst: None,
             is_over: false,
         }
@@ -48,9 +48,9 @@ impl Judge {
 
     /// The tables that were reached.
     pub fn tables(&self) -> &Tables
-        ensures { database result.now ≡ database self.now.store.tables }
+        ensures { database result.now ≡ committed self.now.storage }
     {
-        self.store.tables()
+        self.storage.tables()
     }
 
     /// A transaction ended.
@@ -58,12 +58,12 @@ impl Judge {
         requires { IsSound self.old }
         ensures judging { (plan : PlanData) (items more : List Judged) → IsJudging plan items self.old → AreJudged more (Some txn.now) → OnOk result (IsJudging plan (items ++ more) self.new) }
         ensures sound { OnOk result (IsSound self.new) }
-        ensures planned { (plan : PlanData) → IsPlanned plan (database self.old.store.tables) → OnOk result (IsPlanned plan (database self.new.store.tables)) }
+        ensures planned { (plan : PlanData) → IsPlanned plan (committed self.old.storage) → OnOk result (IsPlanned plan (committed self.new.storage)) }
     {
         if self.is_over {
             return Ok(());
         }
-        let replies = run_alone(alloc, &mut self.store, txn.lines.as_slice())?;
+        let replies = run_alone(alloc, &mut self.storage, txn.lines.as_slice())?;
         self.worst = least_mismatch(txn.replies.as_slice(), replies.as_slice(), self.worst);
         Ok(())
     }
@@ -71,7 +71,7 @@ impl Judge {
     /// The ALTER was done, in this turn.
     pub fn alter(&mut self, alloc: Global, plan: &Plan, turn: u64) -> Result<(), AllocError>
         requires sound { IsSound self.old }
-        requires planned { IsPlanned plan.now (database self.old.store.tables) }
+        requires planned { IsPlanned plan.now (committed self.old.storage) }
         requires alters { AltersTables plan.now }
         ensures judging { (items : List Judged) → IsJudging plan.now items self.old → OnOk result (IsJudging plan.now (items ++ Altered turn ∷ []) self.new) }
         ensures sound { OnOk result (IsSound self.new) }
@@ -79,9 +79,9 @@ impl Judge {
         if self.is_over {
             return Ok(());
         }
-        match altered_tables(alloc, plan, self.store.tables())? {
+        match altered_tables(alloc, plan, self.storage.tables())? {
             Some(tables) => {
-                self.store = Store::new(alloc, tables);
+                self.storage = Storage::new(alloc, tables);
                 Ok(())
             }
             None => {

@@ -1,4 +1,3 @@
-pub mod AloneSessions
 pub mod ComparedReplies
 pub mod DrawnClients
 pub mod FollowedClients

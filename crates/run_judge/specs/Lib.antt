@@ -1,5 +1,4 @@
 pub mod ActorMarks
-pub mod AloneSessions
 pub mod Leasts
 pub mod Outcomes
 pub mod Replies

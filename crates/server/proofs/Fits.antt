@@ -28,7 +28,7 @@ use Rattle.proof_journals.proofs.Ghost.Changing.{found_stands}
 use Rattle.proof_journals.proofs.Ghost.Fitting.{fitting_end, well_formed_event}
 use Rattle.proof_journals.specs.Holdings.{Face}
 use Rattle.server_seen.specs.FittingChanges.{FitsRows, IsNewAmong}
-use Rattle.server_transaction.specs.ServerData.FittingEvents.{EventsFit, FitsIn}
+use Rattle.server_transaction.specs.FittingEvents.{EventsFit, FitsIn}
 use Rattle.proof_journals.specs.ServerFacts.Invariants.{AllExist, OwnFits}
 use Rattle.proof_journals.specs.ServerFacts.Grants.{grown, GrowsWell}
 use Rattle.proof_journals.proofs.ServerFacts.Kept.{Keeps, own_others}

@@ -8,6 +8,7 @@ use Rattle.server_model.specs.declared.answer.Answer.{Answer}
 use Rattle.server_model.specs.declared.answer.Answer.TheVariants as answers
 use Rattle.server_model.specs.declared.request.Request.{Request}
 use Rattle.server_model.specs.declared.session.Waiting.{Waiting}
+use Rattle.server_model.specs.declared.work.Work.{Work}
 use Rattle.base_script.specs.declared.statement.Statement.{Statement}
 use Rattle.server_model.specs.declared.request.Request.TheVariants as requests
 use Rattle.server_model.specs.Drawing.{filled, filled_for, numbered}
@@ -18,6 +19,8 @@ use Rattle.server_model.specs.Blockers.{blocker, need, need_within, row_locks_of
 use Rattle.server_model.specs.PlainServer.{polled_over}
 use Rattle.server_model.specs.declared.counter.Counter.{Counter}
 use Rattle.server_model.specs.States.{State, holds_tables, is_exclusive, is_in_transaction, is_of_tool, names_in, session_of, view, waiting_of}
+use Rattle.server_transaction.specs.Prepared.{IsWorkFor}
+use Rattle.server_transaction.specs.declared.prepared.Prepared.{Prepared}
 use Rattle.proof_journals.proofs.ServerFacts.Calls.{comes_of, names_of}
 use Rattle.server.specs.Parts.{needed, state_of, GoTogether, HaveWritten, MayDo}
 use Rattle.server.proofs.Steps.{seen_so}
@@ -35,9 +38,6 @@ filled_formed : (found tables : Database) (tool : Bool) (counters : List Counter
 filled_formed found tables tool counters request = filled_case (λ asked full. IsWellFormed found asked → IsWellFormed found full) (λ r formed. formed) (λ statement n formed. tt) tool tables counters request
 
 -- the request with which a filling fills the one that was asked
-pub full_formed : (state : State) (number : ℕ) (request full : Request) → full ≡ filled state number request → IsWellFormed state.tables request → IsWellFormed state.tables full
-full_formed state number request full is formed = subst (IsWellFormed state.tables) (sym is) (filled_formed state.tables state.tables (is_of_tool (session_of number state.sessions)) state.counters request formed)
-
 pub full_exclusive : (state : State) (number : ℕ) (request full : Request) → full ≡ filled state number request → is_exclusive request ≡ true → is_exclusive full ≡ true
 full_exclusive state number request full is exclusive = ap is_exclusive is ∙ filled_exclusive (is_of_tool (session_of number state.sessions)) state.tables state.counters request ∙ exclusive
 
@@ -51,33 +51,38 @@ full_blocker tables written all_sessions number request full locks found is have
 full_locks : (tables : Database) (written : ℕ → List RowEvent) (all_sessions : State) (number : ℕ) (full own : Request) (locks : List Lock) → full ≡ own → HaveWritten written all_sessions → locks ≡ row_locks_of (after_events tables (written number)) full → locks ≡ row_locks_of (view number (state_of tables all_sessions)) own
 full_locks tables written all_sessions number full own locks is have are = are ∙ ap (λ (d : Database). row_locks_of d full) (seen_so tables written all_sessions number have) ∙ ap (row_locks_of (view number (state_of tables all_sessions))) is
 
+full_work : (tables : Database) (written : ℕ → List RowEvent) (all_sessions : State) (number : ℕ) (full own : Request) (work : Option Work) → full ≡ own → HaveWritten written all_sessions → IsWorkFor (after_events tables (written number)) full work → IsWorkFor (view number (state_of tables all_sessions)) own work
+full_work tables written all_sessions number full own work is have its = subst (λ (r : Request). IsWorkFor (view number (state_of tables all_sessions)) r work) is (subst (λ (d : Database). IsWorkFor d full work) (seen_so tables written all_sessions number have) its)
+
 -- a call that nobody blocks
-pub may_call : (tables : Database) (written : ℕ → List RowEvent) (all_sessions : State) (number : ℕ) (request full : Request) (locks : List Lock) → full ≡ filled (state_of tables all_sessions) number request → HaveWritten written all_sessions → MayCall (state_of tables all_sessions) number request
-    → locks ≡ row_locks_of (after_events tables (written number)) full → blocker all_sessions number (needed full locks) ≡ None → MayDo (state_of tables all_sessions) number (filled (state_of tables all_sessions) number request) locks
-may_call tables written all_sessions number request full locks is have may are none =
+pub may_call : (tables : Database) (written : ℕ → List RowEvent) (all_sessions : State) (number : ℕ) (request full : Request) (prepared : Prepared) → full ≡ filled (state_of tables all_sessions) number request → HaveWritten written all_sessions → MayCall (state_of tables all_sessions) number request
+    → prepared.locks ≡ row_locks_of (after_events tables (written number)) full → IsWorkFor (after_events tables (written number)) full prepared.work → blocker all_sessions number (needed full prepared.locks) ≡ None → MayDo (state_of tables all_sessions) number (filled (state_of tables all_sessions) number request) prepared
+may_call tables written all_sessions number request full prepared is have may are work none =
     let state : State = state_of tables all_sessions in
     record {
       live = may.live;
       comes = filled_comes (is_in_transaction (session_of number state.sessions)) (holds_tables (session_of number state.sessions)) (is_of_tool (session_of number state.sessions)) state.tables state.counters request may.comes;
       formed = filled_formed state.tables state.tables (is_of_tool (session_of number state.sessions)) state.counters request may.formed;
-      locks_are = full_locks tables written all_sessions number full (filled state number request) locks is have are;
-      free = full_blocker tables written all_sessions number request full locks None is have are none;
+      work_is = full_work tables written all_sessions number full (filled state number request) prepared.work is have work;
+      locks_are = full_locks tables written all_sessions number full (filled state number request) prepared.locks is have are;
+      free = full_blocker tables written all_sessions number request full prepared.locks None is have are none;
     }
 
 -- a request that waits, and that nobody blocks any more
 pub formed_so : (state : State) (number : ℕ) (one : Waiting) → MayPoll state number → waiting_of number state.waiting ≡ Some one → IsWellFormed state.tables one.request
 formed_so state number one may is = let same : may.waiting ≡ one = same_Some may.waiting one (sym may.waits ∙ is) in subst (λ (w : Waiting). IsWellFormed state.tables w.request) same may.formed
 
-pub may_poll : (tables : Database) (written : ℕ → List RowEvent) (all_sessions : State) (number : ℕ) (one : Waiting) (full : Request) (locks : List Lock) → full ≡ filled (state_of tables all_sessions) number one.request → GoTogether tables written all_sessions → MayPoll (state_of tables all_sessions) number
-    → waiting_of number all_sessions.waiting ≡ Some one → locks ≡ row_locks_of (after_events tables (written number)) full → blocker all_sessions number (needed full locks) ≡ None → MayDo (state_of tables all_sessions) number (filled (state_of tables all_sessions) number one.request) locks
-may_poll tables written all_sessions number one full locks filled_is together may is are none =
+pub may_poll : (tables : Database) (written : ℕ → List RowEvent) (all_sessions : State) (number : ℕ) (one : Waiting) (full : Request) (prepared : Prepared) → full ≡ filled (state_of tables all_sessions) number one.request → GoTogether tables written all_sessions → MayPoll (state_of tables all_sessions) number
+    → waiting_of number all_sessions.waiting ≡ Some one → prepared.locks ≡ row_locks_of (after_events tables (written number)) full → IsWorkFor (after_events tables (written number)) full prepared.work → blocker all_sessions number (needed full prepared.locks) ≡ None → MayDo (state_of tables all_sessions) number (filled (state_of tables all_sessions) number one.request) prepared
+may_poll tables written all_sessions number one full prepared filled_is together may is are work none =
     let state : State = state_of tables all_sessions in
     record {
       live = may.live;
       comes = filled_comes (is_in_transaction (session_of number state.sessions)) (holds_tables (session_of number state.sessions)) (is_of_tool (session_of number state.sessions)) state.tables state.counters one.request (comes_of state number one is together.serves);
       formed = filled_formed state.tables state.tables (is_of_tool (session_of number state.sessions)) state.counters one.request (formed_so state number one may is);
-      locks_are = full_locks tables written all_sessions number full (filled state number one.request) locks filled_is together.have are;
-      free = full_blocker tables written all_sessions number one.request full locks None filled_is together.have are none;
+      work_is = full_work tables written all_sessions number full (filled state number one.request) prepared.work filled_is together.have work;
+      locks_are = full_locks tables written all_sessions number full (filled state number one.request) prepared.locks filled_is together.have are;
+      free = full_blocker tables written all_sessions number one.request full prepared.locks None filled_is together.have are none;
     }
 
 pub some_names : (tables : Database) (written : ℕ → List RowEvent) (all_sessions : State) (number : ℕ) (one : Waiting) → GoTogether tables written all_sessions → waiting_of number all_sessions.waiting ≡ Some one → names_in one.request ≢ []

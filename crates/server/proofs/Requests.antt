@@ -18,10 +18,11 @@ use Rattle.server_model.specs.declared.request.Request.TheVariants as requests
 use Rattle.server_model.specs.declared.session.Session.{Session}
 use Rattle.server_model.specs.declared.session.Waiting.{Waiting}
 use Rattle.server_model.specs.declared.work.StatementResult.{StatementResult}
+use Rattle.server_model.specs.declared.work.Work.{Work}
 use Rattle.server_model.specs.Answers.{ok, refuses}
 use Rattle.server_model.specs.Conditions.{is_blocked_exclusive, is_freely_polled}
 use Rattle.server_model.specs.Effects.{Effect, Rests, Grows, Writes, Forgets, Moves, Locks, Unlocks, effect, effect_unless, effect_within, is_beyond, is_outside}
-use Rattle.server_model.specs.Operations.{after_events, copy_operation, operation_result, statement_result}
+use Rattle.server_model.specs.Operations.{Operation, after_events, copy_operation, operation_of, operation_result, statement_result, table_of}
 use Rattle.server_model.specs.Blockers.{blocker, need, need_within, row_locks_of}
 use Rattle.server_model.specs.Drawing.{filled, filled_for}
 use Rattle.server_model.proofs.Filling.{filled_case}
@@ -33,7 +34,10 @@ use Rattle.server_model.proofs.LockedRows.Tests.{are_one}
 use Rattle.proof_journals.specs.Holdings.{face_of}
 use Rattle.proof_journals.proofs.Names.{Free, names_granted}
 use Rattle.proof_journals.proofs.Faces.{writes_face, busy_face}
-use Rattle.server_transaction.specs.ServerData.FittingEvents.{NoneOf}
+use Rattle.server_transaction.specs.FittingEvents.{NoneOf}
+use Rattle.server_transaction.specs.Prepared.{IsSoundWork, IsWorkFor, IsWorkOf, work_result}
+use Rattle.server_transaction.specs.declared.prepared.Prepared.{Prepared}
+use Rattle.server_transaction.proofs.PreparedWork.{work_gives, work_sound}
 use Rattle.proof_journals.specs.ServerFacts.Grants.{GrowsWell}
 use Rattle.proof_journals.proofs.ServerFacts.Effects.{AtWork, within_fits}
 use Rattle.proof_journals.proofs.ServerFacts.Waits.{nothing_blocks}
@@ -42,26 +46,63 @@ use Rattle.server.proofs.Steps.{at_work, need_so, seen_so}
 
 -- STATEMENTS AND COPIES
 
-grows_so : (tables : Database) (written : ℕ → List RowEvent) (all_sessions : State) (number : ℕ) (request own : Request) (locks : List Lock) (result said : StatementResult) → MayDo (state_of tables all_sessions) number request locks → request ≡ own → result ≡ said
-    → GrowsWell tables (face_of all_sessions.sessions) number (need_within (view number (state_of tables all_sessions)) own) said.events → GrowsWell tables (face_of all_sessions.sessions) number (needed request locks) result.events
-grows_so tables written all_sessions number request own locks result said may is executed well =
-    let needs : needed request locks ≡ need_within (view number (state_of tables all_sessions)) own = need_so tables all_sessions number request locks may ∙ ap (need_within (view number (state_of tables all_sessions))) is in
+-- what prepared work gives, as the session sees the tables, and that it makes rows of its table
+gives_so : (tables : Database) (written : ℕ → List RowEvent) (all_sessions : State) (number : ℕ) (operation : Operation) (name : List ℕ) (work : Option Work) (result : StatementResult) → HaveWritten written all_sessions → name ≡ operation.table → IsWorkOf (view number (state_of tables all_sessions)) operation work
+    → result ≡ work_result (after_events tables (written number)) name work → result ≡ operation_result (view number (state_of tables all_sessions)) operation
+gives_so tables written all_sessions number operation name work result have own is gives =
+    gives ∙ ap (λ (d : Database). work_result d name work) (seen_so tables written all_sessions number have) ∙ ap (λ (n : List ℕ). work_result (view number (state_of tables all_sessions)) n work) own ∙ work_gives (view number (state_of tables all_sessions)) operation work is
+
+sound_so : (tables : Database) (written : ℕ → List RowEvent) (all_sessions : State) (number : ℕ) (operation : Operation) (name : List ℕ) (work : Option Work) → HaveWritten written all_sessions → name ≡ operation.table → IsWorkOf (view number (state_of tables all_sessions)) operation work
+    → IsSoundWork (after_events tables (written number)) name work
+sound_so tables written all_sessions number operation name work have own is =
+    subst (λ (d : Database). IsSoundWork d name work) (sym (seen_so tables written all_sessions number have))
+    (subst (λ (n : List ℕ). IsSoundWork (view number (state_of tables all_sessions)) n work) (sym own) (work_sound (view number (state_of tables all_sessions)) operation work is))
+
+statement_work : (state : State) (number : ℕ) (statement : Statement) (request : Request) (prepared : Prepared) → MayDo state number request prepared → request ≡ requests.Do statement → IsWorkOf (view number state) (operation_of statement) prepared.work
+statement_work state number statement request prepared may is = subst (λ (r : Request). IsWorkFor (view number state) r prepared.work) is may.work_is
+
+pub statement_sound : (tables : Database) (written : ℕ → List RowEvent) (all_sessions : State) (number : ℕ) (statement : Statement) (request : Request) (prepared : Prepared) (name : List ℕ) → HaveWritten written all_sessions → MayDo (state_of tables all_sessions) number request prepared
+    → request ≡ requests.Do statement → name ≡ table_of statement → IsSoundWork (after_events tables (written number)) name prepared.work
+statement_sound tables written all_sessions number statement request prepared name have may is own =
+    sound_so tables written all_sessions number (operation_of statement) name prepared.work have own (statement_work (state_of tables all_sessions) number statement request prepared may is)
+
+pub statement_gives : (tables : Database) (written : ℕ → List RowEvent) (all_sessions : State) (number : ℕ) (statement : Statement) (request : Request) (prepared : Prepared) (name : List ℕ) (result : StatementResult) → HaveWritten written all_sessions → MayDo (state_of tables all_sessions) number request prepared
+    → request ≡ requests.Do statement → name ≡ table_of statement → result ≡ work_result (after_events tables (written number)) name prepared.work → result ≡ statement_result (view number (state_of tables all_sessions)) statement
+statement_gives tables written all_sessions number statement request prepared name result have may is own gives =
+    gives_so tables written all_sessions number (operation_of statement) name prepared.work result have own (statement_work (state_of tables all_sessions) number statement request prepared may is) gives
+
+copy_work : (state : State) (number : ℕ) (from into : List ℕ) (columns : List MapColumn) (key : List Value) (request : Request) (prepared : Prepared) → MayDo state number request prepared → request ≡ requests.CopyRow from into columns key → IsWorkOf (view number state) (copy_operation (view number state) from into columns key) prepared.work
+copy_work state number from into columns key request prepared may is = subst (λ (r : Request). IsWorkFor (view number state) r prepared.work) is may.work_is
+
+pub copy_sound : (tables : Database) (written : ℕ → List RowEvent) (all_sessions : State) (number : ℕ) (from into : List ℕ) (columns : List MapColumn) (key : List Value) (request : Request) (prepared : Prepared) → HaveWritten written all_sessions → MayDo (state_of tables all_sessions) number request prepared
+    → request ≡ requests.CopyRow from into columns key → IsSoundWork (after_events tables (written number)) into prepared.work
+copy_sound tables written all_sessions number from into columns key request prepared have may is =
+    sound_so tables written all_sessions number (copy_operation (view number (state_of tables all_sessions)) from into columns key) into prepared.work have refl (copy_work (state_of tables all_sessions) number from into columns key request prepared may is)
+
+pub copy_gives : (tables : Database) (written : ℕ → List RowEvent) (all_sessions : State) (number : ℕ) (from into : List ℕ) (columns : List MapColumn) (key : List Value) (request : Request) (prepared : Prepared) (result : StatementResult) → HaveWritten written all_sessions → MayDo (state_of tables all_sessions) number request prepared
+    → request ≡ requests.CopyRow from into columns key → result ≡ work_result (after_events tables (written number)) into prepared.work → result ≡ operation_result (view number (state_of tables all_sessions)) (copy_operation (view number (state_of tables all_sessions)) from into columns key)
+copy_gives tables written all_sessions number from into columns key request prepared result have may is gives =
+    gives_so tables written all_sessions number (copy_operation (view number (state_of tables all_sessions)) from into columns key) into prepared.work result have refl (copy_work (state_of tables all_sessions) number from into columns key request prepared may is) gives
+
+grows_so : (tables : Database) (written : ℕ → List RowEvent) (all_sessions : State) (number : ℕ) (request own : Request) (prepared : Prepared) (result said : StatementResult) → MayDo (state_of tables all_sessions) number request prepared → request ≡ own → result ≡ said
+    → GrowsWell tables (face_of all_sessions.sessions) number (need_within (view number (state_of tables all_sessions)) own) said.events → GrowsWell tables (face_of all_sessions.sessions) number (needed request prepared.locks) result.events
+grows_so tables written all_sessions number request own prepared result said may is executed well =
+    let needs : needed request prepared.locks ≡ need_within (view number (state_of tables all_sessions)) own = need_so tables all_sessions number request prepared may ∙ ap (need_within (view number (state_of tables all_sessions))) is in
     rw (needs, executed) well
 
-pub statement_grows : (tables : Database) (written : ℕ → List RowEvent) (all_sessions : State) (number : ℕ) (statement : Statement) (request : Request) (locks : List Lock) (result : StatementResult) → GoTogether tables written all_sessions → MayDo (state_of tables all_sessions) number request locks
-    → request ≡ requests.Do statement → result ≡ statement_result (after_events tables (written number)) statement → GrowsWell tables (face_of all_sessions.sessions) number (needed request locks) result.events
-statement_grows tables written all_sessions number statement request locks result together may is executed =
+pub statement_grows : (tables : Database) (written : ℕ → List RowEvent) (all_sessions : State) (number : ℕ) (statement : Statement) (request : Request) (prepared : Prepared) (result : StatementResult) → GoTogether tables written all_sessions → MayDo (state_of tables all_sessions) number request prepared
+    → request ≡ requests.Do statement → result ≡ statement_result (view number (state_of tables all_sessions)) statement → GrowsWell tables (face_of all_sessions.sessions) number (needed request prepared.locks) result.events
+statement_grows tables written all_sessions number statement request prepared result together may is executed =
     let state : State = state_of tables all_sessions in
-    let work : AtWork state number (requests.Do statement) = subst (AtWork state number) is (at_work tables written all_sessions number request locks together may) in
-    grows_so tables written all_sessions number request (requests.Do statement) locks result (statement_result (view number state) statement) may is (executed ∙ ap (λ (d : Database). statement_result d statement) (seen_so tables written all_sessions number together.have)) (within_fits state number true (requests.Do statement) work)
+    let work : AtWork state number (requests.Do statement) = subst (AtWork state number) is (at_work tables written all_sessions number request prepared together may) in
+    grows_so tables written all_sessions number request (requests.Do statement) prepared result (statement_result (view number state) statement) may is executed (within_fits state number true (requests.Do statement) work)
 
-pub copy_grows : (tables : Database) (written : ℕ → List RowEvent) (all_sessions : State) (number : ℕ) (from into : List ℕ) (columns : List MapColumn) (key : List Value) (request : Request) (locks : List Lock) (result : StatementResult) → GoTogether tables written all_sessions → MayDo (state_of tables all_sessions) number request locks
-    → request ≡ requests.CopyRow from into columns key → result ≡ operation_result (after_events tables (written number)) (copy_operation (after_events tables (written number)) from into columns key) → GrowsWell tables (face_of all_sessions.sessions) number (needed request locks) result.events
-copy_grows tables written all_sessions number from into columns key request locks result together may is executed =
+pub copy_grows : (tables : Database) (written : ℕ → List RowEvent) (all_sessions : State) (number : ℕ) (from into : List ℕ) (columns : List MapColumn) (key : List Value) (request : Request) (prepared : Prepared) (result : StatementResult) → GoTogether tables written all_sessions → MayDo (state_of tables all_sessions) number request prepared
+    → request ≡ requests.CopyRow from into columns key → result ≡ operation_result (view number (state_of tables all_sessions)) (copy_operation (view number (state_of tables all_sessions)) from into columns key) → GrowsWell tables (face_of all_sessions.sessions) number (needed request prepared.locks) result.events
+copy_grows tables written all_sessions number from into columns key request prepared result together may is executed =
     let state : State = state_of tables all_sessions in
-    let work : AtWork state number (requests.CopyRow from into columns key) = subst (AtWork state number) is (at_work tables written all_sessions number request locks together may) in
-    grows_so tables written all_sessions number request (requests.CopyRow from into columns key) locks result (operation_result (view number state) (copy_operation (view number state) from into columns key)) may is
-    (executed ∙ ap (λ (d : Database). operation_result d (copy_operation d from into columns key)) (seen_so tables written all_sessions number together.have)) (within_fits state number true (requests.CopyRow from into columns key) work)
+    let work : AtWork state number (requests.CopyRow from into columns key) = subst (AtWork state number) is (at_work tables written all_sessions number request prepared together may) in
+    grows_so tables written all_sessions number request (requests.CopyRow from into columns key) prepared result (operation_result (view number state) (copy_operation (view number state) from into columns key)) may is executed (within_fits state number true (requests.CopyRow from into columns key) work)
 
 -- TABLES THAT NOBODY WROTE TO
 
@@ -78,16 +119,16 @@ unwritten tables written all_sessions number names together free rests n = rw (t
   at false differ =
       none_named (face_of all_sessions.sessions n).hold.names names (face_of all_sessions.sessions n).hold.locks tables (face_of all_sessions.sessions n).hold.writes (together.serves.own n).covered (λ name held. names_granted all_sessions.sessions number n names name free differ held)
 
-pub drop_needs : (tables : Database) (written : ℕ → List RowEvent) (all_sessions : State) (number : ℕ) (name : List ℕ) (request : Request) (locks : List Lock) → GoTogether tables written all_sessions → MayDo (state_of tables all_sessions) number request locks → request ≡ requests.Drop name → (n : ℕ) → NoneOf (name ∷ []) (written n)
-drop_needs tables written all_sessions number name request locks together may is =
+pub drop_needs : (tables : Database) (written : ℕ → List RowEvent) (all_sessions : State) (number : ℕ) (name : List ℕ) (request : Request) (prepared : Prepared) → GoTogether tables written all_sessions → MayDo (state_of tables all_sessions) number request prepared → request ≡ requests.Drop name → (n : ℕ) → NoneOf (name ∷ []) (written n)
+drop_needs tables written all_sessions number name request prepared together may is =
     let state : State = state_of tables all_sessions in
-    let work : AtWork state number (requests.Drop name) = subst (AtWork state number) is (at_work tables written all_sessions number request locks together may) in
+    let work : AtWork state number (requests.Drop name) = subst (AtWork state number) is (at_work tables written all_sessions number request prepared together may) in
     unwritten tables written all_sessions number (name ∷ []) together work.free.names work.comes
 
-pub rename_needs : (tables : Database) (written : ℕ → List RowEvent) (all_sessions : State) (number : ℕ) (pairs : List Pair) (request : Request) (locks : List Lock) → GoTogether tables written all_sessions → MayDo (state_of tables all_sessions) number request locks → request ≡ requests.Rename pairs → (n : ℕ) → NoneOf (pair_names pairs) (written n)
-rename_needs tables written all_sessions number pairs request locks together may is =
+pub rename_needs : (tables : Database) (written : ℕ → List RowEvent) (all_sessions : State) (number : ℕ) (pairs : List Pair) (request : Request) (prepared : Prepared) → GoTogether tables written all_sessions → MayDo (state_of tables all_sessions) number request prepared → request ≡ requests.Rename pairs → (n : ℕ) → NoneOf (pair_names pairs) (written n)
+rename_needs tables written all_sessions number pairs request prepared together may is =
     let state : State = state_of tables all_sessions in
-    let work : AtWork state number (requests.Rename pairs) = subst (AtWork state number) is (at_work tables written all_sessions number request locks together may) in
+    let work : AtWork state number (requests.Rename pairs) = subst (AtWork state number) is (at_work tables written all_sessions number request prepared together may) in
     unwritten tables written all_sessions number (pair_names pairs) together work.free.names work.comes
 
 -- WHO BLOCKS

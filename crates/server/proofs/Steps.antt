@@ -3,7 +3,6 @@ use Rattle.std.proofs.Common.{◌≡◌, ℕ, ◌+◌, Bool, true, false, List, 
 use Rattle.std.specs.Prelude.{◌==◌}
 use Rattle.std.proofs.lemmas.List.{append-nil}
 use Rattle.base_values.specs.declared.event.RowEvent.{RowEvent}
-use Rattle.server_locks.specs.declared.row_locks.lock.Lock.{Lock}
 use Rattle.table_store.specs.Databases.{Database}
 use Rattle.server_model.specs.declared.need.Need.{Need}
 use Rattle.server_model.specs.declared.request.Request.{Request}
@@ -20,7 +19,8 @@ use Rattle.server_model.specs.LockedRows.Databases.{IsWellFormedDatabase}
 use Rattle.proof_journals.specs.Holdings.{face_of}
 use Rattle.proof_journals.proofs.Serves.{granted}
 use Rattle.proof_journals.proofs.Faces.{writes_face}
-use Rattle.server_transaction.specs.ServerData.FittingEvents.{EventsFit}
+use Rattle.server_transaction.specs.FittingEvents.{EventsFit}
+use Rattle.server_transaction.specs.declared.prepared.Prepared.{Prepared}
 use Rattle.server_sessions.specs.LiveSessions.Rooms.{logs}
 use Rattle.proof_journals.specs.ServerFacts.Grants.{GrowsWell}
 use Rattle.proof_journals.specs.ServerFacts.Invariants.{IsServing}
@@ -124,8 +124,8 @@ grows_have written after tables all_sessions new number need events together liv
 
 -- WHO IS AT WORK
 
-pub at_work : (tables : Database) (written : ℕ → List RowEvent) (all_sessions : State) (number : ℕ) (request : Request) (locks : List Lock) → GoTogether tables written all_sessions → MayDo (state_of tables all_sessions) number request locks → AtWork (state_of tables all_sessions) number request
-at_work tables written all_sessions number request locks together may = record {
+pub at_work : (tables : Database) (written : ℕ → List RowEvent) (all_sessions : State) (number : ℕ) (request : Request) (prepared : Prepared) → GoTogether tables written all_sessions → MayDo (state_of tables all_sessions) number request prepared → AtWork (state_of tables all_sessions) number request
+at_work tables written all_sessions number request prepared together may = record {
   kept = kept_in (state_of tables all_sessions) together.serves;
   free = granted (state_of tables all_sessions) number (need_within (view number (state_of tables all_sessions)) request) together.serves.alone may.free;
   comes = may.comes;
@@ -133,8 +133,8 @@ at_work tables written all_sessions number request locks together may = record {
 }
 
 -- the need with these locks is the request's
-pub need_so : (tables : Database) (all_sessions : State) (number : ℕ) (request : Request) (locks : List Lock) → MayDo (state_of tables all_sessions) number request locks → needed request locks ≡ need_within (view number (state_of tables all_sessions)) request
-need_so tables all_sessions number request locks may = ap (needed request) may.locks_are
+pub need_so : (tables : Database) (all_sessions : State) (number : ℕ) (request : Request) (prepared : Prepared) → MayDo (state_of tables all_sessions) number request prepared → needed request prepared.locks ≡ need_within (view number (state_of tables all_sessions)) request
+need_so tables all_sessions number request prepared may = ap (needed request) may.locks_are
 
 -- nothing is written, and nothing else changes of what the data have
 pub quiet_have : (written : ℕ → List RowEvent) (all_sessions new : State) (number : ℕ) (need : Need) (events : List RowEvent) → HaveWritten written all_sessions → is_live all_sessions number ≡ true → events ≡ [] → new ≡ goes_on number need events all_sessions → HaveWritten written new

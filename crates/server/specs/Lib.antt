@@ -2,4 +2,3 @@ pub mod Parts
 pub mod DrawnAnswers
 pub mod FilledRequests
 pub mod KnownBlockers
-pub mod FinalServer

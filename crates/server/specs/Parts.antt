@@ -1,4 +1,4 @@
--- A server in two parts: its data, and what it keeps beside them.
+-- A server in two parts: its storage, and its sessions with their waits and the log.
 use Rattle.std.specs.Prelude.{◌≡◌, ℕ, Bool, true, false, List, Option, Some, None}
 use Rattle.std.specs.List.{AllByRecursion}
 use Rattle.base_values.specs.declared.event.RowEvent.{RowEvent}
@@ -14,13 +14,15 @@ use Rattle.server_model.specs.Conditions.{ComesWell, IsNewSchema, IsWellFormed}
 use Rattle.server_model.specs.Blockers.{blocker, need_within, row_locks_of}
 use Rattle.server_model.specs.PlainServer.{state_left}
 use Rattle.server_model.specs.States.{State, holds_tables, is_exclusive, is_in_transaction, is_live, names_in, session_of, view, writes_of}
+use Rattle.server_transaction.specs.Prepared.{IsWorkFor}
+use Rattle.server_transaction.specs.declared.prepared.Prepared.{Prepared}
 use Rattle.proof_journals.specs.ServerFacts.Invariants.{IsServing}
 
 -- *The server's state*: what its sessions keep, with the committed tables
 abbrev pub state_of : Database → State → State
 state_of tables all_sessions = record all_sessions { tables = tables }
 
--- the data have for each session what it wrote
+-- the storage has for each session what it wrote
 abbrev pub HaveWritten : (ℕ → List RowEvent) → State → Type 0
 HaveWritten written all_sessions = (n : ℕ) → written n ≡ writes_of (session_of n all_sessions.sessions)
 
@@ -28,7 +30,7 @@ HaveWritten written all_sessions = (n : ℕ) → written n ≡ writes_of (sessio
 abbrev pub HaveValidSchemas : Database → Type 0
 HaveValidSchemas tables = AllByRecursion (λ table. IsNewSchema table.schema) tables
 
--- *The parts go together*: the tables have valid schemas, the data have what the sessions wrote, and both make a server that serves.
+-- *The parts go together*: the tables have valid schemas, the storage has what the sessions wrote, and both make a server that serves.
 pub record GoTogether (tables : Database) (written : ℕ → List RowEvent) (all_sessions : State) : Type 0 where
   pub valid : HaveValidSchemas tables
   pub have : HaveWritten written all_sessions
@@ -38,13 +40,14 @@ pub record GoTogether (tables : Database) (written : ℕ → List RowEvent) (all
 abbrev pub needed : Request → List Lock → Need
 needed request locks = record { exclusive = is_exclusive request; names = names_in request; locks = locks }
 
--- *The filled request may be done*: its session is live, it may come now, these are the row locks that it needs, and nobody blocks
--- what it needs.
-pub record MayDo (state : State) (session : ℕ) (request : Request) (locks : List Lock) : Type 0 where
+-- *The filled request may be done*: its session is live, it may come now, this is its work and these are the row locks that it
+-- needs, and nobody blocks what it needs.
+pub record MayDo (state : State) (session : ℕ) (request : Request) (prepared : Prepared) : Type 0 where
   pub live : is_live state session ≡ true
   pub comes : ComesWell (is_in_transaction (session_of session state.sessions)) (holds_tables (session_of session state.sessions)) request
   pub formed : IsWellFormed state.tables request
-  pub locks_are : locks ≡ row_locks_of (view session state) request
+  pub work_is : IsWorkFor (view session state) request prepared.work
+  pub locks_are : prepared.locks ≡ row_locks_of (view session state) request
   pub free : blocker state session (need_within (view session state) request) ≡ None
 
 -- requests that change nothing, and ask for no lock of a row

@@ -3,6 +3,7 @@
 ghost use Rattle.std.specs.Prelude.{◌≡◌, true, false, unwrap_or, IfOk, IsOk};
 ghost use Rattle.server_model.specs.Drawing.{filled, offered};
 ghost use Rattle.server_model.specs.States.{is_exclusive};
+ghost use Rattle.server_storage.specs.Storage.{committed};
 ghost use Rattle.server.specs.FilledRequests.{offer_of, IsFilled};
 ghost use Rattle.server.specs.Parts.{state_of};
 
@@ -10,7 +11,7 @@ use base_script::Statement;
 use server_model::Request;
 use server_prepare::{draws, numbered};
 use server_sessions::live_sessions::Sessions;
-use server_transaction::server_data::Data;
+use server_storage::Storage;
 use server_transaction::table_of;
 use std::alloc::AllocError;
 
@@ -36,18 +37,18 @@ impl Filling {
 }
 
 /// The number that the session's statement would draw now.
-fn offered<D: Data>(
-    store: &D,
+fn offered(
+    storage: &Storage,
     all_sessions: &Sessions,
     session: u32,
     statement: &Statement,
 ) -> Result<Option<u64>, AllocError>
-    ensures { IfOk result (λ offer. offer ≡ offered (state_of (D.committed store.now) all_sessions.now) session statement.now) }
+    ensures { IfOk result (λ offer. offer ≡ offered (state_of (committed storage.now) all_sessions.now) session statement.now) }
 {
     if all_sessions.is_of_tool(session) {
         return Ok(None);
     }
-    let Some(table) = store.tables().find(table_of(statement)) else {
+    let Some(table) = storage.tables().find(table_of(statement)) else {
         return Ok(None);
     };
     let schema = table.schema();
@@ -60,13 +61,13 @@ fn offered<D: Data>(
 }
 
 /// What the session's request is filled with now. One that isn't a statement takes no memory.
-pub fn fill<D: Data>(
-    store: &D,
+pub fn fill(
+    storage: &Storage,
     all_sessions: &Sessions,
     session: u32,
     request: &Request,
 ) -> Result<Filling, AllocError>
-    ensures filled { IfOk result (λ filling. IsFilled (state_of (D.committed store.now) all_sessions.now) session request.now filling) }
+    ensures filled { IfOk result (λ filling. IsFilled (state_of (committed storage.now) all_sessions.now) session request.now filling) }
     ensures free { is_exclusive request.now ≡ true → IsOk result }
 {
     let Request::Do(statement) = request else {
@@ -75,7 +76,7 @@ pub fn fill<D: Data>(
             numbered: None,
         });
     };
-    let Some(number) = offered(store, all_sessions, session, statement)? else {
+    let Some(number) = offered(storage, all_sessions, session, statement)? else {
         return Ok(Filling {
             offer: None,
             numbered: None,

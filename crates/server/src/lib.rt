@@ -1,5 +1,4 @@
-//! A server over any data: its sessions with their waits, the log, and the plain server's answers. In `final_server` the one
-//! that the program has, over tables in pages.
+//! The server: its sessions with their waits, the log, and the plain server's answers, over a storage of tables in pages.
 #![tactic(auto)]
 
 mod calls;
@@ -9,12 +8,13 @@ mod counters;
 mod definitions;
 mod drawn_answers;
 mod filled_requests;
-pub mod final_server;
 mod known_blockers;
 mod losses;
+mod opening;
 mod operation;
 mod records;
 mod results;
 mod server;
 
+pub use opening::open_server;
 pub use server::Server;

@@ -6,6 +6,7 @@ ghost use Rattle.server_model.specs.Conditions.{IsWellFormed};
 ghost use Rattle.server_model.specs.Effects.{Rests, effect_within};
 ghost use Rattle.server_model.specs.PlainServer.{did, does};
 ghost use Rattle.server_model.specs.States.{is_in_transaction, session_of, view};
+ghost use Rattle.server_storage.specs.Storage.{committed, written};
 ghost use Rattle.server.specs.Parts.{is_look, state_of, GoTogether, HaveWritten, MayDo};
 
 use crate::commits::{commit, roll_back};
@@ -14,25 +15,21 @@ use crate::definitions::{create, drop_table, lock_tables, rename};
 use crate::results::{begin, begin_span, copy_row, statement};
 use base_values::mysql_errors::ER_TABLE_NOT_LOCKED;
 use server_api::paged_answers::{end_of_chunk, ends, refuses, tables_shown};
-use server_locks::row_locks::LockSet;
 use server_model::{Answer, Request};
 use server_sessions::live_sessions::Sessions;
+use server_storage::Storage;
+use server_transaction::Prepared;
 use server_transaction::row_copies::RowCopy;
-use server_transaction::server_data::Data;
 use std::alloc::AllocError;
 
 /// What is answered without a change: ends of keys, the log, and what exists or waits.
-fn look<D: Data>(
-    store: &D,
-    all_sessions: &Sessions,
-    request: &Request,
-) -> Result<Answer, AllocError>
+fn look(storage: &Storage, all_sessions: &Sessions, request: &Request) -> Result<Answer, AllocError>
     requires look { is_look request.now ≡ true }
-    requires formed { IsWellFormed (D.committed store.now) request.now }
-    ensures { (busy : Bool) (seen : Database) → IfOk result (λ answer. effect_within busy seen (state_of (D.committed store.now) all_sessions.now) request.now ≡ Rests answer) }
+    requires formed { IsWellFormed (committed storage.now) request.now }
+    ensures { (busy : Bool) (seen : Database) → IfOk result (λ answer. effect_within busy seen (state_of (committed storage.now) all_sessions.now) request.now ≡ Rests answer) }
 {
     let alloc = all_sessions.allocator();
-    let tables = store.tables();
+    let tables = storage.tables();
     match request {
         Request::Ends(table) => ends(alloc, tables, table),
         Request::ChunkEnd {
@@ -55,41 +52,43 @@ fn look<D: Data>(
 }
 
 /// The request is done, where it is of tables that the session may use.
-fn do_inside<D: Data>(
-    store: &mut D,
+fn do_inside(
+    storage: &mut Storage,
     all_sessions: &mut Sessions,
     session: u32,
     request: &Request,
-    locks: LockSet,
+    prepared: Prepared,
 ) -> Result<Answer, AllocError>
-    requires together { GoTogether (D.committed store.old) (D.written store.old) all_sessions.old }
-    requires may { MayDo (state_of (D.committed store.old) all_sessions.old) session request.now locks }
-    ensures answer { IfOk result (λ answer. answer ≡ (does (effect_within (is_in_transaction (session_of session all_sessions.old.sessions)) (view session (state_of (D.committed store.old) all_sessions.old)) (state_of (D.committed store.old) all_sessions.old) request.now) (state_of (D.committed store.old) all_sessions.old) session).answer) }
-    ensures ok { OnOk result (state_of (D.committed store.new) all_sessions.new ≡ (does (effect_within (is_in_transaction (session_of session all_sessions.old.sessions)) (view session (state_of (D.committed store.old) all_sessions.old)) (state_of (D.committed store.old) all_sessions.old) request.now) (state_of (D.committed store.old) all_sessions.old) session).after) }
-    ensures err { OnErr result (state_of (D.committed store.new) all_sessions.new ≡ state_of (D.committed store.old) all_sessions.old) }
-    ensures have { HaveWritten (D.written store.new) all_sessions.new }
+    requires together { GoTogether (committed storage.old) (written storage.old) all_sessions.old }
+    requires may { MayDo (state_of (committed storage.old) all_sessions.old) session request.now prepared }
+    ensures answer { IfOk result (λ answer. answer ≡ (does (effect_within (is_in_transaction (session_of session all_sessions.old.sessions)) (view session (state_of (committed storage.old) all_sessions.old)) (state_of (committed storage.old) all_sessions.old) request.now) (state_of (committed storage.old) all_sessions.old) session).answer) }
+    ensures ok { OnOk result (state_of (committed storage.new) all_sessions.new ≡ (does (effect_within (is_in_transaction (session_of session all_sessions.old.sessions)) (view session (state_of (committed storage.old) all_sessions.old)) (state_of (committed storage.old) all_sessions.old) request.now) (state_of (committed storage.old) all_sessions.old) session).after) }
+    ensures err { OnErr result (state_of (committed storage.new) all_sessions.new ≡ state_of (committed storage.old) all_sessions.old) }
+    ensures have { HaveWritten (written storage.new) all_sessions.new }
 {
     match request {
-        Request::Begin => begin(store, all_sessions, session),
+        Request::Begin => begin(storage, all_sessions, session),
         Request::Commit => {
-            commit(store, all_sessions, session);
+            commit(storage, all_sessions, session);
             Ok(Answer::Ok(0))
         }
         Request::Rollback => {
-            roll_back(store, all_sessions, session);
+            roll_back(storage, all_sessions, session);
             Ok(Answer::Ok(0))
         }
-        Request::Do(executed) => statement(store, all_sessions, session, request, executed, locks),
+        Request::Do(executed) => {
+            statement(storage, all_sessions, session, request, executed, prepared)
+        }
         Request::BeginSpan { table, span, size } => {
             begin_span(
-                store,
+                storage,
                 all_sessions,
                 session,
                 request,
                 table,
                 span,
                 *size,
-                locks,
+                prepared.locks,
             )
         }
         Request::CopyRow {
@@ -104,40 +103,40 @@ fn do_inside<D: Data>(
                 map,
                 key,
             };
-            copy_row(store, all_sessions, session, request, &copy, locks)
+            copy_row(storage, all_sessions, session, request, &copy, prepared)
         }
-        Request::LockTables(names) => lock_tables(store, all_sessions, session, names),
+        Request::LockTables(names) => lock_tables(storage, all_sessions, session, names),
         Request::Unlock => {
             all_sessions.unlock(session);
             Ok(Answer::Ok(0))
         }
-        Request::Create(schema) => create(store, schema),
-        Request::Drop(name) => Ok(drop_table(store, name)),
-        Request::Rename(pairs) => rename(store, pairs),
-        Request::SetCounter { table, .. } => Ok(counter_set(store.tables(), table)),
-        _ => look(store, all_sessions, request),
+        Request::Create(schema) => create(storage, schema),
+        Request::Drop(name) => Ok(drop_table(storage, name)),
+        Request::Rename(pairs) => rename(storage, pairs),
+        Request::SetCounter { table, .. } => Ok(counter_set(storage.tables(), table)),
+        _ => look(storage, all_sessions, request),
     }
 }
 
 /// The request is done; it is refused with `ER_TABLE_NOT_LOCKED` where the session holds LOCK TABLES and it names a table
 /// that isn't locked.
-pub fn do_request<D: Data>(
-    store: &mut D,
+pub fn do_request(
+    storage: &mut Storage,
     all_sessions: &mut Sessions,
     session: u32,
     request: &Request,
-    locks: LockSet,
+    prepared: Prepared,
 ) -> Result<Answer, AllocError>
-    requires together { GoTogether (D.committed store.old) (D.written store.old) all_sessions.old }
-    requires may { MayDo (state_of (D.committed store.old) all_sessions.old) session request.now locks }
-    ensures answer { IfOk result (λ answer. answer ≡ (did (state_of (D.committed store.old) all_sessions.old) session request.now).answer) }
-    ensures ok { OnOk result (state_of (D.committed store.new) all_sessions.new ≡ (did (state_of (D.committed store.old) all_sessions.old) session request.now).after) }
-    ensures err { OnErr result (state_of (D.committed store.new) all_sessions.new ≡ state_of (D.committed store.old) all_sessions.old) }
-    ensures have { HaveWritten (D.written store.new) all_sessions.new }
+    requires together { GoTogether (committed storage.old) (written storage.old) all_sessions.old }
+    requires may { MayDo (state_of (committed storage.old) all_sessions.old) session request.now prepared }
+    ensures answer { IfOk result (λ answer. answer ≡ (did (state_of (committed storage.old) all_sessions.old) session request.now).answer) }
+    ensures ok { OnOk result (state_of (committed storage.new) all_sessions.new ≡ (did (state_of (committed storage.old) all_sessions.old) session request.now).after) }
+    ensures err { OnErr result (state_of (committed storage.new) all_sessions.new ≡ state_of (committed storage.old) all_sessions.old) }
+    ensures have { HaveWritten (written storage.new) all_sessions.new }
 {
     if all_sessions.is_outside(session, request) {
         Ok(refuses(ER_TABLE_NOT_LOCKED))
     } else {
-        do_inside(store, all_sessions, session, request, locks)
+        do_inside(storage, all_sessions, session, request, prepared)
     }
 }

@@ -4,6 +4,7 @@ ghost use Rattle.std.specs.Prelude.{◌≡◌, ◌≤◌, ℕ, []};
 ghost use Rattle.std.specs.List.{flat_map};
 ghost use Rattle.server_model.specs.States.{counter_of, opened};
 ghost use Rattle.server_model.specs.LockedRows.Databases.{IsWellFormedDatabase};
+ghost use Rattle.server_storage.specs.Storage.{committed, written};
 ghost use Rattle.server.specs.Parts.{HaveValidSchemas};
 
 use crate::calls::{call, poll};
@@ -14,51 +15,52 @@ use base_values::Names;
 use server_api::Serve;
 use server_model::{Answer, Asked, Counter, Limits, Request};
 use server_sessions::live_sessions::Sessions;
-use server_transaction::server_data::Data;
+use server_storage::Storage;
 use std::alloc::{AllocError, Global};
 use std::marker::Model;
 use table_store::paged_tables::Tables;
 
-/// A server over any data. Contracts see the plain server's state.
+/// The server, whose answers to every session are the plain server's. Contracts see the plain server's state.
 #[derive(Drop)]
-pub struct Server<D: Data> {
-    store: D,
+pub struct Server {
+    storage: Storage,
     all_sessions: Sessions,
     known: KnownBlockers,
     drawn: Option<u64>,
 }
 
-impl<D: Data> Model for Server<D> {
+impl Model for Server {
+    ghost use Rattle.server_storage.specs.Storage.{committed, written};
     ghost use Rattle.server.specs.KnownBlockers.{IsServer};
     ghost use Rattle.server.specs.Parts.{state_of, ServedState};
 
     ghost Value = { ServedState };
 
-    ghost view = { λ s. record { state = state_of (D.committed s.store) s.all_sessions; drawn = s.drawn } };
+    ghost view = { λ s. record { state = state_of (committed s.storage) s.all_sessions; drawn = s.drawn } };
 
-    ghost invariant = { λ s. IsServer (D.committed s.store) (D.written s.store) s.all_sessions s.known };
+    ghost invariant = { λ s. IsServer (committed s.storage) (written s.storage) s.all_sessions s.known };
 }
 
-impl<D: Data> Server<D> {
-    /// The server at its start, over data to which no transaction wrote yet, with the counters of its tables. A wait may be
+impl Server {
+    /// The server at its start, over a storage to which no transaction wrote yet, with the counters of its tables. A wait may be
     /// polled once at least. How many events are unread is known at once of the tables that are watched.
     pub fn open(
         alloc: Global,
-        store: D,
+        storage: Storage,
         limits: Limits,
         watched: Names,
         counters: Vec<Counter>,
-    ) -> Server<D>
-        requires counters { counters.items ≡ flat_map counter_of (D.committed store) }
+    ) -> Server
+        requires counters { counters.items ≡ flat_map counter_of (committed storage) }
         requires clients { 1 ≤ limits.client_wait }
         requires tools { 1 ≤ limits.tool_wait }
-        requires valid { HaveValidSchemas (D.committed store) }
-        requires well_formed { IsWellFormedDatabase (D.committed store) }
-        requires unwritten { (session : ℕ) → D.written store session ≡ [] }
-        ensures { result.state ≡ opened limits (D.committed store) }
+        requires valid { HaveValidSchemas (committed storage) }
+        requires well_formed { IsWellFormedDatabase (committed storage) }
+        requires unwritten { (session : ℕ) → written storage session ≡ [] }
+        ensures { result.state ≡ opened limits (committed storage) }
     {
         Server {
-            store,
+            storage,
             all_sessions: Sessions::new(alloc, limits, watched, counters),
             known: KnownBlockers::new(alloc),
             drawn: None,
@@ -66,7 +68,7 @@ impl<D: Data> Server<D> {
     }
 }
 
-impl<D: Data> Serve for Server<D> {
+impl Serve for Server {
     ghost state = { λ s. s.state };
 
     ghost drawn = { λ s. s.drawn };
@@ -78,7 +80,7 @@ impl<D: Data> Serve for Server<D> {
 
     fn call(&mut self, session: u32, request: &Request) -> Result<Answer, AllocError> {
         let served = call(
-            &mut self.store,
+            &mut self.storage,
             &mut self.all_sessions,
             &mut self.known,
             session,
@@ -90,7 +92,7 @@ impl<D: Data> Serve for Server<D> {
 
     fn poll(&mut self, session: u32) -> Result<Answer, AllocError> {
         let served = poll(
-            &mut self.store,
+            &mut self.storage,
             &mut self.all_sessions,
             &mut self.known,
             session,
@@ -106,7 +108,7 @@ impl<D: Data> Serve for Server<D> {
         asked: &Asked,
     ) -> Result<Option<Answer>, AllocError> {
         let missed = lose_session(
-            &mut self.store,
+            &mut self.storage,
             &mut self.all_sessions,
             &mut self.known,
             session,
@@ -155,6 +157,6 @@ impl<D: Data> Serve for Server<D> {
     }
 
     fn tables(&self) -> &Tables {
-        self.store.tables()
+        self.storage.tables()
     }
 }

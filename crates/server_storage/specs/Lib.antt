@@ -1,4 +1,4 @@
 pub mod Ready
 pub mod OpenTxns
 pub mod KeptTxns
-pub mod ServerStore
+pub mod Storage

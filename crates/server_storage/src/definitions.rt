@@ -4,7 +4,7 @@ ghost use Rattle.std.specs.Prelude.{◌≡◌, ℕ, false, [], ◌∷◌, ◌++�
 ghost use Rattle.table_store.specs.Databases.{database, has_table, rename_tables, without_table};
 ghost use Rattle.base_values.specs.Faults.{Refuses};
 ghost use Rattle.server_model.specs.States.{pair_names};
-ghost use Rattle.server_transaction.specs.ServerData.FittingEvents.{NoneOf};
+ghost use Rattle.server_transaction.specs.FittingEvents.{NoneOf};
 ghost use Rattle.server_model.specs.LockedRows.Coverage.{IsWellFormedTable};
 ghost use Rattle.server_storage.specs.declared.open_txns.txns.OpenTxn.{OpenTxn};
 ghost use Rattle.server_storage.specs.OpenTxns.Open.{written_of};

@@ -3,7 +3,7 @@
 ghost use Rattle.std.specs.Prelude.{◌≡◌, ◌==◌, ℕ, false, [], List};
 ghost use Rattle.table_store.specs.Databases.{StoredTable, database};
 ghost use Rattle.server_model.specs.Operations.{after_events};
-ghost use Rattle.server_transaction.specs.ServerData.FittingEvents.{EventsFit};
+ghost use Rattle.server_transaction.specs.FittingEvents.{EventsFit};
 ghost use Rattle.server_model.specs.LockedRows.Databases.{IsWellFormedDatabase};
 ghost use Rattle.server_storage.specs.OpenTxns.Open.{written_of};
 ghost use Rattle.server_storage.specs.KeptTxns.Kept.{IsKept, IsKeptWith};

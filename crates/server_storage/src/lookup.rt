@@ -4,20 +4,20 @@ ghost use Rattle.std.specs.Prelude.{◌≡◌, false, [], List, IfOk, IfSome};
 ghost use Rattle.base_values.specs.GhoSchema.ClusteredKey.{clustered_place};
 ghost use Rattle.base_values.specs.declared.event.RowEvent.{RowEvent};
 ghost use Rattle.table_store.specs.Databases.{StoredTable, database, find_table};
-ghost use Rattle.server_model.specs.Operations.{after_events, row_needs, statement_result};
+ghost use Rattle.server_model.specs.Operations.{after_events};
 ghost use Rattle.server_model.specs.Blockers.{span_lock, span_needs};
 ghost use Rattle.server_model.specs.Needs.{lock_on};
 ghost use Rattle.server_transaction.specs.Premises.{HasSchema, IsOf, events_ready};
+ghost use Rattle.server_transaction.specs.Prepared.{IsSoundWork, work_result};
 ghost use Rattle.server_storage.specs.OpenTxns.Open.{written_of};
 ghost use Rattle.server_storage.specs.KeptTxns.Kept.{IsKept};
 
 use crate::open_txns::{OpenTxn, txn_of};
-use base_script::Statement;
 use base_values::gho_schema::{Schema, clustered_place};
 use base_values::{Duplicate, Name, Sequence, Span};
 use server_locks::row_locks::{Lock, LockSet};
-use server_transaction::server_data::ReadyResult;
-use server_transaction::{Txn, Writes, execute, statement_needs};
+use server_model::Work;
+use server_transaction::{ReadyResult, Txn, execute};
 use std::alloc::{AllocError, Global};
 use table_store::paged_tables::Tables;
 
@@ -36,38 +36,24 @@ pub fn txn_seen<'a>(txns: &'a [OpenTxn], session: u32, unwritten: &'a Txn) -> &'
     }
 }
 
-/// What the session's statement says of the tables as the session sees them, and what it writes.
+/// What the session's work gives, done to the table of this name as the session sees it, and what it writes.
 pub fn execute_seen(
     alloc: Global,
     tables: &Tables,
     txns: &[OpenTxn],
     session: u32,
-    statement: &Statement,
-) -> Result<ReadyResult<Option<Writes>>, AllocError>
-    requires { IsKept tables.now txns.now }
-    ensures statement_result { IfOk result (λ executed. executed.result ≡ statement_result (after_events (database tables.now) (written_of session txns.now)) statement.now) }
+    table: &Name,
+    work: Option<Work>,
+) -> Result<ReadyResult, AllocError>
+    requires kept { IsKept tables.now txns.now }
+    requires sound { IsSoundWork (after_events (database tables.now) (written_of session txns.now)) table.now work }
+    ensures result { IfOk result (λ executed. executed.result ≡ work_result (after_events (database tables.now) (written_of session txns.now)) table.now work) }
     ensures events { IfOk result (λ executed. events_ready executed.writes ≡ executed.result.events) }
     ensures schema { IfOk result (λ executed. IfSome executed.writes (λ one. HasSchema (database tables.now) one.schema)) }
 {
     let unwritten = Txn::new(alloc);
     let txn = txn_seen(txns, session, &unwritten);
-    execute(alloc, tables, txn, statement)
-}
-
-/// The row locks that the session's statement needs.
-pub fn statement_locks(
-    alloc: Global,
-    tables: &Tables,
-    txns: &[OpenTxn],
-    session: u32,
-    statement: &Statement,
-) -> Result<LockSet, AllocError>
-    requires { IsKept tables.now txns.now }
-    ensures { IfOk result (λ locks. locks ≡ row_needs (after_events (database tables.now) (written_of session txns.now)) statement.now) }
-{
-    let unwritten = Txn::new(alloc);
-    let txn = txn_seen(txns, session, &unwritten);
-    statement_needs(alloc, tables, txn, statement)
+    execute(alloc, tables, txn, table, work)
 }
 
 /// A share lock on a span of the key at this place.

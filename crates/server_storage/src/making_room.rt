@@ -9,8 +9,7 @@ ghost use Rattle.server_storage.specs.KeptTxns.Kept.{IsKept, IsKeptOn, IsReadyWr
 ghost use Rattle.server_storage.specs.Ready.{AreReady};
 
 use crate::open_txns::{OpenTxn, events_open, is_open, open_txn, reserve_in};
-use server_transaction::Writes;
-use server_transaction::server_data::ReadyResult;
+use server_transaction::{ReadyResult, Writes};
 use std::alloc::{AllocError, Global};
 use table_store::paged_tables::Tables;
 
@@ -107,8 +106,8 @@ pub fn make_ready(
     tables: &mut Tables,
     txns: &mut Vec<OpenTxn>,
     session: u32,
-    executed: ReadyResult<Option<Writes>>,
-) -> Result<ReadyResult<Option<Writes>>, AllocError>
+    executed: ReadyResult,
+) -> Result<ReadyResult, AllocError>
     requires kept { IsKept tables.old txns.old.items }
     requires events { events_ready executed.writes ≡ executed.result.events }
     requires has { IfSome executed.writes (λ one. HasSchema (database tables.old) one.schema) }

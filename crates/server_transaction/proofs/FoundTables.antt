@@ -9,7 +9,7 @@ use Rattle.table_store.proofs.Orders.{Row}
 use Rattle.table_store.proofs.ChangedTables.{change_found}
 use Rattle.server_model.specs.Rows.{change_rows}
 use Rattle.server_model.specs.Operations.{change_table}
-use Rattle.server_transaction.specs.ServerData.FittingEvents.{FitsIn}
+use Rattle.server_transaction.specs.FittingEvents.{FitsIn}
 
 -- a row that fits is new
 pub fits_new : (row : Row) (found : Option TableRows) → FitsIn (Write row) found → IsSomeAnd found (IsNewIn row)

@@ -4,12 +4,12 @@ pub mod KeyedEvents
 pub mod LeftEvents
 pub mod MadeWrites
 pub mod MoreWritten
+pub mod PreparedWork
 pub mod Represented
 pub mod SaidEvents
-pub mod Sayings
+pub mod SeenTables
 pub mod SeenViews
 pub mod Spares
 pub mod Views
 pub mod WrittenTables
 pub mod WrittenTxns
-pub mod RowCopies

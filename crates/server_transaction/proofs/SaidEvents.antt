@@ -11,7 +11,7 @@ use Rattle.server_model.specs.LockedRows.Coverage.{IsWellFormedTable, IsSound}
 use Rattle.server_model.specs.LockedRows.Databases.{WhereFound}
 use Rattle.server_model.proofs.LockedRows.Stables.{statement_sound}
 use Rattle.server_seen.specs.FittingChanges.{AllFit}
-use Rattle.server_transaction.specs.ServerData.FittingEvents.{FitsIn, EventsFit}
+use Rattle.server_transaction.specs.FittingEvents.{FitsIn, EventsFit}
 use Rattle.server_execute.proofs.FittingChanges.{reported_fit}
 use Rattle.server_transaction.specs.Laws.{SaidEventsFit, OperationEventsFit}
 

@@ -11,7 +11,7 @@ use Rattle.server_model.specs.LockedRows.Coverage.{IsWellFormedTable}
 use Rattle.server_model.specs.LockedRows.Databases.{IsWellFormedDatabase, WhereFound}
 use Rattle.server_model.proofs.LockedRows.Tests.{are_same}
 use Rattle.server_seen.specs.Written.{Written, seen}
-use Rattle.server_transaction.specs.ServerData.FittingEvents.{EventsFit}
+use Rattle.server_transaction.specs.FittingEvents.{EventsFit}
 use Rattle.server_transaction.specs.Events.{changes_in}
 use Rattle.server_transaction.specs.Shown.{Represents}
 use Rattle.server_transaction.proofs.Views.{changed, found_changed, fit_in}

@@ -6,7 +6,7 @@ use Rattle.base_values.specs.declared.event.RowEvent.{RowEvent}
 use Rattle.table_store.specs.Databases.{Database, StoredTable, database, find_table, find_stored, others, spare_in, is_named, with_change}
 use Rattle.server_model.specs.Operations.{change_table, after_events}
 use Rattle.server_model.proofs.LockedRows.Tests.{are_same, same_bytes}
-use Rattle.server_transaction.specs.ServerData.FittingEvents.{FitsIn, EventsFit}
+use Rattle.server_transaction.specs.FittingEvents.{FitsIn, EventsFit}
 use Rattle.server_transaction.specs.declared.keyed.KeyedEvent.{KeyedEvent}
 use Rattle.server_transaction.specs.Premises.{IsKeyedIn}
 use Rattle.server_transaction.specs.Rooms.{puts_of, puts_in}

@@ -11,7 +11,7 @@ use Rattle.server_model.specs.Operations.{change_table, after_events}
 use Rattle.server_model.proofs.LockedRows.Tests.{are_same}
 use Rattle.server_model.proofs.LockedRows.Finding.{change_if, found_after}
 use Rattle.server_seen.specs.FittingChanges.{AllFit}
-use Rattle.server_transaction.specs.ServerData.FittingEvents.{FitsIn, EventsFit}
+use Rattle.server_transaction.specs.FittingEvents.{FitsIn, EventsFit}
 use Rattle.server_transaction.specs.Events.{changes_in}
 
 -- the table with changes of its rows

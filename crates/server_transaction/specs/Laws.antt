@@ -2,7 +2,7 @@
 use Rattle.table_store.specs.Databases.{Database}
 use Rattle.base_script.specs.declared.statement.Statement.{Statement}
 use Rattle.server_model.specs.Operations.{Operation, statement_result, operation_result}
-use Rattle.server_transaction.specs.ServerData.FittingEvents.{EventsFit}
+use Rattle.server_transaction.specs.FittingEvents.{EventsFit}
 use Rattle.server_model.specs.LockedRows.Databases.{IsWellFormedDatabase, TaskSound}
 
 -- *What is said fits*: the events of a statement, and of any job that makes rows of its table, fit the tables on which it is

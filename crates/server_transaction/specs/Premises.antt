@@ -7,7 +7,7 @@ use Rattle.base_values.specs.GhoSchema.Rows.{key_places}
 use Rattle.base_values.specs.declared.event.RowEvent.{RowEvent}
 use Rattle.table_store.specs.Databases.{Database, find_table}
 use Rattle.server_model.specs.Operations.{after_events}
-use Rattle.server_transaction.specs.ServerData.FittingEvents.{EventsFit}
+use Rattle.server_transaction.specs.FittingEvents.{EventsFit}
 use Rattle.server_model.specs.LockedRows.Databases.{IsWellFormedDatabase}
 use Rattle.server_transaction.specs.Events.{keyed}
 use Rattle.server_transaction.specs.Stored.{StoredTxn, events_in, schemas, TableChanges}

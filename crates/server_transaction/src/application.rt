@@ -6,7 +6,7 @@ ghost use Rattle.base_values.specs.GhoSchema.Tables.{Ascends};
 ghost use Rattle.base_values.specs.declared.event.Change.TheVariants as changes;
 ghost use Rattle.table_store.specs.Databases.{database, find_table, with_change, spare_in, others, NamesDiffer};
 ghost use Rattle.server_model.specs.Operations.{change_table};
-ghost use Rattle.server_transaction.specs.ServerData.FittingEvents.{FitsIn};
+ghost use Rattle.server_transaction.specs.FittingEvents.{FitsIn};
 ghost use Rattle.server_model.specs.LockedRows.Databases.{WhereFound};
 ghost use Rattle.server_transaction.specs.Events.{keyed};
 ghost use Rattle.server_transaction.specs.Rooms.{puts_of};

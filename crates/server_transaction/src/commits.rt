@@ -4,7 +4,7 @@ ghost use Rattle.std.specs.Prelude.{◌≡◌, ◌≤◌, ◌+◌, ℕ, List, ma
 ghost use Rattle.std.specs.List.{AllByRecursion};
 ghost use Rattle.table_store.specs.Databases.{database, spare_in};
 ghost use Rattle.server_model.specs.Operations.{after_events};
-ghost use Rattle.server_transaction.specs.ServerData.FittingEvents.{EventsFit};
+ghost use Rattle.server_transaction.specs.FittingEvents.{EventsFit};
 ghost use Rattle.server_transaction.specs.Premises.{IsKeyedIn, IsOf};
 ghost use Rattle.server_transaction.specs.Rooms.{puts_in};
 

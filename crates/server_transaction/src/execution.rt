@@ -1,18 +1,18 @@
-//! What a session's statement says of the tables as the session sees them.
+//! What a session's statement is to do to its table; and what work on a table needs and gives, as the session sees the table.
 
-ghost use Rattle.std.specs.Prelude.{◌≡◌, [], Some, None, IfOk, IfSome};
-ghost use Rattle.base_values.specs.GhoSchema.Rows.{key_places};
+ghost use Rattle.std.specs.Prelude.{◌≡◌, [], List, None, IfOk, IfSome};
+ghost use Rattle.base_values.specs.declared.event.RowEvent.{RowEvent};
 ghost use Rattle.table_store.specs.Databases.{database};
 ghost use Rattle.server_model.specs.Answers.{refuses};
-ghost use Rattle.server_model.specs.Checks.{work_of};
-ghost use Rattle.server_model.specs.Needs.{needs};
-ghost use Rattle.server_model.specs.Operations.{table_of, events_of, result_of, statement_result, row_needs, after_events};
+ghost use Rattle.server_model.specs.Operations.{table_of, events_of, result_of, operation_of, after_events};
 ghost use Rattle.server_model.specs.StatementResults.{tells};
 ghost use Rattle.server_model.specs.LockedRows.Coverage.{IsWellFormedTable, IsSound};
+ghost use Rattle.server_model.specs.LockedRows.Databases.{IsWellFormedDatabase};
 ghost use Rattle.server_transaction.specs.Premises.{HasSchema, IsOf, events_ready};
-ghost use Rattle.server_seen.specs.Written.{nothing, seen};
+ghost use Rattle.server_transaction.specs.Prepared.{IsPrepared, IsSoundWork, IsWorkOf, work_needs, work_result};
 
-use crate::server_data::ReadyResult;
+use crate::prepared::{Prepared, ReadyResult};
+use crate::seen_tables::seen_table;
 use crate::txn::Txn;
 use crate::writes::Writes;
 use base_script::Statement;
@@ -24,10 +24,9 @@ use server_execute::{events_of, tells};
 use server_locks::row_locks::LockSet;
 use server_model::{StatementResult, Work};
 use server_prepare::{refuses, work_of};
-use server_seen::{SeenTable, WrittenRows};
+use server_seen::SeenTable;
 use std::alloc::{AllocError, Global};
 use table_store::paged_tables::Tables;
-use table_store::paged_tables::row_pages::Table;
 
 /// The statement's table.
 pub fn table_of(statement: &Statement) -> &Name
@@ -40,6 +39,71 @@ pub fn table_of(statement: &Statement) -> &Name
         Statement::Update { table, .. } => table,
         Statement::Select { table, .. } => table,
     }
+}
+
+/// What a statement is to do to its table, whatever was written; nothing where the table doesn't exist.
+pub fn statement_work(
+    alloc: Global,
+    tables: &Tables,
+    statement: &Statement,
+) -> Result<Option<Work>, AllocError>
+    ensures { IfOk result (λ work. (events : List RowEvent) → IsWellFormedDatabase (after_events (database tables.now) events) → IsWorkOf (after_events (database tables.now) events) (operation_of statement.now) work) }
+{
+    let Some(table) = tables.find(table_of(statement)) else {
+        return Ok(None);
+    };
+    let work = work_of(alloc, table.schema(), statement)?;
+    Ok(Some(work))
+}
+
+/// The row locks that work on the table of this name needs.
+fn work_needs(
+    alloc: Global,
+    tables: &Tables,
+    txn: &Txn,
+    name: &Name,
+    work: &Option<Work>,
+) -> Result<LockSet, AllocError>
+    requires { IsOf (database tables.now) txn.now }
+    ensures { IfOk result (λ locks. locks ≡ work_needs (after_events (database tables.now) txn.now.events) name.now work.now) }
+{
+    let Some(work) = work else {
+        return Ok(Sequence::new(alloc));
+    };
+    match seen_table(tables, txn, name) {
+        Some(seen) => needs(alloc, &seen, work),
+        None => Ok(Sequence::new(alloc)),
+    }
+}
+
+/// Work on the table of this name, with the row locks that it needs.
+pub fn with_locks(
+    alloc: Global,
+    tables: &Tables,
+    txn: &Txn,
+    name: &Name,
+    work: Option<Work>,
+) -> Result<Prepared, AllocError>
+    requires { IsOf (database tables.now) txn.now }
+    ensures work { IfOk result (λ prepared. prepared.work ≡ work) }
+    ensures locks { IfOk result (λ prepared. prepared.locks ≡ work_needs (after_events (database tables.now) txn.now.events) name.now work) }
+{
+    let locks = work_needs(alloc, tables, txn, name, &work)?;
+    Ok(Prepared { work, locks })
+}
+
+/// The session's statement is prepared.
+pub fn prepare(
+    alloc: Global,
+    tables: &Tables,
+    txn: &Txn,
+    statement: &Statement,
+) -> Result<Prepared, AllocError>
+    requires { IsOf (database tables.now) txn.now }
+    ensures { IfOk result (λ prepared. IsPrepared (after_events (database tables.now) txn.now.events) (operation_of statement.now) prepared) }
+{
+    let work = statement_work(alloc, tables, statement)?;
+    with_locks(alloc, tables, txn, table_of(statement), work)
 }
 
 /// What changes write, made ready; nothing where there are none.
@@ -58,11 +122,7 @@ fn writes_of(
 }
 
 /// What work says of its table, as it is seen, and what it writes, made ready.
-pub fn tell(
-    alloc: Global,
-    seen: &SeenTable<'_>,
-    work: &Work,
-) -> Result<ReadyResult<Option<Writes>>, AllocError>
+fn tell(alloc: Global, seen: &SeenTable<'_>, work: &Work) -> Result<ReadyResult, AllocError>
     requires well_formed { IsWellFormedTable seen.now }
     requires sound { IsSound seen.now.schema.columns work.now }
     ensures statement_result { IfOk result (λ executed. executed.result ≡ result_of seen.now.schema.name (tells seen.now.schema seen.now.rows work.now)) }
@@ -82,66 +142,8 @@ pub fn tell(
     })
 }
 
-/// What a statement says of its table, as it is seen through what was written to it.
-fn say_of(
-    alloc: Global,
-    table: &Table,
-    written: &WrittenRows,
-    statement: &Statement,
-) -> Result<ReadyResult<Option<Writes>>, AllocError>
-    requires schema { written.now.schema ≡ table.now.table.schema }
-    requires well_formed { IsWellFormedTable (record { schema = table.now.table.schema; rows = seen (key_places table.now.table.schema) written.now.written table.now.table.rows }) }
-    ensures statement_result { IfOk result (λ executed. executed.result ≡ result_of table.now.table.schema.name (tells table.now.table.schema (seen (key_places table.now.table.schema) written.now.written table.now.table.rows) (work_of table.now.table.schema statement.now))) }
-    ensures events { IfOk result (λ executed. events_ready executed.writes ≡ executed.result.events) }
-    ensures schema { IfOk result (λ executed. IfSome executed.writes (λ one. one.schema ≡ table.now.table.schema)) }
-{
-    let work = work_of(alloc, table.schema(), statement)?;
-    tell(alloc, &SeenTable::new(table, written), &work)
-}
-
-/// What a statement says of its table, to which nothing was written.
-fn say_of_unwritten(
-    alloc: Global,
-    table: &Table,
-    statement: &Statement,
-) -> Result<ReadyResult<Option<Writes>>, AllocError>
-    requires { IsWellFormedTable (record { schema = table.now.table.schema; rows = seen (key_places table.now.table.schema) nothing table.now.table.rows }) }
-    ensures statement_result { IfOk result (λ executed. executed.result ≡ result_of table.now.table.schema.name (tells table.now.table.schema (seen (key_places table.now.table.schema) nothing table.now.table.rows) (work_of table.now.table.schema statement.now))) }
-    ensures events { IfOk result (λ executed. events_ready executed.writes ≡ executed.result.events) }
-    ensures schema { IfOk result (λ executed. IfSome executed.writes (λ one. one.schema ≡ table.now.table.schema)) }
-{
-    let work = work_of(alloc, table.schema(), statement)?;
-    tell(alloc, &SeenTable::unwritten(table), &work)
-}
-
-/// What a statement needs of its table, as it is seen through what was written to it.
-fn needs_of(
-    alloc: Global,
-    table: &Table,
-    written: &WrittenRows,
-    statement: &Statement,
-) -> Result<LockSet, AllocError>
-    requires { written.now.schema ≡ table.now.table.schema }
-    ensures { IfOk result (λ locks. locks ≡ needs table.now.table.schema (seen (key_places table.now.table.schema) written.now.written table.now.table.rows) (work_of table.now.table.schema statement.now)) }
-{
-    let work = work_of(alloc, table.schema(), statement)?;
-    needs(alloc, &SeenTable::new(table, written), &work)
-}
-
-/// What a statement needs of its table, to which nothing was written.
-fn needs_of_unwritten(
-    alloc: Global,
-    table: &Table,
-    statement: &Statement,
-) -> Result<LockSet, AllocError>
-    ensures { IfOk result (λ locks. locks ≡ needs table.now.table.schema (seen (key_places table.now.table.schema) nothing table.now.table.rows) (work_of table.now.table.schema statement.now)) }
-{
-    let work = work_of(alloc, table.schema(), statement)?;
-    needs(alloc, &SeenTable::unwritten(table), &work)
-}
-
 /// What is said where the table doesn't exist.
-pub fn missing(alloc: Global) -> ReadyResult<Option<Writes>>
+fn missing(alloc: Global) -> ReadyResult
     ensures statement_result { result.result ≡ record { answer = refuses ER_NO_SUCH_TABLE; events = [] } }
     ensures writes { result.writes ≡ None }
 {
@@ -154,48 +156,25 @@ pub fn missing(alloc: Global) -> ReadyResult<Option<Writes>>
     }
 }
 
-/// What the session's statement says, and what it writes, made ready.
+/// What the session's work gives, done to the table of this name, and what it writes, made ready.
 pub fn execute(
     alloc: Global,
     tables: &Tables,
     txn: &Txn,
-    statement: &Statement,
-) -> Result<ReadyResult<Option<Writes>>, AllocError>
-    requires { IsOf (database tables.now) txn.now }
-    ensures statement_result { IfOk result (λ executed. executed.result ≡ statement_result (after_events (database tables.now) txn.now.events) statement.now) }
+    name: &Name,
+    work: Option<Work>,
+) -> Result<ReadyResult, AllocError>
+    requires of { IsOf (database tables.now) txn.now }
+    requires sound { IsSoundWork (after_events (database tables.now) txn.now.events) name.now work }
+    ensures result { IfOk result (λ executed. executed.result ≡ work_result (after_events (database tables.now) txn.now.events) name.now work) }
     ensures events { IfOk result (λ executed. events_ready executed.writes ≡ executed.result.events) }
     ensures schema { IfOk result (λ executed. IfSome executed.writes (λ one. HasSchema (database tables.now) one.schema)) }
 {
-    let name = table_of(statement);
-    let Some(table) = tables.find(name) else {
+    let Some(work) = work else {
         return Ok(missing(alloc));
     };
-    // For the prover: `schema` says that the rows are in order of the clustered key.
-    let _schema = table.schema();
-    match txn.written_to(name) {
-        Some(written) => say_of(alloc, table, written, statement),
-        None => say_of_unwritten(alloc, table, statement),
-    }
-}
-
-/// The row locks that the session's statement needs.
-pub fn statement_needs(
-    alloc: Global,
-    tables: &Tables,
-    txn: &Txn,
-    statement: &Statement,
-) -> Result<LockSet, AllocError>
-    requires { IsOf (database tables.now) txn.now }
-    ensures { IfOk result (λ locks. locks ≡ row_needs (after_events (database tables.now) txn.now.events) statement.now) }
-{
-    let name = table_of(statement);
-    let Some(table) = tables.find(name) else {
-        return Ok(Sequence::new(alloc));
-    };
-    // For the prover: `schema` says that the rows are in order of the clustered key.
-    let _schema = table.schema();
-    match txn.written_to(name) {
-        Some(written) => needs_of(alloc, table, written, statement),
-        None => needs_of_unwritten(alloc, table, statement),
+    match seen_table(tables, txn, name) {
+        Some(seen) => tell(alloc, &seen, &work),
+        None => Ok(missing(alloc)),
     }
 }

@@ -1,6 +1,5 @@
-//! A session's transaction: what it wrote, the tables as it sees them, and its commit. In `row_copies` the copy of a row from
-//! one table into another, in `server_data` the trait of what a server asks of its data, in `laws` what holds of all that
-//! sessions say.
+//! A session's transaction: what it wrote, the tables as it sees them, how a statement is prepared and executed on them, and its
+//! commit. In `row_copies` the copy of a row from one table into another, in `laws` what holds of all that sessions say.
 #![tactic(auto)]
 
 mod application;
@@ -8,14 +7,16 @@ mod commits;
 mod execution;
 mod keyed;
 pub mod laws;
+mod prepared;
 pub mod row_copies;
-pub mod server_data;
+mod seen_tables;
 mod tables;
 mod txn;
 mod writes;
 
 pub use commits::commit;
-pub use execution::{execute, missing, statement_needs, table_of, tell};
+pub use execution::{execute, prepare, statement_work, table_of, with_locks};
 pub use keyed::KeyedEvent;
+pub use prepared::{Prepared, ReadyResult};
 pub use txn::Txn;
 pub use writes::Writes;

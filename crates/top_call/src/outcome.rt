@@ -21,7 +21,7 @@ use base_edges::Gate;
 use base_values::{Sequence, Text};
 use plan_data::Plan;
 use run_workers::worker_run::Turns;
-use server::final_server::FinalServer;
+use server::Server;
 use server_api::Serve;
 use server_model::{Journal, Verdict};
 use std::alloc::{AllocError, Global};
@@ -109,7 +109,7 @@ fn traced<V: Serve>(
 }
 
 /// The replay of a plan. Where there is no memory for the list of turns, or for the server, no turn is taken.
-fn replayed(alloc: Global, plan: &Plan) -> Result<Replay<FinalServer>, AllocError>
+fn replayed(alloc: Global, plan: &Plan) -> Result<Replay<Server>, AllocError>
     requires { WasRead plan.now }
     ensures takes { IfOk result (λ left. Takes plans.Replay plan.now left.run.turns left.run.journal) }
     ensures logged { IfOk result (λ left. left.logged ≡ logged_at_mark plan.now (plan.now.table ∷ []) (run_in plan.now left.run.journal)) }

@@ -16,7 +16,7 @@ use Rattle.server_model.specs.LockedRows.Coverage.{IsWellFormedTable}
 use Rattle.server_model.specs.LockedRows.Databases.{IsWellFormedDatabase}
 use Rattle.server_model.proofs.LockedRows.Tests.{are_same, turned_bytes, nor_left, nor_right}
 use Rattle.proof_journals.proofs.Moves.{create_moves, drop_moves, rename_moves}
-use Rattle.server_transaction.specs.ServerData.FittingEvents.{NoneOf}
+use Rattle.server_transaction.specs.FittingEvents.{NoneOf}
 use Rattle.server_transaction.specs.Premises.{IsOf}
 use Rattle.server_transaction.specs.Rooms.{puts_of, puts_in}
 use Rattle.server_storage.specs.KeptTxns.Transactions.{HasEvents}

@@ -5,7 +5,7 @@ use Rattle.base_values.specs.declared.event.RowEvent.{RowEvent}
 use Rattle.table_store.specs.Databases.{StoredTable, Database, database}
 use Rattle.server_model.specs.Operations.{after_events}
 use Rattle.server_model.specs.LockedRows.Databases.{IsWellFormedDatabase}
-use Rattle.server_transaction.specs.ServerData.FittingEvents.{EventsFit}
+use Rattle.server_transaction.specs.FittingEvents.{EventsFit}
 use Rattle.server_transaction.specs.Premises.{IsOf}
 use Rattle.server_transaction.specs.Rooms.{puts_in}
 use Rattle.server_transaction.specs.Stored.{StoredTxn}

@@ -15,7 +15,7 @@ use Rattle.server_model.specs.Operations.{after_events, events_of}
 use Rattle.base_values.proofs.SchemaRules.Lists.{All-append, All-weaker}
 use Rattle.server_model.specs.LockedRows.Databases.{IsWellFormedDatabase}
 use Rattle.server_model.proofs.LockedRows.Tests.{same_bytes, are_same, are_one}
-use Rattle.server_transaction.specs.ServerData.FittingEvents.{EventsFit}
+use Rattle.server_transaction.specs.FittingEvents.{EventsFit}
 use Rattle.server_seen.specs.Stored.{StoredWrites}
 use Rattle.server_transaction.specs.Premises.{HasSchema, IsOf}
 use Rattle.server_transaction.specs.Rooms.{puts_in}

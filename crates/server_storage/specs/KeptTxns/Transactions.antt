@@ -10,7 +10,7 @@ use Rattle.server_model.specs.Operations.{after_events}
 use Rattle.server_model.specs.States.{pair_names}
 use Rattle.server_model.specs.LockedRows.Coverage.{IsWellFormedTable}
 use Rattle.server_model.specs.LockedRows.Databases.{IsWellFormedDatabase}
-use Rattle.server_transaction.specs.ServerData.FittingEvents.{EventsFit, NoneOf}
+use Rattle.server_transaction.specs.FittingEvents.{EventsFit, NoneOf}
 use Rattle.server_transaction.specs.Premises.{HasSchema, IsOf}
 use Rattle.server_transaction.specs.Stored.{StoredTxn, schemas, schemas_with}
 

@@ -1,28 +1,26 @@
 //! What the copy of a row comes to: the insertion of its converted row, or a refusal.
 
-ghost use Rattle.std.specs.Prelude.{◌≡◌, Some, IfOk, option_copied};
+ghost use Rattle.std.specs.Prelude.{◌≡◌, IfOk, option_copied};
 ghost use Rattle.std.specs.Option.{option_map};
-ghost use Rattle.base_values.specs.GhoSchema.Rows.{key_places};
 ghost use Rattle.base_values.specs.RowConversion.ConvertedRows.{converted_row};
 ghost use Rattle.table_store.specs.Databases.{database, find_table};
 ghost use Rattle.server_model.specs.declared.work.Work.TheVariants as works;
 ghost use Rattle.server_model.specs.Checks.{new_row, or_refused};
-ghost use Rattle.server_model.specs.Operations.{after_events, copy_from, copy_work};
+ghost use Rattle.server_model.specs.Operations.{after_events, copy_from, copy_operation, copy_work};
 ghost use Rattle.server_transaction.specs.Premises.{IsOf};
-ghost use Rattle.server_seen.specs.Written.{seen};
+ghost use Rattle.server_transaction.specs.Prepared.{IsPrepared, IsWorkOf};
 
-use crate::Txn;
 use crate::row_copies::RowCopy;
+use crate::seen_tables::seen_table;
+use crate::{Prepared, Txn, with_locks};
+use base_values::Row;
 use base_values::gho_schema::Schema;
 use base_values::mysql_errors::ER_NO_SUCH_TABLE;
 use base_values::row_conversion::{ColumnMap, ConversionFault, converted_row};
-use base_values::{Key, Row};
 use server_model::{Answer, Work};
 use server_prepare::{new_row, refuses, refuses_value};
-use server_seen::{SeenTable, WrittenRows};
 use std::alloc::{AllocError, Global};
 use table_store::paged_tables::Tables;
-use table_store::paged_tables::row_pages::Table;
 
 /// The insertion of a converted row, or the refusal of a value that doesn't fit its column.
 fn work_of_converted_row(
@@ -57,24 +55,8 @@ fn work_of_row(
     }
 }
 
-/// What the copy comes to of the row of this key of a table, as it is seen through what was written to it.
-fn work_from(
-    alloc: Global,
-    table: &Table,
-    written: &WrittenRows,
-    map: &ColumnMap,
-    key: &Key,
-    into: &Schema,
-) -> Result<Work, AllocError>
-    requires { written.now.schema ≡ table.now.table.schema }
-    ensures { IfOk result (λ work. work ≡ copy_from (Some (record { schema = table.now.table.schema; rows = seen (key_places table.now.table.schema) written.now.written table.now.table.rows })) map.now key.now into.now) }
-{
-    let seen = SeenTable::new(table, written);
-    work_of_row(alloc, map, seen.row_of(key), into)
-}
-
 /// What the copy comes to of the row of this key of the table of this name, as the session sees it.
-pub fn work_of_copy(
+fn work_of_copy(
     alloc: Global,
     tables: &Tables,
     txn: &Txn,
@@ -84,13 +66,39 @@ pub fn work_of_copy(
     requires { IsOf (database tables.now) txn.now }
     ensures { IfOk result (λ work. work ≡ copy_from (find_table copy.now.from.now (after_events (database tables.now) txn.now.events)) copy.now.map.now copy.now.key.now into.now) }
 {
-    let Some(table) = tables.find(copy.from) else {
-        return Ok(Work::Refuse(refuses(ER_NO_SUCH_TABLE)));
-    };
-    // For the prover: `schema` says that the rows are in order of the clustered key.
-    let _schema = table.schema();
-    match txn.written_to(copy.from) {
-        Some(written) => work_from(alloc, table, written, copy.map, copy.key, into),
-        None => work_of_row(alloc, copy.map, table.get(copy.key), into),
+    match seen_table(tables, txn, copy.from) {
+        Some(seen) => work_of_row(alloc, copy.map, seen.row_of(copy.key), into),
+        None => Ok(Work::Refuse(refuses(ER_NO_SUCH_TABLE))),
     }
+}
+
+/// What the copy is to do to the table that it goes into; nothing where that doesn't exist.
+fn copy_work(
+    alloc: Global,
+    tables: &Tables,
+    txn: &Txn,
+    copy: &RowCopy<'_>,
+) -> Result<Option<Work>, AllocError>
+    requires { IsOf (database tables.now) txn.now }
+    ensures { IfOk result (λ work. IsWorkOf (after_events (database tables.now) txn.now.events) (copy_operation (after_events (database tables.now) txn.now.events) copy.now.from.now copy.now.into.now copy.now.map.now copy.now.key.now) work) }
+{
+    let Some(table) = tables.find(copy.into) else {
+        return Ok(None);
+    };
+    let work = work_of_copy(alloc, tables, txn, copy, table.schema())?;
+    Ok(Some(work))
+}
+
+/// The session's copy of a row is prepared.
+pub fn prepare_copy(
+    alloc: Global,
+    tables: &Tables,
+    txn: &Txn,
+    copy: &RowCopy<'_>,
+) -> Result<Prepared, AllocError>
+    requires { IsOf (database tables.now) txn.now }
+    ensures { IfOk result (λ prepared. IsPrepared (after_events (database tables.now) txn.now.events) (copy_operation (after_events (database tables.now) txn.now.events) copy.now.from.now copy.now.into.now copy.now.map.now copy.now.key.now) prepared) }
+{
+    let work = copy_work(alloc, tables, txn, copy)?;
+    with_locks(alloc, tables, txn, copy.into, work)
 }

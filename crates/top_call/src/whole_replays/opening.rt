@@ -12,7 +12,7 @@ use base_values::tool_names::log_name;
 use base_values::{Duplicate, Names, Sequence};
 use law_journals::plans::{read_options_allow, read_plans_are_serial};
 use plan_data::Plan;
-use server::final_server::{FinalServer, open_server};
+use server::{Server, open_server};
 use server_model::Limits;
 use std::alloc::{AllocError, Global};
 use table_store::paged_tables::Tables;
@@ -47,7 +47,7 @@ fn read_names(tables: &Tables)
 
 /// The final server at the plan's opening.
 #[tactic(auto, using(crate::proofs::WholeReplays::AtOpening::well_formed, crate::proofs::WholeReplays::AtOpening::at_opening))]
-pub fn open_plan(alloc: Global, plan: &Plan) -> Result<FinalServer, AllocError>
+pub fn open_plan(alloc: Global, plan: &Plan) -> Result<Server, AllocError>
     requires { WasRead plan.now }
     ensures { IfOk result (λ server. server.state ≡ opening plan.now) }
 {

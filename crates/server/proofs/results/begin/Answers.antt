@@ -1,7 +1,8 @@
 use Rattle.server_model.specs.Effects.{nothing_needed}
+use Rattle.server_storage.specs.Storage.{written}
 use Rattle.server.proofs.Steps.{quiet_have}
 use Rattle.server.proofs.results.begin.Goals as goal
 
 pub returns-clause-have : goal.returns-clause-have
-returns-clause-have g c =
-    quiet_have (g.D.Data.written c.args.store.now) c.args.all_sessions.now c.go_on.new.self c.args.session nothing_needed c.new-2.result c.requires.have c.requires.live c.new-2.ensures (rw c.new.ensures at c.in_ok-go_on.ensures.ok)
+returns-clause-have c =
+    quiet_have (written c.args.storage.now) c.args.all_sessions.now c.go_on.new.self c.args.session nothing_needed c.new-2.result c.requires.have c.requires.live c.new-2.ensures (rw c.new.ensures at c.in_ok-go_on.ensures.ok)

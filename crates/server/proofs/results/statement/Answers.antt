@@ -1,32 +1,34 @@
-use Rattle.std.proofs.Common.{◌≡◌, ◌∙◌, ap}
-use Rattle.table_store.specs.Databases.{Database}
-use Rattle.server_model.specs.Operations.{statement_result}
-use Rattle.server_model.specs.States.{view}
-use Rattle.server.specs.Parts.{state_of}
-use Rattle.server.proofs.Steps.{same_together, seen_so}
-use Rattle.server.proofs.Requests.{statement_grows}
+use Rattle.server_storage.specs.Storage.{committed, written}
+use Rattle.server.proofs.Steps.{same_together}
+use Rattle.server.proofs.Requests.{statement_gives, statement_grows, statement_sound}
 use Rattle.server.proofs.results.statement.Goals as goal
 
+pub execute-requires : goal.execute-requires
+execute-requires c =
+    statement_sound (committed c.args.storage.now) (written c.args.storage.now) c.args.all_sessions.now c.args.session c.args.statement.now c.args.request.now c.args.prepared c.table_of.result.now c.requires.together.have c.requires.may c.requires.request c.table_of.ensures
+
 pub keep-requires-clause-together : goal.keep-requires-clause-together
-keep-requires-clause-together g c =
-    same_together (g.D.Data.committed c.args.store.now) (g.D.Data.committed c.execute.new.self) (g.D.Data.written c.args.store.now) (g.D.Data.written c.execute.new.self) c.args.all_sessions.now c.requires.together c.execute.ensures.committed c.execute.ensures.written
+keep-requires-clause-together c =
+    same_together (committed c.args.storage.now) (committed c.execute.new.self) (written c.args.storage.now) (written c.execute.new.self) c.args.all_sessions.now c.requires.together c.execute.ensures.committed c.execute.ensures.written
 
 pub keep-requires-clause-grows : goal.keep-requires-clause-grows
-keep-requires-clause-grows g c =
+keep-requires-clause-grows c =
+    let given = statement_gives (committed c.args.storage.now) (written c.args.storage.now) c.args.all_sessions.now c.args.session c.args.statement.now c.args.request.now c.args.prepared c.table_of.result.now c.in_ok-executed.executed.result c.requires.together.have c.requires.may c.requires.request c.table_of.ensures
+    c.in_ok-executed.ensures.result in
     rw c.execute.ensures.committed
-    (statement_grows (g.D.Data.committed c.args.store.now) (g.D.Data.written c.args.store.now) c.args.all_sessions.now c.args.session c.args.statement.now c.args.request.now c.args.locks c.in_ok-executed.executed.result c.requires.together c.requires.may c.requires.request c.in_ok-executed.ensures.statement_result)
+    (statement_grows (committed c.args.storage.now) (written c.args.storage.now) c.args.all_sessions.now c.args.session c.args.statement.now c.args.request.now c.args.prepared c.in_ok-executed.executed.result c.requires.together c.requires.may c.requires.request given)
 
 pub returns-clause-answer : goal.returns-clause-answer
-returns-clause-answer g c =
-    let said : c.in_ok-executed.executed.result ≡ statement_result (view c.args.session (state_of (g.D.Data.committed c.args.store.now) c.args.all_sessions.now)) c.args.statement.now =
-    c.in_ok-executed.ensures.statement_result ∙ ap (λ (d : Database). statement_result d c.args.statement.now) (seen_so (g.D.Data.committed c.args.store.now) (g.D.Data.written c.args.store.now) c.args.all_sessions.now c.args.session c.requires.together.have) in
-    rw said at c.keep.ensures.answer
+returns-clause-answer c =
+    let given = statement_gives (committed c.args.storage.now) (written c.args.storage.now) c.args.all_sessions.now c.args.session c.args.statement.now c.args.request.now c.args.prepared c.table_of.result.now c.in_ok-executed.executed.result c.requires.together.have c.requires.may c.requires.request c.table_of.ensures
+    c.in_ok-executed.ensures.result in
+    rw given at c.keep.ensures.answer
 
 pub returns-clause-ok : goal.returns-clause-ok
-returns-clause-ok g c =
-    let said : c.in_ok-executed.executed.result ≡ statement_result (view c.args.session (state_of (g.D.Data.committed c.args.store.now) c.args.all_sessions.now)) c.args.statement.now =
-    c.in_ok-executed.ensures.statement_result ∙ ap (λ (d : Database). statement_result d c.args.statement.now) (seen_so (g.D.Data.committed c.args.store.now) (g.D.Data.written c.args.store.now) c.args.all_sessions.now c.args.session c.requires.together.have) in
-    rw (said, c.execute.ensures.committed) at c.keep.ensures.ok
+returns-clause-ok c =
+    let given = statement_gives (committed c.args.storage.now) (written c.args.storage.now) c.args.all_sessions.now c.args.session c.args.statement.now c.args.request.now c.args.prepared c.table_of.result.now c.in_ok-executed.executed.result c.requires.together.have c.requires.may c.requires.request c.table_of.ensures
+    c.in_ok-executed.ensures.result in
+    rw (given, c.execute.ensures.committed) at c.keep.ensures.ok
 
 pub returns-clause-err : goal.returns-clause-err
-returns-clause-err g c = rw c.execute.ensures.committed at c.keep.ensures.err
+returns-clause-err c = rw c.execute.ensures.committed at c.keep.ensures.err

@@ -10,7 +10,7 @@ use Rattle.table_store.specs.Databases.{TableRows, Database, find_table, with_ch
 use Rattle.server_model.specs.Operations.{change_table, after_events}
 use Rattle.server_model.specs.LockedRows.Databases.{IsWellFormedDatabase}
 use Rattle.server_model.proofs.LockedRows.Stables.{after_events-append}
-use Rattle.server_transaction.specs.ServerData.FittingEvents.{EventsFit}
+use Rattle.server_transaction.specs.FittingEvents.{EventsFit}
 use Rattle.server_transaction.specs.Events.{changes_in}
 use Rattle.server_transaction.specs.Premises.{HasSchema}
 use Rattle.server_transaction.specs.Stored.{schemas}

@@ -17,7 +17,7 @@ use Rattle.server_model.specs.LockedRows.Databases.{IsWellFormedDatabase, WhereF
 use Rattle.server_model.proofs.LockedRows.Finding.{change_if, found_after}
 use Rattle.server_model.proofs.LockedRows.Tests.{are_same}
 use Rattle.proof_journals.proofs.Moves.{Moved, create_moves, drop_moves, rename_moves, none_found}
-use Rattle.server_transaction.specs.ServerData.FittingEvents.{EventsFit, FitsIn, NoneOf}
+use Rattle.server_transaction.specs.FittingEvents.{EventsFit, FitsIn, NoneOf}
 use Rattle.server_transaction.specs.Events.{changes_in}
 use Rattle.server_transaction.specs.Premises.{HasSchema, IsOf}
 use Rattle.server_transaction.specs.Stored.{StoredTxn, schemas}

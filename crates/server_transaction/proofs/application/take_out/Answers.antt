@@ -4,7 +4,7 @@ use Rattle.base_values.specs.GhoSchema.Rows.{key_of, key_places}
 use Rattle.base_values.specs.GhoSchema.Tables.{Ascends}
 use Rattle.base_values.specs.declared.event.Change.TheVariants as changes
 use Rattle.table_store.specs.Databases.{TableRows, database, find_table}
-use Rattle.server_transaction.specs.ServerData.FittingEvents.{FitsIn}
+use Rattle.server_transaction.specs.FittingEvents.{FitsIn}
 use Rattle.server_model.specs.LockedRows.Databases.{WhereFound}
 use Rattle.server_transaction.proofs.DoneEvents.{removal_done}
 use Rattle.server_transaction.proofs.FoundTables.{Found, found_of}

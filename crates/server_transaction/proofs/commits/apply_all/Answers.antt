@@ -4,7 +4,7 @@ use Rattle.std.proofs.lemmas.Iterator.Consumers.{YieldsList-turn, YieldsList-end
 use Rattle.std.specs.List.{AllByRecursion}
 use Rattle.table_store.specs.Databases.{database, spare_in}
 use Rattle.server_model.specs.Operations.{after_events}
-use Rattle.server_transaction.specs.ServerData.FittingEvents.{EventsFit}
+use Rattle.server_transaction.specs.FittingEvents.{EventsFit}
 use Rattle.server_transaction.specs.declared.keyed.KeyedEvent.{KeyedEvent}
 use Rattle.server_transaction.specs.Premises.{IsKeyedIn}
 use Rattle.server_transaction.specs.Rooms.{puts_in}

@@ -16,7 +16,7 @@ altered_tables-requires-clause-formed c = subst IsWellFormedDatabase (sym c.tabl
 pub new-requires : goal.new-requires
 new-requires c =
     let made = rw (c.in-Some.is, c.tables.ensures) at c.in_ok-tables.ensures in
-    altered_formed c.args.plan.now (database c.args.self.now.store.tables) (database c.in-Some.tables) c.requires.alters c.requires.planned c.requires.sound.formed (sym made)
+    altered_formed c.args.plan.now (database c.args.self.now.storage.tables) (database c.in-Some.tables) c.requires.alters c.requires.planned c.requires.sound.formed (sym made)
 
 pub returns-then-self-clause-judging : goal.returns-then-self-clause-judging
 returns-then-self-clause-judging c = λ items is. over_judging c.args.plan.now items (Altered c.args.turn ∷ []) c.args.self.now is c.if-self.true

@@ -15,4 +15,4 @@ returns-clause-judging c = λ plan items more is judged.
 pub returns-clause-planned : goal.returns-clause-planned
 returns-clause-planned c = λ plan planned.
     let tables = rw c.as_slice.ensures at c.in_ok-replies.ensures.tables in
-    alone_planned plan (database c.args.self.now.store.tables) _ c.args.txn.now.lines tables planned
+    alone_planned plan (database c.args.self.now.storage.tables) _ c.args.txn.now.lines tables planned

@@ -1,1 +1,0 @@
--- The final server over committed tables in pages, and open transactions over them.

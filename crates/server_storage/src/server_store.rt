@@ -1,6 +1,0 @@
-//! The final server's data: committed tables in pages, and the open transactions of sessions over them.
-
-mod copies;
-mod store;
-
-pub use store::Store;
