@@ -10,6 +10,8 @@ mod feed_run;
 mod replica;
 mod run;
 pub mod run_turns;
+mod worker_turn;
 
 pub use feed_run::FeedRun;
 pub use run::{Run, RunParts, Stepped};
+pub use worker_turn::{Turns, WorkerTurn};

@@ -9,11 +9,11 @@ ghost use Rattle.run_turns.specs.Runs.{is_over, Stops};
 ghost use Rattle.run_workers.specs.WorkerRun.Workers.{IsGoing};
 ghost use Rattle.run_workers.specs.Passes.{IsByPasses};
 
-use crate::worker_run::{Worked, WorkerTurn};
+use crate::worker_run::Worked;
 use base_edges::Gate;
 use run_desk::Passes;
 use run_desk::turn_queue_workers::take_turns;
-use run_turns::{FeedRun, Run};
+use run_turns::{FeedRun, Run, WorkerTurn};
 use server_api::Serve;
 use std::alloc::{AllocError, Global};
 use std::snapshot::Snapshot;

@@ -6,4 +6,3 @@ mod worked;
 mod worker_turns;
 
 pub use worked::{Opening, Worked};
-pub use worker_turns::{Turns, WorkerTurn};

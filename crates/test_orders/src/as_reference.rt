@@ -1,6 +1,6 @@
 //! The turns of a run that is as one transaction at a time.
 
-use run_workers::worker_run::Turns;
+use run_turns::Turns;
 use std::alloc::{AllocError, Global};
 use test_compare::agrees_with_reference;
 use test_program::{Program, Ran, run};

@@ -2,7 +2,7 @@
 
 use crate::as_reference::turns_of_reference;
 use base_script::Actor;
-use run_workers::worker_run::WorkerTurn;
+use run_turns::WorkerTurn;
 use std::alloc::{AllocError, Global};
 use std::io;
 use test_program::Program;

@@ -3,7 +3,7 @@
 ghost use Rattle.std.specs.Prelude.{◌<◌};
 
 use crate::as_reference::turns_of_reference;
-use run_workers::worker_run::{Turns, WorkerTurn};
+use run_turns::{Turns, WorkerTurn};
 use std::alloc::{AllocError, Global};
 use std::io;
 use test_program::Program;

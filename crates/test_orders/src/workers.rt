@@ -1,7 +1,7 @@
 //! Runs by worker threads, and replays in the orders that they print; and rebuilds by two threads.
 
 use crate::as_reference::is_reference_run;
-use run_workers::worker_run::WorkerTurn;
+use run_turns::WorkerTurn;
 use std::alloc::{AllocError, Global};
 use std::io;
 use test_program::{Meeting, Program, Ran, SOUND, run, run_between};

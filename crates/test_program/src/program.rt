@@ -2,7 +2,7 @@
 
 use crate::meeting::Meeting;
 use base_edges::{BytesSink, BytesSource};
-use run_workers::worker_run::Turns;
+use run_turns::Turns;
 use server_model::Journal;
 use top_words::Line;
 

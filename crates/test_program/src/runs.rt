@@ -3,7 +3,7 @@
 use crate::meeting::Meeting;
 use crate::program::{Ended, Program};
 use base_edges::{BytesSink, BytesSource};
-use run_workers::worker_run::Turns;
+use run_turns::Turns;
 use std::alloc::{AllocError, Global};
 use top_words::Line;
 

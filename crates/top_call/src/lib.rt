@@ -20,7 +20,7 @@ pub mod whole_replays;
 pub mod workers;
 
 pub use outcome::Outcome;
-pub use run_workers::worker_run::{Turns, WorkerTurn};
+pub use run_turns::{Turns, WorkerTurn};
 pub use top::{Ended, ghost_, outcome_without_waits};
 pub use top_endings::{PlanCommand, Printed, Status};
 pub use top_words::{Command, Line};

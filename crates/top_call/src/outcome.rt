@@ -20,7 +20,7 @@ use crate::whole_replays::{Replay, open_plan, replay_plan};
 use base_edges::Gate;
 use base_values::{Sequence, Text};
 use plan_data::Plan;
-use run_workers::worker_run::Turns;
+use run_turns::Turns;
 use server::Server;
 use server_api::Serve;
 use server_model::{Journal, Verdict};

@@ -25,7 +25,7 @@ use law_journals::plans::{read_options_allow, read_plans_are_runnable, read_plan
 use plan_data::Plan;
 use plan_reader::{PLAN_LIMIT, PlanFault};
 use proof_plans::read_accepted_plan;
-use run_workers::worker_run::Turns;
+use run_turns::Turns;
 use server_model::Journal;
 use std::alloc::Global;
 use std::sync::Wait;

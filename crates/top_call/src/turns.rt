@@ -5,7 +5,7 @@ ghost use Rattle.std.specs.Vec.{vec_len, vec_capacity};
 ghost use Rattle.top_call.specs.Outcomes.{turns_of};
 
 use base_values::Sequence;
-use run_workers::worker_run::{Turns, WorkerTurn};
+use run_turns::{Turns, WorkerTurn};
 use server_model::Entry;
 
 /// Adds turns that no worker took: a replay's, or a new tool's. They are of worker 0.

@@ -8,10 +8,10 @@ ghost use Rattle.run_turns.specs.Runs.{is_over};
 
 use crate::worker_run::choice::pick;
 use crate::worker_run::members::Member;
-use crate::worker_run::worker_turns::{WorkerTurn, note, place_from};
+use crate::worker_run::worker_turns::{note, place_from};
 use plan_data::Plan;
 use run_desk::SharedState;
-use run_turns::{FeedRun, Run, Stepped};
+use run_turns::{FeedRun, Run, Stepped, WorkerTurn};
 use server_api::Serve;
 use server_model::Entry;
 use std::alloc::{AllocError, Global};

@@ -5,51 +5,8 @@ ghost use Rattle.server_model.specs.Entries.{is_cut};
 ghost use Rattle.run_workers.specs.WorkerRun.Workers.{places_after};
 
 use crate::worker_run::members::{Candidate, Member};
-use base_script::Actor;
-use base_values::Sequence;
+use run_turns::WorkerTurn;
 use server_model::{Asked, Entry};
-use std::marker::Model;
-
-/// A turn of a run: the worker that took it, and whose turn it was.
-#[derive(Drop)]
-pub struct WorkerTurn {
-    worker: u32,
-    actor: Actor,
-}
-
-impl Model for WorkerTurn {
-    ghost use Rattle.tool_program.specs.Orders.{WorkerTurn};
-
-    ghost Value = { WorkerTurn };
-
-    ghost view = { λ turn. record { worker = turn.worker; actor = turn.actor } };
-}
-
-/// The turns of a run, in order.
-pub type Turns = Sequence<WorkerTurn>;
-
-impl WorkerTurn {
-    /// The turn that this worker took for this actor.
-    pub fn new(worker: u32, actor: Actor) -> WorkerTurn
-        ensures { result ≡ record { worker = worker; actor = actor } }
-    {
-        WorkerTurn { worker, actor }
-    }
-
-    /// The number of the worker that took it, from 0; 0 where no workers did, as in a replay.
-    pub fn worker(&self) -> u32
-        ensures { result ≡ self.now.worker }
-    {
-        self.worker
-    }
-
-    /// Whose turn it was.
-    pub fn actor(&self) -> Actor
-        ensures { result ≡ self.now.actor }
-    {
-        self.actor
-    }
-}
 
 /// The place from which the worker's rotation goes on; a worker beyond those that there are begins anew.
 pub(crate) fn place_from(places: &[usize], worker: u32) -> usize
@@ -82,10 +39,7 @@ pub(crate) fn note(
     ensures room { vec_capacity turns.new ≡ vec_capacity turns.old }
     ensures places { places.new ≡ places_after places.old member candidate.place (is_cut entry.now.asked) }
 {
-    turns.push_reserved(WorkerTurn {
-        worker: member.worker,
-        actor: entry.actor,
-    });
+    turns.push_reserved(WorkerTurn::new(member.worker, entry.actor));
     if !is_cut(entry) && member.owns(candidate.place) {
         places[member.worker as usize] = candidate.place + 1;
     }
